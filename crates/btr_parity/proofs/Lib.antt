@@ -1,0 +1,10 @@
+pub mod Additive
+pub mod Products
+pub mod Entries
+pub mod Slicewise
+pub mod Solving
+pub mod Remainders
+pub mod Lost
+pub mod Folding
+pub mod Halves
+pub mod Choosing

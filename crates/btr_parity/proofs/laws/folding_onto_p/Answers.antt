@@ -1,0 +1,5 @@
+use Rattle.btr_parity.proofs.Folding.{folding_onto_p}
+use Rattle.btr_parity.proofs.laws.folding_onto_p.Goals as goal
+
+pub returns : goal.returns
+returns c = folding_onto_p

@@ -1,0 +1,5 @@
+use Rattle.btr_parity.proofs.Lost.{lost_by_both}
+use Rattle.btr_parity.proofs.laws.lost_by_both.Goals as goal
+
+pub returns : goal.returns
+returns c = lost_by_both
