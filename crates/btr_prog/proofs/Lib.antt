@@ -1,0 +1,13 @@
+pub mod Runs
+pub mod Threads
+pub mod Treated
+pub mod Lost
+pub mod Places
+pub mod Follow
+pub mod Choices
+pub mod ChoiceThreads
+pub mod Renaming
+pub mod Successive
+pub mod SoFars
+pub mod Blinds
+pub mod Twins

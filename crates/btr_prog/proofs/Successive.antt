@@ -1,0 +1,30 @@
+-- Calls one after another.
+use Rattle.std.proofs.Common.{◌≡◌, ◌≤◌, refl, sym, ◌∙◌, subst, arith}
+use Rattle.btr_prog.specs.Calls.{Seen, Sure, First, Any, Steady, Calls}
+
+module _ {H : Type 0} (Agreed : H → Type 0) where
+  -- steady calls are steady up to any of them, and from there
+  steady_first : (sure : Sure) (a b c : Seen H) → a.faults ≤ b.faults → b.faults ≤ c.faults → Steady Agreed sure a c → Steady Agreed sure a b
+  steady_first First a b c h g e = (omega (arith, h, g, e), omega (arith, g, e))
+  steady_first Any a b c h g e = e
+
+  steady_last : (sure : Sure) (a b c : Seen H) → b.held ≡ a.held → a.faults ≤ b.faults → b.faults ≤ c.faults → Steady Agreed sure a c → Steady Agreed sure b c
+  steady_last First a b c same h g e = (omega (arith, h, g, e), e.1)
+  steady_last Any a b c same h g e = subst Agreed (sym same) e
+
+module _ {H : Type 0} {Agreed : H → Type 0} where
+  -- no call yet
+  pub calls_none : {P : Sure → H → Type 0} {a : Seen H} → ((sure : Sure) → P sure a.held) → Calls Agreed a a P
+  calls_none p = record { same = refl; later = omega arith; content = λ sure s. p sure }
+
+  -- what follows from a call's fact
+  pub calls_as : {P Q : Sure → H → Type 0} {a b : Seen H} → ((sure : Sure) (h : H) → P sure h → Q sure h) → Calls Agreed a b P → Calls Agreed a b Q
+  calls_as {a = a} f one = record { same = one.same; later = one.later; content = λ sure s. f sure a.held (one.content sure s) }
+
+  -- two calls in a row: what follows from the facts of both, of the one thing that is held
+  pub calls_then : {P Q R : Sure → H → Type 0} {a b c : Seen H} → ((sure : Sure) (h : H) → P sure h → Q sure h → R sure h) → Calls Agreed a b P → Calls Agreed b c Q → Calls Agreed a c R
+  calls_then {Q = Q} {a = a} {b = b} {c = c} f one two = record {
+    same = two.same ∙ one.same;
+    later = omega (arith, one.later, two.later);
+    content = λ sure s. f sure a.held (one.content sure (steady_first Agreed sure a b c one.later two.later s)) (subst (Q sure) one.same (two.content sure (steady_last Agreed sure a b c one.same one.later two.later s)));
+  }

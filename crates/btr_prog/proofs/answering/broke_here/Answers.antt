@@ -1,0 +1,5 @@
+use Rattle.btr_prog.proofs.Follow.{broke_here}
+use Rattle.btr_prog.proofs.answering.broke_here.Goals as goal
+
+pub returns : goal.returns
+returns g c = λ addr part. broke_here addr part

@@ -1,0 +1,5 @@
+use Rattle.btr_prog.proofs.Follow.{follows_seen}
+use Rattle.btr_prog.proofs.answering.follows_seen.Goals as goal
+
+pub returns : goal.returns
+returns g c = λ addr part. follows_seen addr part

@@ -1,0 +1,12 @@
+pub mod Prog
+pub mod Thread
+pub mod Maps
+pub mod Laws
+pub mod Outcomes
+pub mod Answers
+pub mod AnswerLaws
+pub mod Goes
+pub mod GoesLaws
+pub mod Stages
+pub mod Calls
+pub mod Blind

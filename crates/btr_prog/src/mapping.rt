@@ -1,0 +1,22 @@
+//! Runs of one program under two block maps.
+ghost use Rattle.btr_prog.specs.Laws.{OnlyNeeds, CutLaw, WholeLaw, LostLaw};
+
+/// A run hangs on the fates of its own wants alone.
+pub fn only_needs<W, F, S, A>()
+    ensures { OnlyNeeds W F S A }
+{}
+
+/// Where one map has, of each want of the other's run, the other's bytes or none, its run is the other's, cut.
+pub fn cut_law<W, F, S, A>()
+    ensures { CutLaw W F S A }
+{}
+
+/// .. and is the whole of it where it has them all.
+pub fn whole_law<W, F, S, A>()
+    ensures { WholeLaw W F S A }
+{}
+
+/// .. and else stops at the first want that it lacks, with exactly the marks before.
+pub fn lost_law<W, F, S, A>()
+    ensures { LostLaw W F S A }
+{}
