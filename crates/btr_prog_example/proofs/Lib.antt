@@ -1,0 +1,4 @@
+pub mod Shows
+pub mod Lists
+pub mod Kepts
+pub mod Samples

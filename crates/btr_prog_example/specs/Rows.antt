@@ -1,0 +1,20 @@
+-- The rows of a sink.
+use Rattle.std.specs.Prelude.{◌≡◌, ◌⊎◌, ℕ, List, [], ◌∷◌, ◌++◌, take, Option, Some, None, Result, Ok, Err}
+use Rattle.btr_prog_example.specs.declared.sink.Refused.{Refused}
+
+pub data Row : Type 0 where
+  Bytes : List ℕ → Row
+  End : Row
+
+-- what stands of a row that was broken off after n bytes
+abbrev pub part : Row → ℕ → Option Row
+part (Bytes bytes) n = Some (Bytes (take n bytes))
+part End n = None
+
+abbrev pub Puts : List Row → List Row → List ℕ → Result (Unit {0}) Refused → Type 0
+Puts old new bytes (Ok u) = new ≡ old ++ (Bytes bytes ∷ [])
+Puts old new bytes (Err e) = (new ≡ old) ⊎ ((n : ℕ) × (new ≡ old ++ (Bytes (take n bytes) ∷ [])))
+
+abbrev pub PutsEnd : List Row → List Row → Result (Unit {0}) Refused → Type 0
+PutsEnd old new (Ok u) = new ≡ old ++ (End ∷ [])
+PutsEnd old new (Err e) = new ≡ old

@@ -1,0 +1,8 @@
+-- The rows of a tray.
+use Rattle.btr_prog_example.specs.declared.tray.Kept.{Kept}
+use Rattle.btr_prog_example.specs.declared.tray.Kept.TheVariants as kept
+use Rattle.btr_prog_example.specs.Rows.{Row, Bytes, End}
+
+abbrev pub row_of : Kept → Row
+row_of (kept.Bytes v) = Bytes v.items
+row_of kept.End = End
