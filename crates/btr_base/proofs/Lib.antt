@@ -1,0 +1,10 @@
+pub mod Ahead
+pub mod Behind
+pub mod Division
+pub mod Hashing
+pub mod Keys
+pub mod Linear
+pub mod Multiple
+pub mod Shifts
+pub mod Tables
+pub mod Words

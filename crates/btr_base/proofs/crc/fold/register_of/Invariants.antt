@@ -1,0 +1,14 @@
+use Rattle.std.proofs.Common.{◌≡◌, ◌≤◌, take, length}
+use Rattle.btr_base.specs.Crc.{register}
+use Rattle.btr_base.specs.Fold.{register_behind}
+use Rattle.btr_base.proofs.crc.fold.register_of.Given as goal
+
+-- the register behind the words that were dropped is that of all
+abbrev pub invariant-loop-rest : goal.invariant-loop-rest
+invariant-loop-rest l = record {
+  wide : 632 ≤ length l.rest;
+  same : register l.fn.start l.fn.bytes ≡ register_behind (take 79 l.dropped) l.rest;
+}
+
+abbrev pub decreases-loop-rest : goal.decreases-loop-rest
+decreases-loop-rest l = length l.rest

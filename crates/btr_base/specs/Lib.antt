@@ -1,0 +1,9 @@
+pub mod Crc
+pub mod Field
+pub mod Fold
+pub mod Header
+pub mod Key
+pub mod Poly
+pub mod Shown
+pub mod Sum
+pub mod Xxh64

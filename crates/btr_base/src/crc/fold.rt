@@ -1,0 +1,131 @@
+// The register of a long piece.
+//
+// x^79 + x^75 + x^71 + x^58 + x^18 + x^12 + x + 1 is a multiple of CRC-32C's generator, and so is the
+// same polynomial in x^64. So a word of 8 bytes may be dropped, where it is added to seven later words.
+// All words but the last 79 go that way, with no look-up in a table.
+ghost use Rattle.std.specs.Prelude.{◌≡◌, ℕ, ◌+◌, ◌*◌, ◌^◌, ◌≤◌, ◌<◌};
+ghost use Rattle.std.specs.Prelude.{length, take, drop, replicate, slice_index};
+ghost use Rattle.btr_base.specs.Crc.{register};
+ghost use Rattle.btr_base.specs.Fold.{sent, received, register_behind};
+
+use super::words::{register_by_bytes, take_word};
+use crate::field::u64_at;
+
+// How many places on a word is sent at most.
+const AHEAD: usize = 79;
+
+// How many words are dropped at once.
+const WINDOW: usize = 512;
+
+// The words that are dropped at once, and the last ones before them.
+const ROOM: usize = WINDOW + AHEAD;
+
+// What the dropped words have sent to the place `j`.
+#[tactic(auto, unfolding(crate::specs::Fold::sent))]
+fn sent_to(dropped: &[u64; ROOM], j: usize) -> u64
+    requires { j < WINDOW }
+    ensures { result ≡ sent dropped.now j }
+{
+    dropped[j]
+        ^ dropped[j + 1]
+        ^ dropped[j + 12]
+        ^ dropped[j + 18]
+        ^ dropped[j + 58]
+        ^ dropped[j + 71]
+        ^ dropped[j + 75]
+}
+
+fn no_words() -> [u64; ROOM]
+    ensures { result ≡ replicate ROOM 0 }
+{
+    [0; ROOM]
+}
+
+// What was dropped before a piece whose register begins with `start`: that goes into the first word.
+fn begin(start: u32) -> [u64; ROOM]
+    ensures first { slice_index result 0 ≡ start }
+    ensures zeros { (i : ℕ) → 0 < i → slice_index result i ≡ 0 }
+{
+    let mut dropped = no_words();
+    dropped[0] = u64::from(start);
+    dropped
+}
+
+// Computes the first `count` words of the piece as they are when they are dropped, behind the 79 that
+// were dropped before them.
+fn send(dropped: &mut [u64; ROOM], bytes: &[u8], count: usize)
+    requires room { count ≤ WINDOW }
+    requires words { 8 * count ≤ length bytes.now }
+    ensures kept { take AHEAD dropped.new ≡ take AHEAD dropped.old }
+    ensures sent { (j : ℕ) → j < count
+        → slice_index dropped.new (j + AHEAD) ≡ received dropped.new bytes.now j }
+    ensures fits { (i : ℕ) → slice_index dropped.new i < 2 ^ 64 }
+{
+    for j in 0..count {
+        dropped[AHEAD + j] = u64_at(bytes, 8 * j) ^ sent_to(dropped, j);
+    }
+}
+
+// Keeps the last words that were dropped.
+fn carry(dropped: &mut [u64; ROOM], count: usize)
+    requires { count ≤ WINDOW }
+    ensures { take AHEAD dropped.new ≡ take AHEAD (drop count dropped.old) }
+{
+    for k in 0..AHEAD {
+        dropped[k] = dropped[count + k];
+    }
+}
+
+// Drops the first `count` words of the piece.
+fn drop_words(dropped: &mut [u64; ROOM], bytes: &[u8], count: usize)
+    requires room { count ≤ WINDOW }
+    requires words { 8 * (count + AHEAD) ≤ length bytes.now }
+    ensures { register_behind (take AHEAD dropped.old) bytes.now
+        ≡ register_behind (take AHEAD dropped.new) (drop (8 * count) bytes.now) }
+{
+    send(dropped, bytes, count);
+    carry(dropped, count);
+}
+
+// Forgets all but the first 79 words.
+fn clear(dropped: &mut [u64; ROOM])
+    ensures kept { take AHEAD dropped.new ≡ take AHEAD dropped.old }
+    ensures zeros { (i : ℕ) → AHEAD ≤ i → slice_index dropped.new i ≡ 0 }
+{
+    for k in AHEAD..ROOM {
+        dropped[k] = 0;
+    }
+}
+
+// The register after the last 79 words.
+fn finish(dropped: &mut [u64; ROOM], bytes: &[u8]) -> u32
+    requires low { 8 * AHEAD ≤ length bytes.now }
+    requires high { length bytes.now < 8 * (AHEAD + 1) }
+    ensures { register result (drop (8 * AHEAD) bytes.now)
+        ≡ register_behind (take AHEAD dropped.old) bytes.now }
+{
+    clear(dropped);
+    let mut reg = 0;
+    for j in 0..AHEAD {
+        reg = take_word(reg, u64_at(bytes, 8 * j) ^ sent_to(dropped, j));
+    }
+    reg
+}
+
+// The register after the bytes.
+pub(super) fn register_of(start: u32, bytes: &[u8]) -> u32
+    requires { 8 * AHEAD ≤ length bytes.now }
+    ensures { result ≡ register start bytes.now }
+{
+    let mut dropped = begin(start);
+    let mut rest = bytes;
+    while rest.len() >= 8 * ROOM {
+        drop_words(&mut dropped, rest, WINDOW);
+        rest = &rest[8 * WINDOW..];
+    }
+    let count = rest.len() / 8 - AHEAD;
+    drop_words(&mut dropped, rest, count);
+    let rest = &rest[8 * count..];
+    let reg = finish(&mut dropped, rest);
+    register_by_bytes(reg, &rest[8 * AHEAD..])
+}

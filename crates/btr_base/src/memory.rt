@@ -1,0 +1,3 @@
+/// The refusal for want of memory.
+#[derive(Clone, Copy, Debug, PartialEq, Eq)]
+pub struct Memory;
