@@ -1,0 +1,5 @@
+pub mod Bits
+pub mod Pieces
+pub mod Region
+pub mod Loans
+pub mod Hand

@@ -1,0 +1,4 @@
+pub mod Slots
+pub mod Ledger
+pub mod Region
+pub mod Lending
