@@ -1,0 +1,30 @@
+-- The names of what is read lie in the body.
+use Rattle.std.proofs.Common.{◌≡◌, ℕ, ◌+◌, ◌≤◌, Bool, true, false, ◌&&◌, leb, List, length, refl, arith}
+use Rattle.std.specs.Result.{IfOk}
+use Rattle.std.proofs.lemmas.Bool.Decides.{nat_tests}
+use Rattle.btr_base.specs.Field.{number_at}
+use Rattle.btr_items.specs.Entry as entry
+use Rattle.btr_items.specs.ExtRef as ext_ref
+use Rattle.btr_items.specs.Form.{fields_if}
+use Rattle.btr_items.specs.InodeRef as inode_ref
+use Rattle.btr_items.specs.declared.entry.Entry.{Entry}
+use Rattle.btr_items.specs.declared.ext_ref.ExtRef.{ExtRef}
+use Rattle.btr_items.specs.declared.inode_ref.InodeRef.{InodeRef}
+
+-- what lies before an end that is within the body is within it, where the last rule says so
+named : {T : Type 0} (last : T → ℕ) (others : Bool) (end size : ℕ) (fields : T) → last fields ≤ end → IfOk (fields_if (others && leb end size) fields) (λ part. last part ≤ size)
+named last false end size fields before = tt
+named last true end size fields before =
+    elim (leb end size) as (λ fits. leb end size ≡ fits → IfOk (fields_if fits fields) (λ part. last part ≤ size)) [
+      | true ↦ λ fits. grind (arith, nat_tests)
+      | false ↦ λ fits. tt
+    ] refl
+
+pub entry_named : (at : ℕ) (body : List ℕ) → entry.HasName body (entry.entry_at at body)
+entry_named at body = named (λ (part : Entry). part.name_at + part.name_len) _ (at + 30 + number_at 2 (at + 27) body + number_at 2 (at + 25) body) (length body) _ (omega arith)
+
+pub inode_ref_named : (at : ℕ) (body : List ℕ) → inode_ref.HasName body (inode_ref.inode_ref_at at body)
+inode_ref_named at body = named (λ (part : InodeRef). part.name_at + part.name_len) _ (at + 10 + number_at 2 (at + 8) body) (length body) _ (omega arith)
+
+pub ext_ref_named : (at : ℕ) (body : List ℕ) → ext_ref.HasName body (ext_ref.ext_ref_at at body)
+ext_ref_named at body = named (λ (part : ExtRef). part.name_at + part.name_len) _ (at + 18 + number_at 2 (at + 16) body) (length body) _ (omega arith)

@@ -1,0 +1,77 @@
+ghost use Rattle.std.specs.Prelude.{◌≡◌, All};
+ghost use Rattle.btr_items.specs.ExtRef as spec;
+
+use crate::name::is_name_length;
+use crate::{ItemFault, Part, Parts};
+use btr_base::{u16_at, u64_at};
+
+/// A name of an inode, as an INODE_EXTREF has them one after another: its header has 18 bytes, then comes
+/// the name.
+#[derive(Clone, Copy, Debug, PartialEq, Eq)]
+pub struct ExtRef {
+    /// The inode of the directory.
+    pub parent: u64,
+    /// The index of the name in the directory.
+    pub index: u64,
+    /// Where the name begins in the body.
+    pub name_at: usize,
+    /// How many bytes the name has: 1 to 255.
+    pub name_len: usize,
+    /// Where the reference ends in the body.
+    pub end: usize,
+}
+
+impl ExtRef {
+    ghost use Rattle.std.specs.Prelude.{◌≡◌, ◌≤◌, length};
+    ghost use Rattle.btr_items.specs.ExtRef.{ext_ref_at, HasName};
+
+    /// The reference that begins at `at`.
+    pub fn read(body: &[u8], at: usize) -> Result<ExtRef, ItemFault>
+        requires { at ≤ length body.now }
+        ensures form { result ≡ ext_ref_at at body.now }
+        ensures name { HasName body.now result }
+    {
+        if body.len() - at < 18 {
+            return Err(ItemFault);
+        }
+        let name_len = u16_at(body, at + 16) as usize;
+        let end = at + 18 + name_len;
+        if !is_name_length(name_len) || end > body.len() {
+            return Err(ItemFault);
+        }
+        Ok(ExtRef {
+            parent: u64_at(body, at),
+            index: u64_at(body, at + 8),
+            name_at: at + 18,
+            name_len,
+            end,
+        })
+    }
+}
+
+impl Part for ExtRef {
+    ghost use Rattle.btr_items.specs.ExtRef.{ext_ref_at};
+    ghost use Rattle.btr_items.specs.Ends.{ext_ref_ends};
+
+    ghost part_at = { ext_ref_at };
+
+    ghost end_of = { λ part. part.end };
+
+    ghost ends_within = { ext_ref_ends };
+
+    fn read_at(body: &[u8], at: usize) -> Result<ExtRef, ItemFault> {
+        ExtRef::read(body, at)
+    }
+
+    fn end(&self) -> usize {
+        self.end
+    }
+}
+
+/// The references of an INODE_EXTREF. Their names lie in the body.
+pub fn ext_refs(body: &[u8]) -> Parts<'_, ExtRef>
+    ensures list { result ≡ spec.ext_refs_of body.now }
+    ensures names { All (spec.HasName body.now) result }
+{
+    Parts::new(body, 0)
+}

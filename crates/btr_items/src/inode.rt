@@ -1,0 +1,35 @@
+use crate::ItemFault;
+use btr_base::{u32_at, u64_at};
+
+/// An inode: what an INODE_ITEM says of a file or directory.
+#[derive(Clone, Copy, Debug, PartialEq, Eq)]
+pub struct Inode {
+    /// In bytes; of a directory, twice the sum of the lengths of its names.
+    pub size: u64,
+    /// How many names it has.
+    pub nlink: u32,
+    /// The kind of file and its permissions, as `st_mode` has them.
+    pub mode: u32,
+    /// The inode's flags, among them "no checksums" (1).
+    pub flags: u64,
+}
+
+impl Inode {
+    ghost use Rattle.std.specs.Prelude.{◌≡◌};
+    ghost use Rattle.btr_items.specs.Inode.{inode_of};
+
+    /// The body of an INODE_ITEM.
+    pub fn read(body: &[u8]) -> Result<Inode, ItemFault>
+        ensures { result ≡ inode_of body.now }
+    {
+        if body.len() != 160 {
+            return Err(ItemFault);
+        }
+        Ok(Inode {
+            size: u64_at(body, 16),
+            nlink: u32_at(body, 40),
+            mode: u32_at(body, 52),
+            flags: u64_at(body, 64),
+        })
+    }
+}

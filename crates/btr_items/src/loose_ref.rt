@@ -1,0 +1,34 @@
+use crate::reference::{count_at, data_size, link_at};
+use crate::{ItemFault, Link, key_fits};
+use btr_base::Key;
+
+/// A reference to an extent in an item of its own: a TREE_BLOCK_REF, SHARED_BLOCK_REF, EXTENT_DATA_REF or
+/// SHARED_DATA_REF.
+#[derive(Clone, Copy, Debug, PartialEq, Eq)]
+pub struct LooseRef {
+    /// What refers to the extent.
+    pub link: Link,
+    /// How often it does; 1 for a tree block.
+    pub count: u32,
+}
+
+impl LooseRef {
+    ghost use Rattle.std.specs.Prelude.{◌≡◌};
+    ghost use Rattle.btr_items.specs.LooseRef.{loose_ref_of};
+
+    /// An item with this key. A key of another type is a fault.
+    pub fn read(key: Key, body: &[u8]) -> Result<LooseRef, ItemFault>
+        ensures { result ≡ loose_ref_of key body.now }
+    {
+        let Some(size) = data_size(key.kind) else {
+            return Err(ItemFault);
+        };
+        if !key_fits(key) || body.len() != size {
+            return Err(ItemFault);
+        }
+        Ok(LooseRef {
+            link: link_at(key.kind, key.offset, body, 0),
+            count: count_at(key.kind, body, 0),
+        })
+    }
+}
