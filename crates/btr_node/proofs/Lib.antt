@@ -1,0 +1,5 @@
+pub mod Inners
+pub mod Leaves
+pub mod Packing
+pub mod Places
+pub mod Tables
