@@ -1,0 +1,4 @@
+pub mod Kernel
+pub mod Plan
+pub mod Sums
+pub mod Turns
