@@ -1,0 +1,32 @@
+-- The calls of a sink or an output in memory.
+use Rattle.std.specs.Prelude.{◌≡◌, ℕ, Bool, true, false, ◌==◌, List, [], Result, Ok, Err}
+use Rattle.std.specs.List.{list_any}
+use Rattle.btr_rack.specs.declared.error.SinkError.{SinkError}
+use Rattle.btr_rack.specs.declared.error.SinkError.TheVariants.{Failed, Memory}
+use Rattle.btr_rack.specs.Rack.{next_count}
+
+-- how many calls were made, which are to fail by their number, and how many failed
+pub record CallCount : Type 0 where
+  pub made : ℕ
+  pub failing : List ℕ
+  pub faults : ℕ
+
+abbrev pub no_calls : CallCount
+no_calls = record { made = 0; failing = []; faults = 0 }
+
+-- the next call is to fail
+abbrev pub strikes : CallCount → Bool
+strikes c = list_any (λ n. n == next_count c.made) c.failing
+
+-- after one more call, and after one that failed
+abbrev pub after_call : CallCount → CallCount
+after_call c = record c { made = next_count c.made }
+
+abbrev pub after_fault : CallCount → CallCount
+after_fault c = record c { made = next_count c.made; faults = next_count c.faults }
+
+-- a call fails exactly where it is made to
+abbrev pub CallsOnce : {T : Type 0} → CallCount → CallCount → Result T SinkError → Type 0
+CallsOnce old new (Ok _) = (strikes old ≡ false) × (new ≡ after_call old)
+CallsOnce old new (Err Failed) = (strikes old ≡ true) × (new ≡ after_fault old)
+CallsOnce old new (Err Memory) = (strikes old ≡ false) × (new ≡ after_call old)

@@ -1,0 +1,50 @@
+-- An image in memory.
+use Rattle.std.specs.Prelude.{ℕ, ◌+◌, ◌-◌, ◌/◌, ◌%◌, Bool, if◌then◌else◌, nat_lt, Bool, false, List, [], length, map, slice_index, Option}
+use Rattle.std.specs.Option.{option_map_or}
+use Rattle.std.specs.List.{range_with_len}
+use Rattle.std.specs.Ordering.{nat_cmp}
+use Rattle.std.specs.Map.{lookup}
+use Rattle.std.specs.BTreeMap.{is_at}
+use Rattle.std.specs.Str.{bytes_eq}
+use Rattle.btr_rack.specs.Rack.{Slot}
+
+-- the pages that are kept, each of 4096 bytes, by their numbers
+abbrev pub Pages : Type 0
+Pages = List (ℕ × List ℕ)
+
+-- an image: its slot, which it fills where it is open, and its pages
+pub record MemoryImage : Type 0 where
+  pub slot : Slot
+  pub pages : Pages
+
+-- an image of zeros
+abbrev pub zeros : List ℕ → ℕ → MemoryImage
+zeros name len = record { slot = record { name = name; len = len; write = false }; pages = [] }
+
+-- the image, opened
+abbrev pub opened_for : Bool → MemoryImage → MemoryImage
+opened_for write image = record image { slot = record image.slot { write = write } }
+
+-- the image, shortened
+abbrev pub shortened : ℕ → MemoryImage → MemoryImage
+shortened len image = record image { slot = record image.slot { len = len } }
+
+-- the page of a number, if it is kept
+abbrev pub page_at : Pages → ℕ → Option (List ℕ)
+page_at pages index = lookup (is_at (nat_cmp index)) pages
+
+-- the byte at a place: a page that isn't kept reads as zeros
+abbrev pub page_byte : Pages → ℕ → ℕ
+page_byte pages i = option_map_or (λ page. slice_index page (i % 4096)) (page_at pages (i / 4096)) 0
+
+-- the bytes of an image
+abbrev pub bytes_in : MemoryImage → List ℕ
+bytes_in image = map (page_byte image.pages) (range_with_len 0 image.slot.len)
+
+-- the image has this name
+abbrev pub is_named : List ℕ → MemoryImage → Bool
+is_named name image = bytes_eq image.slot.name name
+
+-- the byte at a place i, after a piece was written over those from `at` on
+abbrev pub patched : ℕ → ℕ → List ℕ → ℕ → ℕ
+patched old at piece i = if nat_lt i at then old else if nat_lt i (at + length piece) then slice_index piece (i - at) else old

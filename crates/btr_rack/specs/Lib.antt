@@ -1,0 +1,11 @@
+pub mod Rack
+pub mod Out
+pub mod Image
+pub mod Images
+pub mod Memory
+pub mod MemoryLaws
+pub mod Sink
+pub mod Calls
+pub mod MemTree
+pub mod MemTreeLaws
+pub mod FolderTree

@@ -1,0 +1,144 @@
+-- What the calls of a rack of images do.
+use Rattle.std.specs.Prelude.{◌≡◌, ◌≢◌, ℕ, ◌+◌, ◌-◌, ◌^◌, ◌≤◌, ◌<◌, min, Bool, true, false, List, [], ◌∷◌, ◌++◌, length, take, drop, slice_index_or, slice_range, slice_set, Option, Some, None, Result, Ok, Err, ⊤}
+use Rattle.btr_rack.specs.declared.error.RackError.{RackError}
+use Rattle.btr_rack.specs.declared.error.RackError.TheVariants.{Failed, Memory}
+use Rattle.btr_rack.specs.declared.place.Place.{Place}
+
+-- an opened image: its name, its length in bytes, and whether it was opened for writing
+pub record Slot : Type 0 where
+  pub name : List ℕ
+  pub len : ℕ
+  pub write : Bool
+
+-- what stands past the last slot
+abbrev pub no_slot : Slot
+no_slot = record { name = []; len = 0; write = false }
+
+abbrev pub slot_at : List Slot → ℕ → Slot
+slot_at slots slot = slice_index_or slots slot no_slot
+
+-- the length of the image in a slot
+abbrev pub len_of : List Slot → ℕ → ℕ
+len_of slots slot = (slot_at slots slot).len
+
+-- the image in a slot was opened for writing
+abbrev pub opened_to_write : List Slot → ℕ → Bool
+opened_to_write slots slot = (slot_at slots slot).write
+
+-- the bytes of the image in a slot
+abbrev pub image_of : List (List ℕ) → ℕ → List ℕ
+image_of images slot = slice_index_or images slot []
+
+-- some bytes of the image in a slot
+abbrev pub bytes_of : List (List ℕ) → ℕ → ℕ → ℕ → List ℕ
+bytes_of images slot off len = slice_range (image_of images slot) off (off + len)
+
+-- an image in which bytes were written over those from `off` on
+abbrev pub pasted : List ℕ → ℕ → List ℕ → List ℕ
+pasted image off bytes = take off image ++ bytes ++ drop (off + length bytes) image
+
+-- the images, of which the one in a slot was written over
+abbrev pub written : List (List ℕ) → ℕ → ℕ → List ℕ → List (List ℕ)
+written images slot off bytes = slice_set images slot (pasted (image_of images slot) off bytes)
+
+-- the place of a call: the range of `len` bytes from `off` on in a slot
+abbrev pub range_in : ℕ → ℕ → ℕ → Place
+range_in slot off len = record { slot = slot; off = off; len = len }
+
+-- an opening: the name, and whether it was for writing
+pub record Opening : Type 0 where
+  pub name : List ℕ
+  pub write : Bool
+
+abbrev pub opening_of : List ℕ → Bool → Opening
+opening_of name write = record { name = name; write = write }
+
+-- The account of the failed calls. `faults` and `shut` never fall; `shut` counts openings. `fresh` and
+-- `missed` are the number and the places of the failed calls since the last `forget`. `last` is the
+-- place of the last failed call, and `opening` what it was to open, if it was an opening.
+pub record Account : Type 0 where
+  pub faults : ℕ
+  pub fresh : ℕ
+  pub missed : List Place
+  pub last : Place
+  pub opening : Option Opening
+  pub shut : ℕ
+
+-- the account as it begins
+abbrev pub no_failure : Account
+no_failure = record { faults = 0; fresh = 0; missed = []; last = range_in 0 0 0; opening = None; shut = 0 }
+
+-- a count with one more call: it stands still at its type's last value
+abbrev pub next_count : ℕ → ℕ
+next_count count = min (count + 1) (2 ^ 64 - 1)
+
+-- a count rose: it is greater than it was, or stands at its type's last value
+abbrev pub Rose : ℕ → ℕ → Type 0
+Rose before now = (before ≤ now) × (next_count before ≤ now)
+
+-- a count did not rise: it is not greater than it was, and does not stand at its type's last value
+abbrev pub Steady : ℕ → ℕ → Type 0
+Steady before now = (now ≤ before) × (now < 2 ^ 64 - 1)
+
+-- no call failed
+pub record NoneFailed (old new : Account) : Type 0 where
+  pub faults : old.faults ≤ new.faults
+  pub fresh : new.fresh ≡ old.fresh
+  pub missed : new.missed ≡ old.missed
+  pub last : new.last ≡ old.last
+  pub opening : new.opening ≡ old.opening
+  pub shut : new.shut ≡ old.shut
+
+-- a call at this place failed
+pub record OneFailed (place : Place) (old new : Account) : Type 0 where
+  pub faults : Rose old.faults new.faults
+  pub fresh : new.fresh ≡ next_count old.fresh
+  pub missed : new.missed ≡ old.missed ++ place ∷ []
+  pub last : new.last ≡ place
+
+-- what a call at this place that is no opening does to the account
+abbrev pub Accounts : {T : Type 0} → Place → Account → Account → Result T RackError → Type 0
+Accounts place old new (Ok _) = NoneFailed old new
+Accounts place old new (Err Failed) = OneFailed place old new × (new.opening ≡ None) × (new.shut ≡ old.shut)
+Accounts place old new (Err Memory) = NoneFailed old new
+
+-- what an opening at this place does to the account
+abbrev pub AccountsOpening : {T : Type 0} → Opening → Place → Account → Account → Result T RackError → Type 0
+AccountsOpening opening place old new (Ok _) = NoneFailed old new
+AccountsOpening opening place old new (Err Failed) = OneFailed place old new × (new.opening ≡ Some opening) × (new.shut ≡ next_count old.shut)
+AccountsOpening opening place old new (Err Memory) = NoneFailed old new
+
+-- an opening appends its image at Ok, and does nothing otherwise
+abbrev pub Opens : List ℕ → Bool → List Slot → List Slot → Result ℕ RackError → Type 0
+Opens name write old new (Ok slot) = (slot ≡ length old) × ((len : ℕ) × (len < 2 ^ 63) × (new ≡ old ++ record { name = name; len = len; write = write } ∷ []))
+Opens name write old new (Err _) = new ≡ old
+
+-- the images that may be opened, by name
+abbrev pub Shelf : Type 0
+Shelf = List ℕ → Option (List ℕ)
+
+-- the named image leaves the shelf, and is the last of the opened ones
+pub record TakesImage (name : List ℕ) (old new : Shelf) (images images' : List (List ℕ)) : Type 0 where
+  pub bytes : List ℕ
+  pub stood : old name ≡ Some bytes
+  pub opened : images' ≡ images ++ bytes ∷ []
+  pub gone : new name ≡ None
+  pub others : (other : List ℕ) → other ≢ name → new other ≡ old other
+
+-- what an opening does to the shelf and to the opened images: a rack tells both or neither
+abbrev pub Takes : List ℕ → Option Shelf → Option Shelf → Option (List (List ℕ)) → Option (List (List ℕ)) → Result ℕ RackError → Type 0
+Takes name (Some old) (Some new) (Some images) (Some images') (Ok _) = TakesImage name old new images images'
+Takes name shelf shelf' images images' (Ok _) = (shelf ≡ None) × (shelf' ≡ None) × (images ≡ None) × (images' ≡ None)
+Takes name shelf shelf' images images' (Err _) = (shelf' ≡ shelf) × (images' ≡ images)
+
+-- what a write does to the opened images, where they are told: the range holds the bytes at Ok, and some bytes otherwise
+abbrev pub Writes : {T : Type 0} → ℕ → ℕ → List ℕ → Option (List (List ℕ)) → Option (List (List ℕ)) → Result T RackError → Type 0
+Writes slot off bytes None new result = new ≡ None
+Writes slot off bytes (Some images) new (Ok _) = new ≡ Some (written images slot off bytes)
+Writes slot off bytes (Some images) new (Err _) = (some : List ℕ) × (length some ≡ length bytes) × (new ≡ Some (written images slot off some))
+
+-- a call fails exactly where the test says so; want of memory comes freely
+abbrev pub FailsWhere : {T : Type 0} → Bool → Result T RackError → Type 0
+FailsWhere test (Ok _) = test ≡ false
+FailsWhere test (Err Failed) = test ≡ true
+FailsWhere test (Err Memory) = ⊤

@@ -1,0 +1,77 @@
+// The account of the failed calls of a rack.
+ghost use Rattle.std.specs.Prelude.{◌≡◌, [], Some, None};
+ghost use Rattle.btr_rack.specs.Rack.{OneFailed, next_count, no_failure};
+
+use crate::missed::Missed;
+use crate::opening::Opening;
+use crate::place::Place;
+use std::marker::Model;
+
+/// The failed calls of a rack. Clauses see it as an `Account`.
+#[derive(Drop)]
+pub(crate) struct Ledger {
+    faults: u64,
+    fresh: u64,
+    shut: u64,
+    last: Place,
+    opening: Option<Opening>,
+    missed: Missed,
+}
+
+impl Model for Ledger {
+    ghost use Rattle.btr_rack.specs.Rack.{Account};
+
+    ghost Value = { Account };
+
+    ghost view = { λ l. record { faults = l.faults; fresh = l.fresh; missed = l.missed.places; last = l.last; opening = l.opening; shut = l.shut } };
+}
+
+impl Ledger {
+    pub(crate) fn new() -> Ledger
+        ensures { result ≡ no_failure }
+    {
+        Ledger {
+            faults: 0,
+            fresh: 0,
+            shut: 0,
+            last: Place {
+                slot: 0,
+                off: 0,
+                len: 0,
+            },
+            opening: None,
+            missed: Missed::new(),
+        }
+    }
+
+    /// A call that is no opening failed.
+    pub(crate) fn fail(&mut self, place: Place)
+        ensures failed { OneFailed place self.old self.new }
+        ensures opening { self.new.opening ≡ None }
+        ensures shut { self.new.shut ≡ self.old.shut }
+    {
+        self.faults = self.faults.saturating_add(1);
+        self.fresh = self.fresh.saturating_add(1);
+        self.missed = Missed::with(&self.missed, &place);
+        self.last = place;
+        self.opening = None;
+    }
+
+    /// An opening failed.
+    pub(crate) fn fail_open(&mut self, opening: Opening, place: Place)
+        ensures failed { OneFailed place self.old self.new }
+        ensures opening { self.new.opening ≡ Some opening }
+        ensures shut { self.new.shut ≡ next_count self.old.shut }
+    {
+        self.fail(place);
+        self.opening = Some(opening);
+        self.shut = self.shut.saturating_add(1);
+    }
+
+    pub(crate) fn forget(&mut self)
+        ensures { self.new ≡ record self.old { fresh = 0; missed = [] } }
+    {
+        self.fresh = 0;
+        self.missed = Missed::new();
+    }
+}

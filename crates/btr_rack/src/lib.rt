@@ -1,0 +1,50 @@
+//! The outside of the engine: racks of images that are opened by name, read and written, and outputs of text.
+//!
+//! `Rack` and `Out` are what the engine above is generic over. A call that answers a fault of the outside
+//! has counted it, so a caller can say which fault stands behind an answer: `specs/Rack.antt` and
+//! `specs/Out.antt` have the words. `MemRack` and `MemOut` are in memory, and tell their content;
+//! `FileRack` and `StdOut` are the real ones, and tell none.
+#![tactic(auto)]
+
+mod account;
+mod bytes;
+mod calls;
+mod destination;
+mod error;
+mod failing;
+mod file;
+mod folder_tree;
+mod image;
+mod images;
+mod mem_out;
+mod mem_rack;
+mod mem_tree;
+mod missed;
+mod new_file;
+mod opened;
+mod opening;
+mod out;
+mod part;
+mod place;
+mod rack;
+mod row;
+mod std_out;
+mod strike;
+mod text;
+mod tree_sink;
+
+pub use bytes::Bytes;
+pub use error::{AddError, PokeError, RackError, SinkError};
+pub use file::FileRack;
+pub use folder_tree::FolderTree;
+pub use mem_out::MemOut;
+pub use mem_rack::MemRack;
+pub use mem_tree::MemTree;
+pub use out::Out;
+pub use part::Part;
+pub use place::Place;
+pub use rack::Rack;
+pub use row::Row;
+pub use std_out::StdOut;
+pub use text::Text;
+pub use tree_sink::TreeSink;

@@ -1,0 +1,286 @@
+// A rack in memory.
+ghost use Rattle.std.specs.Prelude.{◌≡◌, ◌+◌, ◌<◌, ◌≤◌, ◌^◌, ◌↔◌, ◌||◌, [], ◌∷◌, ◌++◌, Some, IsSome, is_none, OnOk, OnErr, Err, IsErrOf, slice_get, length};
+ghost use Rattle.std.specs.Option.{option_and_then, option_copied};
+ghost use Rattle.btr_rack.specs.Image.{zeros};
+ghost use Rattle.btr_rack.specs.Rack.{opening_of, range_in, len_of, bytes_of, Opens, Takes, Writes, Accounts, AccountsOpening, FailsWhere};
+ghost use Rattle.btr_rack.specs.Memory.{empty_rack, nothing_fails, after_call, after_write, call_strikes, write_strikes, hits, named, named_page, slots_of, held_of, shelf_of, Pokes, Cuts, Tears};
+
+use crate::account::Ledger;
+use crate::failing::Failing;
+use crate::image::Image;
+use crate::images::{
+    contains, cut_image, open_image, place_on_shelf, position_of, tear_image, write_image,
+};
+use crate::opening::Opening;
+use crate::place::Place;
+use crate::{AddError, PokeError, Rack, RackError};
+use btr_base::Memory;
+use std::alloc::Global;
+use std::marker::Model;
+
+/// A rack of images in memory. Each image keeps pages of 4096 bytes; a page that isn't kept reads as zeros.
+#[derive(Drop)]
+pub struct MemRack {
+    alloc: Global,
+    // The open ones first, in the order of their opening.
+    images: Vec<Image>,
+    opened: usize,
+    failing: Failing,
+    ledger: Ledger,
+}
+
+impl Model for MemRack {
+    ghost use Rattle.std.specs.Prelude.{length, ◌≤◌};
+    ghost use Rattle.btr_rack.specs.Memory.{MemoryRack};
+
+    ghost Value = { MemoryRack };
+
+    ghost view = { λ r. record { images = r.images.items; opened = r.opened; failing = r.failing; account = r.ledger } };
+
+    ghost invariant = { λ r. r.opened ≤ length r.images.items };
+}
+
+impl MemRack {
+    /// A rack with no images, in which nothing is to fail.
+    pub fn new(alloc: Global) -> MemRack
+        ensures { result ≡ empty_rack }
+    {
+        MemRack {
+            alloc,
+            images: Vec::new(alloc),
+            opened: 0,
+            failing: Failing::new(alloc),
+            ledger: Ledger::new(),
+        }
+    }
+
+    /// Puts an image of `len` zeros on the shelf.
+    pub fn add(&mut self, name: &str, len: u64) -> Result<(), AddError>
+        requires { len < 2 ^ 63 }
+        ensures name { (result ≡ Err AddError.Name) ↔ IsSome (named self.old name.now) }
+        ensures added { OnOk result (self.new ≡ record self.old { images = self.old.images ++ zeros name.now len ∷ [] }) }
+        ensures refused { OnErr result (self.new ≡ self.old) }
+    {
+        if contains(&self.images, name) {
+            return Err(AddError::Name);
+        }
+        let Ok(image) = Image::zeros(self.alloc, name, len) else {
+            return Err(AddError::Memory);
+        };
+        let Ok(()) = self.images.push(image) else {
+            return Err(AddError::Memory);
+        };
+        Ok(())
+    }
+
+    /// Writes over the bytes of an image from `off` on, open or not.
+    pub fn poke(&mut self, name: &str, off: u64, bytes: &[u8]) -> Result<(), PokeError>
+        ensures { Pokes name.now off bytes.now self.old self.new result }
+    {
+        let Some(at) = position_of(&self.images, name) else {
+            return Err(PokeError::NoImage);
+        };
+        let len = self.images[at].len();
+        if off > len || bytes.len() as u64 > len - off {
+            return Err(PokeError::Range);
+        }
+        let Ok(()) = write_image(&mut self.images, at, off, bytes) else {
+            return Err(PokeError::Memory);
+        };
+        Ok(())
+    }
+
+    /// Shortens an image of the shelf to `len` bytes. It is false, and changes nothing, where the name isn't on
+    /// the shelf, is open, or is that of a shorter image.
+    pub fn cut(&mut self, name: &str, len: u64) -> bool
+        ensures { Cuts name.now len self.old self.new result }
+    {
+        match place_on_shelf(&self.images, self.opened, name) {
+            Some(at) => cut_image(&mut self.images, self.opened + at, len),
+            None => false,
+        }
+    }
+
+    /// The byte at `off` of an image, open or not. It is `None` exactly where there is none.
+    pub fn byte(&self, name: &str, off: u64) -> Option<u8>
+        ensures { result ≡ option_and_then (λ bytes. slice_get bytes off) (named self.now name.now) }
+    {
+        match position_of(&self.images, name) {
+            Some(at) => self.images[at].byte(off),
+            None => None,
+        }
+    }
+
+    /// The 4096 bytes of a page of an image. It is `None` exactly where the page isn't kept.
+    pub fn page(&self, name: &str, index: u64) -> Option<&[u8]>
+        ensures { option_copied result ≡ named_page self.now name.now index }
+    {
+        match position_of(&self.images, name) {
+            Some(at) => self.images[at].page(index),
+            None => None,
+        }
+    }
+
+    /// Puts every image back on the shelf. Nothing is to fail any more, and calls and writes are counted anew;
+    /// the account of the failed calls stays.
+    pub fn close_all(&mut self)
+        ensures { self.new ≡ record self.old { opened = 0; failing = nothing_fails } }
+    {
+        self.opened = 0;
+        self.failing.clear();
+    }
+
+    /// Makes the nth call of `open`, `read_at`, `write_at` and `sync` fail, counted from 1.
+    pub fn fail_call(&mut self, n: u64) -> Result<(), Memory>
+        ensures ok { OnOk result (self.new ≡ record self.old { failing = record self.old.failing { failing_calls = self.old.failing.failing_calls ++ n ∷ [] } }) }
+        ensures refused { OnErr result (self.new ≡ self.old) }
+    {
+        self.failing.fail_call(n)
+    }
+
+    /// Makes each read or write fail that touches a byte of this range of an image.
+    pub fn fail_range(&mut self, name: &str, off: u64, len: u64) -> Result<(), Memory>
+        ensures ok { OnOk result (self.new ≡ record self.old { failing = record self.old.failing { failing_ranges = self.old.failing.failing_ranges ++ record { name = name.now; off = off; len = len } ∷ [] } }) }
+        ensures refused { OnErr result (self.new ≡ self.old) }
+    {
+        self.failing.fail_range(name, off, len)
+    }
+
+    /// Makes the nth call of `write_at` fail, counted from 1.
+    pub fn fail_write(&mut self, n: u64) -> Result<(), Memory>
+        ensures ok { OnOk result (self.new ≡ record self.old { failing = record self.old.failing { failing_writes = self.old.failing.failing_writes ++ n ∷ [] } }) }
+        ensures refused { OnErr result (self.new ≡ self.old) }
+    {
+        self.failing.fail_write(n)
+    }
+
+    /// Makes a write that fails fill its range with this byte. Else it changes nothing.
+    pub fn tear(&mut self, byte: u8)
+        ensures { self.new ≡ record self.old { failing = record self.old.failing { tear = Some byte } } }
+    {
+        self.failing.tear_with(byte);
+    }
+}
+
+impl Rack for MemRack {
+    ghost use Rattle.std.specs.Prelude.{Some};
+    ghost use Rattle.btr_rack.specs.Memory.{slots_of, held_of, shelf_of};
+    ghost use Rattle.btr_rack.specs.MemoryLaws.{sized_images};
+
+    ghost slots = { slots_of };
+
+    ghost held = { λ rack. Some (held_of rack) };
+
+    ghost shelf = { λ rack. Some (shelf_of rack) };
+
+    ghost account = { λ rack. rack.account };
+
+    ghost sized = { sized_images };
+
+    fn open(&mut self, name: &str, write: bool) -> Result<usize, RackError>
+        ensures slots { Opens name.now write (slots_of self.old) (slots_of self.new) result }
+        ensures images { Takes name.now (Some (shelf_of self.old)) (Some (shelf_of self.new)) (Some (held_of self.old)) (Some (held_of self.new)) result }
+        ensures account { AccountsOpening (opening_of name.now write) (range_in (length (slots_of self.old)) 0 0) self.old.account self.new.account result }
+        ensures calls { self.new.failing ≡ after_call self.old.failing }
+
+        // It fails exactly where it is made to, or where the name is open or isn't on the shelf.
+        ensures fails { FailsWhere (call_strikes self.old.failing || is_none (shelf_of self.old name.now)) result }
+    {
+        let slot = self.opened;
+        let struck = self.failing.call();
+        let Ok(opening) = Opening::new(self.alloc, name, write) else {
+            return Err(RackError::Memory);
+        };
+        match place_on_shelf(&self.images, slot, name) {
+            Some(at) if !struck => {
+                open_image(&mut self.images, slot, at, write);
+                self.opened = slot + 1;
+                Ok(slot)
+            }
+            _ => {
+                self.ledger.fail_open(opening, Place::of_slot(slot));
+                Err(RackError::Failed)
+            }
+        }
+    }
+
+    fn count(&self) -> usize {
+        self.opened
+    }
+
+    fn len(&self, slot: usize) -> u64 {
+        self.images[slot].len()
+    }
+
+    fn read_at(&mut self, slot: usize, off: u64, buf: &mut [u8]) -> Result<(), RackError>
+        requires open { slot < length (slots_of self.old) }
+        requires range { off + length buf.old ≤ len_of (slots_of self.old) slot }
+        ensures bytes { OnOk result (buf.new ≡ bytes_of (held_of self.old) slot off (length buf.old)) }
+        ensures account { Accounts (range_in slot off (length buf.old)) self.old.account self.new.account result }
+        ensures same { self.new ≡ record self.old { failing = after_call self.old.failing; account = self.new.account } }
+
+        // It fails exactly where it is made to.
+        ensures fails { FailsWhere (call_strikes self.old.failing || hits self.old slot off (length buf.old)) result }
+        ensures memory { IsErrOf result RackError.Memory → ⊥ }
+    {
+        let len = buf.len() as u64;
+        let struck = self.failing.call();
+        let image = &self.images[slot];
+        if struck || self.failing.meets(image.name(), off, len) {
+            self.ledger.fail(Place { slot, off, len });
+            return Err(RackError::Failed);
+        }
+        image.read(off, buf);
+        Ok(())
+    }
+
+    fn write_at(&mut self, slot: usize, off: u64, bytes: &[u8]) -> Result<(), RackError>
+        requires open { slot < length (slots_of self.old) }
+        requires range { off + length bytes.now ≤ len_of (slots_of self.old) slot }
+        ensures held { Writes slot off bytes.now (Some (held_of self.old)) (Some (held_of self.new)) result }
+        ensures slots { slots_of self.new ≡ slots_of self.old }
+        ensures shelf { Some (shelf_of self.new) ≡ Some (shelf_of self.old) }
+        ensures account { Accounts (range_in slot off (length bytes.now)) self.old.account self.new.account result }
+        ensures calls { self.new.failing ≡ after_write self.old.failing }
+
+        // It fails exactly where it is made to, and then leaves the tear, or what stood there.
+        ensures fails { FailsWhere (write_strikes self.old.failing || hits self.old slot off (length bytes.now)) result }
+        ensures torn { Tears self.old.failing.tear slot off (length bytes.now) (held_of self.old) (held_of self.new) result }
+    {
+        let len = bytes.len() as u64;
+        let struck = self.failing.write();
+        if struck || self.failing.meets(self.images[slot].name(), off, len) {
+            let tear = self.failing.tear();
+            let Ok(()) = tear_image(&mut self.images, slot, off, bytes.len(), tear) else {
+                return Err(RackError::Memory);
+            };
+            self.ledger.fail(Place { slot, off, len });
+            return Err(RackError::Failed);
+        }
+        let Ok(()) = write_image(&mut self.images, slot, off, bytes) else {
+            return Err(RackError::Memory);
+        };
+        Ok(())
+    }
+
+    fn sync(&mut self, slot: usize) -> Result<(), RackError>
+        ensures account { Accounts (range_in slot 0 0) self.old.account self.new.account result }
+        ensures same { self.new ≡ record self.old { failing = after_call self.old.failing; account = self.new.account } }
+
+        // It fails exactly where it is made to.
+        ensures fails { FailsWhere (call_strikes self.old.failing) result }
+        ensures memory { IsErrOf result RackError.Memory → ⊥ }
+    {
+        if self.failing.call() {
+            self.ledger.fail(Place::of_slot(slot));
+            return Err(RackError::Failed);
+        }
+        Ok(())
+    }
+
+    fn forget(&mut self)
+        ensures { self.new ≡ record self.old { account = record self.old.account { fresh = 0; missed = [] } } }
+    {
+        self.ledger.forget();
+    }
+}

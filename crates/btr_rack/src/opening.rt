@@ -1,0 +1,33 @@
+// What an opening asked for.
+ghost use Rattle.std.specs.Prelude.{◌≡◌, IfOk};
+ghost use Rattle.btr_rack.specs.Rack.{opening_of};
+
+use btr_base::Memory;
+use std::alloc::Global;
+use std::marker::Model;
+
+#[derive(Drop)]
+pub(crate) struct Opening {
+    name: String,
+    write: bool,
+}
+
+impl Model for Opening {
+    ghost use Rattle.std.specs.String.{string_bytes};
+    ghost use Rattle.btr_rack.specs.Rack.{Opening as Asked};
+
+    ghost Value = { Asked };
+
+    ghost view = { λ o. record { name = string_bytes o.name; write = o.write } };
+}
+
+impl Opening {
+    pub(crate) fn new(alloc: Global, name: &str, write: bool) -> Result<Opening, Memory>
+        ensures { IfOk result (λ opening. opening ≡ opening_of name.now write) }
+    {
+        match String::from_str(alloc, name) {
+            Ok(name) => Ok(Opening { name, write }),
+            Err(_) => Err(Memory),
+        }
+    }
+}

@@ -1,0 +1,64 @@
+// A sink of folders and files, as the engine sees it.
+ghost use Rattle.std.specs.Prelude.{◌≡◌, ◌≢◌, ◌<◌, ℕ, [], length, replicate};
+ghost use Rattle.btr_rack.specs.Out.{Counts};
+ghost use Rattle.btr_rack.specs.Sink.{Sink, NotStarted, BetweenFiles, InFile, Steps, Grows, IsSound, started, entered, left, begun, finished};
+
+use crate::SinkError;
+
+/// A sink of folders and files. They are made one after the other: a file is put together by `file`, `put` and
+/// `gap`, and is finished by `done`. A call that answers `Failed` is counted.
+pub trait TreeSink {
+    /// Where the sink stands, and what was written, where it tells that.
+    ghost sink: { Self → Sink };
+
+    /// How often a call failed.
+    ghost faults: { Self → ℕ };
+
+    /// Begins in the destination folder.
+    fn start(&mut self, name: &str) -> Result<(), SinkError>
+        requires { (sink self.old).stage ≡ NotStarted }
+        ensures step { Steps (sink self.old) (started name.now (sink self.old)) (sink self.new) result }
+        ensures faults { Counts (faults self.old) (faults self.new) result };
+
+    /// Makes a folder and enters it.
+    fn dir(&mut self, name: &str) -> Result<(), SinkError>
+        requires { (sink self.old).stage ≡ BetweenFiles }
+        ensures step { Steps (sink self.old) (entered name.now (sink self.old)) (sink self.new) result }
+        ensures faults { Counts (faults self.old) (faults self.new) result };
+
+    /// Leaves a folder.
+    fn up(&mut self) -> Result<(), SinkError>
+        requires between { (sink self.old).stage ≡ BetweenFiles }
+        requires below { 0 < (sink self.old).depth }
+        ensures step { Steps (sink self.old) (left (sink self.old)) (sink self.new) result }
+        ensures faults { Counts (faults self.old) (faults self.new) result };
+
+    /// Begins an empty file.
+    fn file(&mut self, name: &str) -> Result<(), SinkError>
+        requires { (sink self.old).stage ≡ BetweenFiles }
+        ensures step { Steps (sink self.old) (begun name.now (sink self.old)) (sink self.new) result }
+        ensures faults { Counts (faults self.old) (faults self.new) result };
+
+    /// Appends bytes to the file. After a refusal a first part of them may stand there.
+    fn put(&mut self, bytes: &[u8]) -> Result<(), SinkError>
+        requires begun { (sink self.old).stage ≡ InFile }
+        requires some { bytes.now ≢ [] }
+        ensures step { Grows bytes.now (sink self.old) (sink self.new) result }
+        ensures faults { Counts (faults self.old) (faults self.new) result };
+
+    /// Appends zeros to the file. After a refusal some of them may stand there.
+    fn gap(&mut self, count: u64) -> Result<(), SinkError>
+        requires begun { (sink self.old).stage ≡ InFile }
+        requires some { 0 < count }
+        ensures step { Grows (replicate count 0) (sink self.old) (sink self.new) result }
+        ensures faults { Counts (faults self.old) (faults self.new) result };
+
+    /// Finishes the file.
+    fn done(&mut self) -> Result<(), SinkError>
+        requires { (sink self.old).stage ≡ InFile }
+        ensures step { Steps (sink self.old) (finished (sink self.old)) (sink self.new) result }
+        ensures faults { Counts (faults self.old) (faults self.new) result };
+
+    /// A file is unfinished exactly in a file, and nothing was written before the start.
+    ghost sound: { (s : Self) → IsSound (sink s) };
+}
