@@ -1,0 +1,4 @@
+pub mod Reading
+pub mod Maximum
+pub mod Copies
+pub mod Looks

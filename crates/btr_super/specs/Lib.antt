@@ -1,0 +1,3 @@
+pub mod Super
+pub mod Newest
+pub mod Slot
