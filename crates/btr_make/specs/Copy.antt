@@ -1,0 +1,66 @@
+-- The bytes of a superblock copy: the table of its fields, in their order.
+use Rattle.std.specs.Prelude.{ℕ, List, [], ◌∷◌, ◌++◌, replicate, Option, Some, None}
+use Rattle.std.specs.Int.{w16, w32, w64, to_le_bytes}
+use Rattle.btr_base.specs.Sum.{kind_of_type, sum_of}
+use Rattle.btr_base.specs.declared.kind.SumKind.{SumKind}
+use Rattle.btr_super.specs.Super.{magic}
+use Rattle.btr_super.specs.declared.superblock.Super.{Super}
+
+-- bytes without a field
+unfoldable pub zeros : ℕ → List ℕ
+zeros n = replicate n 0
+
+-- a number of 8, 4 or 2 bytes
+unfoldable pub number_8 : ℕ → List ℕ
+number_8 n = to_le_bytes w64 n
+
+unfoldable pub number_4 : ℕ → List ℕ
+number_4 n = to_le_bytes w32 n
+
+unfoldable pub number_2 : ℕ → List ℕ
+number_2 n = to_le_bytes w16 n
+
+-- from 20h: whose copy this is, where it stands, and when it was written
+unfoldable pub ids : Super → ℕ → List ℕ
+ids s place = s.fsid ++ number_8 place ++ number_8 s.flags ++ magic ++ number_8 s.generation
+
+-- from 50h: where the trees begin
+unfoldable pub roots : Super → List ℕ
+roots s = number_8 s.root ++ number_8 s.chunk_root ++ number_8 s.log_root ++ zeros 8
+
+-- from 70h: how much there is
+unfoldable pub sizes : Super → List ℕ
+sizes s = number_8 s.total_bytes ++ number_8 s.bytes_used ++ number_8 s.root_dir ++ number_8 s.num_devices
+
+-- from 90h: the sizes of blocks and of the system array
+unfoldable pub geometry : Super → List ℕ
+geometry s = number_4 s.sectorsize ++ number_4 s.nodesize ++ number_4 s.leafsize ++ number_4 s.stripesize ++ number_4 s.sys_chunk_array_size ++ number_8 s.chunk_root_generation
+
+-- from ach: features, the checksum type, and the levels of the roots
+unfoldable pub features : Super → List ℕ
+features s = number_8 s.compat ++ number_8 s.compat_ro ++ number_8 s.incompat ++ number_2 s.csum_type ++ (s.root_level ∷ s.chunk_root_level ∷ s.log_root_level ∷ [])
+
+-- from c9h: the device that this image holds
+unfoldable pub device : Super → List ℕ
+device s = number_8 s.devid ++ zeros 58 ++ s.dev_uuid ++ zeros 16
+
+-- from 12bh: the label and the id in the headers of tree blocks
+unfoldable pub names : Super → List ℕ
+names s = s.label ++ zeros 16 ++ s.metadata_uuid ++ zeros 224
+
+-- from 32bh: the system array, to the copy's end
+unfoldable pub chunks : Super → List ℕ
+chunks s = s.array ++ zeros 1237
+
+-- what the checksum covers
+unfoldable pub super_body : Super → ℕ → List ℕ
+super_body s place = ids s place ++ roots s ++ sizes s ++ geometry s ++ features s ++ device s ++ names s ++ chunks s
+
+-- the 32 bytes of the checksum of what is behind them, of a kind that is supported or of none
+abbrev pub sum_before : Option SumKind → List ℕ → List ℕ
+sum_before None body = zeros 32
+sum_before (Some kind) body = (sum_of kind body).bytes
+
+-- the 4096 bytes of the copy that stands at a place
+unfoldable pub super_copy : Super → ℕ → List ℕ
+super_copy s place = sum_before (kind_of_type s.csum_type) (super_body s place) ++ super_body s place
