@@ -1,0 +1,268 @@
+-- How a run ends, by what its command came to and what was put.
+use Rattle.std.proofs.Common.{◌≡◌, ◌≢◌, ◌⊎◌, inl, inr, ⊎_elim, ℕ, ◌<◌, ◌≤◌, List, [], length, map, take, drop, String, ◌-◌, Option, Some, None, Result, Ok, Err, Vec, refl, sym, ap, ◌∙◌, subst, arith}
+use Rattle.std.specs.Option.{IfSome}
+use Rattle.std.specs.declared.alloc.Global.{Global}
+use Rattle.std.specs.String.{string_bytes}
+use Rattle.std.proofs.lemmas.List.{drop-map, take_rest}
+use Rattle.std.proofs.lemmas.Bool.{cases_lt}
+use Rattle.btr_rack.specs.Rack.{Slot, Account, Rose, Steady, NoneFailed, Shelf}
+use Rattle.btr_rack.specs.Out.{Adds}
+use Rattle.btr_super.specs.declared.superblock.Super.{Super}
+use Rattle.btr_tool.specs.Words.{Words, IsSentence, IsUsageAt, images_of}
+use Rattle.btr_tool.specs.Text.{super_text}
+use Rattle.btr_tool.specs.Answers.{error_line}
+use Rattle.btr_tool.specs.Causes.{OpeningFailed, ReadFailed, SuperCause, ImageCause, IsUnopened}
+use Rattle.btr_tool.specs.Puts.{IsPut, IsRefused, IsTold, IsMessage, IsSuperText, AddsPart}
+use Rattle.btr_tool.specs.Effects.{Effect, refused, IsEffect, HasEffect, IsDecided, FollowsWords, IsSuperEffect, HasTooMany, images_effect, most_images}
+use Rattle.btr_tool.specs.declared.plan.Command.TheVariants.{Super as super_command}
+use Rattle.btr_tool.specs.declared.plan.Plan.{Plan}
+use Rattle.btr_tool.specs.declared.answer.Answer.{Answer}
+use Rattle.btr_tool.specs.declared.answer.Answer.TheVariants.{Done, Usage, Limit, NoSuper, SumKind, ImageFault, OutFault, Memory}
+
+-- an answer that has a line
+abbrev pub IsRefusal : Answer → Type 0
+IsRefusal (Done skipped) = ⊥
+IsRefusal (Usage at) = Unit {0}
+IsRefusal (Limit which n) = Unit {0}
+IsRefusal (NoSuper slot) = Unit {0}
+IsRefusal (SumKind kind) = Unit {0}
+IsRefusal (ImageFault slot) = Unit {0}
+IsRefusal OutFault = ⊥
+IsRefusal Memory = Unit {0}
+
+-- how a put ended: with this answer, by a fault, or for want of memory
+abbrev pub Ends : ℕ → ℕ → Answer → Answer → Type 0
+Ends faults faults' answer result = (result ≡ answer) ⊎ ((result ≡ OutFault) × Rose faults faults') ⊎ (result ≡ Memory)
+
+steady_not_rose : (before now : ℕ) → Steady before now → Rose before now → ⊥
+steady_not_rose before now steady rose = omega (arith, steady.0, steady.1, rose.0, rose.1)
+
+module _ (old new : Option (List ℕ)) (faults faults' : ℕ) where
+  pub put_ends : (text : List ℕ) (answer result : Answer) → IsPut old new faults faults' text answer result → Ends faults faults' answer result
+  put_ends text answer result put = ⊎_elim (λ done. inl done.0) (λ rest. ⊎_elim (λ fault. inr (inl (fault.0, fault.1))) (λ memory. inr (inr memory.0)) rest) put
+
+  pub refused_ends : (answer result : Answer) → IsRefused old new faults faults' answer result → Ends faults faults' answer result
+  refused_ends answer result refusal =
+      ⊎_elim (put_ends (error_line answer) answer result) (λ put. ⊎_elim (λ done. inr (inr done)) (λ rest. inr rest) (put_ends (error_line Memory) Memory result put)) refusal
+
+  put_told : (text : List ℕ) (answer result : Answer) → IsMessage text → (Adds old new text → IsTold old new answer) → IsPut old new faults faults' text answer result → IsTold old new result
+  put_told text answer result message told put =
+      ⊎_elim (λ done. subst (IsTold old new) (sym done.0) (told done.1))
+      (λ rest. ⊎_elim (λ fault. subst (IsTold old new) (sym fault.0) (text, message, fault.2)) (λ memory. subst (IsTold old new) (sym memory.0) (inr (text, message, memory.1))) rest) put
+
+  line_told : (answer : Answer) → IsRefusal answer → Adds old new (error_line answer) → IsTold old new answer
+  line_told (Done skipped) is adds = absurd is
+  line_told (Usage at) is adds = adds
+  line_told (Limit which n) is adds = adds
+  line_told (NoSuper slot) is adds = adds
+  line_told (SumKind kind) is adds = adds
+  line_told (ImageFault slot) is adds = adds
+  line_told OutFault is adds = absurd is
+  line_told Memory is adds = inl adds
+
+  -- the superblock's text is told
+  pub shown_told : (text : List ℕ) (result : Answer) → IsSuperText text → IsPut old new faults faults' text (Done 0) result → IsTold old new result
+  shown_told text result is put = put_told text (Done 0) result (inl is) (λ adds. (is.0, is.1, subst (Adds old new) is.2 adds)) put
+
+  -- the line of a refusal is told
+  pub refused_told : (answer result : Answer) → IsRefusal answer → IsRefused old new faults faults' answer result → IsTold old new result
+  refused_told answer result is refusal =
+      ⊎_elim (put_told (error_line answer) answer result (inr (answer, refl)) (line_told answer is)) (put_told (error_line Memory) Memory result (inr (Memory, refl)) (line_told Memory tt)) refusal
+
+  module _ (steady : Steady faults faults') where
+    put_effect : (words : Words) (shelf : Shelf) (text : List ℕ) (answer result : Answer) → result ≢ Memory → IsEffect words shelf (record { answer = answer; text = text }) → IsPut old new faults faults' text answer result
+        → HasEffect words shelf old new result
+    put_effect words shelf text answer result enough is put =
+        ⊎_elim (λ done. record { effect = record { answer = answer; text = text }; is = is; answered = done.0; put = done.1 })
+        (λ rest. ⊎_elim (λ fault. absurd (steady_not_rose faults faults' steady fault.1)) (λ memory. absurd (enough memory.0)) rest) put
+
+    pub shown_effect : (words : Words) (shelf : Shelf) (text : List ℕ) (result : Answer) → result ≢ Memory → IsEffect words shelf (record { answer = Done 0; text = text }) → IsPut old new faults faults' text (Done 0) result
+        → HasEffect words shelf old new result
+    shown_effect words shelf text result enough is put = put_effect words shelf text (Done 0) result enough is put
+
+    -- want of memory ends otherwise
+    no_memory : (result : Answer) → result ≢ Memory → IsPut old new faults faults' (error_line Memory) Memory result → ⊥
+    no_memory result enough put = ⊎_elim (λ done. enough done.0) (λ rest. ⊎_elim (λ fault. steady_not_rose faults faults' steady fault.1) (λ memory. enough memory.0) rest) put
+
+    pub refused_effect : (words : Words) (shelf : Shelf) (answer result : Answer) → result ≢ Memory → IsEffect words shelf (refused answer) → IsRefused old new faults faults' answer result → HasEffect words shelf old new result
+    refused_effect words shelf answer result enough is refusal =
+        ⊎_elim (put_effect words shelf (error_line answer) answer result enough is) (λ put. absurd (no_memory result enough put)) refusal
+
+    pub memory_ends : (result : Answer) → result ≢ Memory → IsRefused old new faults faults' Memory result → ⊥
+    memory_ends result enough refusal = ⊎_elim (no_memory result enough) (no_memory result enough) refusal
+
+-- a fault of the output comes with its cause
+pub out_cause : (faults faults' : ℕ) (answer result : Answer) → answer ≢ OutFault → Ends faults faults' answer result → result ≡ OutFault → Rose faults faults'
+out_cause faults faults' answer result other ends is =
+    ⊎_elim (λ done. absurd (other (sym done ∙ is))) (λ rest. ⊎_elim (λ fault. fault.1) (λ memory. absurd (cc (sym memory ∙ is))) rest) ends
+
+pub refusal_not_out : (answer : Answer) → IsRefusal answer → answer ≢ OutFault
+refusal_not_out answer is e = subst IsRefusal e is
+
+pub one_of : (faults faults' : ℕ) (answer result : Answer) → Ends faults faults' answer result → (result ≡ answer) ⊎ (result ≡ OutFault) ⊎ (result ≡ Memory)
+one_of faults faults' answer result ends = ⊎_elim (λ done. inl done) (λ rest. ⊎_elim (λ fault. inr (inl fault.0)) (λ memory. inr (inr memory)) rest) ends
+
+-- words go wrong at one place only
+pub usage_once : (words : Words) (at other : ℕ) → IsUsageAt words at → IsUsageAt words other → at ≡ other
+usage_once words at other a b = of (le at other a b) (le other at b a)
+  where
+    of : at ≤ other → other ≤ at → at ≡ other
+    of x y = omega arith
+
+    le : (i j : ℕ) → IsUsageAt words i → IsUsageAt words j → i ≤ j
+    le i j x y = ⊎_elim (λ past. absurd (y.longest i past x.within x.begins)) (λ le. le) (cases_lt j i)
+
+-- words that are no sentence
+module _ (words : Words) (at : ℕ) (usage : IsUsageAt words at) where
+  pub usage_decided : (answer result : Answer) → IsDecided words answer → (result ≡ Usage at) ⊎ (result ≡ OutFault) ⊎ (result ≡ Memory) → (result ≡ answer) ⊎ (result ≡ OutFault) ⊎ (result ≡ Memory)
+  usage_decided (Usage other) result decided ends = ⊎_elim (λ is. inl (is ∙ ap (λ k. Usage k) (usage_once words at other usage decided))) (λ rest. inr rest) ends
+  usage_decided (Limit which n) result decided ends = absurd (usage.no_sentence decided.1.0 decided.1.1)
+  usage_decided (Done skipped) result decided ends = absurd decided
+  usage_decided (NoSuper slot) result decided ends = absurd decided
+  usage_decided (SumKind kind) result decided ends = absurd decided
+  usage_decided (ImageFault slot) result decided ends = absurd decided
+  usage_decided OutFault result decided ends = absurd decided
+  usage_decided Memory result decided ends = absurd decided
+
+-- a result that is none of those that the words alone decide, but for one
+follows : (words : Words) (answer result : Answer) → FollowsWords words answer → (result ≡ answer) ⊎ (result ≡ OutFault) ⊎ (result ≡ Memory) → FollowsWords words result
+follows words answer result of ends =
+    ⊎_elim (λ is. subst (FollowsWords words) (sym is) of) (λ rest. ⊎_elim (λ out. subst (FollowsWords words) (sym out) tt) (λ memory. subst (FollowsWords words) (sym memory) tt) rest) ends
+
+pub usage_follows : (words : Words) (at : ℕ) (result : Answer) → IsUsageAt words at → (result ≡ Usage at) ⊎ (result ≡ OutFault) ⊎ (result ≡ Memory) → FollowsWords words result
+usage_follows words at result usage ends = follows words (Usage at) result usage ends
+
+pub done_follows : (words : Words) (result : Answer) → (result ≡ Done 0) ⊎ (result ≡ OutFault) ⊎ (result ≡ Memory) → FollowsWords words result
+done_follows words result ends = follows words (Done 0) result tt ends
+
+-- no image is at fault where the answer is another one
+pub no_image : (answer result : Answer) (slot : ℕ) → ((other : ℕ) → answer ≢ ImageFault other) → (result ≡ answer) ⊎ (result ≡ OutFault) ⊎ (result ≡ Memory) → result ≡ ImageFault slot → ⊥
+no_image answer result slot other ends is =
+    ⊎_elim (λ done. other slot (sym done ∙ is)) (λ rest. ⊎_elim (λ out. cc (sym out ∙ is)) (λ memory. cc (sym memory ∙ is)) rest) ends
+
+-- words that are a sentence: their images
+module _ (words names : Words) (plan : Plan) (sentence : IsSentence plan words) (named : images_of plan words ≡ names) where
+  pub effect_is : (shelf : Shelf) (effect : Effect) → images_effect super_command names shelf ≡ Some effect → IsEffect words shelf effect
+  effect_is shelf effect is =
+      inr (plan, sentence, ap (λ (p : Plan). images_effect p.command (images_of plan words) shelf) sentence.0 ∙ ap (λ l. images_effect super_command l shelf) named ∙ is)
+
+  -- the one plan that the words have
+  same_images : (other : Plan) → IsSentence other words → images_of other words ≡ names
+  same_images other s = ap (λ p. images_of p words) (s.0 ∙ sym sentence.0) ∙ named
+
+  pub few_decided : (answer : Answer) → IsDecided words answer → length names ≤ most_images → ⊥
+  few_decided (Usage at) decided few = decided.no_sentence plan sentence
+  few_decided (Limit which n) decided few = let l = ap length (same_images decided.1.0 decided.1.1) in omega (arith, l, decided.1.2, decided.1.3)
+  few_decided (Done skipped) decided few = decided
+  few_decided (NoSuper slot) decided few = decided
+  few_decided (SumKind kind) decided few = decided
+  few_decided (ImageFault slot) decided few = decided
+  few_decided OutFault decided few = decided
+  few_decided Memory decided few = decided
+
+  pub limit_decided : (answer : Answer) (T : Type 0) (refusal : Answer) → IsDecided words answer → HasTooMany {T = T} names (Err refusal) → (answer ≡ refusal) × (most_images < length names)
+  limit_decided (Usage at) T refusal decided many = absurd (decided.no_sentence plan sentence)
+  limit_decided (Limit which n) T (Limit which' n') decided many =
+      let l = ap length (same_images decided.1.0 decided.1.1) in
+      (ap (λ w. Limit w n) (decided.0 ∙ sym many.0) ∙ ap (λ k. Limit which' k) (decided.1.2 ∙ l ∙ sym many.1), omega (arith, l, decided.1.2, decided.1.3))
+  limit_decided (Limit which n) T (NoSuper slot) decided many = absurd (few_decided (Limit which n) decided many)
+  limit_decided (Limit which n) T (SumKind kind) decided many = absurd (few_decided (Limit which n) decided many)
+  limit_decided (Limit which n) T (ImageFault slot) decided many = absurd (few_decided (Limit which n) decided many)
+  limit_decided (Limit which n) T Memory decided many = absurd (few_decided (Limit which n) decided many)
+  limit_decided (Limit which n) T (Done skipped) decided many = absurd many
+  limit_decided (Limit which n) T (Usage at) decided many = absurd many
+  limit_decided (Limit which n) T OutFault decided many = absurd many
+  limit_decided (Done skipped) T refusal decided many = absurd decided
+  limit_decided (NoSuper slot) T refusal decided many = absurd decided
+  limit_decided (SumKind kind) T refusal decided many = absurd decided
+  limit_decided (ImageFault slot) T refusal decided many = absurd decided
+  limit_decided OutFault T refusal decided many = absurd decided
+  limit_decided Memory T refusal decided many = absurd decided
+
+  limit_follows : (T : Type 0) (refusal : Answer) → HasTooMany {T = T} names (Err refusal) → FollowsWords words refusal
+  limit_follows T (Limit which n) many = (many.0, (plan, sentence, many.1 ∙ ap length (sym named), many.2))
+  limit_follows T (NoSuper slot) many = tt
+  limit_follows T (SumKind kind) many = tt
+  limit_follows T (ImageFault slot) many = tt
+  limit_follows T Memory many = tt
+  limit_follows T (Done skipped) many = absurd many
+  limit_follows T (Usage at) many = absurd many
+  limit_follows T OutFault many = absurd many
+
+  pub refusal_follows : (T : Type 0) (refusal result : Answer) → HasTooMany {T = T} names (Err refusal) → (result ≡ refusal) ⊎ (result ≡ OutFault) ⊎ (result ≡ Memory) → FollowsWords words result
+  refusal_follows T refusal result many ends = follows words refusal result (limit_follows T refusal many) ends
+
+-- what `super` did to the account
+module _ (T : Type 0) (names : Words) (slots : List Slot) (old new : Account) where
+  pub cause_refusal : (answer : Answer) → SuperCause {T = T} names slots old new (Err answer) → IsRefusal answer
+  cause_refusal (Limit which n) cause = tt
+  cause_refusal (NoSuper slot) cause = tt
+  cause_refusal (SumKind kind) cause = tt
+  cause_refusal (ImageFault slot) cause = tt
+  cause_refusal Memory cause = tt
+  cause_refusal (Done skipped) cause = absurd cause
+  cause_refusal (Usage at) cause = absurd cause
+  cause_refusal OutFault cause = absurd cause
+
+  -- an image that is at fault
+  pub image_cause : (words : Words) (plan : Plan) (answer result : Answer) (slot : ℕ) → IsSentence plan words → images_of plan words ≡ names → SuperCause {T = T} names slots old new (Err answer)
+      → (result ≡ answer) ⊎ (result ≡ OutFault) ⊎ (result ≡ Memory) → result ≡ ImageFault slot → ImageCause words slots old new slot
+  image_cause words plan answer result slot sentence named cause ends is =
+      ⊎_elim (λ done. record {
+        plan = plan;
+        sentence = sentence;
+        failed = subst (λ l. OpeningFailed l slots old new slot ⊎ ReadFailed old new slot) (sym named) (subst (λ a. SuperCause {T = T} names slots old new (Err a)) (sym done ∙ is) cause);
+      })
+      (λ rest. absurd (⊎_elim (λ out. cc (sym out ∙ is)) (λ memory. cc (sym memory ∙ is)) rest)) ends
+
+  shut_same : NoneFailed old new → old.shut < new.shut → ⊥
+  shut_same none more = omega (arith, none.shut)
+
+  -- an opening that failed
+  shut_opening : (answer result : Answer) → SuperCause {T = T} names slots old new (Err answer) → (result ≡ answer) ⊎ (result ≡ OutFault) ⊎ (result ≡ Memory) → old.shut < new.shut
+      → ((slot : ℕ) × (result ≡ ImageFault slot) × OpeningFailed names slots old new slot) ⊎ (result ≡ OutFault) ⊎ (result ≡ Memory)
+  shut_opening (Limit which n) result cause ends more = absurd (shut_same cause more)
+  shut_opening (NoSuper slot) result cause ends more = absurd (shut_same cause more)
+  shut_opening (SumKind kind) result cause ends more = absurd (shut_same cause more)
+  shut_opening (ImageFault slot) result cause ends more =
+      ⊎_elim (λ done. ⊎_elim (λ opening. inl (slot, done, opening)) (λ read. absurd (omega (arith, read.shut))) cause) (λ rest. inr rest) ends
+  shut_opening Memory result cause ends more = absurd (shut_same cause more)
+  shut_opening (Done skipped) result cause ends more = absurd cause
+  shut_opening (Usage at) result cause ends more = absurd cause
+  shut_opening OutFault result cause ends more = absurd cause
+
+  pub shut_cause : (words : Words) (plan : Plan) (answer result : Answer) → IsSentence plan words → images_of plan words ≡ names → SuperCause {T = T} names slots old new (Err answer)
+      → (result ≡ answer) ⊎ (result ≡ OutFault) ⊎ (result ≡ Memory) → old.shut < new.shut → ((slot : ℕ) × (result ≡ ImageFault slot) × IsUnopened words slots old new slot) ⊎ (result ≡ OutFault) ⊎ (result ≡ Memory)
+  shut_cause words plan answer result sentence named cause ends more =
+      ⊎_elim (λ failed. inl (failed.0, failed.1, record { plan = plan; sentence = sentence; failed = subst (λ l. OpeningFailed l slots old new failed.0) (sym named) failed.2 })) (λ rest. inr rest)
+      (shut_opening answer result cause ends more)
+
+  -- what `super` comes to, where nothing failed and memory sufficed
+  pub refusal_effect : (words : Words) (plan : Plan) (shelf : Shelf) (texts texts' : Option (List ℕ)) (faults faults' : ℕ) (answer result : Answer) → IsSentence plan words → images_of plan words ≡ names
+      → SuperCause {T = T} names slots old new (Err answer) → Steady old.faults new.faults → Steady faults faults' → result ≢ Memory → IsSuperEffect names shelf (Err answer)
+      → IsRefused texts texts' faults faults' answer result → HasEffect words shelf texts texts' result
+  refusal_effect words plan shelf texts texts' faults faults' (Limit which n) result sentence named cause still steady enough effect put =
+      refused_effect texts texts' faults faults' steady words shelf (Limit which n) result enough (effect_is words names plan sentence named shelf (refused (Limit which n)) effect) put
+  refusal_effect words plan shelf texts texts' faults faults' (NoSuper slot) result sentence named cause still steady enough effect put =
+      refused_effect texts texts' faults faults' steady words shelf (NoSuper slot) result enough (effect_is words names plan sentence named shelf (refused (NoSuper slot)) effect) put
+  refusal_effect words plan shelf texts texts' faults faults' (SumKind kind) result sentence named cause still steady enough effect put =
+      refused_effect texts texts' faults faults' steady words shelf (SumKind kind) result enough (effect_is words names plan sentence named shelf (refused (SumKind kind)) effect) put
+  refusal_effect words plan shelf texts texts' faults faults' (ImageFault slot) result sentence named cause still steady enough effect put =
+      absurd (⊎_elim (λ opening. steady_not_rose old.faults new.faults still opening.faults) (λ read. steady_not_rose old.faults new.faults still read.faults) cause)
+  refusal_effect words plan shelf texts texts' faults faults' Memory result sentence named cause still steady enough effect put = absurd (memory_ends texts texts' faults faults' steady result enough put)
+  refusal_effect words plan shelf texts texts' faults faults' (Done skipped) result sentence named cause still steady enough effect put = absurd effect
+  refusal_effect words plan shelf texts texts' faults faults' (Usage at) result sentence named cause still steady enough effect put = absurd effect
+  refusal_effect words plan shelf texts texts' faults faults' OutFault result sentence named cause still steady enough effect put = absurd effect
+
+-- a clause on what may not be told
+pub when_told : {X : Type 0} (o : Option X) (P Q : X → Type 0) → IfSome o P → ((x : X) → P x → Q x) → IfSome o Q
+when_told None P Q p f = tt
+when_told (Some x) P Q p f = f x p
+
+pub all_told : {X : Type 0} (o : Option X) (Q : X → Type 0) → ((x : X) → Q x) → IfSome o Q
+all_told None Q f = tt
+all_told (Some x) Q f = f x
+
+-- the names of the images, as a part of the words
+pub names_are : (xs : List (String Global)) (k : ℕ) → drop k (map string_bytes xs) ≡ map string_bytes (take (length xs - k) (drop k xs))
+names_are xs k = drop-map string_bytes k xs ∙ ap (map string_bytes) (sym (take_rest xs k))

@@ -1,0 +1,23 @@
+use Rattle.std.proofs.Common.{◌≡◌, ◌∙◌, length, Ok, Err, refl, sym, ap, subst, arith}
+use Rattle.std.specs.Option.{IfSome}
+use Rattle.btr_tool.specs.Images.{Reads}
+use Rattle.btr_tool.specs.Causes.{ReadingCause}
+use Rattle.btr_tool.proofs.Causing.{none_failed_yet}
+use Rattle.btr_tool.proofs.Readings.{Found, ReadSoFar, none_read, read_more, read_fault, read_all, read_cause}
+use Rattle.btr_tool.proofs.images.read_supers.Goals as goal
+
+pub loop-slot-init : goal.loop-slot-init
+loop-slot-init g c = record {
+  slots = refl;
+  held = refl;
+  account = none_failed_yet (g.R.Rack.account c.args.rack.now);
+  count = ap length c.new-supers.ensures.items;
+  supers = subst (λ l. ReadSoFar (g.R.Rack.held c.args.rack.now) l 0) (sym c.new-supers.ensures.items) (none_read (g.R.Rack.held c.args.rack.now));
+}
+
+pub returns-in-Err-clause-supers : goal.returns-in-Err-clause-supers
+returns-in-Err-clause-supers g c =
+    let held = g.R.Rack.held c.args.rack.now in
+    subst (λ a. IfSome held (λ images. Reads images (Err a))) (sym c.slot_refusal.ensures)
+    (read_fault (g.R.Rack.slots c.args.rack.now) c.loop-slot.supers.items c.loop-slot.slot (omega (arith, c.count-slot-end.ensures)) held c.in-Err.fault (g.met.R.Rack.sized c.args.rack.now)
+    c.loop-slot.invariant.supers (subst (λ h. Found h c.loop-slot.slot (Err c.in-Err.fault)) c.loop-slot.invariant.held c.in-Err.ensures.answer))

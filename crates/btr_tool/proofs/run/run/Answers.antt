@@ -1,0 +1,56 @@
+use Rattle.std.proofs.Common.{◌≡◌, ℕ, List, Option, Ok, Err, Vec, map, refl, ap, subst, inl, inr}
+use Rattle.std.specs.String.{string_bytes}
+use Rattle.std.specs.declared.alloc.Global.{Global}
+use Rattle.btr_tool.specs.Effects.{IsSuperEffect}
+use Rattle.btr_tool.specs.Puts.{IsPut}
+use Rattle.btr_tool.specs.declared.answer.Answer.TheVariants.{Done, Usage}
+use Rattle.btr_tool.proofs.Ending.{all_told, when_told, names_are, refused_effect, refused_told, refused_ends, one_of, shown_effect, shown_told, effect_is, cause_refusal, shut_cause, refusal_effect}
+use Rattle.btr_tool.proofs.run.run.Goals as goal
+
+pub returns-in-Err-clause-effect : goal.returns-in-Err-clause-effect
+returns-in-Err-clause-effect g c =
+    all_told (g.R.Rack.shelf c.args.rack.now) _ (λ shelf still steady enough.
+    refused_effect (g.O.Out.text c.args.out.now) (g.O.Out.text c.refuse.new.out) (g.O.Out.faults c.args.out.now) (g.O.Out.faults c.refuse.new.out) steady (map string_bytes c.args.words.now) shelf (Usage c.in-Err.at) c.refuse.result enough
+    (inl (c.in-Err.at, c.in-Err.ensures.usage, refl)) c.refuse.ensures)
+
+pub returns-in-Err-clause-told : goal.returns-in-Err-clause-told
+returns-in-Err-clause-told g c =
+    refused_told (g.O.Out.text c.args.out.now) (g.O.Out.text c.refuse.new.out) (g.O.Out.faults c.args.out.now) (g.O.Out.faults c.refuse.new.out) (Usage c.in-Err.at) c.refuse.result tt c.refuse.ensures
+
+pub returns-in-Ok-superblock_text-clause-effect : goal.returns-in-Ok-superblock_text-clause-effect
+returns-in-Ok-superblock_text-clause-effect g c =
+    let items = c.in-Ok-superblock_text.text.items in
+    let shown : IsPut (g.O.Out.text c.args.out.now) (g.O.Out.text c.put.new.out) (g.O.Out.faults c.args.out.now) (g.O.Out.faults c.put.new.out) items (Done 0) c.put.result =
+    subst (λ l. IsPut (g.O.Out.text c.args.out.now) (g.O.Out.text c.put.new.out) (g.O.Out.faults c.args.out.now) (g.O.Out.faults c.put.new.out) l (Done 0) c.put.result) c.deref.ensures.value c.put.ensures in
+    when_told (g.R.Rack.shelf c.args.rack.now) _ _ c.in-Ok-superblock_text.ensures.effect (λ shelf effect still steady enough.
+    shown_effect (g.O.Out.text c.args.out.now) (g.O.Out.text c.put.new.out) (g.O.Out.faults c.args.out.now) (g.O.Out.faults c.put.new.out) steady (map string_bytes c.args.words.now) shelf items c.put.result enough
+    (effect_is (map string_bytes c.args.words.now) _ c.in-Ok.plan c.in-Ok.ensures.sentence (names_are c.args.words.now c.in-Ok.plan.images) shelf (record { answer = Done 0; text = items }) effect) shown)
+
+pub returns-in-Ok-superblock_text-clause-told : goal.returns-in-Ok-superblock_text-clause-told
+returns-in-Ok-superblock_text-clause-told g c =
+    shown_told (g.O.Out.text c.args.out.now) (g.O.Out.text c.put.new.out) (g.O.Out.faults c.args.out.now) (g.O.Out.faults c.put.new.out) c.in-Ok-superblock_text.text.items c.put.result c.in-Ok-superblock_text.ensures.shown
+    (subst (λ l. IsPut (g.O.Out.text c.args.out.now) (g.O.Out.text c.put.new.out) (g.O.Out.faults c.args.out.now) (g.O.Out.faults c.put.new.out) l (Done 0) c.put.result) c.deref.ensures.value c.put.ensures)
+
+pub returns-in-Err-superblock_text-clause-effect : goal.returns-in-Err-superblock_text-clause-effect
+returns-in-Err-superblock_text-clause-effect g c =
+    when_told (g.R.Rack.shelf c.args.rack.now) _ _ c.in-Err-superblock_text.ensures.effect (λ shelf effect still steady enough.
+    refusal_effect (Vec ℕ Global) _ (g.R.Rack.slots c.superblock_text.new.rack) (g.R.Rack.account c.args.rack.now) (g.R.Rack.account c.superblock_text.new.rack) (map string_bytes c.args.words.now) c.in-Ok.plan shelf
+    (g.O.Out.text c.args.out.now) (g.O.Out.text c.refuse-in-Err-superblock_text.new.out) (g.O.Out.faults c.args.out.now) (g.O.Out.faults c.refuse-in-Err-superblock_text.new.out)
+    c.in-Err-superblock_text.answer c.refuse-in-Err-superblock_text.result c.in-Ok.ensures.sentence (names_are c.args.words.now c.in-Ok.plan.images)
+    c.in-Err-superblock_text.ensures.cause still steady enough effect c.refuse-in-Err-superblock_text.ensures)
+
+pub returns-in-Err-superblock_text-clause-shut : goal.returns-in-Err-superblock_text-clause-shut
+returns-in-Err-superblock_text-clause-shut g c =
+    let faults = g.O.Out.faults c.args.out.now in
+    let faults' = g.O.Out.faults c.refuse-in-Err-superblock_text.new.out in
+    shut_cause (Vec ℕ Global) _ (g.R.Rack.slots c.superblock_text.new.rack) (g.R.Rack.account c.args.rack.now) (g.R.Rack.account c.superblock_text.new.rack) (map string_bytes c.args.words.now) c.in-Ok.plan
+    c.in-Err-superblock_text.answer c.refuse-in-Err-superblock_text.result c.in-Ok.ensures.sentence (names_are c.args.words.now c.in-Ok.plan.images) c.in-Err-superblock_text.ensures.cause
+    (one_of faults faults' c.in-Err-superblock_text.answer c.refuse-in-Err-superblock_text.result
+    (refused_ends (g.O.Out.text c.args.out.now) (g.O.Out.text c.refuse-in-Err-superblock_text.new.out) faults faults' c.in-Err-superblock_text.answer c.refuse-in-Err-superblock_text.result c.refuse-in-Err-superblock_text.ensures))
+
+pub returns-in-Err-superblock_text-clause-told : goal.returns-in-Err-superblock_text-clause-told
+returns-in-Err-superblock_text-clause-told g c =
+    refused_told (g.O.Out.text c.args.out.now) (g.O.Out.text c.refuse-in-Err-superblock_text.new.out) (g.O.Out.faults c.args.out.now) (g.O.Out.faults c.refuse-in-Err-superblock_text.new.out)
+    c.in-Err-superblock_text.answer c.refuse-in-Err-superblock_text.result
+    (cause_refusal (Vec ℕ Global) _ (g.R.Rack.slots c.superblock_text.new.rack) (g.R.Rack.account c.args.rack.now) (g.R.Rack.account c.superblock_text.new.rack) c.in-Err-superblock_text.answer c.in-Err-superblock_text.ensures.cause)
+    c.refuse-in-Err-superblock_text.ensures

@@ -1,0 +1,65 @@
+// Opening the images that the words name, and reading their superblocks.
+ghost use Rattle.std.specs.Prelude.{◌≡◌, ◌<◌, [], map, length, IfSome, IfOk, OnOk};
+ghost use Rattle.std.specs.String.{string_bytes};
+ghost use Rattle.btr_tool.specs.Images.{OpensAll, Reads, refusal_of};
+ghost use Rattle.btr_tool.specs.Causes.{OpeningCause, ReadingCause};
+
+use crate::answer::Answer;
+use btr_rack::{Rack, RackError};
+use btr_super::{SlotFault, Super, read_slot};
+use std::alloc::Global;
+
+/// Opens the named images in order, each in the next slot, only to be read.
+///
+/// `ImageFault` names the first image that can't be opened; `Memory` comes for want of it.
+pub(crate) fn open_images<R: Rack>(names: &[String], rack: &mut R) -> Result<(), Answer>
+    requires empty { R.slots rack.old ≡ [] }
+    requires some { 0 < length names.now }
+    ensures images { OpensAll (map string_bytes names.now) (R.shelf rack.old) (R.held rack.new) result }
+    ensures cause { OpeningCause (map string_bytes names.now) (R.slots rack.new) (R.account rack.old) (R.account rack.new) result }
+    ensures count { OnOk result (length (R.slots rack.new) ≡ length names.now) }
+{
+    for (slot, name) in names.iter().enumerate() {
+        match rack.open(name.as_str(), false) {
+            Ok(_) => {}
+            Err(RackError::Failed) => return Err(Answer::ImageFault(slot)),
+            Err(RackError::Memory) => return Err(Answer::Memory),
+        }
+    }
+    Ok(())
+}
+
+/// The superblocks of the open images, one a slot.
+///
+/// `NoSuper` and `SumKind` speak of the first image without a valid copy, `ImageFault` names the first
+/// image of which a read failed, and `Memory` comes for want of it.
+pub(crate) fn read_supers<R: Rack>(alloc: Global, rack: &mut R) -> Result<Vec<Super>, Answer>
+    ensures supers { IfSome (R.held rack.old) (λ images. Reads images result) }
+    ensures cause { ReadingCause (R.account rack.old) (R.account rack.new) result }
+    ensures slots { R.slots rack.new ≡ R.slots rack.old }
+    ensures held { R.held rack.new ≡ R.held rack.old }
+    ensures count { IfOk result (λ supers. length supers.items ≡ length (R.slots rack.old)) }
+{
+    let mut supers = Vec::new(alloc);
+    for slot in 0..rack.count() {
+        let found = match read_slot(rack, slot) {
+            Ok(found) => found,
+            Err(fault) => return Err(slot_refusal(slot, fault)),
+        };
+        if supers.push(found).is_err() {
+            return Err(Answer::Memory);
+        }
+    }
+    Ok(supers)
+}
+
+// What is answered where a slot has no superblock.
+fn slot_refusal(slot: usize, fault: SlotFault) -> Answer
+    ensures { result ≡ refusal_of slot fault }
+{
+    match fault {
+        SlotFault::Failed => Answer::ImageFault(slot),
+        SlotFault::SumKind(kind) => Answer::SumKind(kind),
+        SlotFault::NoSuper => Answer::NoSuper(slot),
+    }
+}

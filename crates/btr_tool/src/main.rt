@@ -1,0 +1,34 @@
+//! The program: the words of the command line, the top call and its answers, and their texts.
+//!
+//! `run` is the top call, and its contract is the program's: the answer and the text put are those of
+//! the words and the images (`specs/Effects.antt`), and a fault of the outside is answered only with its
+//! cause (`specs/Causes.antt`). `specs/Words.antt` has the sentences, `specs/Text.antt` the texts.
+#![tactic(auto)]
+
+mod answer;
+mod images;
+mod plan;
+mod progress;
+mod refusal;
+mod run;
+#[cfg(test)]
+mod tests;
+mod text;
+mod words;
+
+use answer::Answer;
+use btr_rack::{FileRack, Out, StdOut};
+use std::process::ExitCode;
+
+fn main(rt: HostRuntime) -> ExitCode {
+    let alloc = rt.alloc();
+    let mut out = StdOut::new(&rt);
+    let answer = match words::words(&rt, alloc) {
+        Ok(words) => run::run(alloc, &words, &mut FileRack::new(&rt, alloc), &mut out),
+        Err(_) => match out.put(refusal::NO_MEMORY) {
+            Ok(()) => Answer::Memory,
+            Err(_) => Answer::OutFault,
+        },
+    };
+    ExitCode::from(answer.code())
+}

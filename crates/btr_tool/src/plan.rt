@@ -1,0 +1,41 @@
+// The words of the command line, as a plan.
+ghost use Rattle.std.specs.Prelude.{◌≡◌, IfOk, IfErr, map};
+ghost use Rattle.std.specs.String.{string_bytes};
+ghost use Rattle.btr_tool.specs.Words.{IsSentence, IsUsageAt};
+
+use crate::progress::Progress;
+
+/// What the program is to do.
+#[derive(Clone, Copy, Debug, PartialEq, Eq)]
+pub enum Command {
+    /// `super`: print the newest valid superblock.
+    Super,
+}
+
+/// A command, and the number of the first word that names an image.
+#[derive(Clone, Copy, Debug, PartialEq, Eq)]
+pub struct Plan {
+    pub command: Command,
+    pub images: usize,
+}
+
+impl Plan {
+    /// The plan of a sentence. The error is the number of the first word that no sentence has at
+    /// its place behind the words before it, or the number of words where more are missing.
+    pub fn parse(words: &[String]) -> Result<Plan, usize>
+        ensures sentence { IfOk result (λ plan. IsSentence plan (map string_bytes words.now)) }
+        ensures usage { IfErr result (λ at. IsUsageAt (map string_bytes words.now) at) }
+    {
+        let mut progress = Progress::Start;
+        for (at, word) in words.iter().enumerate() {
+            progress = match progress.behind(word.as_str()) {
+                Some(next) => next,
+                None => return Err(at),
+            };
+        }
+        match progress.plan() {
+            Some(plan) => Ok(plan),
+            None => Err(words.len()),
+        }
+    }
+}

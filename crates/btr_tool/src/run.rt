@@ -1,0 +1,99 @@
+// The top call.
+ghost use Rattle.std.specs.Prelude.{◌≡◌, ◌≢◌, ◌⊎◌, ◌<◌, [], ℕ, map, length, IfOk, IfSome};
+ghost use Rattle.std.specs.String.{string_bytes};
+ghost use Rattle.btr_rack.specs.Rack.{Rose, Steady};
+ghost use Rattle.btr_tool.specs.Effects.{HasEffect, IsDecided, FollowsWords, IsSuperEffect, HasTooMany, most_images};
+ghost use Rattle.btr_tool.specs.Causes.{ImageCause, IsUnopened, SuperCause};
+ghost use Rattle.btr_tool.specs.Puts.{IsPut, IsRefused, IsTold, IsSuperText};
+
+use crate::answer::{Answer, Which};
+use crate::images::{open_images, read_supers};
+use crate::plan::Plan;
+use crate::refusal::{NO_MEMORY, refusal};
+use crate::text::super_lines;
+use btr_rack::{Out, Rack, SinkError};
+use btr_super::choose;
+use std::alloc::Global;
+
+const MOST_IMAGES: usize = 64;
+
+/// Does what the words say over the images of the rack, puts its text, and answers how it ended.
+///
+/// Words that are no sentence and more than 64 images are refused before any call on the rack. The
+/// last thing put for a refusal is its error line.
+pub fn run<R: Rack, O: Out>(alloc: Global, words: &[String], rack: &mut R, out: &mut O) -> Answer
+    requires { R.slots rack.old ≡ [] }
+
+    // Where no call failed and memory sufficed, the answer and the text are those of the words and the images.
+    ensures effect { IfSome (R.shelf rack.old) (λ shelf. Steady (R.account rack.old).faults (R.account rack.new).faults → Steady (O.faults out.old) (O.faults out.new)
+        → result ≢ Answer.Memory → HasEffect (map string_bytes words.now) shelf (O.text out.old) (O.text out.new) result) }
+
+    // What the words alone decide is answered before any call on the rack, and only then.
+    ensures decided { (answer : Answer) → IsDecided (map string_bytes words.now) answer → (rack.new ≡ rack.old) × ((result ≡ answer) ⊎ (result ≡ Answer.OutFault) ⊎ (result ≡ Answer.Memory)) }
+    ensures stated { FollowsWords (map string_bytes words.now) result }
+
+    // A fault of an image or of the output is answered only where a call on it failed.
+    ensures image { (slot : ℕ) → result ≡ Answer.ImageFault slot → ImageCause (map string_bytes words.now) (R.slots rack.new) (R.account rack.old) (R.account rack.new) slot }
+    ensures shut { (R.account rack.old).shut < (R.account rack.new).shut
+        → ((slot : ℕ) × (result ≡ Answer.ImageFault slot) × IsUnopened (map string_bytes words.now) (R.slots rack.new) (R.account rack.old) (R.account rack.new) slot) ⊎ (result ≡ Answer.OutFault) ⊎ (result ≡ Answer.Memory) }
+    ensures out { result ≡ Answer.OutFault → Rose (O.faults out.old) (O.faults out.new) }
+
+    // What stands in the output after each answer.
+    ensures told { IsTold (O.text out.old) (O.text out.new) result }
+{
+    let plan = match Plan::parse(words) {
+        Ok(plan) => plan,
+        Err(at) => return refuse(alloc, Answer::Usage(at), out),
+    };
+    match superblock_text(alloc, &words[plan.images..], rack) {
+        Ok(text) => put(&text, Answer::Done { skipped: 0 }, out),
+        Err(answer) => refuse(alloc, answer, out),
+    }
+}
+
+// The text of the newest superblock of the named images.
+fn superblock_text<R: Rack>(
+    alloc: Global,
+    names: &[String],
+    rack: &mut R,
+) -> Result<Vec<u8>, Answer>
+    requires empty { R.slots rack.old ≡ [] }
+    requires some { 0 < length names.now }
+    ensures effect { IfSome (R.shelf rack.old) (λ shelf. IsSuperEffect (map string_bytes names.now) shelf result) }
+    ensures cause { SuperCause (map string_bytes names.now) (R.slots rack.new) (R.account rack.old) (R.account rack.new) result }
+    ensures shown { IfOk result (λ text. IsSuperText text.items) }
+    ensures limit { HasTooMany (map string_bytes names.now) result }
+    ensures early { most_images < length names.now → rack.new ≡ rack.old }
+{
+    if names.len() > MOST_IMAGES {
+        return Err(Answer::Limit(Which::Images, names.len() as u64));
+    }
+    open_images(names, rack)?;
+    let supers = read_supers(alloc, rack)?;
+    let slot = choose(&supers);
+    match super_lines(alloc, slot, &supers[slot]) {
+        Ok(text) => Ok(text),
+        Err(_) => Err(Answer::Memory),
+    }
+}
+
+// Puts the line of a refusal, and answers it.
+fn refuse<O: Out>(alloc: Global, answer: Answer, out: &mut O) -> Answer
+    ensures { IsRefused (O.text out.old) (O.text out.new) (O.faults out.old) (O.faults out.new) answer result }
+{
+    match refusal(alloc, answer) {
+        Ok(line) => put(&line, answer, out),
+        Err(_) => put(NO_MEMORY, Answer::Memory, out),
+    }
+}
+
+// Puts a text, and answers that it was done.
+fn put<O: Out>(text: &[u8], answer: Answer, out: &mut O) -> Answer
+    ensures { IsPut (O.text out.old) (O.text out.new) (O.faults out.old) (O.faults out.new) text.now answer result }
+{
+    match out.put(text) {
+        Ok(()) => answer,
+        Err(SinkError::Failed) => Answer::OutFault,
+        Err(SinkError::Memory) => Answer::Memory,
+    }
+}
