@@ -1,5 +1,5 @@
-// Bodies of items, from filesystems that mkfs.btrfs and the kernel made; four that those lacked were put into a
-// leaf. `btrfs inspect-internal dump-tree` shows each as the tests expect it.
+// Bodies of items: 22 from filesystems that mkfs.btrfs and the kernel made, and seven that those lacked, put into a leaf
+// of one of them. `btrfs inspect-internal dump-tree` shows each as the tests expect it.
 
 /// An inode without checksums.
 pub(crate) const FILE: &[u8; 160] =
