@@ -1,0 +1,11 @@
+pub mod Additions
+pub mod Arrays
+pub mod Bytes
+pub mod Overlaps
+pub mod Places
+pub mod Ranges
+pub mod Rows
+pub mod Rule
+pub mod Searches
+pub mod Tables
+pub mod Values

@@ -1,0 +1,73 @@
+-- How a table is kept: its chunks by their starts, and the ranges of devices that their stripes take up.
+use Rattle.std.specs.Prelude.{◌≡◌, ◌≢◌, ℕ, ◌<◌, ◌≤◌, true, false, Option, Some, None, slice_get}
+use Rattle.std.specs.Ordering.{nat_cmp}
+use Rattle.std.specs.BTreeMap.{BTreeMap, IsOrdered, get, btree_map_len}
+use Rattle.btr_chunk.specs.declared.stripe.Stripe.{Stripe}
+use Rattle.btr_chunk.specs.declared.place.Place.{Place}
+use Rattle.btr_chunk.specs.declared.chunk.Chunk.{Chunk}
+use Rattle.btr_chunk.specs.Chunk.{IsChunk, stripe_length}
+use Rattle.btr_chunk.specs.Table.{chunks_meet, some_meet}
+use Rattle.btr_chunk.specs.Extents.{extent_of, ranges_meet, SomeMeets, NoneMeets}
+
+-- the chunk that starts at an address
+abbrev pub start_of : BTreeMap ℕ Chunk → ℕ → Option Chunk
+start_of chunks start = get nat_cmp chunks start
+
+-- a range of a device is that of a stripe of a chunk
+pub record IsStripe (f : ℕ → Option Chunk) (place : Place) (taken : ℕ) : Type 0 where
+  pub start : ℕ
+  pub chunk : Chunk
+  pub chunk_there : f start ≡ Some chunk
+  pub number : ℕ
+  pub stripe : Stripe
+  pub stripe_there : slice_get chunk.stripes number ≡ Some stripe
+  pub at : place ≡ record { devid = stripe.devid; offset = stripe.offset }
+  pub long : taken ≡ stripe_length chunk
+
+-- chunks by their starts: each keeps the rule, and no two share an address or a byte
+pub record AreChunks (f : ℕ → Option Chunk) : Type 0 where
+  pub keyed : (k : ℕ) (c : Chunk) → f k ≡ Some c → c.start ≡ k
+  pub sound : (k : ℕ) (c : Chunk) → f k ≡ Some c → IsChunk c
+  pub spread : (k : ℕ) (c : Chunk) → f k ≡ Some c → some_meet (stripe_length c) c.stripes ≡ false
+  pub apart : (k l : ℕ) (c d : Chunk) → f k ≡ Some c → f l ≡ Some d → k ≢ l → chunks_meet c d ≡ false
+
+-- ranges of devices: those of the chunks' stripes, and no others
+pub record AreStripes (f : ℕ → Option Chunk) (g : Place → Option ℕ) : Type 0 where
+  pub listed : (k : ℕ) (c : Chunk) (i : ℕ) (s : Stripe) → f k ≡ Some c → slice_get c.stripes i ≡ Some s → g (record { devid = s.devid; offset = s.offset }) ≡ Some (stripe_length c)
+  pub owned : (place : Place) (taken : ℕ) → g place ≡ Some taken → IsStripe f place taken
+
+-- what the two maps of a table keep
+pub record IsIndexed (starts : BTreeMap ℕ Chunk) (extents : BTreeMap Place ℕ) : Type 0 where
+  pub chunks : AreChunks (start_of starts)
+  pub stripes : AreStripes (start_of starts) (extent_of extents)
+  pub ordered : IsOrdered nat_cmp starts
+  pub few : btree_map_len starts ≤ 65536
+
+-- the last chunk that starts at or before an address
+pub record IsLast (f : ℕ → Option Chunk) (addr : ℕ) (chunk : Chunk) : Type 0 where
+  pub start : ℕ
+  pub there : f start ≡ Some chunk
+  pub before : start ≤ addr
+  pub last : (k : ℕ) → start < k → k ≤ addr → f k ≡ None
+
+-- a chunk shares a logical address with one of the chunks
+pub record SharesAddress (f : ℕ → Option Chunk) (chunk : Chunk) : Type 0 where
+  pub start : ℕ
+  pub other : Chunk
+  pub there : f start ≡ Some other
+  pub meets : ranges_meet chunk.start chunk.length other.start other.length ≡ true
+
+-- it shares none with any of them
+abbrev pub SharesNone : (ℕ → Option Chunk) → Chunk → Type 0
+SharesNone f chunk = (k : ℕ) (c : Chunk) → f k ≡ Some c → ranges_meet chunk.start chunk.length c.start c.length ≡ false
+
+-- a stripe of a chunk shares a byte with one of the ranges of devices
+pub record SharesRange (g : Place → Option ℕ) (chunk : Chunk) : Type 0 where
+  pub number : ℕ
+  pub stripe : Stripe
+  pub there : slice_get chunk.stripes number ≡ Some stripe
+  pub range : SomeMeets g (stripe_length chunk) stripe
+
+-- none does
+abbrev pub SharesNoRange : (Place → Option ℕ) → Chunk → Type 0
+SharesNoRange g chunk = (i : ℕ) (s : Stripe) → slice_get chunk.stripes i ≡ Some s → NoneMeets g (stripe_length chunk) s
