@@ -1,5 +1,5 @@
 -- The calls of a sink or an output in memory.
-use Rattle.std.specs.Prelude.{◌≡◌, ℕ, Bool, true, false, ◌==◌, List, [], Result, Ok, Err}
+use Rattle.std.specs.Prelude.{◌≡◌, ℕ, Bool, true, false, ◌==◌, List, [], ◌∷◌, ◌++◌, Result, Ok, Err}
 use Rattle.std.specs.List.{list_any}
 use Rattle.btr_rack.specs.declared.error.SinkError.{SinkError}
 use Rattle.btr_rack.specs.declared.error.SinkError.TheVariants.{Failed, Memory}
@@ -13,6 +13,10 @@ pub record CallCount : Type 0 where
 
 abbrev pub no_calls : CallCount
 no_calls = record { made = 0; failing = []; faults = 0 }
+
+-- with one more call that is to fail
+abbrev pub failing_call : ℕ → CallCount → CallCount
+failing_call n c = record c { failing = c.failing ++ n ∷ [] }
 
 -- the next call is to fail
 abbrev pub strikes : CallCount → Bool

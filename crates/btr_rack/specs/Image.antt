@@ -1,12 +1,12 @@
 -- An image in memory.
-use Rattle.std.specs.Prelude.{ℕ, ◌+◌, ◌-◌, ◌/◌, ◌%◌, Bool, if◌then◌else◌, nat_lt, Bool, false, List, [], length, map, slice_index, Option}
+use Rattle.std.specs.Prelude.{◌≡◌, ℕ, ◌+◌, ◌-◌, ◌/◌, ◌%◌, Bool, if◌then◌else◌, nat_lt, Bool, false, List, [], length, map, slice_index, Option}
 use Rattle.std.specs.Option.{option_map_or}
 use Rattle.std.specs.List.{range_with_len}
 use Rattle.std.specs.Ordering.{nat_cmp}
 use Rattle.std.specs.Map.{lookup}
 use Rattle.std.specs.BTreeMap.{is_at}
 use Rattle.std.specs.Str.{bytes_eq}
-use Rattle.btr_rack.specs.Rack.{Slot}
+use Rattle.btr_rack.specs.Rack.{Slot, pasted}
 
 -- the pages that are kept, each of 4096 bytes, by their numbers
 abbrev pub Pages : Type 0
@@ -48,3 +48,11 @@ is_named name image = bytes_eq image.slot.name name
 -- the byte at a place i, after a piece was written over those from `at` on
 abbrev pub patched : ℕ → ℕ → List ℕ → ℕ → ℕ
 patched old at piece i = if nat_lt i at then old else if nat_lt i (at + length piece) then slice_index piece (i - at) else old
+
+-- a piece was written over the bytes from `off` on
+abbrev pub Patches : Pages → Pages → ℕ → List ℕ → Type 0
+Patches old new off piece = (i : ℕ) → page_byte new i ≡ patched (page_byte old i) off piece i
+
+-- some n bytes were written over those from `off` on
+abbrev pub PastesSome : List ℕ → List ℕ → ℕ → ℕ → Type 0
+PastesSome old new off n = (some : List ℕ) × (length some ≡ n) × (new ≡ pasted old off some)

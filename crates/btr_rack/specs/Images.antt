@@ -1,6 +1,6 @@
 -- What the steps of a rack in memory do to its images.
-use Rattle.std.specs.Prelude.{◌≡◌, ℕ, ◌+◌, ◌^◌, ◌<◌, ◌≤◌, Bool, true, false, List, length, replicate, slice_index_or, slice_set, Option, Some, None, Result, Ok, Err}
-use Rattle.std.specs.List.{position_or_len, insert, remove}
+use Rattle.std.specs.Prelude.{◌≡◌, ℕ, ◌+◌, ◌^◌, ◌<◌, ◌≤◌, Bool, true, false, List, length, take, drop, if◌then◌else◌, replicate, slice_index_or, slice_set, Option, Some, None, Result, Ok, Err}
+use Rattle.std.specs.List.{list_any, position, position_or_len, insert, remove}
 use Rattle.btr_rack.specs.Rack.{pasted}
 use Rattle.btr_rack.specs.Image.{MemoryImage, bytes_in, is_named, opened_for, shortened}
 
@@ -8,6 +8,11 @@ use Rattle.btr_rack.specs.Image.{MemoryImage, bytes_in, is_named, opened_for, sh
 pub record StandsAt (name : List ℕ) (images : List MemoryImage) (at : ℕ) : Type 0 where
   pub within : at < length images
   pub first : at ≡ position_or_len (is_named name) images
+
+-- the place on the shelf of the first image of a name that is not open
+abbrev pub shelf_place : ℕ → List ℕ → List MemoryImage → Option ℕ
+shelf_place opened name images =
+    if list_any (is_named name) (take opened images) then None else position (is_named name) (drop opened images)
 
 -- the image at a place of the shelf became the last of the open ones
 pub record Moves (opened at : ℕ) (write : Bool) (old new : List MemoryImage) : Type 0 where

@@ -1,5 +1,5 @@
 -- A rack in memory.
-use Rattle.std.specs.Prelude.{◌≡◌, ◌≢◌, ℕ, ◌+◌, ◌≤◌, ◌<◌, min, max, Bool, true, false, ◌&&◌, ◌||◌, ◌==◌, nat_lt, if◌then◌else◌, List, [], length, map, take, drop, replicate, Option, Some, None, IfSome, Result, Ok, Err, ⊤}
+use Rattle.std.specs.Prelude.{◌≡◌, ◌≢◌, ℕ, ◌+◌, ◌≤◌, ◌<◌, min, max, Bool, true, false, ◌&&◌, ◌||◌, ◌==◌, nat_lt, if◌then◌else◌, List, [], ◌∷◌, ◌++◌, length, map, take, drop, replicate, Option, Some, None, IfSome, Result, Ok, Err, ⊤}
 use Rattle.std.specs.Option.{option_map, option_and_then}
 use Rattle.std.specs.List.{list_any, find}
 use Rattle.std.specs.Str.{bytes_eq}
@@ -37,6 +37,19 @@ after_call f = record f { calls = next_count f.calls }
 abbrev pub after_write : Failures → Failures
 after_write f = record f { calls = next_count f.calls; writes = next_count f.writes }
 
+-- with one more call, write or range that is to fail, and with a tear
+abbrev pub failing_call : ℕ → Failures → Failures
+failing_call n f = record f { failing_calls = f.failing_calls ++ n ∷ [] }
+
+abbrev pub failing_write : ℕ → Failures → Failures
+failing_write n f = record f { failing_writes = f.failing_writes ++ n ∷ [] }
+
+abbrev pub failing_range : List ℕ → ℕ → ℕ → Failures → Failures
+failing_range name off len f = record f { failing_ranges = f.failing_ranges ++ record { name = name; off = off; len = len } ∷ [] }
+
+abbrev pub tearing : ℕ → Failures → Failures
+tearing byte f = record f { tear = Some byte }
+
 -- the next call is to fail by its number, and so is the next write
 abbrev pub call_strikes : Failures → Bool
 call_strikes f = list_any (λ n. n == next_count f.calls) f.failing_calls
@@ -59,6 +72,17 @@ pub record MemoryRack : Type 0 where
 -- a rack with no images
 abbrev pub empty_rack : MemoryRack
 empty_rack = record { images = []; opened = 0; failing = nothing_fails; account = no_failure }
+
+-- the rack with one more image on the shelf, and with this to fail
+abbrev pub with_image : MemoryImage → MemoryRack → MemoryRack
+with_image image rack = record rack { images = rack.images ++ image ∷ [] }
+
+abbrev pub with_failing : Failures → MemoryRack → MemoryRack
+with_failing failing rack = record rack { failing = failing }
+
+-- the rack after a call that only changed its counts
+abbrev pub with_counts : Failures → Account → MemoryRack → MemoryRack
+with_counts failing account rack = record rack { failing = failing; account = account }
 
 -- the bytes of the image of a name, open or not
 abbrev pub named : MemoryRack → List ℕ → Option (List ℕ)

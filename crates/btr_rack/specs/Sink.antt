@@ -66,9 +66,9 @@ abbrev pub finished : Sink → Sink
 finished s = record s { stage = BetweenFiles; tree = option_map (λ t. with_finished t t.part) s.tree }
 
 -- a call does its step at Ok, and nothing otherwise
-abbrev pub Steps : {T : Type 0} → Sink → Sink → Sink → Result T SinkError → Type 0
-Steps old step new (Ok _) = new ≡ step
-Steps old step new (Err _) = new ≡ old
+abbrev pub Steps : {T : Type 0} → (Sink → Sink) → Sink → Sink → Result T SinkError → Type 0
+Steps step old new (Ok _) = new ≡ step old
+Steps step old new (Err _) = new ≡ old
 
 -- the file grows by all the bytes at Ok, and by a first part of them otherwise
 abbrev pub Grows : {T : Type 0} → List ℕ → Sink → Sink → Result T SinkError → Type 0

@@ -1,8 +1,8 @@
 // The calls of a sink or an output in memory.
-ghost use Rattle.std.specs.Prelude.{◌≡◌, [], ◌∷◌, ◌++◌, OnOk, OnErr, if◌then◌else◌};
+ghost use Rattle.std.specs.Prelude.{◌≡◌, OnOk, OnErr, if◌then◌else◌};
 ghost use Rattle.std.specs.Bool.{OnTrue};
 ghost use Rattle.btr_rack.specs.Rack.{Rose};
-ghost use Rattle.btr_rack.specs.Calls.{no_calls, strikes, after_call, after_fault};
+ghost use Rattle.btr_rack.specs.Calls.{no_calls, failing_call, strikes, after_call, after_fault};
 
 use crate::strike::strikes;
 use btr_base::Memory;
@@ -38,7 +38,7 @@ impl Calls {
 
     /// Makes the nth call fail, counted from 1.
     pub(crate) fn fail(&mut self, n: u64) -> Result<(), Memory>
-        ensures ok { OnOk result (self.new ≡ record self.old { failing = self.old.failing ++ n ∷ [] }) }
+        ensures ok { OnOk result (self.new ≡ failing_call n self.old) }
         ensures err { OnErr result (self.new ≡ self.old) }
     {
         self.failing.push(n).map_err(|_| Memory)

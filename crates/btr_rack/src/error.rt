@@ -19,7 +19,7 @@ pub enum AddError {
     Memory,
 }
 
-/// Why `MemRack::poke` was refused: the name isn't there, the range passes the image's end, or want of memory.
+/// Why `MemRack::poke` was refused: the name isn't there, the range passes the end, or want of memory.
 #[derive(Clone, Copy, Debug, PartialEq, Eq)]
 pub enum PokeError {
     NoImage,

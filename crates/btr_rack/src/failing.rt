@@ -1,7 +1,7 @@
 // What is to fail in a rack in memory.
-ghost use Rattle.std.specs.Prelude.{◌≡◌, ◌+◌, ◌<◌, ◌^◌, ◌++◌, [], ◌∷◌, Some, OnOk, OnErr};
+ghost use Rattle.std.specs.Prelude.{◌≡◌, ◌+◌, ◌<◌, ◌^◌, OnOk, OnErr};
 ghost use Rattle.std.specs.List.{list_any};
-ghost use Rattle.btr_rack.specs.Memory.{nothing_fails, after_call, after_write, call_strikes, write_strikes, touches};
+ghost use Rattle.btr_rack.specs.Memory.{nothing_fails, after_call, after_write, call_strikes, write_strikes, touches, failing_call, failing_write, failing_range, tearing};
 
 use crate::strike::strikes;
 use btr_base::Memory;
@@ -98,7 +98,7 @@ impl Failing {
     }
 
     pub(crate) fn tear_with(&mut self, byte: u8)
-        ensures { self.new ≡ record self.old { tear = Some byte } }
+        ensures { self.new ≡ tearing byte self.old }
     {
         self.tear = Some(byte);
     }
@@ -114,21 +114,21 @@ impl Failing {
     }
 
     pub(crate) fn fail_call(&mut self, n: u64) -> Result<(), Memory>
-        ensures ok { OnOk result (self.new ≡ record self.old { failing_calls = self.old.failing_calls ++ n ∷ [] }) }
+        ensures ok { OnOk result (self.new ≡ failing_call n self.old) }
         ensures err { OnErr result (self.new ≡ self.old) }
     {
         self.failing_calls.push(n).map_err(|_| Memory)
     }
 
     pub(crate) fn fail_write(&mut self, n: u64) -> Result<(), Memory>
-        ensures ok { OnOk result (self.new ≡ record self.old { failing_writes = self.old.failing_writes ++ n ∷ [] }) }
+        ensures ok { OnOk result (self.new ≡ failing_write n self.old) }
         ensures err { OnErr result (self.new ≡ self.old) }
     {
         self.failing_writes.push(n).map_err(|_| Memory)
     }
 
     pub(crate) fn fail_range(&mut self, name: &str, off: u64, len: u64) -> Result<(), Memory>
-        ensures ok { OnOk result (self.new ≡ record self.old { failing_ranges = self.old.failing_ranges ++ record { name = name.now; off = off; len = len } ∷ [] }) }
+        ensures ok { OnOk result (self.new ≡ failing_range name.now off len self.old) }
         ensures err { OnErr result (self.new ≡ self.old) }
     {
         let name = String::from_str(self.alloc, name).map_err(|_| Memory)?;

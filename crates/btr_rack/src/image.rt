@@ -2,7 +2,7 @@
 ghost use Rattle.std.specs.Prelude.{◌≡◌, ℕ, ◌+◌, ◌-◌, ◌*◌, ◌/◌, ◌%◌, ◌^◌, ◌<◌, ◌≤◌, List, length, take, slice_get, slice_index, slice_range, replicate, if◌then◌else◌, IsTrue, OnOk, OnErr, IfOk, ◌↔◌};
 ghost use Rattle.std.specs.Option.{option_copied};
 ghost use Rattle.btr_rack.specs.Rack.{pasted};
-ghost use Rattle.btr_rack.specs.Image.{bytes_in, page_byte, patched, page_at, is_named, opened_for, shortened, zeros};
+ghost use Rattle.btr_rack.specs.Image.{bytes_in, page_byte, patched, page_at, is_named, opened_for, shortened, zeros, Patches, PastesSome};
 
 use btr_base::Memory;
 use std::alloc::Global;
@@ -103,7 +103,7 @@ impl Image {
         requires { off + length bytes.now ≤ self.old.slot.len }
         ensures slot { self.new.slot ≡ self.old.slot }
         ensures written { OnOk result (bytes_in self.new ≡ pasted (bytes_in self.old) off bytes.now) }
-        ensures refused { OnErr result ((some : List ℕ) × (length some ≡ length bytes.now) × (bytes_in self.new ≡ pasted (bytes_in self.old) off some)) }
+        ensures refused { OnErr result (PastesSome (bytes_in self.old) (bytes_in self.new) off (length bytes.now)) }
     {
         let _len = self.len;
         write_pages(&mut self.pages, off, bytes)
@@ -114,7 +114,7 @@ impl Image {
         requires { off + len ≤ self.old.slot.len }
         ensures slot { self.new.slot ≡ self.old.slot }
         ensures filled { OnOk result (bytes_in self.new ≡ pasted (bytes_in self.old) off (replicate len byte)) }
-        ensures refused { OnErr result ((some : List ℕ) × (length some ≡ length (replicate len byte)) × (bytes_in self.new ≡ pasted (bytes_in self.old) off some)) }
+        ensures refused { OnErr result (PastesSome (bytes_in self.old) (bytes_in self.new) off (length (replicate len byte))) }
     {
         let _len = self.len;
         fill_pages(&mut self.pages, off, len, byte)
@@ -170,7 +170,7 @@ fn page_with(mut page: Page, within: usize, piece: &[u8]) -> Page
 // Writes over the bytes of one page.
 fn write_page(pages: &mut BTreeMap<u64, Page>, at: u64, piece: &[u8]) -> Result<(), Memory>
     requires { at % 4096 + length piece.now ≤ 4096 }
-    ensures written { OnOk result ((i : ℕ) → page_byte pages.new.entries i ≡ patched (page_byte pages.old.entries i) at piece.now i) }
+    ensures written { OnOk result (Patches pages.old.entries pages.new.entries at piece.now) }
     ensures refused { OnErr result ((i : ℕ) → page_byte pages.new.entries i ≡ page_byte pages.old.entries i) }
 {
     let index = at / PAGE_SIZE as u64;
@@ -193,8 +193,8 @@ fn in_page(at: u64, left: usize) -> usize
 // Writes over the bytes from `off` on; where memory runs out, over a first part of them.
 fn write_pages(pages: &mut BTreeMap<u64, Page>, off: u64, bytes: &[u8]) -> Result<(), Memory>
     requires { off + length bytes.now < 2 ^ 63 }
-    ensures written { OnOk result ((i : ℕ) → page_byte pages.new.entries i ≡ patched (page_byte pages.old.entries i) off bytes.now i) }
-    ensures refused { OnErr result ((n : ℕ) × ((i : ℕ) → page_byte pages.new.entries i ≡ patched (page_byte pages.old.entries i) off (take n bytes.now) i)) }
+    ensures written { OnOk result (Patches pages.old.entries pages.new.entries off bytes.now) }
+    ensures refused { OnErr result ((n : ℕ) × Patches pages.old.entries pages.new.entries off (take n bytes.now)) }
 {
     let mut done = 0;
     while done < bytes.len() {
@@ -235,8 +235,8 @@ fn read_pages(pages: &BTreeMap<u64, Page>, off: u64, buf: &mut [u8])
 // Writes a byte over `len` bytes from `off` on; where memory runs out, over a first part of them.
 fn fill_pages(pages: &mut BTreeMap<u64, Page>, off: u64, len: usize, byte: u8) -> Result<(), Memory>
     requires { off + len < 2 ^ 63 }
-    ensures written { OnOk result ((i : ℕ) → page_byte pages.new.entries i ≡ patched (page_byte pages.old.entries i) off (replicate len byte) i) }
-    ensures refused { OnErr result ((n : ℕ) × ((i : ℕ) → page_byte pages.new.entries i ≡ patched (page_byte pages.old.entries i) off (take n (replicate len byte)) i)) }
+    ensures written { OnOk result (Patches pages.old.entries pages.new.entries off (replicate len byte)) }
+    ensures refused { OnErr result ((n : ℕ) × Patches pages.old.entries pages.new.entries off (take n (replicate len byte))) }
 {
     let page = page_of_byte(byte);
     let mut done = 0;

@@ -1,8 +1,8 @@
-// The images of a rack in memory: the open ones first, in the order of their opening, and then the shelf.
-ghost use Rattle.std.specs.Prelude.{◌≡◌, ◌+◌, ◌<◌, ◌≤◌, None, length, take, drop, if◌then◌else◌, slice_index_or, replicate};
+// The images of a rack in memory: the open ones in the order of their opening, and then the shelf.
+ghost use Rattle.std.specs.Prelude.{◌≡◌, ◌+◌, ◌<◌, ◌≤◌, length, slice_index_or, replicate};
 ghost use Rattle.std.specs.List.{list_any, position};
 ghost use Rattle.btr_rack.specs.Image.{MemoryImage, is_named};
-ghost use Rattle.btr_rack.specs.Images.{Moves, WritesImage, TearsImage, CutsImage};
+ghost use Rattle.btr_rack.specs.Images.{shelf_place, Moves, WritesImage, TearsImage, CutsImage};
 
 use crate::image::Image;
 use btr_base::Memory;
@@ -23,7 +23,7 @@ pub(crate) fn position_of(images: &[Image], name: &str) -> Option<usize>
 /// The place on the shelf of the image of a name that is not open.
 pub(crate) fn place_on_shelf(images: &[Image], opened: usize, name: &str) -> Option<usize>
     requires { opened ≤ length images.now }
-    ensures { result ≡ (if list_any (is_named name.now) (take opened images.now) then None else position (is_named name.now) (drop opened images.now)) }
+    ensures { result ≡ shelf_place opened name.now images.now }
 {
     let (open, shelf) = images.split_at(opened);
     if contains(open, name) {

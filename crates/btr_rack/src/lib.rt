@@ -1,9 +1,11 @@
-//! The outside of the engine: racks of images that are opened by name, read and written, and outputs of text.
+//! The outside of the engine: racks of images that are opened by name, read and written, sinks of folders
+//! and files, and outputs of text.
 //!
-//! `Rack` and `Out` are what the engine above is generic over. A call that answers a fault of the outside
-//! has counted it, so a caller can say which fault stands behind an answer: `specs/Rack.antt` and
-//! `specs/Out.antt` have the words. `MemRack` and `MemOut` are in memory, and tell their content;
-//! `FileRack` and `StdOut` are the real ones, and tell none.
+//! The engine is generic over `Rack`, `TreeSink` and `Out`. A call that answers a fault of the outside has
+//! counted it, so a caller can say which fault stands behind an answer: `specs/Rack.antt`, `specs/Sink.antt`
+//! and `specs/Out.antt` have the words. `MemRack`, `MemTree` and `MemOut` are in memory, tell their content,
+//! and fail exactly where they are made to. `FileRack`, `FolderTree` and `StdOut` are the real ones, and tell
+//! none.
 #![tactic(auto)]
 
 mod account;
@@ -30,6 +32,8 @@ mod rack;
 mod row;
 mod std_out;
 mod strike;
+#[cfg(test)]
+mod tests;
 mod text;
 mod tree_sink;
 

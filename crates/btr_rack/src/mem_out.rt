@@ -1,7 +1,7 @@
 // An output in memory.
-ghost use Rattle.std.specs.Prelude.{◌≡◌, ◌++◌, [], ◌∷◌, Some, OnOk, OnErr};
+ghost use Rattle.std.specs.Prelude.{◌≡◌, Some, OnOk, OnErr};
 ghost use Rattle.btr_rack.specs.Out.{Puts, Counts, empty_out};
-ghost use Rattle.btr_rack.specs.Calls.{CallsOnce};
+ghost use Rattle.btr_rack.specs.Calls.{failing_call, CallsOnce};
 
 use crate::calls::Calls;
 use crate::{Out, SinkError};
@@ -37,7 +37,7 @@ impl MemOut {
 
     /// Makes the nth call of `put` fail, counted from 1.
     pub fn fail_call(&mut self, n: u64) -> Result<(), Memory>
-        ensures ok { OnOk result (self.new ≡ record self.old { calls = record self.old.calls { failing = self.old.calls.failing ++ n ∷ [] } }) }
+        ensures ok { OnOk result (self.new ≡ record self.old { calls = failing_call n self.old.calls }) }
         ensures refused { OnErr result (self.new ≡ self.old) }
     {
         self.calls.fail(n)

@@ -1,9 +1,9 @@
 // A rack in memory.
-ghost use Rattle.std.specs.Prelude.{◌≡◌, ◌+◌, ◌<◌, ◌≤◌, ◌^◌, ◌↔◌, ◌||◌, [], ◌∷◌, ◌++◌, Some, IsSome, is_none, OnOk, OnErr, Err, IsErrOf, slice_get, length};
+ghost use Rattle.std.specs.Prelude.{◌≡◌, ◌+◌, ◌<◌, ◌≤◌, ◌^◌, ◌↔◌, ◌||◌, [], Some, IsSome, is_none, OnOk, OnErr, Err, IsErrOf, slice_get, length};
 ghost use Rattle.std.specs.Option.{option_and_then, option_copied};
 ghost use Rattle.btr_rack.specs.Image.{zeros};
 ghost use Rattle.btr_rack.specs.Rack.{opening_of, range_in, len_of, bytes_of, Opens, Takes, Writes, Accounts, AccountsOpening, FailsWhere};
-ghost use Rattle.btr_rack.specs.Memory.{empty_rack, nothing_fails, after_call, after_write, call_strikes, write_strikes, hits, named, named_page, slots_of, held_of, shelf_of, Pokes, Cuts, Tears};
+ghost use Rattle.btr_rack.specs.Memory.{empty_rack, nothing_fails, after_call, after_write, call_strikes, write_strikes, hits, named, named_page, slots_of, held_of, shelf_of, with_image, with_failing, with_counts, failing_call, failing_write, failing_range, tearing, Pokes, Cuts, Tears};
 
 use crate::account::Ledger;
 use crate::failing::Failing;
@@ -58,7 +58,7 @@ impl MemRack {
     pub fn add(&mut self, name: &str, len: u64) -> Result<(), AddError>
         requires { len < 2 ^ 63 }
         ensures name { (result ≡ Err AddError.Name) ↔ IsSome (named self.old name.now) }
-        ensures added { OnOk result (self.new ≡ record self.old { images = self.old.images ++ zeros name.now len ∷ [] }) }
+        ensures added { OnOk result (self.new ≡ with_image (zeros name.now len) self.old) }
         ensures refused { OnErr result (self.new ≡ self.old) }
     {
         if contains(&self.images, name) {
@@ -132,7 +132,7 @@ impl MemRack {
 
     /// Makes the nth call of `open`, `read_at`, `write_at` and `sync` fail, counted from 1.
     pub fn fail_call(&mut self, n: u64) -> Result<(), Memory>
-        ensures ok { OnOk result (self.new ≡ record self.old { failing = record self.old.failing { failing_calls = self.old.failing.failing_calls ++ n ∷ [] } }) }
+        ensures ok { OnOk result (self.new ≡ with_failing (failing_call n self.old.failing) self.old) }
         ensures refused { OnErr result (self.new ≡ self.old) }
     {
         self.failing.fail_call(n)
@@ -140,7 +140,7 @@ impl MemRack {
 
     /// Makes each read or write fail that touches a byte of this range of an image.
     pub fn fail_range(&mut self, name: &str, off: u64, len: u64) -> Result<(), Memory>
-        ensures ok { OnOk result (self.new ≡ record self.old { failing = record self.old.failing { failing_ranges = self.old.failing.failing_ranges ++ record { name = name.now; off = off; len = len } ∷ [] } }) }
+        ensures ok { OnOk result (self.new ≡ with_failing (failing_range name.now off len self.old.failing) self.old) }
         ensures refused { OnErr result (self.new ≡ self.old) }
     {
         self.failing.fail_range(name, off, len)
@@ -148,7 +148,7 @@ impl MemRack {
 
     /// Makes the nth call of `write_at` fail, counted from 1.
     pub fn fail_write(&mut self, n: u64) -> Result<(), Memory>
-        ensures ok { OnOk result (self.new ≡ record self.old { failing = record self.old.failing { failing_writes = self.old.failing.failing_writes ++ n ∷ [] } }) }
+        ensures ok { OnOk result (self.new ≡ with_failing (failing_write n self.old.failing) self.old) }
         ensures refused { OnErr result (self.new ≡ self.old) }
     {
         self.failing.fail_write(n)
@@ -156,7 +156,7 @@ impl MemRack {
 
     /// Makes a write that fails fill its range with this byte. Else it changes nothing.
     pub fn tear(&mut self, byte: u8)
-        ensures { self.new ≡ record self.old { failing = record self.old.failing { tear = Some byte } } }
+        ensures { self.new ≡ with_failing (tearing byte self.old.failing) self.old }
     {
         self.failing.tear_with(byte);
     }
@@ -217,7 +217,7 @@ impl Rack for MemRack {
         requires range { off + length buf.old ≤ len_of (slots_of self.old) slot }
         ensures bytes { OnOk result (buf.new ≡ bytes_of (held_of self.old) slot off (length buf.old)) }
         ensures account { Accounts (range_in slot off (length buf.old)) self.old.account self.new.account result }
-        ensures same { self.new ≡ record self.old { failing = after_call self.old.failing; account = self.new.account } }
+        ensures same { self.new ≡ with_counts (after_call self.old.failing) self.new.account self.old }
 
         // It fails exactly where it is made to.
         ensures fails { FailsWhere (call_strikes self.old.failing || hits self.old slot off (length buf.old)) result }
@@ -265,7 +265,7 @@ impl Rack for MemRack {
 
     fn sync(&mut self, slot: usize) -> Result<(), RackError>
         ensures account { Accounts (range_in slot 0 0) self.old.account self.new.account result }
-        ensures same { self.new ≡ record self.old { failing = after_call self.old.failing; account = self.new.account } }
+        ensures same { self.new ≡ with_counts (after_call self.old.failing) self.new.account self.old }
 
         // It fails exactly where it is made to.
         ensures fails { FailsWhere (call_strikes self.old.failing) result }

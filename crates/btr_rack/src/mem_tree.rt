@@ -3,7 +3,7 @@ ghost use Rattle.std.specs.Prelude.{◌≡◌, ◌<◌, ◌++◌, [], ◌∷◌,
 ghost use Rattle.std.specs.Option.{option_copied};
 ghost use Rattle.std.specs.Vec.{vec_capacity};
 ghost use Rattle.btr_rack.specs.Out.{Counts};
-ghost use Rattle.btr_rack.specs.Calls.{CallsOnce};
+ghost use Rattle.btr_rack.specs.Calls.{failing_call, CallsOnce};
 ghost use Rattle.btr_rack.specs.Sink.{NotStarted, BetweenFiles, InFile, Steps, Grows, started, entered, left, begun, finished, longer};
 ghost use Rattle.btr_rack.specs.MemTree.{empty_tree, stage_of, depth_of, sink_of};
 ghost use Rattle.btr_rack.specs.MemTreeLaws.{sound_tree};
@@ -50,7 +50,7 @@ impl MemTree {
 
     /// Makes the nth call of the sink fail, counted from 1.
     pub fn fail_call(&mut self, n: u64) -> Result<(), Memory>
-        ensures ok { OnOk result (self.new ≡ record self.old { calls = record self.old.calls { failing = self.old.calls.failing ++ n ∷ [] } }) }
+        ensures ok { OnOk result (self.new ≡ record self.old { calls = failing_call n self.old.calls }) }
         ensures refused { OnErr result (self.new ≡ self.old) }
     {
         self.calls.fail(n)
@@ -115,7 +115,7 @@ impl TreeSink for MemTree {
 
     fn start(&mut self, name: &str) -> Result<(), SinkError>
         requires { stage_of self.old.tree.rows self.old.tree.part ≡ NotStarted }
-        ensures step { Steps (sink_of self.old.tree) (started name.now (sink_of self.old.tree)) (sink_of self.new.tree) result }
+        ensures step { Steps (started name.now) (sink_of self.old.tree) (sink_of self.new.tree) result }
         ensures faults { Counts self.old.calls.faults self.new.calls.faults result }
         ensures calls { CallsOnce self.old.calls self.new.calls result }
     {
@@ -130,7 +130,7 @@ impl TreeSink for MemTree {
 
     fn dir(&mut self, name: &str) -> Result<(), SinkError>
         requires { stage_of self.old.tree.rows self.old.tree.part ≡ BetweenFiles }
-        ensures step { Steps (sink_of self.old.tree) (entered name.now (sink_of self.old.tree)) (sink_of self.new.tree) result }
+        ensures step { Steps (entered name.now) (sink_of self.old.tree) (sink_of self.new.tree) result }
         ensures faults { Counts self.old.calls.faults self.new.calls.faults result }
         ensures calls { CallsOnce self.old.calls self.new.calls result }
     {
@@ -146,7 +146,7 @@ impl TreeSink for MemTree {
     fn up(&mut self) -> Result<(), SinkError>
         requires between { stage_of self.old.tree.rows self.old.tree.part ≡ BetweenFiles }
         requires below { 0 < depth_of self.old.tree.rows }
-        ensures step { Steps (sink_of self.old.tree) (left (sink_of self.old.tree)) (sink_of self.new.tree) result }
+        ensures step { Steps left (sink_of self.old.tree) (sink_of self.new.tree) result }
         ensures faults { Counts self.old.calls.faults self.new.calls.faults result }
         ensures calls { CallsOnce self.old.calls self.new.calls result }
     {
@@ -158,7 +158,7 @@ impl TreeSink for MemTree {
 
     fn file(&mut self, name: &str) -> Result<(), SinkError>
         requires { stage_of self.old.tree.rows self.old.tree.part ≡ BetweenFiles }
-        ensures step { Steps (sink_of self.old.tree) (begun name.now (sink_of self.old.tree)) (sink_of self.new.tree) result }
+        ensures step { Steps (begun name.now) (sink_of self.old.tree) (sink_of self.new.tree) result }
         ensures faults { Counts self.old.calls.faults self.new.calls.faults result }
         ensures calls { CallsOnce self.old.calls self.new.calls result }
     {
@@ -207,7 +207,7 @@ impl TreeSink for MemTree {
 
     fn done(&mut self) -> Result<(), SinkError>
         requires { stage_of self.old.tree.rows self.old.tree.part ≡ InFile }
-        ensures step { Steps (sink_of self.old.tree) (finished (sink_of self.old.tree)) (sink_of self.new.tree) result }
+        ensures step { Steps finished (sink_of self.old.tree) (sink_of self.new.tree) result }
         ensures faults { Counts self.old.calls.faults self.new.calls.faults result }
         ensures calls { CallsOnce self.old.calls self.new.calls result }
     {

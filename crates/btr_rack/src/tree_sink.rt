@@ -17,26 +17,26 @@ pub trait TreeSink {
     /// Begins in the destination folder.
     fn start(&mut self, name: &str) -> Result<(), SinkError>
         requires { (sink self.old).stage ≡ NotStarted }
-        ensures step { Steps (sink self.old) (started name.now (sink self.old)) (sink self.new) result }
+        ensures step { Steps (started name.now) (sink self.old) (sink self.new) result }
         ensures faults { Counts (faults self.old) (faults self.new) result };
 
     /// Makes a folder and enters it.
     fn dir(&mut self, name: &str) -> Result<(), SinkError>
         requires { (sink self.old).stage ≡ BetweenFiles }
-        ensures step { Steps (sink self.old) (entered name.now (sink self.old)) (sink self.new) result }
+        ensures step { Steps (entered name.now) (sink self.old) (sink self.new) result }
         ensures faults { Counts (faults self.old) (faults self.new) result };
 
     /// Leaves a folder.
     fn up(&mut self) -> Result<(), SinkError>
         requires between { (sink self.old).stage ≡ BetweenFiles }
         requires below { 0 < (sink self.old).depth }
-        ensures step { Steps (sink self.old) (left (sink self.old)) (sink self.new) result }
+        ensures step { Steps left (sink self.old) (sink self.new) result }
         ensures faults { Counts (faults self.old) (faults self.new) result };
 
     /// Begins an empty file.
     fn file(&mut self, name: &str) -> Result<(), SinkError>
         requires { (sink self.old).stage ≡ BetweenFiles }
-        ensures step { Steps (sink self.old) (begun name.now (sink self.old)) (sink self.new) result }
+        ensures step { Steps (begun name.now) (sink self.old) (sink self.new) result }
         ensures faults { Counts (faults self.old) (faults self.new) result };
 
     /// Appends bytes to the file. After a refusal a first part of them may stand there.
@@ -56,7 +56,7 @@ pub trait TreeSink {
     /// Finishes the file.
     fn done(&mut self) -> Result<(), SinkError>
         requires { (sink self.old).stage ≡ InFile }
-        ensures step { Steps (sink self.old) (finished (sink self.old)) (sink self.new) result }
+        ensures step { Steps finished (sink self.old) (sink self.new) result }
         ensures faults { Counts (faults self.old) (faults self.new) result };
 
     /// A file is unfinished exactly in a file, and nothing was written before the start.
