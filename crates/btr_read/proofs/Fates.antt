@@ -1,0 +1,99 @@
+-- What a fetch answers and leaves.
+use Rattle.std.proofs.Common.{◌≡◌, ℕ, ◌≤◌, true, List, [], ◌∷◌, length, get_or, slice_get, Option, Some, None, IfSome, IsSome, Result, Ok, Err, refl, sym, ap, ◌∙◌, subst, arith}
+use Rattle.std.specs.List.{Contains}
+use Rattle.std.specs.Option.{is_some}
+use Rattle.btr_chunk.specs.declared.chunk.Chunk.{Chunk}
+use Rattle.btr_chunk.specs.declared.position.Elements.{Elements}
+use Rattle.btr_chunk.specs.declared.mapping.MapFault.{MapFault}
+use Rattle.btr_chunk.specs.declared.mapping.MapFault.TheVariants as map_fault
+use Rattle.btr_chunk.specs.Mapping.{elements_of}
+use Rattle.btr_chunk.specs.Table.{chunk_at}
+use Rattle.btr_pool.specs.Slots.{Slots, IsLive, IsFree, loans_of, bytes_at, with_lent}
+use Rattle.btr_pool.proofs.Loans.{live_when_lent}
+use Rattle.std.proofs.lemmas.List.{length-set}
+use Rattle.btr_rack.specs.Rack.{Account, Steady}
+use Rattle.btr_read.specs.declared.device.Member.{Member}
+use Rattle.btr_read.specs.declared.setting.Setting.{Setting}
+use Rattle.btr_read.specs.declared.want.Want.{Want}
+use Rattle.btr_read.specs.declared.want.Want.TheVariants.{Tree, Block, Sector, Plain}
+use Rattle.btr_read.specs.Want.{addr_of, len_of, passes}
+use Rattle.btr_read.specs.Layout.{Layout}
+use Rattle.btr_read.specs.Candidates.{Target}
+use Rattle.btr_read.specs.Fate.{sought, sought_in, sought_at, passing, passing_for, or_lost, fate_of, fate, Agree}
+use Rattle.btr_read.specs.Store.{Blocks, IsStore, IsLentBy}
+use Rattle.btr_read.specs.Fetch.{IsFetched}
+use Rattle.btr_read.specs.Writing.{OnlyWrites}
+use Rattle.btr_read.proofs.Slots.{live_written}
+use Rattle.btr_read.proofs.Loans.{blocks, loan_is, loans_taken, no_loan, length-loans, one_fewer}
+use Rattle.btr_read.proofs.Trials.{told, telling}
+
+-- what is sought has the want, and the setting and the devices of the layout
+pub record IsOf (layout : Layout) (want : Want) (t : Target) : Type 0 where
+  pub want_is : t.want ≡ want
+  pub setting_is : t.setting ≡ layout.setting
+  pub devices_is : t.devices ≡ layout.devices
+
+of_at : (layout : Layout) (want : Want) (t : Target) (chunk : Chunk) (r : Result Elements MapFault) → sought_at layout want chunk r ≡ Ok t → IsOf layout want t
+of_at layout want t chunk (Err map_fault.Unmapped) e = cc
+of_at layout want t chunk (Err map_fault.Crosses) e = cc
+of_at layout want t chunk (Ok at) e =
+    let same : record { want = want; setting = layout.setting; chunk = chunk; at = at; devices = layout.devices } ≡ t = cc in
+    subst (IsOf layout want) same (record { want_is = refl; setting_is = refl; devices_is = refl })
+
+of_in : (layout : Layout) (want : Want) (t : Target) (o : Option Chunk) → sought_in layout want o ≡ Ok t → IsOf layout want t
+of_in layout want t None e = cc
+of_in layout want t (Some chunk) e = of_at layout want t chunk (elements_of chunk (addr_of want) (len_of layout.setting want)) e
+
+pub sought_of : (layout : Layout) (want : Want) (t : Target) → sought layout want ≡ Ok t → IsOf layout want t
+sought_of layout want t e = of_in layout want t (chunk_at layout.chunks (addr_of want)) e
+
+-- a want is no longer than a node
+pub len_fits : (setting : Setting) (want : Want) → 4096 ≤ setting.nodesize → len_of setting want ≤ setting.nodesize
+len_fits setting (Tree addr generation level) h = omega arith
+len_fits setting (Block addr) h = omega arith
+len_fits setting (Sector addr sum) h = h
+len_fits setting (Plain addr) h = h
+
+some_is : (o : Option (List ℕ)) (bytes : List ℕ) → o ≡ Some bytes → IsSome o
+some_is o bytes e = ap is_some e
+
+-- a slot was taken for a want, and written
+pub lent_by : (chunks : List Chunk) (devices : List Member) (setting : Setting) (p0 p2 : Slots) (k len : ℕ) (old : Blocks) (want : Want) → IsStore p0 setting → blocks chunks devices setting (loans_of p0) ≡ old → IsFree p0 k → OnlyWrites k (with_lent p0 k) p2 → len ≡ len_of setting want → IsLentBy old (blocks chunks devices setting (loans_of p2)) want (record { slot = k; len = len })
+lent_by chunks devices setting p0 p2 k len old want is view free writes e =
+    let live : IsLive p2 k = live_written (with_lent p0 k) p2 k k writes (live_when_lent p0 k free) in
+    let lent_len : length p2.lent ≡ length p0.lent = ap length writes.lent ∙ length-set p0.lent k true in
+    let whole : length p2.bytes ≡ length p2.lent = omega (arith, lent_len, writes.count, is.whole) in
+    subst (λ old. IsLentBy old (blocks chunks devices setting (loans_of p2)) want (record { slot = k; len = len })) view (record {
+      there = omega (arith, free.there, is.whole, length-loans p0);
+      free = no_loan p0 k free;
+      after = (bytes_at p2 k, ap (blocks chunks devices setting) (loans_taken p0 p2 k is.whole free writes));
+      len = e;
+      live = record {
+        live = some_is (get_or (loans_of p2) k None) (bytes_at p2 k) (loan_is p2 k whole live);
+        fits = omega (arith, e, len_fits setting want is.large);
+      };
+      fewer = one_fewer p0 p2 k free writes;
+    })
+
+first_there : (xs : List (List ℕ)) (bytes : List ℕ) → Contains xs bytes → (first : List ℕ) × (slice_get xs 0 ≡ Some first) × Contains xs first
+first_there [] bytes h = absurd (omega (arith, h.1))
+first_there (x ∷ xs) bytes h = (x, refl, (0, omega arith, refl))
+
+-- what the first that passes says of the want's fate
+pub fetched : (layout : Layout) (want : Want) (t : Target) (held : Option (List (List ℕ))) (old mid after new : Account) (bytes : List ℕ) → sought layout want ≡ Ok t → mid.faults ≡ old.faults → new.faults ≡ after.faults → passes t.setting t.want bytes ≡ true → IfSome held (λ images. Contains (passing images t) bytes) → (Steady mid.faults after.faults → IfSome held (λ images. slice_get (passing images t) 0 ≡ Some bytes)) → IsFetched layout want held old new bytes
+fetched layout want t held old mid after new bytes e begin end test stands first =
+    let is = sought_of layout want t e in
+    record {
+      pass = subst (λ s. passes s want bytes ≡ true) is.setting_is (subst (λ w. passes t.setting w bytes ≡ true) is.want_is test);
+      stand = told held (λ images. Contains (passing_for images (sought layout want)) bytes) (λ images tells.
+          subst (λ s. Contains (passing_for images s) bytes) (sym e) (telling held (λ images. Contains (passing images t) bytes) stands images tells));
+      steady = λ calm. told held (λ images. fate images layout want ≡ Ok bytes) (λ images tells.
+          let calm_between : Steady mid.faults after.faults = (omega (arith, calm.0, begin, end), omega (arith, calm.1, end)) in
+          ap (fate_of images (addr_of want)) e ∙ ap (or_lost (addr_of want)) (telling held (λ images. slice_get (passing images t) 0 ≡ Some bytes) (first calm_between) images tells));
+      agreed = told held (λ images. Agree images layout want → fate images layout want ≡ Ok bytes) (λ images tells agree.
+          let there = telling held (λ images. Contains (passing images t) bytes) stands images tells in
+          let one = first_there (passing images t) bytes there in
+          let for : (xs : List ℕ) → Contains (passing images t) xs → Contains (passing_for images (sought layout want)) xs = λ xs h. subst (λ s. Contains (passing_for images s) xs) (sym e) h in
+          let same : one.0 ≡ bytes = agree one.0 bytes (for one.0 one.2) (for bytes there) in
+          ap (fate_of images (addr_of want)) e ∙ ap (or_lost (addr_of want)) (one.1 ∙ ap Some same));
+    }

@@ -1,0 +1,11 @@
+pub mod InOrder
+pub mod Slots
+pub mod Trials
+pub mod Keeping
+pub mod Loans
+pub mod Fates
+pub mod Ones
+pub mod Standing
+pub mod Sums
+pub mod Parts
+pub mod Rebuilt

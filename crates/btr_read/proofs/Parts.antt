@@ -1,0 +1,72 @@
+-- The parts that a candidate by parities reads, and their ranges.
+use Rattle.std.proofs.Common.{◌≡◌, ℕ, suc, ◌<◌, Bool, true, false, cond, List, [], ◌∷◌, Option, Some, None, IsSome, is_some, refl, sym, ap, ◌∙◌, subst, inl, inr, arith}
+use Rattle.std.proofs.lemmas.Bool.{false≢true}
+use Rattle.std.specs.List.{filter, filter_map, cons_option, list_all, range_with_len, Any}
+use Rattle.btr_rack.specs.declared.place.Place.{Place as Range}
+use Rattle.btr_chunk.specs.declared.place.Part.{Part}
+use Rattle.btr_chunk.specs.declared.place.Part.TheVariants.{Slice}
+use Rattle.btr_read.specs.declared.candidate.Candidate.{Candidate}
+use Rattle.btr_read.specs.declared.candidate.Candidate.TheVariants.{Stands, ByP, ByQ, ByBoth}
+use Rattle.btr_read.specs.declared.parity.Parity.{Parity}
+use Rattle.btr_read.specs.declared.parity.Parity.TheVariants as parity
+use Rattle.btr_read.specs.Candidates.{Target, slice_count, range_of, ranges_of, reads_slice, parts_read, stands}
+use Rattle.btr_read.specs.Sought.{Uses}
+use Rattle.btr_read.specs.Gathering.{part_of}
+use Rattle.btr_read.specs.Cause.{LiesIn}
+use Rattle.btr_read.proofs.Ones.{In, below_in, in_map}
+use Rattle.btr_read.proofs.Standing.{left_of, right_of}
+
+in_filter : (p : ℕ → Bool) (x : ℕ) (xs : List ℕ) → In x xs → p x ≡ true → In x (filter p xs)
+in_filter p x [] i e = absurd i
+in_filter p x (y ∷ xs) i e = by (p y) refl i (λ j. in_filter p x xs j e)
+  where
+    by : (b : Bool) → p y ≡ b → In x (y ∷ xs) → (In x xs → In x (filter p xs)) → In x (cond b (y ∷ filter p xs) (filter p xs))
+    by true q (inl same) rest = inl same
+    by true q (inr j) rest = inr (rest j)
+    by false q (inl same) rest = absurd (false≢true (sym q ∙ ap p same ∙ e))
+    by false q (inr j) rest = rest j
+
+-- a slice that is read is among the parts
+pub slice_in : (k i : ℕ) (c : Candidate) (s : ℕ) → s < k → reads_slice i c s ≡ true → In (Slice s) (parts_read k i c)
+slice_in k i (Stands part) s lt e = absurd (false≢true e)
+slice_in k i ByP s lt e = inr (in_map Slice s (filter (reads_slice i ByP) (range_with_len 0 k)) (in_filter (reads_slice i ByP) s (range_with_len 0 k) (below_in k s lt) e))
+slice_in k i ByQ s lt e = inr (in_map Slice s (filter (reads_slice i ByQ) (range_with_len 0 k)) (in_filter (reads_slice i ByQ) s (range_with_len 0 k) (below_in k s lt) e))
+slice_in k i (ByBoth j) s lt e = inr (inr (in_map Slice s (filter (reads_slice i (ByBoth j)) (range_with_len 0 k)) (in_filter (reads_slice i (ByBoth j)) s (range_with_len 0 k) (below_in k s lt) e)))
+
+-- so is a parity
+pub parity_in : (k i : ℕ) (p : Parity) (c : Candidate) → Uses p c → In (part_of p) (parts_read k i c)
+parity_in k i parity.P (Stands part) u = absurd u
+parity_in k i parity.P ByP u = inl refl
+parity_in k i parity.P ByQ u = absurd u
+parity_in k i parity.P (ByBoth j) u = inl refl
+parity_in k i parity.Q (Stands part) u = absurd u
+parity_in k i parity.Q ByP u = absurd u
+parity_in k i parity.Q ByQ u = inl refl
+parity_in k i parity.Q (ByBoth j) u = inr (inl refl)
+
+all_in : (f : Part → Bool) (ps : List Part) (part : Part) → list_all f ps ≡ true → In part ps → f part ≡ true
+all_in f [] part h i = absurd i
+all_in f (q ∷ ps) part h (inl same) = ap f (sym same) ∙ left_of (f q) (list_all f ps) h
+all_in f (q ∷ ps) part h (inr i) = all_in f ps part (right_of (f q) (list_all f ps) h) i
+
+-- where a candidate stands, its parts do
+pub part_stands : (t : Target) (c : Candidate) (part : Part) → stands t c ≡ true → In part (parts_read (slice_count t) t.at.index c) → IsSome (range_of t part)
+part_stands t c part h i = all_in (λ part. is_some (range_of t part)) (parts_read (slice_count t) t.at.index c) part h i
+
+lies_self : (m : Range) → LiesIn m m
+lies_self m = record { slot = refl; from = omega arith; to = omega arith }
+
+any_more : (m : Range) (o : Option Range) (rs : List Range) → Any (LiesIn m) rs → Any (LiesIn m) (cons_option o rs)
+any_more m None rs h = h
+any_more m (Some r) rs h = (suc h.0, h.1, omega (arith, h.2), h.3, h.4)
+
+in_ranges : (t : Target) (ps : List Part) (part : Part) (m : Range) → In part ps → range_of t part ≡ Some m → Any (LiesIn m) (filter_map (range_of t) ps)
+in_ranges t [] part m i e = absurd i
+in_ranges t (q ∷ ps) part m (inl same) e =
+    let here : range_of t q ≡ Some m = ap (range_of t) same ∙ e in
+    subst (λ o. Any (LiesIn m) (cons_option o (filter_map (range_of t) ps))) (sym here) (0, m, omega arith, refl, lies_self m)
+in_ranges t (q ∷ ps) part m (inr i) e = any_more m (range_of t q) (filter_map (range_of t) ps) (in_ranges t ps part m i e)
+
+-- a range of a part is one of the candidate's
+pub range_in_candidate : (t : Target) (c : Candidate) (part : Part) (m : Range) → In part (parts_read (slice_count t) t.at.index c) → range_of t part ≡ Some m → Any (LiesIn m) (ranges_of t c)
+range_in_candidate t c part m i e = in_ranges t (parts_read (slice_count t) t.at.index c) part m i e

@@ -1,0 +1,179 @@
+-- What is left of a parity is the one solution of its equations.
+use Rattle.std.proofs.Common.{◌≡◌, ◌≢◌, ℕ, ◌<◌, Bool, true, false, not, ◌&&◌, List, [], length, get_or, set, eqb, refl, sym, ap, ◌∙◌, subst, inl, inr, arith}
+use Rattle.std.proofs.lemmas.Bool.{cases_eq, eq-eqb}
+use Rattle.std.proofs.lemmas.Bool.{eqb-true}
+use Rattle.std.proofs.lemmas.List.{same_lists, length-set, set-get_or, get_or-set_same, get_or-set_other}
+use Rattle.std.proofs.lemmas.List.FromFn.{length-map-range_with_len, get_or-map-range_with_len}
+use Rattle.std.proofs.lemmas.Slice.Eq.{bytes_eq-Decides}
+use Rattle.std.specs.Str.{bytes_eq}
+use Rattle.std.specs.List.{list_any}
+use Rattle.btr_chunk.specs.declared.place.Part.TheVariants.{Slice, P, Q}
+use Rattle.btr_parity.specs.Slices.{zeros, plus, parity_p, parity_q}
+use Rattle.btr_parity.specs.Solutions.{IsTheOne, Weighs, WeighsWith, FitsP, FitsQ, FitsBoth}
+use Rattle.btr_parity.proofs.Lost.{lost_by_p, lost_by_q, lost_by_both}
+use Rattle.btr_read.specs.declared.candidate.Candidate.{Candidate}
+use Rattle.btr_read.specs.declared.candidate.Candidate.TheVariants.{ByP, ByQ, ByBoth}
+use Rattle.btr_read.specs.declared.parity.Parity.TheVariants as parity
+use Rattle.btr_read.specs.Candidates.{Target, size_of, slice_count, reads_slice, element, slices, fits_p, fits_q, fits_both, value_of}
+use Rattle.btr_read.specs.Gathering.{read_slices, IsGathered}
+use Rattle.btr_read.proofs.Ones.{the_one_is, some_slice, slice_there}
+use Rattle.btr_read.proofs.Standing.{both, left_of, right_of}
+use Rattle.btr_read.specs.Solution.{byte_lists}
+use Rattle.btr_read.proofs.Sums.{read_slice, is_read, isnt_read}
+
+not_itself : (i : ℕ) → not (eqb i i) ≡ false
+not_itself i = ap not (eq-eqb i i refl)
+
+not_other : (s i : ℕ) → s ≢ i → not (eqb s i) ≡ true
+not_other s i ne = by (eqb s i) refl
+  where
+    by : (b : Bool) → eqb s i ≡ b → not (eqb s i) ≡ true
+    by true e = absurd (ne (eqb-true s i e))
+    by false e = ap not e
+
+module _ (images : List (List ℕ)) (t : Target) (c : Candidate) where
+  abbrev rs : List (List ℕ)
+  rs = read_slices images t c
+
+  length-rs : length rs ≡ slice_count t
+  length-rs = length-map-range_with_len (read_slice images t c) 0 (slice_count t)
+
+  at_slice : (j : ℕ) (d : List ℕ) → j < slice_count t → get_or rs j d ≡ read_slice images t c j
+  at_slice j d lt = get_or-map-range_with_len (read_slice images t c) 0 (slice_count t) j j d lt (omega arith)
+
+  at_element : (j : ℕ) (d : List ℕ) → j < slice_count t → get_or (slices images t) j d ≡ element images t (Slice j)
+  at_element j d lt = get_or-map-range_with_len (λ s. element images t (Slice s)) 0 (slice_count t) j j d lt (omega arith)
+
+  length-slices : length (slices images t) ≡ slice_count t
+  length-slices = length-map-range_with_len (λ s. element images t (Slice s)) 0 (slice_count t)
+
+  -- only the slice that is sought isn't read
+  only_sought : t.at.index < slice_count t → reads_slice t.at.index c t.at.index ≡ false → set rs t.at.index (zeros (size_of t)) ≡ rs
+  only_sought lt e =
+      let here : get_or rs t.at.index [] ≡ zeros (size_of t) = at_slice t.at.index [] lt ∙ isnt_read images t c t.at.index e in
+      ap (set rs t.at.index) (sym here) ∙ set-get_or rs t.at.index []
+
+  -- so with any other in its place the slices are the same
+  same_with : ((s : ℕ) → s ≢ t.at.index → reads_slice t.at.index c s ≡ true) → t.at.index < slice_count t → (X : List ℕ) → set rs t.at.index X ≡ set (slices images t) t.at.index X
+  same_with reads lt X =
+      let len : length (set rs t.at.index X) ≡ slice_count t = length-set rs t.at.index X ∙ length-rs in
+      let len' : length (set (slices images t) t.at.index X) ≡ slice_count t = length-set (slices images t) t.at.index X ∙ length-slices in
+      same_lists (set rs t.at.index X) (set (slices images t) t.at.index X) (len ∙ sym len') (λ j d below.
+      let within : j < slice_count t = omega (arith, below, len) in
+      elim (cases_eq j t.at.index) [
+        | inl e ↦
+            ap (λ n. get_or (set rs t.at.index X) n d) e
+            ∙ get_or-set_same rs t.at.index X d (omega (arith, lt, length-rs))
+            ∙ sym (ap (λ n. get_or (set (slices images t) t.at.index X) n d) e ∙ get_or-set_same (slices images t) t.at.index X d (omega (arith, lt, length-slices)))
+        | inr ne ↦
+            get_or-set_other rs t.at.index j X d ne
+            ∙ at_slice j d within
+            ∙ is_read images t c j (reads j ne)
+            ∙ sym (get_or-set_other (slices images t) t.at.index j X d ne ∙ at_element j d within)
+      ])
+
+-- what P leaves is the slice
+pub by_p : (images : List (List ℕ)) (t : Target) (bytes : List ℕ) → t.at.index < slice_count t → IsGathered images t ByP parity.P bytes → value_of images t ByP ≡ bytes
+by_p images t bytes lt h =
+    let i = t.at.index in
+    let n = size_of t in
+    let r : List (List ℕ) = read_slices images t ByP in
+    let one = lost_by_p n i r (element images t P) h.slices (omega (arith, lt, length-rs images t ByP)) h.whole in
+    let sum : plus (element images t P) (parity_p n (set r i (zeros n))) ≡ bytes = ap (λ xs. plus (element images t P) (parity_p n xs)) (only_sought images t ByP lt (not_itself i)) ∙ sym h.sum in
+    let is : IsTheOne n (FitsP n r (element images t P) i) bytes = subst (IsTheOne n (FitsP n r (element images t P) i)) sum one in
+    let same = same_with images t ByP (λ s ne. not_other s i ne) lt in
+    the_one_is n (fits_p images t) bytes is.slice
+    (let d = bytes_eq-Decides (parity_p n (set (slices images t) i bytes)) (element images t P) in d.1 (sym (ap (parity_p n) (same bytes)) ∙ is.meets))
+    (λ z slice test. let d = bytes_eq-Decides (parity_p n (set (slices images t) i z)) (element images t P) in is.only z slice (ap (parity_p n) (same z) ∙ d.0 test))
+
+-- what Q leaves, divided, is the slice
+pub by_q : (images : List (List ℕ)) (t : Target) (sum X : List ℕ) → t.at.index < slice_count t → IsGathered images t ByQ parity.Q sum → IsTheOne (size_of t) (Weighs t.at.index sum) X → value_of images t ByQ ≡ X
+by_q images t sum X lt h weighs =
+    let i = t.at.index in
+    let n = size_of t in
+    let r : List (List ℕ) = read_slices images t ByQ in
+    let left : sum ≡ plus (element images t Q) (parity_q n (set r i (zeros n))) = h.sum ∙ ap (λ xs. plus (element images t Q) (parity_q n xs)) (sym (only_sought images t ByQ lt (not_itself i))) in
+    let is : IsTheOne n (FitsQ n r (element images t Q) i) X = lost_by_q n i r (element images t Q) X h.slices (omega (arith, lt, length-rs images t ByQ)) h.whole (subst (λ s. IsTheOne n (Weighs i s) X) left weighs) in
+    let same = same_with images t ByQ (λ s ne. not_other s i ne) lt in
+    the_one_is n (fits_q images t) X is.slice
+    (let d = bytes_eq-Decides (parity_q n (set (slices images t) i X)) (element images t Q) in d.1 (sym (ap (parity_q n) (same X)) ∙ is.meets))
+    (λ z slice test. let d = bytes_eq-Decides (parity_q n (set (slices images t) i z)) (element images t Q) in is.only z slice (ap (parity_q n) (same z) ∙ d.0 test))
+
+and_false : (a : Bool) → (a && false) ≡ false
+and_false true = refl
+and_false false = refl
+
+module _ (images : List (List ℕ)) (t : Target) (j : ℕ) where
+  abbrev both_rs : List (List ℕ)
+  both_rs = read_slices images t (ByBoth j)
+
+  -- neither slice is read
+  neither : t.at.index < slice_count t → j < slice_count t → set (set both_rs j (zeros (size_of t))) t.at.index (zeros (size_of t)) ≡ both_rs
+  neither lt lt_j =
+      let i = t.at.index in
+      let skips_j : reads_slice i (ByBoth j) j ≡ false = ap (λ b. not (eqb j i) && b) (not_itself j) ∙ and_false (not (eqb j i)) in
+      let here_j : get_or both_rs j [] ≡ zeros (size_of t) = at_slice images t (ByBoth j) j [] lt_j ∙ isnt_read images t (ByBoth j) j skips_j in
+      let same_j : set both_rs j (zeros (size_of t)) ≡ both_rs = ap (set both_rs j) (sym here_j) ∙ set-get_or both_rs j [] in
+      ap (λ xs. set xs i (zeros (size_of t))) same_j ∙ only_sought images t (ByBoth j) lt (ap (λ b. b && not (eqb i j)) (not_itself i))
+
+  -- so with any others in their places the slices are the same
+  same_both : t.at.index < slice_count t → j < slice_count t → (X Y : List ℕ) → set (set both_rs j Y) t.at.index X ≡ set (set (slices images t) j Y) t.at.index X
+  same_both lt lt_j X Y =
+      let i = t.at.index in
+      let mine = set both_rs j Y in
+      let theirs = set (slices images t) j Y in
+      let mine_len : length mine ≡ slice_count t = length-set both_rs j Y ∙ length-rs images t (ByBoth j) in
+      let their_len : length theirs ≡ slice_count t = length-set (slices images t) j Y ∙ length-slices images t (ByBoth j) in
+      let len : length (set mine i X) ≡ slice_count t = length-set mine i X ∙ mine_len in
+      let len' : length (set theirs i X) ≡ slice_count t = length-set theirs i X ∙ their_len in
+      same_lists (set mine i X) (set theirs i X) (len ∙ sym len') (λ s d below.
+      let within : s < slice_count t = omega (arith, below, len) in
+      elim (cases_eq s i) [
+        | inl e ↦
+            ap (λ n. get_or (set mine i X) n d) e
+            ∙ get_or-set_same mine i X d (omega (arith, lt, mine_len))
+            ∙ sym (ap (λ n. get_or (set theirs i X) n d) e ∙ get_or-set_same theirs i X d (omega (arith, lt, their_len)))
+        | inr ne ↦ get_or-set_other mine i s X d ne ∙ elim (cases_eq s j) [
+          | inl e ↦
+              ap (λ n. get_or mine n d) e
+              ∙ get_or-set_same both_rs j Y d (omega (arith, lt_j, length-rs images t (ByBoth j)))
+              ∙ sym (ap (λ n. get_or theirs n d) e ∙ get_or-set_same (slices images t) j Y d (omega (arith, lt_j, length-slices images t (ByBoth j))))
+          | inr ne_j ↦
+              get_or-set_other both_rs j s Y d ne_j
+              ∙ at_slice images t (ByBoth j) s d within
+              ∙ is_read images t (ByBoth j) s (both (not (eqb s i)) (not (eqb s j)) (not_other s i ne) (not_other s j ne_j))
+              ∙ sym (get_or-set_other (slices images t) j s Y d ne_j ∙ at_element images t (ByBoth j) s d within)
+        ] ∙ sym (get_or-set_other theirs i s X d ne)
+      ])
+
+-- the first of the two slices that P and Q leave is the slice
+pub by_both : (images : List (List ℕ)) (t : Target) (j : ℕ) (sum weighted X : List ℕ) → t.at.index < slice_count t → j < slice_count t → t.at.index ≢ j → IsGathered images t (ByBoth j) parity.P sum → IsGathered images t (ByBoth j) parity.Q weighted → IsTheOne (size_of t) (WeighsWith sum weighted t.at.index j) X → value_of images t (ByBoth j) ≡ X
+by_both images t j sum weighted X lt lt_j ne p q solves =
+    let i = t.at.index in
+    let n = size_of t in
+    let r : List (List ℕ) = read_slices images t (ByBoth j) in
+    let len = length-rs images t (ByBoth j) in
+    let clear = sym (neither images t j lt lt_j) in
+    let left_p : sum ≡ plus (element images t P) (parity_p n (set (set r j (zeros n)) i (zeros n))) = p.sum ∙ ap (λ xs. plus (element images t P) (parity_p n xs)) clear in
+    let left_q : weighted ≡ plus (element images t Q) (parity_q n (set (set r j (zeros n)) i (zeros n))) = q.sum ∙ ap (λ xs. plus (element images t Q) (parity_q n xs)) clear in
+    let given = subst (λ s. IsTheOne n (WeighsWith (plus (element images t P) (parity_p n (set (set r j (zeros n)) i (zeros n)))) s i j) X) left_q (subst (λ s. IsTheOne n (WeighsWith s weighted i j) X) left_p solves) in
+    let is : IsTheOne n (FitsBoth n r (element images t P) (element images t Q) i j) X = lost_by_both n i j r (element images t P) (element images t Q) X p.slices (omega (arith, lt, len)) (omega (arith, lt_j, len)) ne p.whole q.whole given in
+    let same = same_both images t j lt lt_j in
+    the_one_is n (λ Z. list_any (fits_both images t j Z) (byte_lists n)) X is.slice
+    (slice_there n (fits_both images t j X) is.meets.other is.meets.slice (
+    let Y = is.meets.other in
+    let ys = set (set (slices images t) j Y) i X in
+    let dp = bytes_eq-Decides (parity_p n ys) (element images t P) in
+    let dq = bytes_eq-Decides (parity_q n ys) (element images t Q) in
+    both (bytes_eq (parity_p n ys) (element images t P)) (bytes_eq (parity_q n ys) (element images t Q)) (dp.1 (sym (ap (parity_p n) (same X Y)) ∙ is.meets.sum)) (dq.1 (sym (ap (parity_q n) (same X Y)) ∙ is.meets.weighted_sum))))
+    (λ z slice test.
+    let y = some_slice n (fits_both images t j z) test in
+    let ys = set (set (slices images t) j y.0) i z in
+    let dp = bytes_eq-Decides (parity_p n ys) (element images t P) in
+    let dq = bytes_eq-Decides (parity_q n ys) (element images t Q) in
+    is.only z slice (record {
+      other = y.0;
+      slice = y.1;
+      sum = ap (parity_p n) (same z y.0) ∙ dp.0 (left_of (bytes_eq (parity_p n ys) (element images t P)) (bytes_eq (parity_q n ys) (element images t Q)) y.2);
+      weighted_sum = ap (parity_q n) (same z y.0) ∙ dq.0 (right_of (bytes_eq (parity_p n ys) (element images t P)) (bytes_eq (parity_q n ys) (element images t Q)) y.2);
+    }))

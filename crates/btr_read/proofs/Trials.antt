@@ -1,0 +1,244 @@
+-- What a loop over the candidates keeps.
+use Rattle.std.proofs.Common.{◌≡◌, ℕ, ◌+◌, ◌^◌, ◌<◌, ◌≤◌, Bool, true, false, cond, List, [], ◌∷◌, ◌++◌, length, take, drop, get_or, slice_get, Option, Some, None, IfSome, IsSomeAnd, refl, sym, ap, ◌∙◌, subst, arith, inl, inr, length-take, length-append}
+use Rattle.std.proofs.lemmas.Bool.{cases_lt}
+use Rattle.std.proofs.lemmas.List.{take_more, take_all, take-append-drop, drop_more, get_or_append_left}
+use Rattle.std.proofs.lemmas.List.Elements.{filter-append, filter_map-append}
+use Rattle.std.proofs.Math.Seq.{get_or-append_seam}
+use Rattle.std.proofs.lemmas.Option.{get_or_from_slice_get}
+use Rattle.std.specs.List.{filter, filter_map, cons_option, Any, All, Contains}
+use Rattle.btr_rack.specs.Rack.{Account, NoneFailed, OneFailed, Rose, Steady}
+use Rattle.btr_rack.specs.declared.place.Place.{Place as Range}
+use Rattle.btr_read.specs.declared.candidate.Candidate.{Candidate}
+use Rattle.btr_read.specs.Want.{passes}
+use Rattle.btr_read.specs.Candidates.{Target, candidates, stands, value_of, reading, ranges_of}
+use Rattle.btr_read.specs.Fate.{passing}
+use Rattle.btr_read.specs.Cause.{LiesIn, IsOf, Passes, IsUnread}
+
+-- a fact for the images that are told
+pub told : {X : Type 0} (o : Option X) (P : X → Type 0) → ((x : X) → o ≡ Some x → P x) → IfSome o P
+told None P h = tt
+told (Some x) P h = h x refl
+
+pub telling : {X : Type 0} (o : Option X) (P : X → Type 0) → IfSome o P → (x : X) → o ≡ Some x → P x
+telling None P h x e = cc
+telling (Some y) P h x e = let same : y ≡ x = cc in subst P same h
+
+any_before : {X : Type 0} (P : X → Type 0) (xs ys : List X) → Any P xs → Any P (xs ++ ys)
+any_before P xs ys h = (h.0, h.1, omega (arith, h.2, length-append xs ys), get_or_append_left xs ys h.1 h.0 h.2 ∙ h.3, h.4)
+
+any_last : {X : Type 0} (P : X → Type 0) (xs : List X) (y : X) → P y → Any P (xs ++ y ∷ [])
+any_last P xs y h = (length xs, y, omega (arith, length-append xs (y ∷ [])), get_or-append_seam xs y [] y, h)
+
+module _ (images : List (List ℕ)) (t : Target) where
+  -- those of some candidates that stand and pass
+  abbrev pub passing_of : List Candidate → List (List ℕ)
+  passing_of cs = filter (passes t.setting t.want) (filter_map (reading images t) cs)
+
+  pub passing-append : (cs ds : List Candidate) → passing_of (cs ++ ds) ≡ passing_of cs ++ passing_of ds
+  passing-append cs ds = ap (filter (passes t.setting t.want)) (filter_map-append (reading images t) cs ds) ∙ filter-append (passes t.setting t.want) (filter_map (reading images t) cs) (filter_map (reading images t) ds)
+
+  pub reading_stands : (c : Candidate) → stands t c ≡ true → reading images t c ≡ Some (value_of images t c)
+  reading_stands c e = ap (λ (b : Bool). cond b (Some (value_of images t c)) None) e
+
+  pub reading_absent : (c : Candidate) → stands t c ≡ false → reading images t c ≡ None
+  reading_absent c e = ap (λ (b : Bool). cond b (Some (value_of images t c)) None) e
+
+  -- one candidate before others
+  one_before : (o : Option (List ℕ)) (cs : List Candidate) → List (List ℕ)
+  one_before o cs = filter (passes t.setting t.want) (cons_option o (filter_map (reading images t) cs))
+
+  pub passes_first : (c : Candidate) (cs : List Candidate) (bytes : List ℕ) → reading images t c ≡ Some bytes → passes t.setting t.want bytes ≡ true → passing_of (c ∷ cs) ≡ bytes ∷ passing_of cs
+  passes_first c cs bytes e test =
+      ap (λ o. filter (passes t.setting t.want) (cons_option o (filter_map (reading images t) cs))) e
+      ∙ ap (λ b. cond b (bytes ∷ passing_of cs) (passing_of cs)) test
+
+  pub differs_alone : (c : Candidate) (bytes : List ℕ) → reading images t c ≡ Some bytes → passes t.setting t.want bytes ≡ false → passing_of (c ∷ []) ≡ []
+  differs_alone c bytes e test =
+      ap (λ o. filter (passes t.setting t.want) (cons_option o [])) e
+      ∙ ap (λ (b : Bool). cond b (bytes ∷ []) []) test
+
+  pub absent_alone : (c : Candidate) → reading images t c ≡ None → passing_of (c ∷ []) ≡ []
+  absent_alone c e = ap (λ o. filter (passes t.setting t.want) (cons_option o [])) e
+
+  at_most_one_if : (b : Bool) (bytes : List ℕ) → length (cond b (bytes ∷ []) []) ≤ 1
+  at_most_one_if true bytes = omega arith
+  at_most_one_if false bytes = omega arith
+
+  at_most_one_of : (o : Option (List ℕ)) → length (filter (passes t.setting t.want) (cons_option o [])) ≤ 1
+  at_most_one_of None = omega arith
+  at_most_one_of (Some bytes) = at_most_one_if (passes t.setting t.want bytes) bytes
+
+  pub at_most_one : (c : Candidate) → length (passing_of (c ∷ [])) ≤ 1
+  at_most_one c = at_most_one_of (reading images t c)
+
+  -- no more pass than there are
+  pub at_most_all : (cs : List Candidate) → length (passing_of cs) ≤ length cs
+  at_most_all [] = omega arith
+  at_most_all (c ∷ cs) =
+      let all = passing-append (c ∷ []) cs in
+      let len = ap length all in
+      let parts = length-append (passing_of (c ∷ [])) (passing_of cs) in
+      let one = at_most_one c in
+      let rest = at_most_all cs in
+      omega (arith, len, parts, one, rest)
+
+  -- a candidate that doesn't pass
+  pub differs_not : (c : Candidate) → passing_of (c ∷ []) ≡ [] → Passes images t c → ⊥
+  differs_not c none h = passes_not (reading images t c) none h
+    where
+      passes_not : (o : Option (List ℕ)) → filter (passes t.setting t.want) (cons_option o []) ≡ [] → IsSomeAnd o (λ bytes. passes t.setting t.want bytes ≡ true) → ⊥
+      passes_not None e h = absurd h
+      passes_not (Some bytes) e h =
+          let first : bytes ∷ [] ≡ [] = sym (ap (λ b. cond b (bytes ∷ []) []) h) ∙ e in
+          cc
+
+-- what stands of the cause, after some candidates: no call failed, or the last one that did was of a candidate
+abbrev pub CauseSoFar : Target → ℕ → Account → Option ℕ → Type 0
+CauseSoFar t before now None = (now.fresh ≡ 0) × (now.missed ≡ [])
+CauseSoFar t before now (Some s) = Rose before now.faults × (now.last.slot ≡ s) × Any (IsOf t now.last) (candidates t) × (1 ≤ now.fresh)
+
+-- after the first k candidates, of which none that could be read passes
+pub record TriedSoFar (t : Target) (held : Option (List (List ℕ))) (before : ℕ) (now : Account) (failed : Option ℕ) (k : ℕ) : Type 0 where
+  pub later : before ≤ now.faults
+  pub cause : CauseSoFar t before now failed
+  pub enough : (images : List (List ℕ)) → held ≡ Some images → length (passing_of images t (take k (candidates t))) ≤ now.fresh
+  pub each : (images : List (List ℕ)) → held ≡ Some images → (j : ℕ) (d : Candidate) → j < k → Passes images t (get_or (candidates t) j d) → Any (λ missed. IsOf t missed (get_or (candidates t) j d)) now.missed
+
+pub tried_none : (t : Target) (held : Option (List (List ℕ))) (account : Account) → account.fresh ≡ 0 → account.missed ≡ [] → TriedSoFar t held account.faults account None 0
+tried_none t held account fresh missed = record {
+  later = omega arith;
+  cause = (fresh, missed);
+  enough = λ images e. omega arith;
+  each = λ images e j d lt p. absurd (omega (arith, lt));
+}
+
+-- the candidate at a place
+at_place : (cs : List Candidate) (j k : ℕ) (c d : Candidate) → slice_get cs k ≡ Some c → k ≤ j → j < k + 1 → get_or cs j d ≡ c
+at_place cs j k c d is le lt =
+    let same : j ≡ k = omega (arith, le, lt) in
+    ap (λ n. get_or cs n d) same ∙ get_or_from_slice_get cs k c d is
+
+take_one_more : (images : List (List ℕ)) (t : Target) (cs : List Candidate) (k : ℕ) (c : Candidate) → slice_get cs k ≡ Some c → k < length cs → passing_of images t (take (k + 1) cs) ≡ passing_of images t (take k cs) ++ passing_of images t (c ∷ [])
+take_one_more images t cs k c is lt =
+    ap (passing_of images t) (take_more cs k c lt)
+    ∙ passing-append images t (take k cs) (get_or cs k c ∷ [])
+    ∙ ap (λ x. passing_of images t (take k cs) ++ passing_of images t (x ∷ [])) (get_or_from_slice_get cs k c c is)
+
+cause_calm : (t : Target) (before : ℕ) (now after : Account) (failed : Option ℕ) → CauseSoFar t before now failed → NoneFailed now after → CauseSoFar t before after failed
+cause_calm t before now after None h calm = (calm.fresh ∙ h.0, calm.missed ∙ h.1)
+cause_calm t before now after (Some s) h calm = (
+  (omega (arith, h.0.0, calm.faults), omega (arith, h.0.1, calm.faults)),
+  ap (λ r. r.slot) calm.last ∙ h.1,
+  subst (λ r. Any (IsOf t r) (candidates t)) (sym calm.last) h.2,
+  omega (arith, h.3, calm.fresh),
+)
+
+-- one more candidate, which stands and doesn't pass, or doesn't stand
+pub tried_calm : (t : Target) (held : Option (List (List ℕ))) (before : ℕ) (now after : Account) (failed : Option ℕ) (k : ℕ) (c : Candidate) → TriedSoFar t held before now failed k → slice_get (candidates t) k ≡ Some c → k < length (candidates t) → NoneFailed now after → ((images : List (List ℕ)) → held ≡ Some images → passing_of images t (c ∷ []) ≡ []) → TriedSoFar t held before after failed (k + 1)
+tried_calm t held before now after failed k c h is lt calm none = record {
+  later = omega (arith, h.later, calm.faults);
+  cause = cause_calm t before now after failed h.cause calm;
+  enough = λ images e.
+      let more = ap length (take_one_more images t (candidates t) k c is lt) in
+      let parts = length-append (passing_of images t (take k (candidates t))) (passing_of images t (c ∷ [])) in
+      let zero : length (passing_of images t (c ∷ [])) ≡ 0 = ap length (none images e) in
+      let so_far = h.enough images e in
+      omega (arith, more, parts, zero, so_far, calm.fresh);
+  each = λ images e j d below p. elim (cases_lt j k) [
+    | inl earlier ↦ subst (Any (λ missed. IsOf t missed (get_or (candidates t) j d))) (sym calm.missed) (h.each images e j d earlier p)
+    | inr here ↦ absurd (differs_not images t c (none images e) (subst (Passes images t) (at_place (candidates t) j k c d is here below) p))
+  ];
+}
+
+-- one more candidate, of which a read failed
+pub tried_failed : (t : Target) (held : Option (List (List ℕ))) (before : ℕ) (now after : Account) (failed : Option ℕ) (k s : ℕ) (c : Candidate) → TriedSoFar t held before now failed k → slice_get (candidates t) k ≡ Some c → k < length (candidates t) → k + 1 < 2 ^ 64 → (m : Range) × OneFailed m now after × (m.slot ≡ s) × Any (LiesIn m) (ranges_of t c) → TriedSoFar t held before after (Some s) (k + 1)
+tried_failed t held before now after failed k s c h is lt short fault =
+    let m : Range = fault.0 in
+    let one : OneFailed m now after = fault.1 in
+    let here : IsOf t m c = fault.3 in
+    record {
+      later = omega (arith, h.later, one.faults.0);
+      cause = (
+        (omega (arith, h.later, one.faults.0), omega (arith, h.later, one.faults.1)),
+        ap (λ r. r.slot) one.last ∙ fault.2,
+        (k, c, lt, get_or_from_slice_get (candidates t) k c c is, subst (λ r. IsOf t r c) (sym one.last) here),
+        omega (arith, one.fresh),
+      );
+      enough = λ images e.
+          let more = ap length (take_one_more images t (candidates t) k c is lt) in
+          let parts = length-append (passing_of images t (take k (candidates t))) (passing_of images t (c ∷ [])) in
+          let single = at_most_one images t c in
+          let all = at_most_all images t (take k (candidates t)) in
+          let taken = length-take k (candidates t) in
+          let so_far = h.enough images e in
+          omega (arith, more, parts, single, all, taken, so_far, one.fresh, short);
+      each = λ images e j d below p. subst (Any (λ missed. IsOf t missed (get_or (candidates t) j d))) (sym one.missed) (elim (cases_lt j k) [
+        | inl earlier ↦ any_before (λ missed. IsOf t missed (get_or (candidates t) j d)) now.missed (m ∷ []) (h.each images e j d earlier p)
+        | inr there ↦ any_last (λ missed. IsOf t missed (get_or (candidates t) j d)) now.missed m (subst (IsOf t m) (sym (at_place (candidates t) j k c d is there below)) here)
+      ]);
+    }
+
+-- all were tried
+pub all_lost : (t : Target) (held : Option (List (List ℕ))) (before : ℕ) (now : Account) (k : ℕ) → length (candidates t) ≤ k → TriedSoFar t held before now None k → (now.fresh ≡ 0) × IfSome held (λ images. slice_get (passing images t) 0 ≡ None)
+all_lost t held before now k le h = (
+  h.cause.0,
+  told held (λ images. slice_get (passing images t) 0 ≡ None) (λ images e.
+      let whole : passing_of images t (take k (candidates t)) ≡ passing images t = ap (passing_of images t) (take_all k (candidates t) le) in
+      let so_far = h.enough images e in
+      let len : length (passing images t) ≡ 0 = omega (arith, ap length whole, so_far, h.cause.0) in
+      none_first (passing images t) len),
+)
+  where
+    none_first : (xs : List (List ℕ)) → length xs ≡ 0 → slice_get xs 0 ≡ None
+    none_first [] e = refl
+    none_first (x ∷ xs) e = absurd (omega (arith, e))
+
+pub all_unread : (t : Target) (held : Option (List (List ℕ))) (before : ℕ) (now : Account) (k s : ℕ) → length (candidates t) ≤ k → TriedSoFar t held before now (Some s) k → IsUnread t held before now s
+all_unread t held before now k s le h = record {
+  rose = h.cause.0;
+  on_slot = h.cause.1;
+  of_candidate = h.cause.2;
+  some = h.cause.3;
+  enough = told held (λ images. length (passing images t) ≤ now.fresh) (λ images e.
+      subst (λ cs. length (passing_of images t cs) ≤ now.fresh) (take_all k (candidates t) le) (h.enough images e));
+  each = told held (λ images. All (λ candidate. Passes images t candidate → Any (λ missed. IsOf t missed candidate) now.missed) (candidates t)) (λ images e j d lt p. h.each images e j d (omega (arith, lt, le)) p);
+}
+
+-- what passes first
+pub record IsFirst (t : Target) (held : Option (List (List ℕ))) (before now : ℕ) (bytes : List ℕ) : Type 0 where
+  pub stands : IfSome held (λ images. Contains (passing images t) bytes)
+  pub first : Steady before now → IfSome held (λ images. slice_get (passing images t) 0 ≡ Some bytes)
+
+split_at : (images : List (List ℕ)) (t : Target) (k : ℕ) (c : Candidate) (bytes : List ℕ) → slice_get (candidates t) k ≡ Some c → k < length (candidates t) → reading images t c ≡ Some bytes → passes t.setting t.want bytes ≡ true → passing images t ≡ passing_of images t (take k (candidates t)) ++ bytes ∷ passing_of images t (drop (k + 1) (candidates t))
+split_at images t k c bytes is lt reads test =
+    let cs = candidates t in
+    let rest : drop k cs ≡ c ∷ drop (k + 1) cs = drop_more cs k c lt ∙ ap (λ x. x ∷ drop (k + 1) cs) (get_or_from_slice_get cs k c c is) in
+    ap (passing_of images t) (sym (take-append-drop k cs))
+    ∙ passing-append images t (take k cs) (drop k cs)
+    ∙ ap (λ xs. passing_of images t (take k cs) ++ xs) (ap (passing_of images t) rest ∙ passes_first images t c (drop (k + 1) cs) bytes reads test)
+
+first_of : (xs : List (List ℕ)) (bytes : List ℕ) (ys : List (List ℕ)) → length xs ≡ 0 → slice_get (xs ++ bytes ∷ ys) 0 ≡ Some bytes
+first_of [] bytes ys e = refl
+first_of (x ∷ xs) bytes ys e = absurd (omega (arith, e))
+
+no_failure : (t : Target) (before : ℕ) (now : Account) (after : ℕ) (failed : Option ℕ) → CauseSoFar t before now failed → now.faults ≤ after → Steady before after → now.fresh ≡ 0
+no_failure t before now after None h le steady = h.0
+no_failure t before now after (Some s) h le steady = absurd (omega (arith, h.0.1, le, steady.0, steady.1))
+
+pub one_passes : (t : Target) (held : Option (List (List ℕ))) (before : ℕ) (now after : Account) (failed : Option ℕ) (k : ℕ) (c : Candidate) (bytes : List ℕ) → TriedSoFar t held before now failed k → slice_get (candidates t) k ≡ Some c → k < length (candidates t) → NoneFailed now after → stands t c ≡ true → passes t.setting t.want bytes ≡ true → ((images : List (List ℕ)) → held ≡ Some images → value_of images t c ≡ bytes) → IsFirst t held before after.faults bytes
+one_passes t held before now after failed k c bytes h is lt calm standing test value =
+    let reads : (images : List (List ℕ)) → held ≡ Some images → reading images t c ≡ Some bytes = λ images e. reading_stands images t c standing ∙ ap Some (value images e) in
+    record {
+      stands = told held (λ images. Contains (passing images t) bytes) (λ images e.
+          let before_it = passing_of images t (take k (candidates t)) in
+          let behind = passing_of images t (drop (k + 1) (candidates t)) in
+          let split = split_at images t k c bytes is lt (reads images e) test in
+          subst (λ xs. Contains xs bytes) (sym split) (length before_it, omega (arith, length-append before_it (bytes ∷ behind)), get_or-append_seam before_it bytes behind bytes));
+      first = λ steady. told held (λ images. slice_get (passing images t) 0 ≡ Some bytes) (λ images e.
+          let before_it = passing_of images t (take k (candidates t)) in
+          let behind = passing_of images t (drop (k + 1) (candidates t)) in
+          let split = split_at images t k c bytes is lt (reads images e) test in
+          let so_far = h.enough images e in
+          let fresh = no_failure t before now after.faults failed h.cause calm.faults steady in
+          subst (λ xs. slice_get xs 0 ≡ Some bytes) (sym split) (first_of before_it bytes behind (omega (arith, so_far, fresh))));
+    }

@@ -1,0 +1,65 @@
+-- What becomes of a want, over the bytes of the images.
+use Rattle.std.specs.Prelude.{◌≡◌, ℕ, List, [], slice_get, Option, Some, None, Result, Ok, Err}
+use Rattle.std.specs.List.{filter, Contains}
+use Rattle.btr_chunk.specs.declared.chunk.Chunk.{Chunk}
+use Rattle.btr_chunk.specs.declared.position.Elements.{Elements}
+use Rattle.btr_chunk.specs.declared.mapping.MapFault.{MapFault}
+use Rattle.btr_chunk.specs.declared.mapping.MapFault.TheVariants as map_fault
+use Rattle.btr_chunk.specs.Mapping.{elements_of}
+use Rattle.btr_chunk.specs.Table.{chunk_at}
+use Rattle.btr_read.specs.declared.want.Want.{Want}
+use Rattle.btr_read.specs.Want.{addr_of, len_of, passes}
+use Rattle.btr_read.specs.Layout.{Layout}
+use Rattle.btr_read.specs.Candidates.{Target, readings}
+
+-- Why blocks come to no answer: no chunk holds the address, the block crosses the end of its chunk or of an element, or
+-- no candidate passes; and, for those who read what stands in blocks, a block at an address breaks its form, or there
+-- is no tree of an id.
+pub data Fault : Type 0 where
+  Unmapped : ℕ → Fault
+  Crosses : ℕ → Fault
+  Lost : ℕ → Fault
+  Malformed : ℕ → Fault
+  NoTree : ℕ → Fault
+
+-- what is sought for a want at a position of its chunk
+abbrev pub target : Layout → Want → Chunk → Elements → Target
+target layout want chunk at = record { want = want; setting = layout.setting; chunk = chunk; at = at; devices = layout.devices }
+
+abbrev pub sought_at : Layout → Want → Chunk → Result Elements MapFault → Result Target Fault
+sought_at layout want chunk (Err map_fault.Unmapped) = Err (Unmapped (addr_of want))
+sought_at layout want chunk (Err map_fault.Crosses) = Err (Crosses (addr_of want))
+sought_at layout want chunk (Ok at) = Ok (target layout want chunk at)
+
+abbrev pub sought_in : Layout → Want → Option Chunk → Result Target Fault
+sought_in layout want None = Err (Unmapped (addr_of want))
+sought_in layout want (Some chunk) = sought_at layout want chunk (elements_of chunk (addr_of want) (len_of layout.setting want))
+
+-- what is sought for a want, in the chunk that holds its address, or why it has no position
+abbrev pub sought : Layout → Want → Result Target Fault
+sought layout want = sought_in layout want (chunk_at layout.chunks (addr_of want))
+
+-- the candidates that stand and pass, in their order
+abbrev pub passing : List (List ℕ) → Target → List (List ℕ)
+passing images t = filter (passes t.setting t.want) (readings images t)
+
+abbrev pub passing_for : List (List ℕ) → Result Target Fault → List (List ℕ)
+passing_for images (Err fault) = []
+passing_for images (Ok t) = passing images t
+
+-- the bytes, or nothing where all is lost
+abbrev pub or_lost : ℕ → Option (List ℕ) → Result (List ℕ) Fault
+or_lost addr None = Err (Lost addr)
+or_lost addr (Some bytes) = Ok bytes
+
+abbrev pub fate_of : List (List ℕ) → ℕ → Result Target Fault → Result (List ℕ) Fault
+fate_of images addr (Err fault) = Err fault
+fate_of images addr (Ok t) = or_lost addr (slice_get (passing images t) 0)
+
+-- what becomes of a want: the bytes of the first candidate that stands and passes, or why there are none
+abbrev pub fate : List (List ℕ) → Layout → Want → Result (List ℕ) Fault
+fate images layout want = fate_of images (addr_of want) (sought layout want)
+
+-- the candidates that stand and pass are equal
+abbrev pub Agree : List (List ℕ) → Layout → Want → Type 0
+Agree images layout want = (a b : List ℕ) → Contains (passing_for images (sought layout want)) a → Contains (passing_for images (sought layout want)) b → a ≡ b

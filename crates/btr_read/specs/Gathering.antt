@@ -1,0 +1,49 @@
+-- What the parities leave of lost slices.
+use Rattle.std.specs.Prelude.{◌≡◌, ℕ, List, map, if◌then◌else◌, Some, Result, Ok, Err}
+use Rattle.std.specs.List.{range_with_len, All, Any}
+use Rattle.btr_chunk.specs.declared.place.Part.{Part}
+use Rattle.btr_chunk.specs.declared.place.Part.TheVariants.{Slice, P, Q}
+use Rattle.btr_parity.specs.Field.{power}
+use Rattle.btr_parity.specs.Slices.{IsSlice, zeros, plus, scaled, parity_p, parity_q}
+use Rattle.btr_rack.specs.Rack.{Account, NoneFailed, OneFailed}
+use Rattle.btr_rack.specs.declared.place.Place.{Place as Range}
+use Rattle.btr_read.specs.declared.candidate.Candidate.{Candidate}
+use Rattle.btr_read.specs.declared.parity.Parity.{Parity}
+use Rattle.btr_read.specs.declared.parity.Parity.TheVariants as parity
+use Rattle.btr_read.specs.Candidates.{Target, size_of, slice_count, range_of, ranges_of, reads_slice, element}
+use Rattle.btr_read.specs.Cause.{LiesIn}
+
+-- the part that a parity is
+abbrev pub part_of : Parity → Part
+part_of parity.P = P
+part_of parity.Q = Q
+
+-- what a slice adds to a parity
+abbrev pub weighed : Parity → ℕ → List ℕ → List ℕ
+weighed parity.P i slice = slice
+weighed parity.Q i slice = scaled (power i) slice
+
+-- the parity of slices
+abbrev pub parity_of : Parity → ℕ → List (List ℕ) → List ℕ
+parity_of parity.P size slices = parity_p size slices
+parity_of parity.Q size slices = parity_q size slices
+
+-- the slices of a row, with zeros in the place of those that a candidate doesn't read
+abbrev pub read_slices : List (List ℕ) → Target → Candidate → List (List ℕ)
+read_slices images t c = map (λ s. if reads_slice t.at.index c s then element images t (Slice s) else zeros (size_of t)) (range_with_len 0 (slice_count t))
+
+-- a parity less the slices that a candidate reads
+pub record IsGathered (images : List (List ℕ)) (t : Target) (c : Candidate) (p : Parity) (bytes : List ℕ) : Type 0 where
+  pub slices : All (IsSlice (size_of t)) (read_slices images t c)
+  pub whole : IsSlice (size_of t) (element images t (part_of p))
+  pub sum : bytes ≡ plus (element images t (part_of p)) (parity_of p (size_of t) (read_slices images t c))
+
+-- reading a part fails by one call, which reads the part's range
+abbrev pub AccountsPart : Target → Part → Account → Account → Result (Unit {0}) ℕ → Type 0
+AccountsPart t part old new (Ok _) = NoneFailed old new
+AccountsPart t part old new (Err s) = (m : Range) × OneFailed m old new × (m.slot ≡ s) × (range_of t part ≡ Some m)
+
+-- reading for a candidate fails by one call, whose range lies in one that the candidate reads
+abbrev pub AccountsGather : Target → Candidate → Account → Account → Result (Unit {0}) ℕ → Type 0
+AccountsGather t c old new (Ok _) = NoneFailed old new
+AccountsGather t c old new (Err s) = (m : Range) × OneFailed m old new × (m.slot ≡ s) × Any (LiesIn m) (ranges_of t c)

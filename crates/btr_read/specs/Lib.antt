@@ -1,0 +1,12 @@
+pub mod Want
+pub mod Layout
+pub mod Solution
+pub mod Candidates
+pub mod Sought
+pub mod Fate
+pub mod Cause
+pub mod Attempt
+pub mod Writing
+pub mod Store
+pub mod Fetch
+pub mod Gathering

@@ -1,0 +1,31 @@
+// The devices that are given.
+ghost use Rattle.std.specs.Prelude.{◌≡◌};
+ghost use Rattle.btr_read.specs.Layout.{device_in};
+
+/// A device that is given.
+#[derive(Clone, Copy, Debug, PartialEq, Eq)]
+pub struct Device {
+    /// The slot in which its image is open.
+    pub slot: usize,
+    /// The length of its image in bytes.
+    pub len: u64,
+}
+
+/// A device with its id.
+#[derive(Clone, Copy, Debug, PartialEq, Eq)]
+pub(crate) struct Member {
+    pub(crate) devid: u64,
+    pub(crate) device: Device,
+}
+
+// The device of this id, if it is given.
+pub(crate) fn find_device(members: &[Member], devid: u64) -> Option<Device>
+    ensures { result ≡ device_in members.now devid }
+{
+    for member in members {
+        if member.devid == devid {
+            return Some(member.device);
+        }
+    }
+    None
+}

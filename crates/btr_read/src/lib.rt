@@ -1,0 +1,35 @@
+//! Reading a block: from a logical address to the bytes of a block that passes its test.
+//!
+//! A `Want` says which block is sought and how a reading is tested. Its candidates are the copies in the profile of
+//! its chunk and, for RAID5 and RAID6, the slices that are computed from the others and the parities; each stands only
+//! where the devices that it reads are given. The layer above is promised the first standing candidate that passes, or
+//! the reason why there is none. `specs/Want.antt` says what passes, `specs/Candidates.antt` what the candidates are,
+//! `specs/Fate.antt` what becomes of a want over the bytes of the images, and `specs/Cause.antt` when a block may be
+//! called unread.
+#![tactic(auto)]
+
+mod attempt;
+mod candidate;
+mod device;
+mod fault;
+mod fetching;
+mod gathering;
+mod loan;
+mod parity;
+mod passing;
+mod reading;
+mod rebuilding;
+mod search;
+mod setting;
+mod solving;
+mod store;
+mod trying;
+mod want;
+
+pub use device::Device;
+pub use fault::ReadFault;
+pub use fetching::fetch;
+pub use loan::Loan;
+pub use passing::passes;
+pub use store::Store;
+pub use want::Want;

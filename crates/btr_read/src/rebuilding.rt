@@ -1,0 +1,198 @@
+// Candidates by parities.
+ghost use Rattle.std.specs.Prelude.{◌≡◌, ◌≢◌, ℕ, ◌<◌, ◌≤◌, List, length, take, true, OnOk, IfSome};
+ghost use Rattle.btr_pool.specs.Slots.{IsLive, bytes_at, with_bytes, free_count};
+ghost use Rattle.btr_read.specs.Layout.{AreOpen};
+ghost use Rattle.btr_read.specs.Candidates.{size_of, stands, value_of};
+ghost use Rattle.btr_read.specs.Sought.{IsRebuilt};
+ghost use Rattle.btr_read.specs.Attempt.{FitsAttempt, AccountsAttempt};
+ghost use Rattle.btr_read.specs.Gathering.{AccountsGather};
+ghost use Rattle.btr_read.specs.Writing.{OnlyWrites, OnlyWritesBoth};
+ghost use Rattle.btr_read.specs.declared.candidate.Candidate.{Candidate};
+
+use crate::attempt::Attempt;
+use crate::candidate::Candidate;
+use crate::gathering::gather;
+use crate::parity::Parity;
+use crate::search::Search;
+use crate::solving::{divide, solve};
+use btr_pool::{Loan, Pool};
+use btr_rack::Rack;
+
+// Rebuilds a slice by a candidate, and tests it.
+pub(crate) fn try_rebuilt<R: Rack>(
+    search: &Search<'_>,
+    candidate: Candidate,
+    rack: &mut R,
+    pool: &mut Pool,
+    loan: &Loan,
+) -> Attempt
+    requires rebuilt { IsRebuilt search.now candidate }
+    requires open { AreOpen (R.slots rack.old) search.now.devices }
+    requires live { IsLive pool.old loan.now }
+    requires room { 0 < free_count pool.old }
+    requires fits { size_of search.now ≤ pool.old.size }
+    ensures slots { R.slots rack.new ≡ R.slots rack.old }
+    ensures held { R.held rack.new ≡ R.held rack.old }
+    ensures shelf { R.shelf rack.new ≡ R.shelf rack.old }
+    ensures pool { OnlyWrites loan.now pool.old pool.new }
+    ensures attempt { FitsAttempt search.now candidate (R.held rack.old) (bytes_at pool.new loan.now) result }
+    ensures account { AccountsAttempt search.now candidate (R.account rack.old) (R.account rack.new) result }
+{
+    if !search.stands(candidate) {
+        return Attempt::Absent;
+    }
+    match rebuild(search, candidate, rack, pool, loan) {
+        Ok(()) => {
+            if search.passes(&pool.bytes(loan)[..search.size()]) {
+                Attempt::Passed
+            } else {
+                Attempt::Differs
+            }
+        }
+        Err(image) => Attempt::Failed(image),
+    }
+}
+
+// Rebuilds a slice by a candidate that stands. The error is the slot of the rack whose read failed.
+fn rebuild<R: Rack>(
+    search: &Search<'_>,
+    candidate: Candidate,
+    rack: &mut R,
+    pool: &mut Pool,
+    loan: &Loan,
+) -> Result<(), usize>
+    requires rebuilt { IsRebuilt search.now candidate }
+    requires stands { stands search.now candidate ≡ true }
+    requires open { AreOpen (R.slots rack.old) search.now.devices }
+    requires live { IsLive pool.old loan.now }
+    requires room { 0 < free_count pool.old }
+    requires fits { size_of search.now ≤ pool.old.size }
+    ensures slots { R.slots rack.new ≡ R.slots rack.old }
+    ensures held { R.held rack.new ≡ R.held rack.old }
+    ensures shelf { R.shelf rack.new ≡ R.shelf rack.old }
+    ensures pool { OnlyWrites loan.now pool.old pool.new }
+    ensures value { OnOk result (IfSome (R.held rack.old) (λ images. value_of images search.now candidate ≡ take (size_of search.now) (bytes_at pool.new loan.now))) }
+    ensures account { AccountsGather search.now candidate (R.account rack.old) (R.account rack.new) result }
+{
+    match candidate {
+        Candidate::Stands(_) => unreachable!(),
+        Candidate::ByP => rebuild_by_p(search, rack, pool, loan),
+        Candidate::ByQ => rebuild_by_q(search, rack, pool, loan),
+        Candidate::ByBoth(other) => rebuild_by_both(search, other, rack, pool, loan),
+    }
+}
+
+fn rebuild_by_p<R: Rack>(
+    search: &Search<'_>,
+    rack: &mut R,
+    pool: &mut Pool,
+    loan: &Loan,
+) -> Result<(), usize>
+    requires rebuilt { IsRebuilt search.now Candidate.ByP }
+    requires stands { stands search.now Candidate.ByP ≡ true }
+    requires open { AreOpen (R.slots rack.old) search.now.devices }
+    requires live { IsLive pool.old loan.now }
+    requires fits { size_of search.now ≤ pool.old.size }
+    ensures slots { R.slots rack.new ≡ R.slots rack.old }
+    ensures held { R.held rack.new ≡ R.held rack.old }
+    ensures shelf { R.shelf rack.new ≡ R.shelf rack.old }
+    ensures pool { OnlyWrites loan.now pool.old pool.new }
+    ensures value { OnOk result (IfSome (R.held rack.old) (λ images. value_of images search.now Candidate.ByP ≡ take (size_of search.now) (bytes_at pool.new loan.now))) }
+    ensures account { AccountsGather search.now Candidate.ByP (R.account rack.old) (R.account rack.new) result }
+{
+    match gather(search, Candidate::ByP, Parity::P, rack, pool, loan) {
+        Ok(()) => Ok(()),
+        Err(image) => Err(image),
+    }
+}
+
+fn rebuild_by_q<R: Rack>(
+    search: &Search<'_>,
+    rack: &mut R,
+    pool: &mut Pool,
+    loan: &Loan,
+) -> Result<(), usize>
+    requires rebuilt { IsRebuilt search.now Candidate.ByQ }
+    requires stands { stands search.now Candidate.ByQ ≡ true }
+    requires open { AreOpen (R.slots rack.old) search.now.devices }
+    requires live { IsLive pool.old loan.now }
+    requires fits { size_of search.now ≤ pool.old.size }
+    ensures slots { R.slots rack.new ≡ R.slots rack.old }
+    ensures held { R.held rack.new ≡ R.held rack.old }
+    ensures shelf { R.shelf rack.new ≡ R.shelf rack.old }
+    ensures pool { OnlyWrites loan.now pool.old pool.new }
+    ensures value { OnOk result (IfSome (R.held rack.old) (λ images. value_of images search.now Candidate.ByQ ≡ take (size_of search.now) (bytes_at pool.new loan.now))) }
+    ensures account { AccountsGather search.now Candidate.ByQ (R.account rack.old) (R.account rack.new) result }
+{
+    match gather(search, Candidate::ByQ, Parity::Q, rack, pool, loan) {
+        Ok(()) => {
+            divide(pool, loan, search.size(), search.index() as u8);
+            Ok(())
+        }
+        Err(image) => Err(image),
+    }
+}
+
+fn rebuild_by_both<R: Rack>(
+    search: &Search<'_>,
+    other: u32,
+    rack: &mut R,
+    pool: &mut Pool,
+    loan: &Loan,
+) -> Result<(), usize>
+    requires rebuilt { IsRebuilt search.now (Candidate.ByBoth other) }
+    requires stands { stands search.now (Candidate.ByBoth other) ≡ true }
+    requires open { AreOpen (R.slots rack.old) search.now.devices }
+    requires live { IsLive pool.old loan.now }
+    requires room { 0 < free_count pool.old }
+    requires fits { size_of search.now ≤ pool.old.size }
+    ensures slots { R.slots rack.new ≡ R.slots rack.old }
+    ensures held { R.held rack.new ≡ R.held rack.old }
+    ensures shelf { R.shelf rack.new ≡ R.shelf rack.old }
+    ensures pool { OnlyWrites loan.now pool.old pool.new }
+    ensures value { OnOk result (IfSome (R.held rack.old) (λ images. value_of images search.now (Candidate.ByBoth other) ≡ take (size_of search.now) (bytes_at pool.new loan.now))) }
+    ensures account { AccountsGather search.now (Candidate.ByBoth other) (R.account rack.old) (R.account rack.new) result }
+{
+    let Ok(spare) = pool.take() else {
+        unreachable!();
+    };
+    let result = solve_both(search, other, rack, pool, loan, &spare);
+    pool.give(spare);
+    result
+}
+
+// Reads what P and Q leave of two slices into two slots, and solves for the first.
+fn solve_both<R: Rack>(
+    search: &Search<'_>,
+    other: u32,
+    rack: &mut R,
+    pool: &mut Pool,
+    p: &Loan,
+    q: &Loan,
+) -> Result<(), usize>
+    requires rebuilt { IsRebuilt search.now (Candidate.ByBoth other) }
+    requires stands { stands search.now (Candidate.ByBoth other) ≡ true }
+    requires open { AreOpen (R.slots rack.old) search.now.devices }
+    requires live { IsLive pool.old p.now }
+    requires other_live { IsLive pool.old q.now }
+    requires apart { p.now ≢ q.now }
+    requires fits { size_of search.now ≤ pool.old.size }
+    ensures slots { R.slots rack.new ≡ R.slots rack.old }
+    ensures held { R.held rack.new ≡ R.held rack.old }
+    ensures shelf { R.shelf rack.new ≡ R.shelf rack.old }
+    ensures pool { OnlyWritesBoth p.now q.now pool.old pool.new }
+    ensures value { OnOk result (IfSome (R.held rack.old) (λ images. value_of images search.now (Candidate.ByBoth other) ≡ take (size_of search.now) (bytes_at pool.new p.now))) }
+    ensures account { AccountsGather search.now (Candidate.ByBoth other) (R.account rack.old) (R.account rack.new) result }
+{
+    let candidate = Candidate::ByBoth(other);
+    match gather(search, candidate, Parity::P, rack, pool, p) {
+        Ok(()) => {}
+        Err(image) => return Err(image),
+    }
+    match gather(search, candidate, Parity::Q, rack, pool, q) {
+        Ok(()) => {}
+        Err(image) => return Err(image),
+    }
+    solve(pool, p, q, search.size(), search.index() as u8, other as u8);
+    Ok(())
+}

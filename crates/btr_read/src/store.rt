@@ -1,0 +1,129 @@
+ghost use Rattle.std.specs.Prelude.{◌≡◌, ◌≤◌, IfOk, OnErr, IsNone, Some, None, [], length, replicate};
+ghost use Rattle.btr_read.specs.Layout.{device_in};
+ghost use Rattle.btr_read.specs.Store.{IsLiveIn, block_of, free_count, with_chunks, with_loan, with_member};
+
+use crate::device::{Device, Member, find_device};
+use crate::loan::Loan;
+use crate::setting::Setting;
+use btr_base::{Memory, SumKind};
+use btr_chunk::ChunkTable;
+use btr_pool::Pool;
+use std::alloc::Global;
+use std::marker::Model;
+
+const SLOTS: usize = 24;
+
+/// What is needed to read the blocks of a filesystem: its chunks, the devices that are given, how its blocks are
+/// tested, and 24 slots for blocks, as long as a node. After `new` no reading takes memory.
+#[derive(Drop)]
+pub struct Store {
+    pub(crate) pool: Pool,
+    pub(crate) chunks: ChunkTable,
+    pub(crate) devices: Vec<Member>,
+    pub(crate) setting: Setting,
+}
+
+impl Model for Store {
+    ghost use Rattle.btr_pool.specs.Slots.{loans_of};
+    ghost use Rattle.btr_read.specs.Store.{Blocks, IsStore};
+
+    ghost Value = { Blocks };
+
+    ghost view = { λ s. record { layout = record { chunks = s.chunks; devices = s.devices.items; setting = s.setting }; loans = loans_of s.pool } };
+
+    ghost invariant = { λ s. IsStore s.pool s.setting };
+}
+
+impl Store {
+    /// A store with no device: the kind of the checksums, the id in the headers of tree blocks, the length of a tree
+    /// block in bytes, which is from 4096 to 65536, and the chunks.
+    ///
+    /// `Memory`: the slots couldn't be had, and the chunks are dropped.
+    pub fn new(
+        alloc: Global,
+        kind: SumKind,
+        fsid: [u8; 16],
+        nodesize: u32,
+        chunks: ChunkTable,
+    ) -> Result<Store, Memory>
+        requires large { 4096 ≤ nodesize }
+        requires small { nodesize ≤ 65536 }
+        ensures { IfOk result (λ store. store ≡ record { layout = record { chunks = chunks; devices = []; setting = record { kind = kind; fsid = fsid; nodesize = nodesize } }; loans = replicate 24 None }) }
+    {
+        let pool = Pool::new(alloc, nodesize as usize, SLOTS)?;
+        Ok(Store {
+            pool,
+            chunks,
+            devices: Vec::new(alloc),
+            setting: Setting {
+                kind,
+                fsid,
+                nodesize,
+            },
+        })
+    }
+
+    /// Gives one more device: the image of `len` bytes in a slot of the rack. The store has no device of that id.
+    ///
+    /// `Memory`: the store is as before.
+    pub fn add_device(&mut self, devid: u64, slot: usize, len: u64) -> Result<(), Memory>
+        requires { IsNone (device_in self.old.layout.devices devid) }
+        ensures added { IfOk result (λ _. self.new ≡ with_member self.old (record { devid = devid; device = record { slot = slot; len = len } })) }
+        ensures unchanged { OnErr result (self.new ≡ self.old) }
+    {
+        let member = Member {
+            devid,
+            device: Device { slot, len },
+        };
+        match self.devices.push(member) {
+            Ok(()) => Ok(()),
+            Err(_) => Err(Memory),
+        }
+    }
+
+    /// Puts other chunks in the place of those that the store has.
+    pub fn replace_chunks(&mut self, chunks: ChunkTable)
+        ensures { self.new ≡ with_chunks self.old chunks }
+    {
+        self.chunks = chunks;
+    }
+
+    /// The chunks.
+    pub fn chunks(&self) -> &ChunkTable
+        ensures { result.now ≡ self.now.layout.chunks }
+    {
+        &self.chunks
+    }
+
+    /// The device of an id, if it is given.
+    pub fn device(&self, devid: u64) -> Option<Device>
+        ensures { result ≡ device_in self.now.layout.devices devid }
+    {
+        find_device(&self.devices, devid)
+    }
+
+    /// The bytes of a live loan, as many as its want has.
+    pub fn bytes(&self, loan: &Loan) -> &[u8]
+        requires { IsLiveIn self.now loan.now }
+        ensures value { block_of self.now loan.now ≡ Some result.now }
+        ensures len { length result.now ≡ loan.now.len }
+    {
+        &self.pool.bytes(&loan.slot)[..loan.len]
+    }
+
+    /// Takes a live loan back.
+    pub fn give(&mut self, loan: Loan)
+        requires { IsLiveIn self.old loan }
+        ensures { self.new ≡ with_loan self.old loan.slot None }
+    {
+        let Loan { slot, len: _ } = loan;
+        self.pool.give(slot);
+    }
+
+    /// How many slots are free.
+    pub fn free(&self) -> usize
+        ensures { result ≡ free_count self.now }
+    {
+        self.pool.free()
+    }
+}
