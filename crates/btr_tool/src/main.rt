@@ -11,8 +11,6 @@ mod plan;
 mod progress;
 mod refusal;
 mod run;
-#[cfg(test)]
-mod tests;
 mod text;
 mod words;
 
