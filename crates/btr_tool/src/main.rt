@@ -11,6 +11,8 @@ mod plan;
 mod progress;
 mod refusal;
 mod run;
+#[cfg(test)]
+mod tests;
 mod text;
 mod words;
 
