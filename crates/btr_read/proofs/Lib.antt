@@ -1,5 +1,8 @@
 pub mod InOrder
 pub mod Slots
+pub mod Several
+pub mod Pieces
+pub mod Solutions
 pub mod Trials
 pub mod Keeping
 pub mod Loans

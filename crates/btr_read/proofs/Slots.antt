@@ -1,10 +1,8 @@
 -- Slots that are written, and ranges that can be read.
-use Rattle.std.proofs.Common.{◌≡◌, ◌≢◌, ℕ, ◌+◌, ◌<◌, ◌≤◌, Bool, true, false, cond, leb, List, [], length, get_or, set, Option, Some, None, refl, sym, ap, ◌∙◌, subst, arith}
-use Rattle.std.proofs.lemmas.List.{length-set, get_or-set_other, get_or_default, set-get_or, set-set}
-use Rattle.std.proofs.lemmas.Bool.{false≢true}
+use Rattle.std.proofs.Common.{◌≡◌, ℕ, ◌+◌, ◌<◌, ◌≤◌, Bool, true, false, cond, leb, List, [], length, get_or, Option, Some, None, refl, sym, ap, ◌∙◌, subst, arith}
+use Rattle.std.proofs.lemmas.List.{length-set, get_or-set_other, set-get_or}
 use Rattle.std.proofs.lemmas.Bool.Decides.{nat_tests}
-use Rattle.btr_pool.specs.Slots.{Slots, IsLive, IsFree, bytes_at, with_bytes, with_lent, with_free}
-use Rattle.btr_pool.proofs.Loans.{free_below}
+use Rattle.btr_pool.specs.Slots.{Slots, IsLive, bytes_at, with_bytes}
 use Rattle.btr_rack.specs.Rack.{Slot, len_of, range_in}
 use Rattle.btr_rack.specs.declared.place.Place.{Place as Range}
 use Rattle.btr_chunk.specs.declared.place.Part.{Part}
@@ -12,7 +10,7 @@ use Rattle.btr_chunk.specs.Mapping.{place_at}
 use Rattle.btr_read.specs.declared.device.Device.{Device}
 use Rattle.btr_read.specs.Layout.{AreOpen, IsOpen, device_in}
 use Rattle.btr_read.specs.Candidates.{Target, range_on, range_of, size_of}
-use Rattle.btr_read.specs.Writing.{OnlyWrites, OnlyWritesBoth}
+use Rattle.btr_read.specs.Writing.{OnlyWrites}
 
 -- a slot that keeps its bytes was written with them
 pub with_own_bytes : (pool : Slots) (k : ℕ) → (written : List ℕ) × (pool ≡ with_bytes pool k written)
@@ -80,16 +78,3 @@ pub range_len : (t : Target) (part : Part) (range : Range) → range_of t part �
 range_len t part range e =
     let place = place_at t.chunk part t.at in
     len_on place.offset (size_of t) (device_in t.devices place.devid) range e
-
--- a slot was taken beside a loan, both were written, and the slot was given back
-pub writes_back : (p0 p2 : Slots) (k s : ℕ) → IsFree p0 s → OnlyWritesBoth k s (with_lent p0 s) p2 → OnlyWrites k p0 (with_free p2 s)
-writes_back p0 p2 k s free writes =
-    let not_lent : get_or p0.lent s false ≡ false = get_or_default p0.lent s false true (free_below p0.lent s free.free) ∙ free.free in
-    record {
-      size = writes.size;
-      lent = ap (λ lent. set lent s false) writes.lent ∙ set-set p0.lent s true false ∙ ap (set p0.lent s) (sym free.free) ∙ set-get_or p0.lent s true;
-      count = writes.count;
-      others = λ j ne live.
-          let apart : j ≢ s = λ e. false≢true (sym not_lent ∙ ap (λ n. get_or p0.lent n false) (sym e) ∙ live) in
-          writes.others j ne apart (get_or-set_other p0.lent s j true false apart ∙ live);
-    }

@@ -1,5 +1,5 @@
 -- What the parities leave of lost slices.
-use Rattle.std.specs.Prelude.{◌≡◌, ℕ, List, map, if◌then◌else◌, Some, Result, Ok, Err}
+use Rattle.std.specs.Prelude.{◌≡◌, ℕ, List, map, take, if◌then◌else◌, Some, Result, Ok, Err}
 use Rattle.std.specs.List.{range_with_len, All, Any}
 use Rattle.btr_chunk.specs.declared.place.Part.{Part}
 use Rattle.btr_chunk.specs.declared.place.Part.TheVariants.{Slice, P, Q}
@@ -37,6 +37,11 @@ pub record IsGathered (images : List (List ℕ)) (t : Target) (c : Candidate) (p
   pub slices : All (IsSlice (size_of t)) (read_slices images t c)
   pub whole : IsSlice (size_of t) (element images t (part_of p))
   pub sum : bytes ≡ plus (element images t (part_of p)) (parity_of p (size_of t) (read_slices images t c))
+
+-- a slice was added to what a slot has of a parity
+pub record IsAdded (images : List (List ℕ)) (t : Target) (s : ℕ) (p : Parity) (old new : List ℕ) : Type 0 where
+  pub slice : IsSlice (size_of t) (element images t (Slice s))
+  pub sum : take (size_of t) new ≡ plus (take (size_of t) old) (weighed p s (element images t (Slice s)))
 
 -- reading a part fails by one call, which reads the part's range
 abbrev pub AccountsPart : Target → Part → Account → Account → Result (Unit {0}) ℕ → Type 0

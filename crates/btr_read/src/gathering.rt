@@ -1,35 +1,36 @@
 // What the parities leave of lost slices.
-ghost use Rattle.std.specs.Prelude.{◌≡◌, ℕ, ◌<◌, ◌≤◌, List, length, take, OnOk, IfSome, IsSome, true};
+ghost use Rattle.std.specs.Prelude.{◌≡◌, ◌≢◌, ℕ, ◌<◌, ◌≤◌, List, [], ◌∷◌, length, take, OnOk, IfSome, IsSome, true};
 ghost use Rattle.btr_chunk.specs.Mapping.{HasPart};
 ghost use Rattle.btr_chunk.specs.declared.place.Part.{Part};
-ghost use Rattle.btr_parity.specs.Slices.{IsSlice, plus};
+ghost use Rattle.btr_parity.specs.Slices.{IsSlice};
 ghost use Rattle.btr_pool.specs.Slots.{IsLive, bytes_at, with_bytes};
 ghost use Rattle.btr_read.specs.Layout.{AreOpen};
+ghost use Rattle.btr_read.specs.declared.candidate.Candidate.{Candidate};
+ghost use Rattle.btr_read.specs.declared.parity.Parity.{Parity};
 ghost use Rattle.btr_read.specs.Candidates.{size_of, slice_count, range_of, element, stands};
 ghost use Rattle.btr_read.specs.Sought.{IsRebuilt, Uses};
-ghost use Rattle.btr_read.specs.Writing.{OnlyWrites};
-ghost use Rattle.btr_read.specs.Gathering.{part_of, weighed, IsGathered, AccountsPart, AccountsGather};
+ghost use Rattle.btr_read.specs.Writing.{OnlyWritesIn};
+ghost use Rattle.btr_read.specs.Gathering.{IsAdded, IsGathered, AccountsPart, AccountsGather};
 
 use crate::candidate::Candidate;
-use crate::parity::{Parity, add_front};
-use crate::reading::{read_front, read_into};
+use crate::folding::add_slot;
+use crate::parity::Parity;
+use crate::reading::read_into;
 use crate::search::Search;
 use btr_chunk::Part;
 use btr_pool::{Loan, Pool};
 use btr_rack::Rack;
 
-const LONGEST: usize = 65536;
-
-// Reads a parity that stands into a slot. The error is the slot of the rack whose read failed.
-fn read_parity<R: Rack>(
+// Reads a part that stands into a slot. The error is the slot of the rack whose read failed.
+fn read_part<R: Rack>(
     search: &Search<'_>,
-    parity: Parity,
+    part: Part,
     rack: &mut R,
     pool: &mut Pool,
     loan: &Loan,
 ) -> Result<(), usize>
-    requires part { HasPart search.now.chunk.profile (length search.now.chunk.stripes) (part_of parity) }
-    requires stands { IsSome (range_of search.now (part_of parity)) }
+    requires part { HasPart search.now.chunk.profile (length search.now.chunk.stripes) part }
+    requires stands { IsSome (range_of search.now part) }
     requires open { AreOpen (R.slots rack.old) search.now.devices }
     requires live { IsLive pool.old loan.now }
     requires fits { size_of search.now ≤ pool.old.size }
@@ -37,11 +38,11 @@ fn read_parity<R: Rack>(
     ensures held { R.held rack.new ≡ R.held rack.old }
     ensures shelf { R.shelf rack.new ≡ R.shelf rack.old }
     ensures kept { (w : List ℕ) × (pool.new ≡ with_bytes pool.old loan.now w) }
-    ensures bytes { OnOk result (IfSome (R.held rack.old) (λ images. take (size_of search.now) (bytes_at pool.new loan.now) ≡ element images search.now (part_of parity))) }
+    ensures bytes { OnOk result (IfSome (R.held rack.old) (λ images. take (size_of search.now) (bytes_at pool.new loan.now) ≡ element images search.now part)) }
     ensures slice { OnOk result (IsSlice (size_of search.now) (take (size_of search.now) (bytes_at pool.new loan.now))) }
-    ensures account { AccountsPart search.now (part_of parity) (R.account rack.old) (R.account rack.new) result }
+    ensures account { AccountsPart search.now part (R.account rack.old) (R.account rack.new) result }
 {
-    let Some(range) = search.range(parity.part()) else {
+    let Some(range) = search.range(part) else {
         unreachable!();
     };
     match read_into(rack, range, pool, loan) {
@@ -50,87 +51,144 @@ fn read_parity<R: Rack>(
     }
 }
 
-// Adds a slice that stands to what a slot has of a parity. The error is the slot of the rack whose read failed.
+// Reads a slice that stands into a spare slot, and adds it to what another has of a parity. The error is the slot of
+// the rack whose read failed.
 fn add_slice<R: Rack>(
     search: &Search<'_>,
     parity: Parity,
     slice: u32,
     rack: &mut R,
     pool: &mut Pool,
-    loan: &Loan,
+    sum: &Loan,
+    spare: &Loan,
 ) -> Result<(), usize>
     requires part { HasPart search.now.chunk.profile (length search.now.chunk.stripes) (Part.Slice slice) }
     requires stands { IsSome (range_of search.now (Part.Slice slice)) }
     requires few { slice ≤ 62 }
     requires open { AreOpen (R.slots rack.old) search.now.devices }
-    requires live { IsLive pool.old loan.now }
+    requires live { IsLive pool.old sum.now }
+    requires spare_live { IsLive pool.old spare.now }
+    requires apart { sum.now ≢ spare.now }
     requires fits { size_of search.now ≤ pool.old.size }
     ensures slots { R.slots rack.new ≡ R.slots rack.old }
     ensures held { R.held rack.new ≡ R.held rack.old }
     ensures shelf { R.shelf rack.new ≡ R.shelf rack.old }
-    ensures kept { (w : List ℕ) × (pool.new ≡ with_bytes pool.old loan.now w) }
-    ensures bytes { OnOk result (IfSome (R.held rack.old) (λ images. IsSlice (size_of search.now) (element images search.now (Part.Slice slice)) × (take (size_of search.now) (bytes_at pool.new loan.now) ≡ plus (take (size_of search.now) (bytes_at pool.old loan.now)) (weighed parity slice (element images search.now (Part.Slice slice)))))) }
+    ensures pool { OnlyWritesIn (spare.now ∷ sum.now ∷ []) pool.old pool.new }
+    ensures bytes { OnOk result (IfSome (R.held rack.old) (λ images. IsAdded images search.now slice parity (bytes_at pool.old sum.now) (bytes_at pool.new sum.now))) }
     ensures account { AccountsPart search.now (Part.Slice slice) (R.account rack.old) (R.account rack.new) result }
 {
-    let len = search.size();
-    let Some(range) = search.range(Part::Slice(slice)) else {
-        unreachable!();
-    };
-    let mut buffer = [0; LONGEST];
-    match read_front(rack, range, &mut buffer) {
-        Ok(()) => {
-            add_to_slot(parity, pool, loan, &buffer[..len], slice as u8);
-            Ok(())
-        }
-        Err(_) => Err(range.slot),
-    }
+    read_part(search, Part::Slice(slice), rack, pool, spare)?;
+    add_slot(parity, pool, sum, spare, search.size(), slice as u8);
+    Ok(())
 }
 
-// Adds a slice to what a slot has of a parity.
-fn add_to_slot(parity: Parity, pool: &mut Pool, loan: &Loan, slice: &[u8], index: u8)
-    requires live { IsLive pool.old loan.now }
-    requires fits { length slice.now ≤ pool.old.size }
-    requires is_index { index ≤ 62 }
-    ensures kept { (w : List ℕ) × (pool.new ≡ with_bytes pool.old loan.now w) }
-    ensures sum { take (length slice.now) (bytes_at pool.new loan.now) ≡ plus (take (length slice.now) (bytes_at pool.old loan.now)) (weighed parity index slice.now) }
+// Reads a slice that stands into a spare slot, and adds it to what two others have of P and of Q. The error is the slot
+// of the rack whose read failed.
+fn add_slice_to_both<R: Rack>(
+    search: &Search<'_>,
+    slice: u32,
+    rack: &mut R,
+    pool: &mut Pool,
+    p: &Loan,
+    q: &Loan,
+    spare: &Loan,
+) -> Result<(), usize>
+    requires part { HasPart search.now.chunk.profile (length search.now.chunk.stripes) (Part.Slice slice) }
+    requires stands { IsSome (range_of search.now (Part.Slice slice)) }
+    requires few { slice ≤ 62 }
+    requires open { AreOpen (R.slots rack.old) search.now.devices }
+    requires p_live { IsLive pool.old p.now }
+    requires q_live { IsLive pool.old q.now }
+    requires spare_live { IsLive pool.old spare.now }
+    requires sums_apart { p.now ≢ q.now }
+    requires p_apart { p.now ≢ spare.now }
+    requires q_apart { q.now ≢ spare.now }
+    requires fits { size_of search.now ≤ pool.old.size }
+    ensures slots { R.slots rack.new ≡ R.slots rack.old }
+    ensures held { R.held rack.new ≡ R.held rack.old }
+    ensures shelf { R.shelf rack.new ≡ R.shelf rack.old }
+    ensures pool { OnlyWritesIn (q.now ∷ spare.now ∷ p.now ∷ []) pool.old pool.new }
+    ensures of_p { OnOk result (IfSome (R.held rack.old) (λ images. IsAdded images search.now slice Parity.P (bytes_at pool.old p.now) (bytes_at pool.new p.now))) }
+    ensures of_q { OnOk result (IfSome (R.held rack.old) (λ images. IsAdded images search.now slice Parity.Q (bytes_at pool.old q.now) (bytes_at pool.new q.now))) }
+    ensures account { AccountsPart search.now (Part.Slice slice) (R.account rack.old) (R.account rack.new) result }
 {
-    let sum = pool.bytes_mut(loan);
-    add_front(parity, sum, slice, index);
+    read_part(search, Part::Slice(slice), rack, pool, spare)?;
+    add_slot(Parity::P, pool, p, spare, search.size(), slice as u8);
+    add_slot(Parity::Q, pool, q, spare, search.size(), slice as u8);
+    Ok(())
 }
 
-// Reads a parity less the slices that a candidate reads. The error is the slot of the rack whose read failed.
+// Reads a parity less the slices that a candidate reads, each by way of a spare slot. The error is the slot of the rack
+// whose read failed.
 pub(crate) fn gather<R: Rack>(
     search: &Search<'_>,
     candidate: Candidate,
     parity: Parity,
     rack: &mut R,
     pool: &mut Pool,
-    loan: &Loan,
+    sum: &Loan,
+    spare: &Loan,
 ) -> Result<(), usize>
     requires rebuilt { IsRebuilt search.now candidate }
     requires stands { stands search.now candidate ≡ true }
     requires uses { Uses parity candidate }
     requires open { AreOpen (R.slots rack.old) search.now.devices }
-    requires live { IsLive pool.old loan.now }
+    requires live { IsLive pool.old sum.now }
+    requires spare_live { IsLive pool.old spare.now }
+    requires apart { sum.now ≢ spare.now }
     requires fits { size_of search.now ≤ pool.old.size }
     ensures slots { R.slots rack.new ≡ R.slots rack.old }
     ensures held { R.held rack.new ≡ R.held rack.old }
     ensures shelf { R.shelf rack.new ≡ R.shelf rack.old }
-    ensures pool { OnlyWrites loan.now pool.old pool.new }
-    ensures bytes { OnOk result (IfSome (R.held rack.old) (λ images. IsGathered images search.now candidate parity (take (size_of search.now) (bytes_at pool.new loan.now)))) }
+    ensures pool { OnlyWritesIn (spare.now ∷ sum.now ∷ []) pool.old pool.new }
+    ensures bytes { OnOk result (IfSome (R.held rack.old) (λ images. IsGathered images search.now candidate parity (take (size_of search.now) (bytes_at pool.new sum.now)))) }
     ensures account { AccountsGather search.now candidate (R.account rack.old) (R.account rack.new) result }
     ensures sought { OnOk result ((search.now.at.index < slice_count search.now) × (slice_count search.now ≤ 63)) }
 {
-    match read_parity(search, parity, rack, pool, loan) {
-        Ok(()) => {}
-        Err(image) => return Err(image),
-    }
+    read_part(search, parity.part(), rack, pool, sum)?;
     for slice in 0..search.slice_count() {
         if search.reads(candidate, slice) {
-            match add_slice(search, parity, slice, rack, pool, loan) {
-                Ok(()) => {}
-                Err(image) => return Err(image),
-            }
+            add_slice(search, parity, slice, rack, pool, sum, spare)?;
+        }
+    }
+    Ok(())
+}
+
+// Reads P and Q less the slices that a candidate by both reads, each of which is read once, by way of a spare slot. The
+// error is the slot of the rack whose read failed.
+pub(crate) fn gather_both<R: Rack>(
+    search: &Search<'_>,
+    other: u32,
+    rack: &mut R,
+    pool: &mut Pool,
+    p: &Loan,
+    q: &Loan,
+    spare: &Loan,
+) -> Result<(), usize>
+    requires rebuilt { IsRebuilt search.now (Candidate.ByBoth other) }
+    requires stands { stands search.now (Candidate.ByBoth other) ≡ true }
+    requires open { AreOpen (R.slots rack.old) search.now.devices }
+    requires p_live { IsLive pool.old p.now }
+    requires q_live { IsLive pool.old q.now }
+    requires spare_live { IsLive pool.old spare.now }
+    requires sums_apart { p.now ≢ q.now }
+    requires p_apart { p.now ≢ spare.now }
+    requires q_apart { q.now ≢ spare.now }
+    requires fits { size_of search.now ≤ pool.old.size }
+    ensures slots { R.slots rack.new ≡ R.slots rack.old }
+    ensures held { R.held rack.new ≡ R.held rack.old }
+    ensures shelf { R.shelf rack.new ≡ R.shelf rack.old }
+    ensures pool { OnlyWritesIn (q.now ∷ spare.now ∷ p.now ∷ []) pool.old pool.new }
+    ensures of_p { OnOk result (IfSome (R.held rack.old) (λ images. IsGathered images search.now (Candidate.ByBoth other) Parity.P (take (size_of search.now) (bytes_at pool.new p.now)))) }
+    ensures of_q { OnOk result (IfSome (R.held rack.old) (λ images. IsGathered images search.now (Candidate.ByBoth other) Parity.Q (take (size_of search.now) (bytes_at pool.new q.now)))) }
+    ensures account { AccountsGather search.now (Candidate.ByBoth other) (R.account rack.old) (R.account rack.new) result }
+    ensures sought { OnOk result ((search.now.at.index < slice_count search.now) × (slice_count search.now ≤ 63)) }
+{
+    read_part(search, Part::P, rack, pool, p)?;
+    read_part(search, Part::Q, rack, pool, q)?;
+    for slice in 0..search.slice_count() {
+        if search.reads(Candidate::ByBoth(other), slice) {
+            add_slice_to_both(search, slice, rack, pool, p, q, spare)?;
         }
     }
     Ok(())

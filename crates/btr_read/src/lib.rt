@@ -13,6 +13,7 @@ mod candidate;
 mod device;
 mod fault;
 mod fetching;
+mod folding;
 mod gathering;
 mod loan;
 mod parity;

@@ -1,5 +1,6 @@
-ghost use Rattle.std.specs.Prelude.{◌≡◌, ◌≤◌, length, take};
+ghost use Rattle.std.specs.Prelude.{◌≡◌, ◌+◌, ◌≤◌, length, slice_range};
 ghost use Rattle.btr_parity.specs.Slices.{plus};
+ghost use Rattle.btr_rack.specs.Rack.{pasted};
 ghost use Rattle.btr_read.specs.Gathering.{part_of, weighed};
 
 use btr_chunk::Part;
@@ -24,15 +25,15 @@ impl Parity {
     }
 }
 
-// Adds a slice to what the front of a buffer has of a parity.
-pub(crate) fn add_front(parity: Parity, buffer: &mut [u8], slice: &[u8], index: u8)
-    requires fits { length slice.now ≤ length buffer.old }
+// Adds a piece of a slice to what a buffer has of a parity from a place on.
+pub(crate) fn add_range(parity: Parity, buffer: &mut [u8], start: usize, piece: &[u8], index: u8)
+    requires fits { start + length piece.now ≤ length buffer.old }
     requires is_index { index ≤ 62 }
-    ensures { take (length slice.now) buffer.new ≡ plus (take (length slice.now) buffer.old) (weighed parity index slice.now) }
+    ensures { buffer.new ≡ pasted buffer.old start (plus (slice_range buffer.old start (start + length piece.now)) (weighed parity index piece.now)) }
 {
-    let front = &mut buffer[..slice.len()];
+    let range = &mut buffer[start..start + piece.len()];
     match parity {
-        Parity::P => fold_p(front, slice),
-        Parity::Q => fold_q(front, slice, index),
+        Parity::P => fold_p(range, piece),
+        Parity::Q => fold_q(range, piece, index),
     }
 }

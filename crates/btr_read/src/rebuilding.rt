@@ -1,17 +1,17 @@
 // Candidates by parities.
-ghost use Rattle.std.specs.Prelude.{◌≡◌, ◌≢◌, ℕ, ◌<◌, ◌≤◌, List, length, take, true, OnOk, IfSome};
-ghost use Rattle.btr_pool.specs.Slots.{IsLive, bytes_at, with_bytes, free_count};
+ghost use Rattle.std.specs.Prelude.{◌≡◌, ◌≢◌, ◌<◌, ◌≤◌, [], ◌∷◌, take, true, OnOk, IfSome};
+ghost use Rattle.btr_pool.specs.Slots.{IsLive, bytes_at, free_count};
 ghost use Rattle.btr_read.specs.Layout.{AreOpen};
 ghost use Rattle.btr_read.specs.Candidates.{size_of, stands, value_of};
 ghost use Rattle.btr_read.specs.Sought.{IsRebuilt};
 ghost use Rattle.btr_read.specs.Attempt.{FitsAttempt, AccountsAttempt};
 ghost use Rattle.btr_read.specs.Gathering.{AccountsGather};
-ghost use Rattle.btr_read.specs.Writing.{OnlyWrites, OnlyWritesBoth};
+ghost use Rattle.btr_read.specs.Writing.{OnlyWrites, OnlyWritesIn};
 ghost use Rattle.btr_read.specs.declared.candidate.Candidate.{Candidate};
 
 use crate::attempt::Attempt;
 use crate::candidate::Candidate;
-use crate::gathering::gather;
+use crate::gathering::{gather, gather_both};
 use crate::parity::Parity;
 use crate::search::Search;
 use crate::solving::{divide, solve};
@@ -29,7 +29,7 @@ pub(crate) fn try_rebuilt<R: Rack>(
     requires rebuilt { IsRebuilt search.now candidate }
     requires open { AreOpen (R.slots rack.old) search.now.devices }
     requires live { IsLive pool.old loan.now }
-    requires room { 0 < free_count pool.old }
+    requires room { 2 ≤ free_count pool.old }
     requires fits { size_of search.now ≤ pool.old.size }
     ensures slots { R.slots rack.new ≡ R.slots rack.old }
     ensures held { R.held rack.new ≡ R.held rack.old }
@@ -65,7 +65,7 @@ fn rebuild<R: Rack>(
     requires stands { stands search.now candidate ≡ true }
     requires open { AreOpen (R.slots rack.old) search.now.devices }
     requires live { IsLive pool.old loan.now }
-    requires room { 0 < free_count pool.old }
+    requires room { 2 ≤ free_count pool.old }
     requires fits { size_of search.now ≤ pool.old.size }
     ensures slots { R.slots rack.new ≡ R.slots rack.old }
     ensures held { R.held rack.new ≡ R.held rack.old }
@@ -74,11 +74,44 @@ fn rebuild<R: Rack>(
     ensures value { OnOk result (IfSome (R.held rack.old) (λ images. value_of images search.now candidate ≡ take (size_of search.now) (bytes_at pool.new loan.now))) }
     ensures account { AccountsGather search.now candidate (R.account rack.old) (R.account rack.new) result }
 {
+    let Ok(spare) = pool.take() else {
+        unreachable!();
+    };
+    let result = rebuild_with(search, candidate, rack, pool, loan, &spare);
+    pool.give(spare);
+    result
+}
+
+// Rebuilds a slice by a candidate that stands, by way of a spare slot. The error is the slot of the rack whose read
+// failed.
+fn rebuild_with<R: Rack>(
+    search: &Search<'_>,
+    candidate: Candidate,
+    rack: &mut R,
+    pool: &mut Pool,
+    loan: &Loan,
+    spare: &Loan,
+) -> Result<(), usize>
+    requires rebuilt { IsRebuilt search.now candidate }
+    requires stands { stands search.now candidate ≡ true }
+    requires open { AreOpen (R.slots rack.old) search.now.devices }
+    requires live { IsLive pool.old loan.now }
+    requires spare_live { IsLive pool.old spare.now }
+    requires apart { loan.now ≢ spare.now }
+    requires room { 0 < free_count pool.old }
+    requires fits { size_of search.now ≤ pool.old.size }
+    ensures slots { R.slots rack.new ≡ R.slots rack.old }
+    ensures held { R.held rack.new ≡ R.held rack.old }
+    ensures shelf { R.shelf rack.new ≡ R.shelf rack.old }
+    ensures pool { OnlyWritesIn (spare.now ∷ loan.now ∷ []) pool.old pool.new }
+    ensures value { OnOk result (IfSome (R.held rack.old) (λ images. value_of images search.now candidate ≡ take (size_of search.now) (bytes_at pool.new loan.now))) }
+    ensures account { AccountsGather search.now candidate (R.account rack.old) (R.account rack.new) result }
+{
     match candidate {
         Candidate::Stands(_) => unreachable!(),
-        Candidate::ByP => rebuild_by_p(search, rack, pool, loan),
-        Candidate::ByQ => rebuild_by_q(search, rack, pool, loan),
-        Candidate::ByBoth(other) => rebuild_by_both(search, other, rack, pool, loan),
+        Candidate::ByP => rebuild_by_p(search, rack, pool, loan, spare),
+        Candidate::ByQ => rebuild_by_q(search, rack, pool, loan, spare),
+        Candidate::ByBoth(other) => rebuild_by_both(search, other, rack, pool, loan, spare),
     }
 }
 
@@ -87,23 +120,23 @@ fn rebuild_by_p<R: Rack>(
     rack: &mut R,
     pool: &mut Pool,
     loan: &Loan,
+    spare: &Loan,
 ) -> Result<(), usize>
     requires rebuilt { IsRebuilt search.now Candidate.ByP }
     requires stands { stands search.now Candidate.ByP ≡ true }
     requires open { AreOpen (R.slots rack.old) search.now.devices }
     requires live { IsLive pool.old loan.now }
+    requires spare_live { IsLive pool.old spare.now }
+    requires apart { loan.now ≢ spare.now }
     requires fits { size_of search.now ≤ pool.old.size }
     ensures slots { R.slots rack.new ≡ R.slots rack.old }
     ensures held { R.held rack.new ≡ R.held rack.old }
     ensures shelf { R.shelf rack.new ≡ R.shelf rack.old }
-    ensures pool { OnlyWrites loan.now pool.old pool.new }
+    ensures pool { OnlyWritesIn (spare.now ∷ loan.now ∷ []) pool.old pool.new }
     ensures value { OnOk result (IfSome (R.held rack.old) (λ images. value_of images search.now Candidate.ByP ≡ take (size_of search.now) (bytes_at pool.new loan.now))) }
     ensures account { AccountsGather search.now Candidate.ByP (R.account rack.old) (R.account rack.new) result }
 {
-    match gather(search, Candidate::ByP, Parity::P, rack, pool, loan) {
-        Ok(()) => Ok(()),
-        Err(image) => Err(image),
-    }
+    gather(search, Candidate::ByP, Parity::P, rack, pool, loan, spare)
 }
 
 fn rebuild_by_q<R: Rack>(
@@ -111,26 +144,25 @@ fn rebuild_by_q<R: Rack>(
     rack: &mut R,
     pool: &mut Pool,
     loan: &Loan,
+    spare: &Loan,
 ) -> Result<(), usize>
     requires rebuilt { IsRebuilt search.now Candidate.ByQ }
     requires stands { stands search.now Candidate.ByQ ≡ true }
     requires open { AreOpen (R.slots rack.old) search.now.devices }
     requires live { IsLive pool.old loan.now }
+    requires spare_live { IsLive pool.old spare.now }
+    requires apart { loan.now ≢ spare.now }
     requires fits { size_of search.now ≤ pool.old.size }
     ensures slots { R.slots rack.new ≡ R.slots rack.old }
     ensures held { R.held rack.new ≡ R.held rack.old }
     ensures shelf { R.shelf rack.new ≡ R.shelf rack.old }
-    ensures pool { OnlyWrites loan.now pool.old pool.new }
+    ensures pool { OnlyWritesIn (spare.now ∷ loan.now ∷ []) pool.old pool.new }
     ensures value { OnOk result (IfSome (R.held rack.old) (λ images. value_of images search.now Candidate.ByQ ≡ take (size_of search.now) (bytes_at pool.new loan.now))) }
     ensures account { AccountsGather search.now Candidate.ByQ (R.account rack.old) (R.account rack.new) result }
 {
-    match gather(search, Candidate::ByQ, Parity::Q, rack, pool, loan) {
-        Ok(()) => {
-            divide(pool, loan, search.size(), search.index() as u8);
-            Ok(())
-        }
-        Err(image) => Err(image),
-    }
+    gather(search, Candidate::ByQ, Parity::Q, rack, pool, loan, spare)?;
+    divide(pool, loan, search.size(), search.index() as u8);
+    Ok(())
 }
 
 fn rebuild_by_both<R: Rack>(
@@ -139,25 +171,28 @@ fn rebuild_by_both<R: Rack>(
     rack: &mut R,
     pool: &mut Pool,
     loan: &Loan,
+    spare: &Loan,
 ) -> Result<(), usize>
     requires rebuilt { IsRebuilt search.now (Candidate.ByBoth other) }
     requires stands { stands search.now (Candidate.ByBoth other) ≡ true }
     requires open { AreOpen (R.slots rack.old) search.now.devices }
     requires live { IsLive pool.old loan.now }
+    requires spare_live { IsLive pool.old spare.now }
+    requires apart { loan.now ≢ spare.now }
     requires room { 0 < free_count pool.old }
     requires fits { size_of search.now ≤ pool.old.size }
     ensures slots { R.slots rack.new ≡ R.slots rack.old }
     ensures held { R.held rack.new ≡ R.held rack.old }
     ensures shelf { R.shelf rack.new ≡ R.shelf rack.old }
-    ensures pool { OnlyWrites loan.now pool.old pool.new }
+    ensures pool { OnlyWritesIn (spare.now ∷ loan.now ∷ []) pool.old pool.new }
     ensures value { OnOk result (IfSome (R.held rack.old) (λ images. value_of images search.now (Candidate.ByBoth other) ≡ take (size_of search.now) (bytes_at pool.new loan.now))) }
     ensures account { AccountsGather search.now (Candidate.ByBoth other) (R.account rack.old) (R.account rack.new) result }
 {
-    let Ok(spare) = pool.take() else {
+    let Ok(q) = pool.take() else {
         unreachable!();
     };
-    let result = solve_both(search, other, rack, pool, loan, &spare);
-    pool.give(spare);
+    let result = solve_both(search, other, rack, pool, loan, &q, spare);
+    pool.give(q);
     result
 }
 
@@ -169,30 +204,26 @@ fn solve_both<R: Rack>(
     pool: &mut Pool,
     p: &Loan,
     q: &Loan,
+    spare: &Loan,
 ) -> Result<(), usize>
     requires rebuilt { IsRebuilt search.now (Candidate.ByBoth other) }
     requires stands { stands search.now (Candidate.ByBoth other) ≡ true }
     requires open { AreOpen (R.slots rack.old) search.now.devices }
-    requires live { IsLive pool.old p.now }
-    requires other_live { IsLive pool.old q.now }
-    requires apart { p.now ≢ q.now }
+    requires p_live { IsLive pool.old p.now }
+    requires q_live { IsLive pool.old q.now }
+    requires spare_live { IsLive pool.old spare.now }
+    requires sums_apart { p.now ≢ q.now }
+    requires p_apart { p.now ≢ spare.now }
+    requires q_apart { q.now ≢ spare.now }
     requires fits { size_of search.now ≤ pool.old.size }
     ensures slots { R.slots rack.new ≡ R.slots rack.old }
     ensures held { R.held rack.new ≡ R.held rack.old }
     ensures shelf { R.shelf rack.new ≡ R.shelf rack.old }
-    ensures pool { OnlyWritesBoth p.now q.now pool.old pool.new }
+    ensures pool { OnlyWritesIn (q.now ∷ spare.now ∷ p.now ∷ []) pool.old pool.new }
     ensures value { OnOk result (IfSome (R.held rack.old) (λ images. value_of images search.now (Candidate.ByBoth other) ≡ take (size_of search.now) (bytes_at pool.new p.now))) }
     ensures account { AccountsGather search.now (Candidate.ByBoth other) (R.account rack.old) (R.account rack.new) result }
 {
-    let candidate = Candidate::ByBoth(other);
-    match gather(search, candidate, Parity::P, rack, pool, p) {
-        Ok(()) => {}
-        Err(image) => return Err(image),
-    }
-    match gather(search, candidate, Parity::Q, rack, pool, q) {
-        Ok(()) => {}
-        Err(image) => return Err(image),
-    }
+    gather_both(search, other, rack, pool, p, q, spare)?;
     solve(pool, p, q, search.size(), search.index() as u8, other as u8);
     Ok(())
 }

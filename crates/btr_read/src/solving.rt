@@ -1,12 +1,12 @@
 // Lost slices, from what the parities leave of them in slots.
-ghost use Rattle.std.specs.Prelude.{◌≡◌, ◌≢◌, ℕ, ◌≤◌, List, length, take};
+ghost use Rattle.std.specs.Prelude.{◌≡◌, ◌≢◌, ℕ, ◌+◌, ◌≤◌, List, length, take, slice_range};
 ghost use Rattle.btr_parity.specs.Solutions.{IsTheOne, Weighs, WeighsWith};
 ghost use Rattle.btr_pool.specs.Slots.{IsLive, bytes_at, with_bytes};
+ghost use Rattle.btr_rack.specs.Rack.{pasted};
 
+use crate::folding::PIECE;
 use btr_parity::{rebuild_pq, rebuild_q};
 use btr_pool::{Loan, Pool};
-
-const LONGEST: usize = 65536;
 
 fn divide_front(sum: &mut [u8], len: usize, index: u8)
     requires fits { len ≤ length sum.old }
@@ -28,39 +28,57 @@ pub(crate) fn divide(pool: &mut Pool, loan: &Loan, len: usize, index: u8)
     divide_front(sum, len, index);
 }
 
-fn copy_front(pool: &Pool, loan: &Loan, len: usize, buffer: &mut [u8])
-    requires live { IsLive pool.now loan.now }
-    requires fits { len ≤ pool.now.size }
-    requires room { len ≤ length buffer.old }
-    ensures { take len buffer.new ≡ take len (bytes_at pool.now loan.now) }
-{
-    pool.copy_out(loan, 0, &mut buffer[..len]);
-}
-
-fn solve_front(p: &mut [u8], q: &[u8], index: u8, other: u8)
-    requires fits { length q.now ≤ length p.old }
-    requires is_index { index ≤ 62 }
-    requires is_other_index { other ≤ 62 }
-    requires differ { index ≢ other }
-    ensures { IsTheOne (length q.now) (WeighsWith (take (length q.now) p.old) q.now index other) (take (length q.now) p.new) }
-{
-    rebuild_pq(&mut p[..q.len()], q, index, other);
-}
-
-// Makes the first of two slices of what P and Q leave of them, in the front of the slot of P.
+// Makes the first of two slices of what P and Q leave of them, in the front of the slot of P, piece by piece.
 pub(crate) fn solve(pool: &mut Pool, p: &Loan, q: &Loan, len: usize, index: u8, other: u8)
     requires live { IsLive pool.old p.now }
     requires other_live { IsLive pool.old q.now }
+    requires apart { p.now ≢ q.now }
     requires fits { len ≤ pool.old.size }
-    requires small { len ≤ 65536 }
     requires is_index { index ≤ 62 }
     requires is_other_index { other ≤ 62 }
     requires differ { index ≢ other }
     ensures kept { (w : List ℕ) × (pool.new ≡ with_bytes pool.old p.now w) }
     ensures one { IsTheOne len (WeighsWith (take len (bytes_at pool.old p.now)) (take len (bytes_at pool.old q.now)) index other) (take len (bytes_at pool.new p.now)) }
 {
-    let mut buffer = [0; LONGEST];
-    copy_front(pool, q, len, &mut buffer);
-    let sum = pool.bytes_mut(p);
-    solve_front(sum, &buffer[..len], index, other);
+    let mut buffer = [0; PIECE];
+    let mut done = 0;
+    while done < len {
+        let end = done + PIECE.min(len - done);
+        solve_piece(pool, p, q, done, &mut buffer[..end - done], index, other);
+        done = end;
+    }
+}
+
+// Solves for the piece from a place on, as long as the buffer that Q's goes through.
+fn solve_piece(
+    pool: &mut Pool,
+    p: &Loan,
+    q: &Loan,
+    start: usize,
+    piece: &mut [u8],
+    index: u8,
+    other: u8,
+)
+    requires live { IsLive pool.old p.now }
+    requires other_live { IsLive pool.old q.now }
+    requires fits { start + length piece.old ≤ pool.old.size }
+    requires is_index { index ≤ 62 }
+    requires is_other_index { other ≤ 62 }
+    requires differ { index ≢ other }
+    ensures solved { (X : List ℕ) × IsTheOne (length piece.old) (WeighsWith (slice_range (bytes_at pool.old p.now) start (start + length piece.old)) (slice_range (bytes_at pool.old q.now) start (start + length piece.old)) index other) X × (pool.new ≡ with_bytes pool.old p.now (pasted (bytes_at pool.old p.now) start X)) }
+    ensures long { length (bytes_at pool.old p.now) ≡ pool.old.size }
+{
+    pool.copy_out(q, start, piece);
+    solve_range(pool.bytes_mut(p), start, piece, index, other);
+}
+
+// Solves for the range of P where that of Q is given.
+fn solve_range(p: &mut [u8], start: usize, q: &[u8], index: u8, other: u8)
+    requires fits { start + length q.now ≤ length p.old }
+    requires is_index { index ≤ 62 }
+    requires is_other_index { other ≤ 62 }
+    requires differ { index ≢ other }
+    ensures { (X : List ℕ) × IsTheOne (length q.now) (WeighsWith (slice_range p.old start (start + length q.now)) q.now index other) X × (p.new ≡ pasted p.old start X) }
+{
+    rebuild_pq(&mut p[start..start + q.len()], q, index, other);
 }

@@ -1,4 +1,4 @@
-use Rattle.std.proofs.Common.{◌≡◌, ℕ, List, take}
+use Rattle.std.proofs.Common.{◌≡◌, ℕ, List, take, Result, Ok, Err, OnOk}
 use Rattle.btr_pool.specs.Slots.{bytes_at}
 use Rattle.btr_read.specs.declared.candidate.Candidate.TheVariants.{ByP}
 use Rattle.btr_read.specs.declared.parity.Parity.TheVariants as parity
@@ -8,9 +8,14 @@ use Rattle.btr_read.proofs.Trials.{told, telling}
 use Rattle.btr_read.proofs.Rebuilt.{by_p}
 use Rattle.btr_read.proofs.rebuilding.rebuild_by_p.Goals as goal
 
-pub returns-in-Ok-clause-value : goal.returns-in-Ok-clause-value
-returns-in-Ok-clause-value g c =
+-- two facts of what was answered give a third
+on_both : {A B C : Type 0} (r : Result (Unit {0}) ℕ) → (A → B → C) → OnOk r A → OnOk r B → OnOk r C
+on_both (Ok done) f a b = f a b
+on_both (Err slot) f a b = tt
+
+pub returns-clause-value : goal.returns-clause-value
+returns-clause-value g c =
     let t = c.args.search.now in
+    let held = g.R.Rack.held c.args.rack.now in
     let bytes : List ℕ = take (size_of t) (bytes_at c.gather.new.pool c.args.loan.now) in
-    told (g.R.Rack.held c.args.rack.now) (λ images. value_of images t ByP ≡ bytes) (λ images is.
-    by_p images t bytes c.in-Ok.ensures.sought.0 (telling (g.R.Rack.held c.args.rack.now) (λ images. IsGathered images t ByP parity.P bytes) c.in-Ok.ensures.bytes images is))
+    on_both c.gather.result (λ sought gathered. told held (λ images. value_of images t ByP ≡ bytes) (λ images is. by_p images t bytes sought.0 (telling held (λ images. IsGathered images t ByP parity.P bytes) gathered images is))) c.gather.ensures.sought c.gather.ensures.bytes

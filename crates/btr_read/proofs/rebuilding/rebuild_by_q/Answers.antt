@@ -9,8 +9,8 @@ use Rattle.btr_read.proofs.Trials.{told, telling}
 use Rattle.btr_read.proofs.Rebuilt.{by_q}
 use Rattle.btr_read.proofs.rebuilding.rebuild_by_q.Goals as goal
 
-pub returns-in-Ok-clause-value : goal.returns-in-Ok-clause-value
-returns-in-Ok-clause-value g c =
+pub returns-clause-value : goal.returns-clause-value
+returns-clause-value g c =
     let t = c.args.search.now in
     let n : ℕ = size_of t in
     let left = bytes_at c.gather.new.pool c.args.loan.now in
@@ -18,4 +18,4 @@ returns-in-Ok-clause-value g c =
     let sized : IsTheOne n (Weighs c.index.result (take n left)) (take n slice) = subst (λ n. IsTheOne n (Weighs c.index.result (take n left)) (take n slice)) c.size.ensures.value c.divide.ensures.one in
     let weighs : IsTheOne n (Weighs t.at.index (take n left)) (take n slice) = subst (λ i. IsTheOne n (Weighs i (take n left)) (take n slice)) c.index.ensures sized in
     told (g.R.Rack.held c.args.rack.now) (λ images. value_of images t ByQ ≡ take n slice) (λ images is.
-    by_q images t (take n left) (take n slice) c.in-Ok.ensures.sought.0 (telling (g.R.Rack.held c.args.rack.now) (λ images. IsGathered images t ByQ parity.Q (take n left)) c.in-Ok.ensures.bytes images is) weighs)
+    by_q images t (take n left) (take n slice) c.in_ok-gather.ensures.sought.0 (telling (g.R.Rack.held c.args.rack.now) (λ images. IsGathered images t ByQ parity.Q (take n left)) c.in_ok-gather.ensures.bytes images is) weighs)

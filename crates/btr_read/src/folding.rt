@@ -1,0 +1,68 @@
+// Slices that are added from slot to slot.
+ghost use Rattle.std.specs.Prelude.{◌≡◌, ◌≢◌, ℕ, ◌+◌, ◌≤◌, List, length, take, slice_range};
+ghost use Rattle.btr_parity.specs.Slices.{plus};
+ghost use Rattle.btr_pool.specs.Slots.{IsLive, bytes_at, with_bytes};
+ghost use Rattle.btr_rack.specs.Rack.{pasted};
+ghost use Rattle.btr_read.specs.Gathering.{weighed};
+
+use crate::parity::{Parity, add_range};
+use btr_pool::{Loan, Pool};
+
+/// How many bytes go from one slot to another at a time.
+pub(crate) const PIECE: usize = 4096;
+
+// Adds the slice in the front of a slot to what another has of a parity, piece by piece.
+pub(crate) fn add_slot(
+    parity: Parity,
+    pool: &mut Pool,
+    sum: &Loan,
+    slice: &Loan,
+    len: usize,
+    index: u8,
+)
+    requires live { IsLive pool.old sum.now }
+    requires other_live { IsLive pool.old slice.now }
+    requires apart { sum.now ≢ slice.now }
+    requires fits { len ≤ pool.old.size }
+    requires is_index { index ≤ 62 }
+    ensures kept { (w : List ℕ) × (pool.new ≡ with_bytes pool.old sum.now w) }
+    ensures sum { take len (bytes_at pool.new sum.now) ≡ plus (take len (bytes_at pool.old sum.now)) (weighed parity index (take len (bytes_at pool.old slice.now))) }
+{
+    let mut buffer = [0; PIECE];
+    let mut done = 0;
+    while done < len {
+        let end = done + PIECE.min(len - done);
+        add_piece(
+            parity,
+            pool,
+            sum,
+            slice,
+            done,
+            &mut buffer[..end - done],
+            index,
+        );
+        done = end;
+    }
+}
+
+// Adds the piece of a slice from a place on, as long as the buffer that it goes through.
+fn add_piece(
+    parity: Parity,
+    pool: &mut Pool,
+    sum: &Loan,
+    slice: &Loan,
+    start: usize,
+    piece: &mut [u8],
+    index: u8,
+)
+    requires live { IsLive pool.old sum.now }
+    requires other_live { IsLive pool.old slice.now }
+    requires fits { start + length piece.old ≤ pool.old.size }
+    requires is_index { index ≤ 62 }
+    ensures added { pool.new ≡ with_bytes pool.old sum.now (pasted (bytes_at pool.old sum.now) start (plus (slice_range (bytes_at pool.old sum.now) start (start + length piece.old)) (weighed parity index (slice_range (bytes_at pool.old slice.now) start (start + length piece.old))))) }
+    ensures long { length (bytes_at pool.old sum.now) ≡ pool.old.size }
+    ensures whole { length (slice_range (bytes_at pool.old slice.now) start (start + length piece.old)) ≡ length piece.old }
+{
+    pool.copy_out(slice, start, piece);
+    add_range(parity, pool.bytes_mut(sum), start, piece, index);
+}
