@@ -1,5 +1,5 @@
 -- What a fetch answers and leaves.
-use Rattle.std.proofs.Common.{◌≡◌, ℕ, ◌≤◌, true, List, [], ◌∷◌, length, get_or, slice_get, Option, Some, None, IfSome, IsSome, Result, Ok, Err, refl, sym, ap, ◌∙◌, subst, arith}
+use Rattle.std.proofs.Common.{◌≡◌, ℕ, ◌≤◌, true, List, [], ◌∷◌, take, get_or, slice_get, Option, Some, None, IfSome, IsSome, Result, Ok, Err, IfOk, refl, sym, ap, ◌∙◌, subst, arith}
 use Rattle.std.specs.List.{Contains}
 use Rattle.std.specs.Option.{is_some}
 use Rattle.btr_chunk.specs.declared.chunk.Chunk.{Chunk}
@@ -8,9 +8,7 @@ use Rattle.btr_chunk.specs.declared.mapping.MapFault.{MapFault}
 use Rattle.btr_chunk.specs.declared.mapping.MapFault.TheVariants as map_fault
 use Rattle.btr_chunk.specs.Mapping.{elements_of}
 use Rattle.btr_chunk.specs.Table.{chunk_at}
-use Rattle.btr_pool.specs.Slots.{Slots, IsLive, IsFree, loans_of, bytes_at, with_lent}
-use Rattle.btr_pool.proofs.Loans.{live_when_lent}
-use Rattle.std.proofs.lemmas.List.{length-set}
+use Rattle.btr_pool.specs.Slots.{Slots, IsFree, loans_of, bytes_at, with_lent}
 use Rattle.btr_rack.specs.Rack.{Account, Steady}
 use Rattle.btr_read.specs.declared.device.Member.{Member}
 use Rattle.btr_read.specs.declared.setting.Setting.{Setting}
@@ -18,13 +16,17 @@ use Rattle.btr_read.specs.declared.want.Want.{Want}
 use Rattle.btr_read.specs.declared.want.Want.TheVariants.{Tree, Block, Sector, Plain}
 use Rattle.btr_read.specs.Want.{addr_of, len_of, passes}
 use Rattle.btr_read.specs.Layout.{Layout}
-use Rattle.btr_read.specs.Candidates.{Target}
-use Rattle.btr_read.specs.Fate.{sought, sought_in, sought_at, passing, passing_for, or_lost, fate_of, fate, Agree}
-use Rattle.btr_read.specs.Store.{Blocks, IsStore, IsLentBy}
+use Rattle.btr_read.specs.declared.attempt.Attempt.TheVariants as attempt
+use Rattle.btr_read.specs.declared.candidate.Candidate.{Candidate}
+use Rattle.btr_read.specs.declared.mirror.Tried.TheVariants as tried
+use Rattle.btr_read.specs.Candidates.{Target, size_of}
+use Rattle.btr_read.specs.Fate.{Fault, sought, sought_in, sought_at, passing, passing_for, or_lost, fate_of, fate, Agree}
+use Rattle.btr_read.specs.Store.{Blocks, Lent, IsStore, IsLentBy, block_of}
+use Rattle.btr_read.specs.Attempt.{FitsAttempt}
 use Rattle.btr_read.specs.Fetch.{IsFetched}
+use Rattle.btr_read.specs.Mirror.{IsTried, FitsTried}
 use Rattle.btr_read.specs.Writing.{OnlyWrites}
-use Rattle.btr_read.proofs.Slots.{live_written}
-use Rattle.btr_read.proofs.Loans.{blocks, loan_is, loans_taken, no_loan, length-loans, one_fewer}
+use Rattle.btr_read.proofs.Loans.{blocks, loan_taken, loans_taken, no_loan, length-loans, one_fewer}
 use Rattle.btr_read.proofs.Trials.{told, telling}
 
 -- what is sought has the want, and the setting and the devices of the layout
@@ -47,6 +49,11 @@ of_in layout want t (Some chunk) e = of_at layout want t chunk (elements_of chun
 pub sought_of : (layout : Layout) (want : Want) (t : Target) → sought layout want ≡ Ok t → IsOf layout want t
 sought_of layout want t e = of_in layout want t (chunk_at layout.chunks (addr_of want)) e
 
+-- what is sought with the parts of a store
+pub located : (chunks : List Chunk) (devices given : List Member) (setting : Setting) (loans : List (Option (List ℕ))) (store : Blocks) (want : Want) (t : Target) → blocks chunks devices setting loans ≡ store → given ≡ devices → sought (record { chunks = chunks; devices = given; setting = setting }) want ≡ Ok t → sought store.layout want ≡ Ok t
+located chunks devices given setting loans store want t view same e =
+    subst (λ layout. sought layout want ≡ Ok t) (ap (λ s. s.layout) view) (subst (λ devices. sought (record { chunks = chunks; devices = devices; setting = setting }) want ≡ Ok t) same e)
+
 -- a want is no longer than a node
 pub len_fits : (setting : Setting) (want : Want) → 4096 ≤ setting.nodesize → len_of setting want ≤ setting.nodesize
 len_fits setting (Tree addr generation level) h = omega arith
@@ -60,16 +67,13 @@ some_is o bytes e = ap is_some e
 -- a slot was taken for a want, and written
 pub lent_by : (chunks : List Chunk) (devices : List Member) (setting : Setting) (p0 p2 : Slots) (k len : ℕ) (old : Blocks) (want : Want) → IsStore p0 setting → blocks chunks devices setting (loans_of p0) ≡ old → IsFree p0 k → OnlyWrites k (with_lent p0 k) p2 → len ≡ len_of setting want → IsLentBy old (blocks chunks devices setting (loans_of p2)) want (record { slot = k; len = len })
 lent_by chunks devices setting p0 p2 k len old want is view free writes e =
-    let live : IsLive p2 k = live_written (with_lent p0 k) p2 k k writes (live_when_lent p0 k free) in
-    let lent_len : length p2.lent ≡ length p0.lent = ap length writes.lent ∙ length-set p0.lent k true in
-    let whole : length p2.bytes ≡ length p2.lent = omega (arith, lent_len, writes.count, is.whole) in
     subst (λ old. IsLentBy old (blocks chunks devices setting (loans_of p2)) want (record { slot = k; len = len })) view (record {
       there = omega (arith, free.there, is.whole, length-loans p0);
       free = no_loan p0 k free;
       after = (bytes_at p2 k, ap (blocks chunks devices setting) (loans_taken p0 p2 k is.whole free writes));
       len = e;
       live = record {
-        live = some_is (get_or (loans_of p2) k None) (bytes_at p2 k) (loan_is p2 k whole live);
+        live = some_is (get_or (loans_of p2) k None) (bytes_at p2 k) (loan_taken p0 p2 k is.whole free writes);
         fits = omega (arith, e, len_fits setting want is.large);
       };
       fewer = one_fewer p0 p2 k free writes;
@@ -97,3 +101,11 @@ fetched layout want t held old mid after new bytes e begin end test stands first
           let same : one.0 ≡ bytes = agree one.0 bytes (for one.0 one.2) (for bytes there) in
           ap (fate_of images (addr_of want)) e ∙ ap (or_lost (addr_of want)) (one.1 ∙ ap Some same));
     }
+
+-- what a mirror that passes says of what is sought
+pub tried_passes : (s : Result Target Fault) (t : Target) (c : Candidate) (held : Option (List (List ℕ))) (store : Blocks) (loan : Lent) (slot : List ℕ) → s ≡ Ok t → FitsAttempt t c held slot attempt.Passed → block_of store loan ≡ Some (take (size_of t) slot) → IfOk s (λ t. FitsTried t c held store (Ok (tried.Passed loan)))
+tried_passes s t c held store loan slot e fits block =
+    subst (λ s. IfOk s (λ t. FitsTried t c held store (Ok (tried.Passed loan)))) (sym e) (
+      fits.0,
+      subst (λ o. IfSome o (IsTried t c held)) (sym block) (record { pass = fits.1; value = fits.2 }),
+    )

@@ -1,8 +1,9 @@
 -- What each of several reads into a slot keeps.
 use Rattle.std.proofs.Common.{◌≡◌, ℕ, List, [], ◌∷◌, ◌++◌, Option, refl, ap, ◌∙◌, arith}
 use Rattle.btr_pool.specs.Slots.{Slots}
-use Rattle.btr_rack.specs.Rack.{Slot, Shelf, Account, NoneFailed, OneFailed, next_count}
+use Rattle.btr_rack.specs.Rack.{Slot, Shelf, Account, NoneFailed, next_count}
 use Rattle.btr_rack.specs.declared.place.Place.{Place as Range}
+use Rattle.btr_read.specs.Cause.{ReadFailed}
 use Rattle.btr_read.specs.Writing.{OnlyWrites}
 use Rattle.btr_read.proofs.Slots.{only_writes_more}
 
@@ -34,11 +35,15 @@ none_more a b c h g = record {
   shut = g.shut ∙ h.shut;
 }
 
--- no call failed, and then one
-pub one_after : (m : Range) (a b c : Account) → NoneFailed a b → OneFailed m b c → OneFailed m a c
-one_after m a b c h g = record {
-  faults = (omega (arith, h.faults, g.faults.0), omega (arith, h.faults, g.faults.1));
-  fresh = g.fresh ∙ ap next_count h.fresh;
-  missed = g.missed ∙ ap (λ ms. ms ++ m ∷ []) h.missed;
-  last = g.last;
-}
+-- no call failed, and then one read
+pub one_after : (m : Range) (a b c : Account) → NoneFailed a b → ReadFailed m b c → ReadFailed m a c
+one_after m a b c h g = (
+  record {
+    faults = (omega (arith, h.faults, g.0.faults.0), omega (arith, h.faults, g.0.faults.1));
+    fresh = g.0.fresh ∙ ap next_count h.fresh;
+    missed = g.0.missed ∙ ap (λ ms. ms ++ m ∷ []) h.missed;
+    last = g.0.last;
+  },
+  g.1,
+  g.2 ∙ h.shut,
+)

@@ -68,6 +68,12 @@ loans_taken p0 p2 k whole free writes =
         ap (λ b. cond b (Some (bytes_at p2 j)) None) lent
         ∙ same_if (get_or p0.lent j false) (bytes_at p2 j) (bytes_at p0 j) (λ live. writes.others j ne (get_or-set_other p0.lent k j true false ne ∙ live))
 
+-- its loan has the bytes that were written
+pub loan_taken : (p0 p2 : Slots) (k : ℕ) → length p0.bytes ≡ length p0.lent → IsFree p0 k → OnlyWrites k (with_lent p0 k) p2 → get_or (loans_of p2) k None ≡ Some (bytes_at p2 k)
+loan_taken p0 p2 k whole free writes =
+    let live : IsLive p2 k = live_written (with_lent p0 k) p2 k k writes (live_when_lent p0 k free) in
+    loan_is p2 k (omega (arith, ap length writes.lent, length-set p0.lent k true, writes.count, whole)) live
+
 -- what was free has no loan
 pub no_loan : (pool : Slots) (k : ℕ) → IsFree pool k → get_or (loans_of pool) k None ≡ None
 no_loan pool k free =

@@ -10,9 +10,9 @@ use Rattle.btr_rack.specs.Rack.{Account, NoneFailed, OneFailed, Rose, Steady}
 use Rattle.btr_rack.specs.declared.place.Place.{Place as Range}
 use Rattle.btr_read.specs.declared.candidate.Candidate.{Candidate}
 use Rattle.btr_read.specs.Want.{passes}
-use Rattle.btr_read.specs.Candidates.{Target, candidates, stands, value_of, reading, ranges_of}
+use Rattle.btr_read.specs.Candidates.{Target, candidates, stands, value_of, reading}
 use Rattle.btr_read.specs.Fate.{passing}
-use Rattle.btr_read.specs.Cause.{LiesIn, IsOf, Passes, IsUnread}
+use Rattle.btr_read.specs.Cause.{IsOf, IsMissed, Passes, IsUnread}
 
 -- a fact for the images that are told
 pub told : {X : Type 0} (o : Option X) (P : X → Type 0) → ((x : X) → o ≡ Some x → P x) → IfSome o P
@@ -151,10 +151,10 @@ tried_calm t held before now after failed k c h is lt calm none = record {
 }
 
 -- one more candidate, of which a read failed
-pub tried_failed : (t : Target) (held : Option (List (List ℕ))) (before : ℕ) (now after : Account) (failed : Option ℕ) (k s : ℕ) (c : Candidate) → TriedSoFar t held before now failed k → slice_get (candidates t) k ≡ Some c → k < length (candidates t) → k + 1 < 2 ^ 64 → (m : Range) × OneFailed m now after × (m.slot ≡ s) × Any (LiesIn m) (ranges_of t c) → TriedSoFar t held before after (Some s) (k + 1)
+pub tried_failed : (t : Target) (held : Option (List (List ℕ))) (before : ℕ) (now after : Account) (failed : Option ℕ) (k s : ℕ) (c : Candidate) → TriedSoFar t held before now failed k → slice_get (candidates t) k ≡ Some c → k < length (candidates t) → k + 1 < 2 ^ 64 → IsMissed t c s now after → TriedSoFar t held before after (Some s) (k + 1)
 tried_failed t held before now after failed k s c h is lt short fault =
     let m : Range = fault.0 in
-    let one : OneFailed m now after = fault.1 in
+    let one : OneFailed m now after = fault.1.0 in
     let here : IsOf t m c = fault.3 in
     record {
       later = omega (arith, h.later, one.faults.0);

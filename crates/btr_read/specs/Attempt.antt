@@ -1,17 +1,16 @@
 -- What came of one candidate, and of all of them.
 use Rattle.std.specs.Prelude.{◌≡◌, ℕ, true, false, List, take, Option, Some, None, IfSome, slice_get}
-use Rattle.std.specs.List.{Any, Contains}
-use Rattle.btr_rack.specs.Rack.{Account, NoneFailed, OneFailed, Steady}
-use Rattle.btr_rack.specs.declared.place.Place.{Place as Range}
+use Rattle.std.specs.List.{Contains}
+use Rattle.btr_rack.specs.Rack.{Account, NoneFailed, Steady}
 use Rattle.btr_read.specs.declared.attempt.Attempt.{Attempt}
 use Rattle.btr_read.specs.declared.attempt.Attempt.TheVariants.{Passed, Differs, Absent, Failed}
 use Rattle.btr_read.specs.declared.attempt.Outcome.{Outcome}
 use Rattle.btr_read.specs.declared.attempt.Outcome.TheVariants as outcome
 use Rattle.btr_read.specs.declared.candidate.Candidate.{Candidate}
 use Rattle.btr_read.specs.Want.{passes}
-use Rattle.btr_read.specs.Candidates.{Target, size_of, ranges_of, stands, value_of}
+use Rattle.btr_read.specs.Candidates.{Target, size_of, stands, value_of}
 use Rattle.btr_read.specs.Fate.{passing}
-use Rattle.btr_read.specs.Cause.{LiesIn, IsUnread}
+use Rattle.btr_read.specs.Cause.{IsMissed, IsUnread}
 
 -- one candidate: `slot` is what stands in the slot afterwards
 abbrev pub FitsAttempt : Target → Candidate → Option (List (List ℕ)) → List ℕ → Attempt → Type 0
@@ -20,12 +19,12 @@ FitsAttempt t c held slot Differs = (stands t c ≡ true) × IfSome held (λ ima
 FitsAttempt t c held slot Absent = stands t c ≡ false
 FitsAttempt t c held slot (Failed s) = stands t c ≡ true
 
--- one candidate fails by one call, whose range lies in one that the candidate reads
+-- one candidate fails by one read, in a range that the candidate reads
 abbrev pub AccountsAttempt : Target → Candidate → Account → Account → Attempt → Type 0
 AccountsAttempt t c old new Passed = NoneFailed old new
 AccountsAttempt t c old new Differs = NoneFailed old new
 AccountsAttempt t c old new Absent = NoneFailed old new
-AccountsAttempt t c old new (Failed s) = (m : Range) × OneFailed m old new × (m.slot ≡ s) × Any (LiesIn m) (ranges_of t c)
+AccountsAttempt t c old new (Failed s) = IsMissed t c s old new
 
 -- the bytes of a candidate that passes, and of the first where no count rose
 abbrev pub FitsPassed : Target → Option (List (List ℕ)) → Account → Account → List ℕ → Type 0

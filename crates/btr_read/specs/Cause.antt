@@ -1,7 +1,7 @@
 -- When a block may be called unread.
-use Rattle.std.specs.Prelude.{◌≡◌, ℕ, ◌+◌, ◌≤◌, true, List, length, Option, IfSome, IsSomeAnd}
+use Rattle.std.specs.Prelude.{◌≡◌, ℕ, ◌+◌, ◌≤◌, true, List, length, Option, None, IfSome, IsSomeAnd}
 use Rattle.std.specs.List.{All, Any}
-use Rattle.btr_rack.specs.Rack.{Account, Rose}
+use Rattle.btr_rack.specs.Rack.{Account, Rose, OneFailed}
 use Rattle.btr_rack.specs.declared.place.Place.{Place as Range}
 use Rattle.btr_read.specs.declared.candidate.Candidate.{Candidate}
 use Rattle.btr_read.specs.Want.{passes}
@@ -17,6 +17,14 @@ pub record LiesIn (inner outer : Range) : Type 0 where
 -- the range lies in one that the candidate reads
 abbrev pub IsOf : Target → Range → Candidate → Type 0
 IsOf t range candidate = Any (LiesIn range) (ranges_of t candidate)
+
+-- a read at this place failed
+abbrev pub ReadFailed : Range → Account → Account → Type 0
+ReadFailed place old new = OneFailed place old new × (new.opening ≡ None) × (new.shut ≡ old.shut)
+
+-- a read on this slot failed, in a range that the candidate reads
+abbrev pub IsMissed : Target → Candidate → ℕ → Account → Account → Type 0
+IsMissed t candidate slot old new = (place : Range) × ReadFailed place old new × (place.slot ≡ slot) × IsOf t place candidate
 
 -- a candidate stands and passes
 abbrev pub Passes : List (List ℕ) → Target → Candidate → Type 0

@@ -1,17 +1,17 @@
 -- What the parities leave of lost slices.
 use Rattle.std.specs.Prelude.{◌≡◌, ℕ, List, map, take, if◌then◌else◌, Some, Result, Ok, Err}
-use Rattle.std.specs.List.{range_with_len, All, Any}
+use Rattle.std.specs.List.{range_with_len, All}
 use Rattle.btr_chunk.specs.declared.place.Part.{Part}
 use Rattle.btr_chunk.specs.declared.place.Part.TheVariants.{Slice, P, Q}
 use Rattle.btr_parity.specs.Field.{power}
 use Rattle.btr_parity.specs.Slices.{IsSlice, zeros, plus, scaled, parity_p, parity_q}
-use Rattle.btr_rack.specs.Rack.{Account, NoneFailed, OneFailed}
+use Rattle.btr_rack.specs.Rack.{Account, NoneFailed}
 use Rattle.btr_rack.specs.declared.place.Place.{Place as Range}
 use Rattle.btr_read.specs.declared.candidate.Candidate.{Candidate}
 use Rattle.btr_read.specs.declared.parity.Parity.{Parity}
 use Rattle.btr_read.specs.declared.parity.Parity.TheVariants as parity
-use Rattle.btr_read.specs.Candidates.{Target, size_of, slice_count, range_of, ranges_of, reads_slice, element}
-use Rattle.btr_read.specs.Cause.{LiesIn}
+use Rattle.btr_read.specs.Candidates.{Target, size_of, slice_count, range_of, reads_slice, element}
+use Rattle.btr_read.specs.Cause.{ReadFailed, IsMissed}
 
 -- the part that a parity is
 abbrev pub part_of : Parity → Part
@@ -46,9 +46,9 @@ pub record IsAdded (images : List (List ℕ)) (t : Target) (s : ℕ) (p : Parity
 -- reading a part fails by one call, which reads the part's range
 abbrev pub AccountsPart : Target → Part → Account → Account → Result (Unit {0}) ℕ → Type 0
 AccountsPart t part old new (Ok _) = NoneFailed old new
-AccountsPart t part old new (Err s) = (m : Range) × OneFailed m old new × (m.slot ≡ s) × (range_of t part ≡ Some m)
+AccountsPart t part old new (Err s) = (m : Range) × ReadFailed m old new × (m.slot ≡ s) × (range_of t part ≡ Some m)
 
--- reading for a candidate fails by one call, whose range lies in one that the candidate reads
+-- reading for a candidate fails by one read, in a range that the candidate reads
 abbrev pub AccountsGather : Target → Candidate → Account → Account → Result (Unit {0}) ℕ → Type 0
 AccountsGather t c old new (Ok _) = NoneFailed old new
-AccountsGather t c old new (Err s) = (m : Range) × OneFailed m old new × (m.slot ≡ s) × Any (LiesIn m) (ranges_of t c)
+AccountsGather t c old new (Err s) = IsMissed t c s old new

@@ -9,4 +9,5 @@ pub mod Attempt
 pub mod Writing
 pub mod Store
 pub mod Fetch
+pub mod Mirror
 pub mod Gathering

@@ -14,7 +14,7 @@ use btr_chunk::{ChunkTable, MapFault, elements};
 use btr_rack::Rack;
 
 // What is sought for a want, or `Unmapped` or `Crosses`.
-fn locate<'a>(
+pub(crate) fn locate<'a>(
     want: &'a Want,
     setting: Setting,
     chunks: &'a ChunkTable,
@@ -58,6 +58,7 @@ pub fn fetch<R: Rack>(want: &Want, rack: &mut R, store: &mut Store) -> Result<Lo
     ensures held { R.held rack.new ≡ R.held rack.old }
     ensures shelf { R.shelf rack.new ≡ R.shelf rack.old }
     ensures later { (R.account rack.old).faults ≤ (R.account rack.new).faults }
+    ensures shut { (R.account rack.new).shut ≡ (R.account rack.old).shut }
     ensures lent { IfOk result (IsLentBy store.old store.new want.now) }
     ensures refused { OnErr result (store.new ≡ store.old) }
     ensures answer { FitsFetch store.old.layout want.now (R.held rack.old) (R.account rack.old) (R.account rack.new) store.new result }

@@ -5,7 +5,7 @@
 //! where the devices that it reads are given. The layer above is promised the first standing candidate that passes, or
 //! the reason why there is none. `specs/Want.antt` says what passes, `specs/Candidates.antt` what the candidates are,
 //! `specs/Fate.antt` what becomes of a want over the bytes of the images, and `specs/Cause.antt` when a block may be
-//! called unread.
+//! called unread. `try_mirror` looks at one copy by itself, as repairing needs it: `specs/Mirror.antt`.
 #![tactic(auto)]
 
 mod attempt;
@@ -16,6 +16,7 @@ mod fetching;
 mod folding;
 mod gathering;
 mod loan;
+mod mirror;
 mod parity;
 mod passing;
 mod reading;
@@ -31,6 +32,7 @@ pub use device::Device;
 pub use fault::ReadFault;
 pub use fetching::fetch;
 pub use loan::Loan;
+pub use mirror::{Tried, TryFault, try_mirror};
 pub use passing::passes;
 pub use store::Store;
 pub use want::Want;

@@ -19,7 +19,7 @@ use btr_pool::{Loan, Pool};
 use btr_rack::Rack;
 
 // Reads a part, and tests it.
-fn try_part<R: Rack>(
+pub(crate) fn try_part<R: Rack>(
     search: &Search<'_>,
     part: Part,
     rack: &mut R,
@@ -99,6 +99,7 @@ pub(crate) fn try_all<R: Rack>(
     ensures held { R.held rack.new ≡ R.held rack.old }
     ensures shelf { R.shelf rack.new ≡ R.shelf rack.old }
     ensures later { (R.account rack.old).faults ≤ (R.account rack.new).faults }
+    ensures shut { (R.account rack.new).shut ≡ (R.account rack.old).shut }
     ensures pool { OnlyWrites loan.now pool.old pool.new }
     ensures outcome { FitsOutcome search.now (R.held rack.old) (R.account rack.old) (R.account rack.new) (bytes_at pool.new loan.now) result }
 {

@@ -35,18 +35,21 @@ loop-k-preserved g c =
           record {
             keeps = keeps_more c.loop-k.invariant.keeps e.slots e.held e.shelf e.pool;
             tried = rw w.failed-is (tried_calm t held before now after c.loop-k.failed c.loop-k.k cand c.loop-k.invariant.tried c.candidate.ensures.value lt e.account (λ images is. differs_alone images t cand (value_of images t cand) (reading_stands images t cand e.attempt.0) (telling (g.R.Rack.held c.loop-k.rack) (λ images. passes t.setting t.want (value_of images t cand) ≡ false) e.attempt.1 images (c.loop-k.invariant.keeps.same_held ∙ is))));
+            shut = e.account.shut ∙ c.loop-k.invariant.shut;
           }
       | in-Absent w ↦
           let e = w.in-Absent.ensures in
           record {
             keeps = keeps_more c.loop-k.invariant.keeps e.slots e.held e.shelf e.pool;
             tried = rw w.failed-is (tried_calm t held before now after c.loop-k.failed c.loop-k.k cand c.loop-k.invariant.tried c.candidate.ensures.value lt e.account (λ images is. absent_alone images t cand (reading_absent images t cand e.attempt)));
+            shut = e.account.shut ∙ c.loop-k.invariant.shut;
           }
       | in-Failed w ↦
           let e = w.in-Failed.ensures in
           record {
             keeps = keeps_more c.loop-k.invariant.keeps e.slots e.held e.shelf e.pool;
             tried = rw w.failed-is (tried_failed t held before now after c.loop-k.failed c.loop-k.k _ cand c.loop-k.invariant.tried c.candidate.ensures.value lt (omega (arith, c.loop-k-test.true, c.candidate_count-k-end.type_inv)) e.account);
+            shut = e.account.1.2 ∙ c.loop-k.invariant.shut;
           }
     ]
 
