@@ -1,5 +1,5 @@
 -- What a fetch answers.
-use Rattle.std.specs.Prelude.{◌≡◌, ℕ, true, List, Option, IfSome, Result, Ok, Err}
+use Rattle.std.specs.Prelude.{◌≡◌, ℕ, true, List, Option, IfSome, Result, Ok, Err, ⊤}
 use Rattle.std.specs.List.{Contains}
 use Rattle.btr_rack.specs.Rack.{Account, Steady}
 use Rattle.btr_read.specs.declared.fault.ReadFault.{ReadFault}
@@ -27,13 +27,21 @@ pub record IsUnreadFor (layout : Layout) (want : Want) (held : Option (List (Lis
   pub is_sought : sought layout want ≡ Ok target
   pub unread : IsUnread target held old.faults new slot
 
--- each answer with what it says of the want's fate. `new` is the store afterwards, and `fresh` is 0 but where a read failed
+-- each answer with what it says of the want's fate. `store` is the store afterwards
 abbrev pub FitsFetch : Layout → Want → Option (List (List ℕ)) → Account → Account → Blocks → Result Lent ReadFault → Type 0
-FitsFetch layout want held old new store (Ok loan) = (new.fresh ≡ 0) × IfSome (block_of store loan) (IsFetched layout want held old new)
-FitsFetch layout want held old new store (Err (fault.Lost addr)) = (new.fresh ≡ 0) × (addr ≡ addr_of want) × IfSome held (λ images. fate images layout want ≡ Err (Lost addr))
+FitsFetch layout want held old new store (Ok loan) = IfSome (block_of store loan) (IsFetched layout want held old new)
+FitsFetch layout want held old new store (Err (fault.Lost addr)) = (addr ≡ addr_of want) × IfSome held (λ images. fate images layout want ≡ Err (Lost addr))
 FitsFetch layout want held old new store (Err (fault.Unread addr slot)) = IsUnreadFor layout want held old new addr slot
-FitsFetch layout want held old new store (Err (fault.Unmapped addr)) = (new.fresh ≡ 0) × (sought layout want ≡ Err (Unmapped addr))
-FitsFetch layout want held old new store (Err (fault.Crosses addr)) = (new.fresh ≡ 0) × (sought layout want ≡ Err (Crosses addr))
+FitsFetch layout want held old new store (Err (fault.Unmapped addr)) = sought layout want ≡ Err (Unmapped addr)
+FitsFetch layout want held old new store (Err (fault.Crosses addr)) = sought layout want ≡ Err (Crosses addr)
+
+-- no failed call is counted, but where the block is unread
+abbrev pub CountsNone : Account → Result Lent ReadFault → Type 0
+CountsNone account (Ok loan) = account.fresh ≡ 0
+CountsNone account (Err (fault.Lost addr)) = account.fresh ≡ 0
+CountsNone account (Err (fault.Unread addr slot)) = ⊤
+CountsNone account (Err (fault.Unmapped addr)) = account.fresh ≡ 0
+CountsNone account (Err (fault.Crosses addr)) = account.fresh ≡ 0
 
 -- what is sought, or why it has no position
 abbrev pub IsLocated : Result Target Fault → Result Target ReadFault → Type 0

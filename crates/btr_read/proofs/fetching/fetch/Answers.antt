@@ -60,13 +60,12 @@ returns-in-Passed-clause-answer g c =
     let writes = subst (λ p. OnlyWrites k p p2) c.in-Ok.ensures.lent c.in-Passed.ensures.pool in
     let bytes : List ℕ = take c.size-len.result (bytes_at p2 k) in
     let outcome = subst (λ n. FitsPassed c.in_ok-search.search (g.R.Rack.held c.forget.new.self) (g.R.Rack.account c.forget.new.self) (g.R.Rack.account c.try_all.new.rack) (take n (bytes_at p2 k))) (sym c.size-len.ensures.value) c.in-Passed.ensures.outcome in
-    let fresh = ap (λ a. a.fresh) c.forget-in-Passed.ensures.account in
     let begin = ap (λ a. a.faults) c.forget.ensures.account in
     let end = ap (λ a. a.faults) c.forget-in-Passed.ensures.account in
     let answer = fetched layout c.args.want.now c.in_ok-search.search (g.R.Rack.held c.forget.new.self) (g.R.Rack.account c.args.rack.now) (g.R.Rack.account c.forget.new.self) (g.R.Rack.account c.try_all.new.rack) (g.R.Rack.account c.forget-in-Passed.new.self) bytes seeks begin end outcome.0 outcome.1 outcome.2 in
     let here = subst (λ held. IsFetched layout c.args.want.now held (g.R.Rack.account c.args.rack.now) (g.R.Rack.account c.forget-in-Passed.new.self) bytes) c.forget.ensures.held answer in
     let block : option_map (take c.size-len.result) (get_or (loans_of p2) k None) ≡ Some bytes = ap (option_map (take c.size-len.result)) (loan_taken p0 p2 k c.store.invariant.whole c.in-Ok.ensures.was_free writes) in
-    (fresh, subst (λ o. IfSome o (IsFetched layout c.args.want.now (g.R.Rack.held c.args.rack.now) (g.R.Rack.account c.args.rack.now) (g.R.Rack.account c.forget-in-Passed.new.self))) (sym block) here)
+    subst (λ o. IfSome o (IsFetched layout c.args.want.now (g.R.Rack.held c.args.rack.now) (g.R.Rack.account c.args.rack.now) (g.R.Rack.account c.forget-in-Passed.new.self))) (sym block) here
 
 pub returns-in-Lost-clause-refused : goal.returns-in-Lost-clause-refused
 returns-in-Lost-clause-refused g c =
