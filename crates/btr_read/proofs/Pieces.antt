@@ -1,6 +1,6 @@
 -- A slot that is written piece by piece.
 use Rattle.std.proofs.Common.{◌≡◌, ◌≢◌, ℕ, ◌+◌, ◌-◌, ◌<◌, ◌≤◌, List, [], ◌∷◌, ◌++◌, length, take, drop, refl, sym, ap, ap₂, ◌∙◌, subst, arith, length-append, length-take, length-drop, bit_xor}
-use Rattle.std.proofs.lemmas.List.{take_at, drop_at, drop-drop, map-append, set-set, set-get_or}
+use Rattle.std.proofs.lemmas.List.{take_at, drop_at, drop-drop, map-append, set-set}
 use Rattle.std.proofs.lemmas.Simd.{length-zip2}
 use Rattle.std.proofs.lemmas.List.{length-map}
 use Rattle.std.proofs.Math.Seq.{take-add}
@@ -8,7 +8,7 @@ use Rattle.std.specs.List.{slice_range}
 use Rattle.btr_parity.specs.Field.{product, power}
 use Rattle.btr_parity.specs.Slices.{plus}
 use Rattle.btr_pool.specs.Slots.{Slots, IsLive, bytes_at, with_bytes}
-use Rattle.btr_pool.proofs.Loans.{bytes_at-with_bytes_same, bytes_at-with_bytes_other, live_after_write}
+use Rattle.btr_pool.proofs.Loans.{bytes_at-with_bytes_same, bytes_at-with_bytes_other}
 use Rattle.btr_rack.specs.Rack.{pasted}
 use Rattle.btr_read.specs.declared.parity.Parity.{Parity}
 use Rattle.btr_read.specs.declared.parity.Parity.TheVariants as parity
@@ -60,26 +60,12 @@ pub record WrittenSoFar (P : List ℕ → Type 0) (k done : ℕ) (old now : Slot
   pub meets : P written
   pub is : now ≡ with_bytes old k (written ++ drop done (bytes_at old k))
 
-pub written_none : (P : List ℕ → Type 0) (k : ℕ) (old : Slots) → P [] → WrittenSoFar P k 0 old old
-written_none P k old h = record {
-  written = [];
-  long = refl;
-  meets = h;
-  is = λ i. record { size = old.size; lent = old.lent; bytes = sym (set-get_or old.bytes k []) i };
-}
-
 module _ (P : List ℕ → Type 0) (k done : ℕ) (old now : Slots) (live : IsLive old k) (h : WrittenSoFar P k done old now) where
   bytes_now : bytes_at now k ≡ h.written ++ drop done (bytes_at old k)
   bytes_now = ap (λ pool. bytes_at pool k) h.is ∙ bytes_at-with_bytes_same old k (h.written ++ drop done (bytes_at old k)) live
 
   pub size_now : now.size ≡ old.size
   size_now = ap (λ pool. pool.size) h.is
-
-  pub live_now : (j : ℕ) → IsLive old j → IsLive now j
-  live_now j other = subst (λ pool. IsLive pool j) (sym h.is) (live_after_write old j k (h.written ++ drop done (bytes_at old k)) other)
-
-  pub front_now : take done (bytes_at now k) ≡ h.written
-  front_now = ap (take done) bytes_now ∙ take_at h.written (drop done (bytes_at old k)) done h.long
 
   pub range_now : (end : ℕ) → slice_range (bytes_at now k) done end ≡ slice_range (bytes_at old k) done end
   range_now end = ap (λ bytes. slice_range bytes done end) bytes_now ∙ range_behind (bytes_at old k) h.written done end h.long

@@ -1,8 +1,8 @@
 -- Several slots that are written.
-use Rattle.std.proofs.Common.{◌≡◌, ◌≢◌, ℕ, true, false, List, [], ◌∷◌, get_or, set, Option, refl, sym, ap, ◌∙◌, subst, arith}
+use Rattle.std.proofs.Common.{◌≡◌, ◌≢◌, ℕ, true, false, List, [], ◌∷◌, get_or, set, Option, refl, sym, ap, ◌∙◌, subst}
 use Rattle.std.proofs.lemmas.List.{length-set, get_or-set_other, set-get_or, set-set, get_or_default}
 use Rattle.std.proofs.lemmas.Bool.{false≢true}
-use Rattle.btr_pool.specs.Slots.{Slots, IsLive, IsFree, with_bytes, with_lent, with_free}
+use Rattle.btr_pool.specs.Slots.{Slots, IsFree, with_bytes, with_lent, with_free}
 use Rattle.btr_pool.proofs.Loans.{free_below}
 use Rattle.btr_rack.specs.Rack.{Slot, Shelf}
 use Rattle.btr_read.specs.Writing.{OnlyWrites, OnlyWritesIn, IsNoneOf}
@@ -16,22 +16,12 @@ writes_one old new k ks among h = subst (OnlyWritesIn ks old) (sym h.1) (record 
   others = λ j none live. get_or-set_other old.bytes k j h.0 [] (among j none);
 })
 
-pub writes_none : (pool : Slots) (ks : List ℕ) → OnlyWritesIn ks pool pool
-writes_none pool ks = record { size = refl; lent = refl; count = refl; others = λ j none live. refl }
-
 pub writes_more : (a b c : Slots) (ks : List ℕ) → OnlyWritesIn ks a b → OnlyWritesIn ks b c → OnlyWritesIn ks a c
 writes_more a b c ks h g = record {
   size = g.size ∙ h.size;
   lent = g.lent ∙ h.lent;
   count = g.count ∙ h.count;
   others = λ j none live. g.others j none (ap (λ lent. get_or lent j false) h.lent ∙ live) ∙ h.others j none live;
-}
-
--- the loans stay live
-pub still_live : (old new : Slots) (ks : List ℕ) (j : ℕ) → OnlyWritesIn ks old new → IsLive old j → IsLive new j
-still_live old new ks j h live = record {
-  there = omega (arith, h.count, live.there);
-  lent = ap (λ lent. get_or lent j false) h.lent ∙ live.lent;
 }
 
 -- where only one is written

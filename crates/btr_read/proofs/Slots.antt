@@ -62,19 +62,3 @@ pub readable : (slots : List Slot) (t : Target) (part : Part) (range : Range) �
 readable slots t part range are e =
     let place = place_at t.chunk part t.at in
     readable_on slots place.offset (size_of t) (device_in t.devices place.devid) range (λ device is. are place.devid device is) e
-
-len_if : (slot off len : ℕ) (range : Range) (b : Bool) → cond b (Some (range_in slot off len)) None ≡ Some range → range.len ≡ len
-len_if slot off len range true e =
-    let same : range_in slot off len ≡ range = cc in
-    ap (λ r. r.len) (sym same)
-len_if slot off len range false e = cc
-
-len_on : (off len : ℕ) (o : Option Device) (range : Range) → range_on off len o ≡ Some range → range.len ≡ len
-len_on off len None range e = cc
-len_on off len (Some device) range e = len_if device.slot off len range (leb (off + len) device.len) e
-
--- a part is as long as what is sought
-pub range_len : (t : Target) (part : Part) (range : Range) → range_of t part ≡ Some range → range.len ≡ size_of t
-range_len t part range e =
-    let place = place_at t.chunk part t.at in
-    len_on place.offset (size_of t) (device_in t.devices place.devid) range e

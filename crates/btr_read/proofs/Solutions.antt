@@ -116,21 +116,6 @@ module _ (n m x y : ℕ) (p q p' q' X X' : List ℕ) (long : length p ≡ n) (lo
     only = λ Z slice w. sym (take-append-drop n Z) ∙ ap₂ (λ a b. a ++ b) (first_solves Z slice w) (second_solves Z slice w);
   }
 
--- nothing solves the equations of nothing
-pub solved_none : (x y : ℕ) → IsTheOne 0 (WeighsWith [] [] x y) []
-solved_none x y = record {
-  slice = none;
-  meets = record { other = []; slice = none; sum = refl; weighted_sum = refl };
-  only = λ Z slice w. nothing Z slice.long;
-}
-  where
-    none : IsSlice 0 []
-    none = record { long = refl; bytes = λ k d lt. absurd (omega (arith, lt)) }
-
-    nothing : (Z : List ℕ) → length Z ≡ 0 → Z ≡ []
-    nothing [] e = refl
-    nothing (z ∷ Z) e = absurd (omega (arith, e))
-
 -- ---- slots
 
 -- the first bytes of slot k, of P, were made those of the first slice, where slot j has those of Q

@@ -8,7 +8,7 @@ use btr_pool::{Loan, Pool};
 use btr_rack::{Place, Rack, RackError};
 
 // Reads a range of an image into the beginning of a buffer.
-pub(crate) fn read_front<R: Rack>(
+fn read_front<R: Rack>(
     rack: &mut R,
     range: Place,
     buf: &mut [u8],
