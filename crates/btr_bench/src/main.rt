@@ -8,8 +8,13 @@
 #![tactic(auto)]
 
 mod kernel;
+mod node;
+mod parity;
+mod pattern;
 mod plan;
 mod sums;
+#[cfg(test)]
+mod tests;
 mod turns;
 
 use anyhow::{Result, bail};

@@ -1,50 +1,45 @@
 // The turns of a kernel over a piece.
-ghost use Rattle.std.specs.Prelude.{◌≡◌, ◌<◌, length, IfOk};
-ghost use Rattle.btr_bench.specs.Kernel.{result_of};
-ghost use Rattle.btr_bench.specs.Turns.{first_piece, flipped, all_results};
+ghost use Rattle.std.specs.Prelude.{◌≡◌, ◌<◌, length, IfOk, IsTrue};
+ghost use Rattle.btr_bench.specs.Kernel.{takes};
+ghost use Rattle.btr_bench.specs.Turns.{first_piece, first_kept, kept_size, flipped, TurnsGive};
 
 use crate::kernel::Kernel;
 use crate::plan::Plan;
 use std::alloc::{AllocError, Global};
 
-// Makes the piece before the first turn.
-fn fill(piece: &mut [u8])
-    ensures { piece.new ≡ first_piece (length piece.old) }
+fn flip(piece: &mut [u8], place: usize)
+    requires { place < length piece.old }
+    ensures { piece.new ≡ flipped piece.old place }
 {
-    let mut byte = 3u8;
-    for place in piece.iter_mut() {
-        *place = byte;
-        byte = byte.wrapping_add(7);
-    }
-}
-
-fn flip(piece: &mut [u8], turn: u64)
-    requires { 0 < length piece.old }
-    ensures { piece.new ≡ flipped piece.old turn }
-{
-    let place = (turn % piece.len() as u64) as usize;
     piece[place] ^= 1;
 }
 
 // The exclusive or of the results of `times` turns.
-fn exclusive_or(kernel: Kernel, piece: &mut [u8], times: u64) -> u64
-    requires { 0 < length piece.old }
-    ensures { result ≡ all_results (result_of kernel) piece.old 0 times }
+fn exclusive_or(kernel: Kernel, piece: &mut [u8], kept: &mut [u8], times: u64) -> u64
+    requires takes { IsTrue (takes kernel (length piece.old)) }
+    requires kept { length kept.old ≡ kept_size kernel (length piece.old) }
+    ensures { TurnsGive kernel piece.old kept.old 0 times result }
 {
     let mut all = 0;
     for turn in 0..times {
-        flip(piece, turn);
-        all ^= kernel.run(piece);
+        flip(piece, kernel.place(turn, piece.len()));
+        kernel.keep(turn, piece, kept);
+        all ^= kernel.result(turn, piece, kept);
     }
     all
 }
 
 /// Runs the turns of a plan, and answers the exclusive or of their results.
 pub fn run(alloc: Global, plan: Plan) -> Result<u64, AllocError>
-    ensures { IfOk result (λ all. all ≡ all_results (result_of plan.kernel) (first_piece plan.size) 0 plan.times) }
+    ensures { IfOk result
+        (λ all. TurnsGive plan.kernel (first_piece plan.kernel plan.size) (first_kept plan.kernel plan.size) 0 plan.times all) }
 {
-    let mut room = vec![in alloc; 0u8; plan.size]?;
-    let piece = room.as_mut_slice();
-    fill(piece);
-    Ok(exclusive_or(plan.kernel, piece, plan.times))
+    let mut piece = plan.kernel.first_piece(alloc, plan.size)?;
+    let mut kept = plan.kernel.first_kept(alloc, plan.size)?;
+    Ok(exclusive_or(
+        plan.kernel,
+        piece.as_mut_slice(),
+        kept.as_mut_slice(),
+        plan.times,
+    ))
 }

@@ -1,9 +1,9 @@
-use Rattle.std.proofs.Common.{◌≡◌, ◌-◌, bit_xor}
-use Rattle.btr_bench.specs.Kernel.{result_of}
-use Rattle.btr_bench.specs.Turns.{all_results}
+use Rattle.std.proofs.Common.{ℕ, ◌-◌, bit_xor}
+use Rattle.btr_bench.specs.Turns.{TurnsGive}
 use Rattle.btr_bench.proofs.turns.exclusive_or.Given as goal
 
--- the results so far and those of the turns that are left are all results
+-- whatever the turns that are left give, all turns give with the results so far
 abbrev pub invariant-loop-turn : goal.invariant-loop-turn
 invariant-loop-turn l =
-    bit_xor l.all (all_results (result_of l.fn.kernel) l.piece l.turn (l.times - l.turn)) ≡ all_results (result_of l.fn.kernel) l.fn.piece 0 l.times
+    (rest : ℕ) → TurnsGive l.fn.kernel l.piece l.kept l.turn (l.times - l.turn) rest
+    → TurnsGive l.fn.kernel l.fn.piece l.fn.kept 0 l.times (bit_xor l.all rest)

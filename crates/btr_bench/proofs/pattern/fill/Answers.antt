@@ -1,6 +1,6 @@
 use Rattle.std.proofs.Common.{◌+◌, ◌*◌, ◌%◌, length, arith}
 use Rattle.std.proofs.lemmas.List.FromFn.{fill_by_all}
-use Rattle.btr_bench.proofs.turns.fill.Goals as goal
+use Rattle.btr_bench.proofs.pattern.fill.Goals as goal
 
 pub returns : goal.returns
 returns c =

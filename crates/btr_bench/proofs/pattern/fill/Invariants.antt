@@ -1,5 +1,5 @@
 use Rattle.std.proofs.Common.{◌≡◌, ℕ, ◌+◌, ◌*◌, ◌%◌, ◌<◌, get_or}
-use Rattle.btr_bench.proofs.turns.fill.Given as goal
+use Rattle.btr_bench.proofs.pattern.fill.Given as goal
 
 -- the places so far have their bytes, and the next byte is that of the next place
 abbrev pub invariant-loop-place : goal.invariant-loop-place
