@@ -1,7 +1,9 @@
+pub mod Fetching
 pub mod Kernel
 pub mod Node
 pub mod Parity
 pub mod Pattern
 pub mod Plan
 pub mod Sums
+pub mod Task
 pub mod Turns

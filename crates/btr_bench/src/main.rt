@@ -1,18 +1,24 @@
 //! `btr_bench KERNEL SIZE TIMES` runs a kernel over and over, so that an outer clock can time it and another
 //! program can check what it computes.
 //!
-//! The piece has SIZE bytes, of which byte i is (7i + 3) mod 256. In each of TIMES turns, from turn 0, the low
-//! bit of the byte at the turn's number modulo SIZE is flipped first, and then the kernel runs over the piece.
-//! The exclusive or of all results is printed in hexadecimal, with as many digits as a result has. `Kernel` has
-//! the kernels, and one module more for each family of them; `Turns` in `specs/` says what is computed.
+//! A kernel over a piece: the piece has SIZE bytes, and in each of TIMES turns, from turn 0, the low bit of one byte is
+//! flipped first, and then the kernel runs. The exclusive or of all results is printed in hexadecimal, with as many
+//! digits as a result has. `Kernel` has these kernels, and one module more for each family of them; `Turns` in `specs/`
+//! says what is computed.
+//!
+//! `tree-block` and `sector` fetch a block of SIZE bytes from an image in memory and give it back, in each turn. How
+//! many turns got it is printed in 16 hexadecimal digits.
 #![tactic(auto)]
 
+mod fetching;
+mod image;
 mod kernel;
 mod node;
 mod parity;
 mod pattern;
 mod plan;
 mod sums;
+mod task;
 #[cfg(test)]
 mod tests;
 mod turns;
@@ -23,12 +29,12 @@ use std::env;
 
 fn main(rt: HostRuntime) -> Result<()> {
     let words: Vec<String> = env::args(&rt)?.collect(rt.alloc())?;
-    let [_, kernel, size, times] = words.as_slice() else {
+    let [_, task, size, times] = words.as_slice() else {
         bail!("usage: btr_bench KERNEL SIZE TIMES");
     };
-    let plan = Plan::parse(kernel.as_str(), size.as_str(), times.as_str())?;
-    let all = turns::run(rt.alloc(), plan)?;
-    match plan.kernel.digits() {
+    let plan = Plan::parse(task.as_str(), size.as_str(), times.as_str())?;
+    let all = plan.run(rt.alloc())?;
+    match plan.task.digits() {
         8 => println!(rt; "{all:08x}")?,
         _ => println!(rt; "{all:016x}")?,
     }

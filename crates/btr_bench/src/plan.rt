@@ -1,41 +1,49 @@
 ghost use Rattle.std.specs.Prelude.{IsTrue};
-ghost use Rattle.btr_bench.specs.Kernel.{takes};
+ghost use Rattle.btr_bench.specs.Task.{takes};
 
-use crate::kernel::Kernel;
+use crate::task::Task;
+use crate::{fetching, turns};
 use anyhow::{Context, Result, bail, ensure};
+use std::alloc::{AllocError, Global};
 
-/// What is to be run: a kernel over a piece of `size` bytes, which it can take, in so many turns.
+/// What is to be run: a task over `size` bytes, which it can take, in so many turns.
 #[derive(Clone, Copy)]
 pub struct Plan {
-    pub kernel: Kernel,
+    pub task: Task,
     pub size: usize,
     pub times: u64,
-    ghost takes: { IsTrue (takes kernel size) },
+    ghost takes: { IsTrue (takes task size) },
 }
 
 impl Plan {
     ghost use Rattle.std.specs.Prelude.{◌≡◌, IfOk, IsOk, IfSome, IsTrue, Some};
-    ghost use Rattle.btr_bench.specs.Kernel.{kernel_of, takes};
+    ghost use Rattle.btr_bench.specs.Task.{task_of, takes, Gives};
     ghost use Rattle.btr_bench.specs.Plan.{IsNumber, number_of};
 
-    /// Reads a kernel's name and two decimal numbers, of which the first is a size that the kernel takes.
-    pub fn parse(kernel: &str, size: &str, times: &str) -> Result<Plan>
-        ensures kernel { IfOk result (λ plan. kernel_of kernel.now ≡ Some plan.kernel) }
+    /// Reads the name of a task and two decimal numbers, of which the first is a size that the task takes.
+    pub fn parse(task: &str, size: &str, times: &str) -> Result<Plan>
+        ensures task { IfOk result (λ plan. task_of task.now ≡ Some plan.task) }
         ensures size { IfOk result (λ plan. plan.size ≡ number_of size.now) }
         ensures times { IfOk result (λ plan. plan.times ≡ number_of times.now) }
-        ensures succeeds { IfSome (kernel_of kernel.now) (λ found. IsNumber size.now → IsTrue (takes found (number_of size.now))
+        ensures succeeds { IfSome (task_of task.now) (λ found. IsNumber size.now → IsTrue (takes found (number_of size.now))
             → IsNumber times.now → IsOk result) }
     {
-        let Some(kernel) = Kernel::from_name(kernel) else {
+        let Some(task) = Task::from_name(task) else {
             bail!("no kernel has this name");
         };
         let size = size.parse::<usize>().context("reading SIZE")?;
-        ensure!(kernel.takes(size), "the kernel takes no piece of this SIZE");
+        ensure!(task.takes(size), "the kernel takes no such SIZE");
         let times = times.parse::<u64>().context("reading TIMES")?;
-        Ok(Plan {
-            kernel,
-            size,
-            times,
-        })
+        Ok(Plan { task, size, times })
+    }
+
+    /// Runs the turns, and answers the number that they come to.
+    pub fn run(self, alloc: Global) -> Result<u64, AllocError>
+        ensures { IfOk result (Gives self.task self.size self.times) }
+    {
+        match self.task {
+            Task::Over(kernel) => turns::run(alloc, kernel, self.size, self.times),
+            Task::Fetching(block) => fetching::run(alloc, block, self.size, self.times),
+        }
     }
 }

@@ -1,9 +1,9 @@
 use crate::plan::Plan;
-use crate::turns;
 use std::test::Fail;
 
 // What a Python program computes of the same turns: it multiplies and divides bytes as polynomials, coefficient by
-// coefficient, packs the leaf with `struct`, and finds a lost slice by the equations that it solves.
+// coefficient, packs the leaf with `struct`, and finds a lost slice by the equations that it solves. A block is had in
+// each turn.
 #[test]
 fn results(rt: HostRuntime) -> Result<(), Fail> {
     let rows = [
@@ -20,14 +20,14 @@ fn results(rt: HostRuntime) -> Result<(), Fail> {
         ("node", "182", "3", 0x100),
         ("node", "16384", "300", 0x63),
         ("node", "65536", "5", 0x100),
+        ("tree-block", "4096", "2", 2),
+        ("tree-block", "16384", "30", 30),
+        ("tree-block", "65536", "2", 2),
+        ("sector", "4096", "30", 30),
     ];
     for (kernel, size, times, all) in rows {
         let plan = Plan::parse(kernel, size, times)?;
-        assert_eq!(rt;
-            turns::run(rt.alloc(), plan)?,
-            all,
-            "{kernel} {size} {times}"
-        );
+        assert_eq!(rt; plan.run(rt.alloc())?, all, "{kernel} {size} {times}");
     }
     Ok(())
 }
@@ -40,6 +40,9 @@ fn refused(rt: HostRuntime) {
         ("rebuild-q", "7", "1"),
         ("node", "181", "1"),
         ("node", "65537", "1"),
+        ("tree-block", "4095", "1"),
+        ("tree-block", "65537", "1"),
+        ("sector", "8192", "1"),
         ("crc", "8", "x"),
         ("crc32", "8", "1"),
     ];

@@ -4,7 +4,6 @@ ghost use Rattle.btr_bench.specs.Kernel.{takes};
 ghost use Rattle.btr_bench.specs.Turns.{first_piece, first_kept, kept_size, flipped, TurnsGive};
 
 use crate::kernel::Kernel;
-use crate::plan::Plan;
 use std::alloc::{AllocError, Global};
 
 fn flip(piece: &mut [u8], place: usize)
@@ -29,17 +28,12 @@ fn exclusive_or(kernel: Kernel, piece: &mut [u8], kept: &mut [u8], times: u64) -
     all
 }
 
-/// Runs the turns of a plan, and answers the exclusive or of their results.
-pub fn run(alloc: Global, plan: Plan) -> Result<u64, AllocError>
-    ensures { IfOk result
-        (λ all. TurnsGive plan.kernel (first_piece plan.kernel plan.size) (first_kept plan.kernel plan.size) 0 plan.times all) }
+/// Runs the turns of a kernel over a piece of so many bytes, and answers the exclusive or of their results.
+pub fn run(alloc: Global, kernel: Kernel, size: usize, times: u64) -> Result<u64, AllocError>
+    requires { IsTrue (takes kernel size) }
+    ensures { IfOk result (TurnsGive kernel (first_piece kernel size) (first_kept kernel size) 0 times) }
 {
-    let mut piece = plan.kernel.first_piece(alloc, plan.size)?;
-    let mut kept = plan.kernel.first_kept(alloc, plan.size)?;
-    Ok(exclusive_or(
-        plan.kernel,
-        piece.as_mut_slice(),
-        kept.as_mut_slice(),
-        plan.times,
-    ))
+    let mut piece = kernel.first_piece(alloc, size)?;
+    let mut kept = kernel.first_kept(alloc, size)?;
+    Ok(exclusive_or(kernel, piece.as_mut_slice(), kept.as_mut_slice(), times))
 }

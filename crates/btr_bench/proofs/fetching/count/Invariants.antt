@@ -1,0 +1,17 @@
+use Rattle.std.proofs.Common.{◌≡◌, ◌≤◌}
+use Rattle.btr_rack.specs.Rack.{Steady}
+use Rattle.btr_rack.specs.Memory.{slots_of, held_of}
+use Rattle.btr_read.specs.Fate.{fate}
+use Rattle.btr_bench.specs.Fetching.{times_got}
+use Rattle.btr_bench.proofs.fetching.count.Given as goal
+
+-- the rack and the store are as they were, and the turns so far are counted
+abbrev pub invariant-loop-turn : goal.invariant-loop-turn
+invariant-loop-turn l = record {
+  slots : slots_of l.rack ≡ slots_of l.fn.rack;
+  held : held_of l.rack ≡ held_of l.fn.rack;
+  store : l.store ≡ l.fn.store;
+  later : l.fn.rack.account.faults ≤ l.rack.account.faults;
+  most : l.got ≤ l._turn;
+  exact : Steady l.fn.rack.account.faults l.rack.account.faults → l.got ≡ times_got l._turn (fate (held_of l.fn.rack) l.fn.store.layout l.fn.want);
+}

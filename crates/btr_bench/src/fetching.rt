@@ -1,0 +1,91 @@
+// The fetching of a block from the image of a device, in a chunk of the profile single.
+ghost use Rattle.std.specs.Prelude.{◌≡◌, ◌<◌, ◌≤◌, length, IfOk, IsTrue};
+ghost use Rattle.std.specs.Result.{is_ok};
+ghost use Rattle.btr_rack.specs.Rack.{Steady};
+ghost use Rattle.btr_rack.specs.Memory.{slots_of, held_of};
+ghost use Rattle.btr_read.specs.Fate.{fate};
+ghost use Rattle.btr_read.specs.Layout.{AreOpen};
+ghost use Rattle.btr_read.specs.Store.{free_count};
+ghost use Rattle.btr_bench.specs.Fetching.{takes, times_got};
+
+use crate::image::{image_of, sealed, sector, store_over};
+use crate::pattern::pattern;
+use btr_rack::MemRack;
+use btr_read::{Store, Want, fetch};
+use std::alloc::{AllocError, Global};
+
+/// What is fetched.
+#[derive(Clone, Copy, Debug, PartialEq, Eq)]
+pub enum Block {
+    /// A tree block, which is as long as a node.
+    Tree,
+    /// A sector of data.
+    Sector,
+}
+
+impl Block {
+    ghost use Rattle.std.specs.Prelude.{◌≡◌};
+    ghost use Rattle.btr_bench.specs.Fetching.{takes};
+
+    /// Whether the block can have so many bytes.
+    pub fn takes(self, size: usize) -> bool
+        ensures { result ≡ takes self size }
+    {
+        match self {
+            Block::Tree => 4096 <= size && size <= 65536,
+            Block::Sector => size == 4096,
+        }
+    }
+}
+
+// Fetches a block and gives it back. It is false where there is none to be had.
+fn gets(want: &Want, rack: &mut MemRack, store: &mut Store) -> bool
+    requires open { AreOpen (slots_of rack.old) store.old.layout.devices }
+    requires room { 4 ≤ free_count store.old }
+    ensures slots { slots_of rack.new ≡ slots_of rack.old }
+    ensures held { held_of rack.new ≡ held_of rack.old }
+    ensures later { rack.old.account.faults ≤ rack.new.account.faults }
+    ensures store { store.new ≡ store.old }
+    ensures answer { Steady rack.old.account.faults rack.new.account.faults
+        → result ≡ is_ok (fate (held_of rack.old) store.old.layout want.now) }
+{
+    match fetch(want, rack, store) {
+        Ok(loan) => {
+            store.give(loan);
+            true
+        }
+        Err(_) => false,
+    }
+}
+
+// How many of `times` turns get the block: where no read fails, all of them or none.
+fn count(want: &Want, rack: &mut MemRack, store: &mut Store, times: u64) -> u64
+    requires open { AreOpen (slots_of rack.old) store.old.layout.devices }
+    requires room { 4 ≤ free_count store.old }
+    ensures most { result ≤ times }
+    ensures exact { Steady rack.old.account.faults rack.new.account.faults
+        → result ≡ times_got times (fate (held_of rack.old) store.old.layout want.now) }
+{
+    let mut got = 0;
+    for _turn in 0..times {
+        if gets(want, rack, store) {
+            got += 1;
+        }
+    }
+    got
+}
+
+/// Puts a block of so many bytes on a rack, fetches it in each turn, and answers how many of them got it.
+pub fn run(alloc: Global, block: Block, size: usize, times: u64) -> Result<u64, AllocError>
+    requires { IsTrue (takes block size) }
+    ensures { IfOk result (λ got. got ≤ times) }
+{
+    let mut bytes = pattern(alloc, size)?;
+    let want = match block {
+        Block::Tree => sealed(bytes.as_mut_slice()),
+        Block::Sector => sector(bytes.as_slice()),
+    };
+    let mut rack = image_of(alloc, bytes.as_slice())?;
+    let mut store = store_over(alloc, size as u32, &rack)?;
+    Ok(count(&want, &mut rack, &mut store, times))
+}

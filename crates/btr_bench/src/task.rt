@@ -1,0 +1,47 @@
+use crate::fetching::Block;
+use crate::kernel::Kernel;
+
+/// What can be timed.
+#[derive(Clone, Copy, Debug, PartialEq, Eq)]
+pub enum Task {
+    /// A kernel over a piece of memory.
+    Over(Kernel),
+    /// The fetching of a block from the image of a device.
+    Fetching(Block),
+}
+
+impl Task {
+    ghost use Rattle.std.specs.Prelude.{◌≡◌};
+    ghost use Rattle.btr_bench.specs.Task.{task_of, takes, digits_of};
+
+    /// The task of a name, if there is one.
+    pub fn from_name(name: &str) -> Option<Task>
+        ensures { result ≡ task_of name.now }
+    {
+        match name {
+            "tree-block" => Some(Task::Fetching(Block::Tree)),
+            "sector" => Some(Task::Fetching(Block::Sector)),
+            _ => Kernel::from_name(name).map(|kernel| Task::Over(kernel)),
+        }
+    }
+
+    /// Whether the piece or the block can have so many bytes.
+    pub fn takes(self, size: usize) -> bool
+        ensures { result ≡ takes self size }
+    {
+        match self {
+            Task::Over(kernel) => kernel.takes(size),
+            Task::Fetching(block) => block.takes(size),
+        }
+    }
+
+    /// How many hexadecimal digits are printed.
+    pub fn digits(self) -> usize
+        ensures { result ≡ digits_of self }
+    {
+        match self {
+            Task::Over(kernel) => kernel.digits(),
+            Task::Fetching(_) => 16,
+        }
+    }
+}
