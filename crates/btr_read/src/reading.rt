@@ -8,11 +8,7 @@ use btr_pool::{Loan, Pool};
 use btr_rack::{Place, Rack, RackError};
 
 // Reads a range of an image into the beginning of a buffer.
-fn read_front<R: Rack>(
-    rack: &mut R,
-    range: Place,
-    buf: &mut [u8],
-) -> Result<(), RackError>
+fn read_front<R: Rack>(rack: &mut R, range: Place, buf: &mut [u8]) -> Result<(), RackError>
     requires open { range.slot < length (R.slots rack.old) }
     requires within { range.off + range.len ≤ len_of (R.slots rack.old) range.slot }
     requires fits { range.len ≤ length buf.old }
