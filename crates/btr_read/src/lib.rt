@@ -25,6 +25,8 @@ mod search;
 mod setting;
 mod solving;
 mod store;
+#[cfg(test)]
+mod tests;
 mod trying;
 mod want;
 
