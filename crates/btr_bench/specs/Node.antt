@@ -17,7 +17,7 @@ entry size i =
     to_le_bytes w64 (256 + i / 3) ++ (1 + 12 * (i % 3)) ∷ [] ++ replicate 8 0
     ++ to_le_bytes w32 (size - 101 - 56 * (i + 1)) ++ to_le_bytes w32 56
 
--- the leaf: a header that states the number of items and level 0, the table, and zeros
+-- the leaf: a header of zeros but for the number of items, the table, and zeros for all bodies
 abbrev pub leaf : ℕ → List ℕ
 leaf size =
     let count = item_count size in

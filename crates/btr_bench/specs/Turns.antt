@@ -35,8 +35,8 @@ place_of _ turn size = turn % size
 abbrev pub flipped : List ℕ → ℕ → List ℕ
 flipped piece at = slice_set piece at (bit_xor (slice_index piece at) 1)
 
--- what a kernel keeps after a turn: P and the piece, 2 * Q and the piece, the one first slice of two lost ones of which
--- P is kept and the piece is Q, the one lost slice of which Q is kept, or what it kept before
+-- what a kernel keeps after a turn: the sum with the piece; the sum of the double and the piece; the first of two slices
+-- whose P it kept and whose Q is the piece; the slice whose Q it kept; or what it kept before
 abbrev pub Keeps : Kernel → ℕ → List ℕ → List ℕ → List ℕ → Type 0
 Keeps P turn piece old new = new ≡ plus old piece
 Keeps Q turn piece old new = new ≡ plus (scaled 2 old) piece
@@ -52,7 +52,7 @@ result_of Sha256 turn piece kept = sha256_result piece
 result_of Node turn piece kept = objectid_in_turn turn piece
 result_of _ turn piece kept = front kept
 
--- the exclusive or of the results of n turns, from a turn on, is `all`
+-- `all` is the exclusive or of the results of n turns, from this turn, this piece and what the kernel kept on
 unfoldable pub TurnsGive : Kernel → List ℕ → List ℕ → ℕ → ℕ → ℕ → Type 0
 TurnsGive kernel piece old turn zero all = all ≡ 0
 TurnsGive kernel piece old turn (suc n) all =

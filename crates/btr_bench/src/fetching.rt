@@ -75,7 +75,8 @@ fn count(want: &Want, rack: &mut MemRack, store: &mut Store, times: u64) -> u64
     got
 }
 
-/// Puts a block of so many bytes on a rack, fetches it in each turn, and answers how many of them got it.
+/// Puts a block of so many bytes on a rack, fetches it in each turn, and answers how many of them got it. `AllocError`:
+/// there is no memory for the image or the store.
 pub fn run(alloc: Global, block: Block, size: usize, times: u64) -> Result<u64, AllocError>
     requires { IsTrue (takes block size) }
     ensures { IfOk result (λ got. got ≤ times) }

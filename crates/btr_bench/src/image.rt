@@ -1,4 +1,5 @@
-// A filesystem of one block: a chunk of the profile single, and the device on which it lies.
+// A filesystem of one block: a chunk of the profile single, and the device on which it lies. For want of memory it can't
+// be made; no other refusal of what it calls can come, at these numbers, and each is answered as that one.
 ghost use Rattle.std.specs.Prelude.{◌+◌, ◌<◌, ◌≤◌, length, IfOk};
 ghost use Rattle.btr_rack.specs.Memory.{slots_of};
 ghost use Rattle.btr_read.specs.Layout.{AreOpen};

@@ -8,6 +8,7 @@ use std::test::Fail;
 fn results(rt: HostRuntime) -> Result<(), Fail> {
     let rows = [
         ("crc", "5000", "3", 0xaea7c50d),
+        ("xxh64", "5000", "3", 0x523e08f0ed42cd8c),
         ("sha256", "5000", "3", 0xcf6567bc978575e1),
         ("p", "8", "1", 0x0100000000000000),
         ("p", "4099", "150", 0x020b11181e272d34),
