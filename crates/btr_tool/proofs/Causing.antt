@@ -1,14 +1,13 @@
 -- What lies behind a failed opening or read of an image, after calls that didn't fail.
-use Rattle.std.proofs.Common.{◌≡◌, ℕ, ◌+◌, ◌<◌, ◌≤◌, List, [], length, map, take, get_or, String, Some, false, refl, sym, ap, ◌∙◌, subst, arith}
+use Rattle.std.proofs.Common.{◌≡◌, ℕ, ◌<◌, ◌≤◌, List, [], length, map, take, get_or, String, Some, false, refl, sym, ap, ◌∙◌, arith}
 use Rattle.std.specs.Prelude.{slice_get}
 use Rattle.std.specs.String.{string_bytes}
 use Rattle.std.specs.declared.alloc.Global.{Global}
 use Rattle.std.proofs.lemmas.List.{get_or-map, length-map}
 use Rattle.std.proofs.lemmas.Option.{slice_get-get_or}
 use Rattle.btr_rack.specs.Rack.{Slot, Account, Rose, NoneFailed, OneFailed, next_count, range_in, opening_of}
-use Rattle.btr_rack.specs.declared.place.Place.{Place}
 use Rattle.btr_tool.specs.Words.{Words}
-use Rattle.btr_tool.specs.Causes.{OpeningFailed, ReadFailed}
+use Rattle.btr_tool.specs.Causes.{OpeningFailed}
 
 pub none_failed_yet : (account : Account) → NoneFailed account account
 none_failed_yet account = record { faults = omega arith; fresh = refl; missed = refl; last = refl; opening = refl; shut = refl }

@@ -1,5 +1,5 @@
 -- How a run ends, by what its command came to and what was put.
-use Rattle.std.proofs.Common.{◌≡◌, ◌≢◌, ◌⊎◌, inl, inr, ⊎_elim, ℕ, ◌<◌, ◌≤◌, List, [], length, map, take, drop, String, ◌-◌, Option, Some, None, Result, Ok, Err, Vec, refl, sym, ap, ◌∙◌, subst, arith}
+use Rattle.std.proofs.Common.{◌≡◌, ◌≢◌, ◌⊎◌, inl, inr, ⊎_elim, ℕ, ◌<◌, ◌≤◌, List, length, map, take, drop, String, ◌-◌, Option, Some, None, Err, refl, sym, ap, ◌∙◌, subst, arith}
 use Rattle.std.specs.Option.{IfSome}
 use Rattle.std.specs.declared.alloc.Global.{Global}
 use Rattle.std.specs.String.{string_bytes}
@@ -7,12 +7,10 @@ use Rattle.std.proofs.lemmas.List.{drop-map, take_rest}
 use Rattle.std.proofs.lemmas.Bool.{cases_lt}
 use Rattle.btr_rack.specs.Rack.{Slot, Account, Rose, Steady, NoneFailed, Shelf}
 use Rattle.btr_rack.specs.Out.{Adds}
-use Rattle.btr_super.specs.declared.superblock.Super.{Super}
 use Rattle.btr_tool.specs.Words.{Words, IsSentence, IsUsageAt, images_of}
-use Rattle.btr_tool.specs.Text.{super_text}
 use Rattle.btr_tool.specs.Answers.{error_line}
 use Rattle.btr_tool.specs.Causes.{OpeningFailed, ReadFailed, SuperCause, ImageCause, IsUnopened}
-use Rattle.btr_tool.specs.Puts.{IsPut, IsRefused, IsTold, IsMessage, IsSuperText, AddsPart}
+use Rattle.btr_tool.specs.Puts.{IsPut, IsRefused, IsTold, IsMessage, IsSuperText}
 use Rattle.btr_tool.specs.Effects.{Effect, refused, IsEffect, HasEffect, IsDecided, FollowsWords, IsSuperEffect, HasTooMany, images_effect, most_images}
 use Rattle.btr_tool.specs.declared.plan.Command.TheVariants.{Super as super_command}
 use Rattle.btr_tool.specs.declared.plan.Plan.{Plan}

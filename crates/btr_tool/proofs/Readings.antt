@@ -1,10 +1,10 @@
 -- The superblocks of the images, read one after another.
-use Rattle.std.proofs.Common.{◌≡◌, ◌≢◌, ℕ, zero, suc, ◌+◌, ◌<◌, ◌≤◌, List, [], ◌∷◌, ◌++◌, length, map, drop, get_or, Option, Some, None, Result, Ok, Err, refl, sym, ap, ◌∙◌, subst, arith, add-one}
+use Rattle.std.proofs.Common.{◌≡◌, ◌≢◌, ℕ, ◌+◌, ◌<◌, ◌≤◌, List, [], ◌∷◌, ◌++◌, length, map, drop, get_or, Option, Some, None, Result, Ok, Err, refl, sym, ap, ◌∙◌, arith, add-one}
 use Rattle.std.specs.Option.{IfSome}
 use Rattle.std.proofs.lemmas.List.{append_assoc, append-nil, length-map, drop_all}
 use Rattle.std.proofs.Math.Seq.{drop-cons}
-use Rattle.btr_rack.specs.Rack.{Slot, Account, NoneFailed, OneFailed, image_of, range_in}
-use Rattle.btr_super.specs.Slot.{image_super, places, FailedAtPlace}
+use Rattle.btr_rack.specs.Rack.{Slot, Account, NoneFailed, image_of}
+use Rattle.btr_super.specs.Slot.{image_super, FailedAtPlace}
 use Rattle.btr_super.specs.declared.superblock.Super.{Super}
 use Rattle.btr_super.specs.declared.fault.SlotFault.{SlotFault}
 use Rattle.btr_super.specs.declared.fault.SlotFault.TheVariants.{Failed, SumKind as kind_fault, NoSuper as no_super}
@@ -13,7 +13,6 @@ use Rattle.btr_tool.specs.Causes.{ReadFailed, ReadingCause}
 use Rattle.btr_tool.proofs.Openings.{Images, Sized}
 use Rattle.btr_tool.proofs.Causing.{none_failed_twice, rose_behind, some_fresh}
 use Rattle.btr_tool.specs.declared.answer.Answer.{Answer}
-use Rattle.btr_tool.specs.declared.answer.Answer.TheVariants.{NoSuper, SumKind}
 
 -- superblocks before those of a result
 abbrev pub prefixed : List Super → Result (List Super) Answer → Result (List Super) Answer

@@ -1,14 +1,14 @@
 -- The walk over the words is right: it accepts exactly the sentences, and stops behind their longest beginning.
-use Rattle.std.proofs.Common.{◌≡◌, ◌≢◌, ℕ, zero, suc, ◌+◌, ◌<◌, ◌≤◌, Bool, true, false, cond, List, [], ◌∷◌, ◌++◌, length, map, take, get_or, Option, Some, None, refl, sym, ap, ◌∙◌, subst, arith}
-use Rattle.std.specs.Prelude.{codes, All, IsTrue}
+use Rattle.std.proofs.Common.{◌≡◌, ℕ, suc, ◌<◌, Bool, true, false, cond, List, [], ◌∷◌, ◌++◌, length, take, get_or, Option, Some, None, refl, sym, ap, ◌∙◌, subst, arith}
+use Rattle.std.specs.Prelude.{codes, All}
 use Rattle.std.specs.Option.{option_and_then}
 use Rattle.std.specs.Str.{bytes_eq}
-use Rattle.std.proofs.lemmas.List.{append_assoc, append-nil, take_all}
+use Rattle.std.proofs.lemmas.List.{append-nil, take_all}
 use Rattle.std.proofs.lemmas.List.Elements.{All-cons, All-nil}
 use Rattle.std.proofs.lemmas.Slice.Eq.{bytes_eq-Decides}
 use Rattle.std.specs.Bool.{Decides}
-use Rattle.btr_tool.specs.Words.{Words, is_name, IsName, SuperSentence, IsSentence, Begins, IsUsageAt, next_of, plan_of}
-use Rattle.btr_tool.proofs.Machine.{reached, reached-append, reached_from, reached_more, reached_stuck}
+use Rattle.btr_tool.specs.Words.{Words, is_name, IsName, IsSentence, Begins, IsUsageAt, next_of, plan_of}
+use Rattle.btr_tool.proofs.Machine.{reached, reached_from, reached_stuck}
 use Rattle.btr_tool.specs.declared.plan.Command.TheVariants.{Super}
 use Rattle.btr_tool.specs.declared.plan.Plan.{Plan}
 use Rattle.btr_tool.specs.declared.progress.Progress.{Progress}

@@ -1,5 +1,5 @@
 -- What `super` comes to, by what opening its images and reading their superblocks found.
-use Rattle.std.proofs.Common.{◌≡◌, ℕ, ◌<◌, ◌≤◌, Bool, true, false, ltb, cond, List, length, get_or, Option, Some, None, Result, Ok, Err, Vec, refl, sym, ap, ◌∙◌, subst, arith}
+use Rattle.std.proofs.Common.{◌≡◌, ℕ, ◌<◌, ◌≤◌, true, false, ltb, cond, List, length, get_or, Option, Some, None, Result, Ok, Err, Vec, sym, ap, ◌∙◌, arith}
 use Rattle.std.specs.Option.{IfSome, IsSomeAnd, option_and_then, option_map}
 use Rattle.std.specs.List.{slice_get}
 use Rattle.std.specs.declared.alloc.Global.{Global}
@@ -12,7 +12,7 @@ use Rattle.btr_super.specs.declared.superblock.Super.{Super}
 use Rattle.btr_tool.specs.Words.{Words}
 use Rattle.btr_tool.specs.Text.{super_text}
 use Rattle.btr_tool.specs.Images.{taken, supers_of, Reads}
-use Rattle.btr_tool.specs.Effects.{Effect, refused, shown, newest_shown, command_effect, images_effect, most_images, IsSuperEffect}
+use Rattle.btr_tool.specs.Effects.{refused, shown, newest_shown, command_effect, images_effect, most_images, IsSuperEffect}
 use Rattle.btr_tool.specs.declared.plan.Command.TheVariants.{Super as super_command}
 use Rattle.btr_tool.specs.declared.answer.Which.TheVariants.{Images as images}
 use Rattle.btr_tool.specs.declared.answer.Answer.{Answer}

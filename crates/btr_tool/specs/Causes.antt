@@ -1,9 +1,7 @@
 -- What lies behind an answer that a call on an image failed.
-use Rattle.std.specs.Prelude.{◌≡◌, ◌⊎◌, ℕ, ◌≤◌, false, List, map, take, slice_get, Contains, Some, Result, Ok, Err, Vec}
-use Rattle.std.specs.declared.alloc.Global.{Global}
+use Rattle.std.specs.Prelude.{◌≡◌, ◌⊎◌, ℕ, ◌≤◌, false, List, map, take, slice_get, Contains, Some, Result, Ok, Err}
 use Rattle.btr_rack.specs.Rack.{Slot, Account, Rose, NoneFailed, next_count, range_in, opening_of}
 use Rattle.btr_super.specs.Slot.{places}
-use Rattle.btr_super.specs.declared.superblock.Super.{Super}
 use Rattle.btr_tool.specs.Words.{Words, IsSentence, images_of}
 use Rattle.btr_tool.specs.declared.plan.Plan.{Plan}
 use Rattle.btr_tool.specs.declared.answer.Answer.{Answer}

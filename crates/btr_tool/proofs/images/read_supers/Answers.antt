@@ -1,9 +1,8 @@
-use Rattle.std.proofs.Common.{◌≡◌, ◌∙◌, length, Ok, Err, refl, sym, ap, subst, arith}
+use Rattle.std.proofs.Common.{length, Err, refl, sym, ap, subst, arith}
 use Rattle.std.specs.Option.{IfSome}
 use Rattle.btr_tool.specs.Images.{Reads}
-use Rattle.btr_tool.specs.Causes.{ReadingCause}
 use Rattle.btr_tool.proofs.Causing.{none_failed_yet}
-use Rattle.btr_tool.proofs.Readings.{Found, ReadSoFar, none_read, read_more, read_fault, read_all, read_cause}
+use Rattle.btr_tool.proofs.Readings.{Found, ReadSoFar, none_read, read_fault}
 use Rattle.btr_tool.proofs.images.read_supers.Goals as goal
 
 pub loop-slot-init : goal.loop-slot-init

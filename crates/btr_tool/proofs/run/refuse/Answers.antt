@@ -1,4 +1,4 @@
-use Rattle.std.proofs.Common.{inl, inr}
+use Rattle.std.proofs.Common.{inr}
 use Rattle.btr_tool.proofs.run.refuse.Goals as goal
 
 pub returns-in-Err : goal.returns-in-Err

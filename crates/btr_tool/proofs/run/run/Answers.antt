@@ -1,7 +1,6 @@
-use Rattle.std.proofs.Common.{◌≡◌, ℕ, List, Option, Ok, Err, Vec, map, refl, ap, subst, inl, inr}
+use Rattle.std.proofs.Common.{ℕ, Vec, map, refl, subst, inl}
 use Rattle.std.specs.String.{string_bytes}
 use Rattle.std.specs.declared.alloc.Global.{Global}
-use Rattle.btr_tool.specs.Effects.{IsSuperEffect}
 use Rattle.btr_tool.specs.Puts.{IsPut}
 use Rattle.btr_tool.specs.declared.answer.Answer.TheVariants.{Done, Usage}
 use Rattle.btr_tool.proofs.Ending.{all_told, when_told, names_are, refused_effect, refused_told, refused_ends, one_of, shown_effect, shown_told, effect_is, cause_refusal, shut_cause, refusal_effect}

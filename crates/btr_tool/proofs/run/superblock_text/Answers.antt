@@ -1,9 +1,8 @@
-use Rattle.std.proofs.Common.{◌≡◌, ◌≤◌, ◌∙◌, ℕ, List, String, length, map, sym, ap, arith}
+use Rattle.std.proofs.Common.{◌≤◌, ◌∙◌, ℕ, List, String, length, map, sym, ap, arith}
 use Rattle.std.specs.String.{string_bytes}
 use Rattle.std.specs.declared.alloc.Global.{Global}
 use Rattle.std.proofs.lemmas.List.{length-map}
 use Rattle.btr_super.specs.Newest.{newest_index}
-use Rattle.btr_tool.specs.Text.{super_text}
 use Rattle.btr_tool.proofs.Showing.{shown_is}
 use Rattle.btr_tool.proofs.run.superblock_text.Goals as goal
 

@@ -1,10 +1,9 @@
 use Rattle.std.proofs.Common.{◌≡◌, ◌<◌, ◌≤◌, ◌∙◌, ℕ, List, [], String, Option, sym, ap, subst, arith, map, length, take, get_or, Some}
-use Rattle.std.specs.Prelude.{codes}
 use Rattle.std.specs.String.{string_bytes}
 use Rattle.std.specs.Option.{option_and_then}
 use Rattle.std.specs.declared.alloc.Global.{Global}
 use Rattle.std.proofs.lemmas.List.{get_or-map, length-map, take_all}
-use Rattle.btr_tool.specs.Words.{IsUsageAt, IsSentence, next_of, plan_of}
+use Rattle.btr_tool.specs.Words.{IsUsageAt, next_of, plan_of}
 use Rattle.btr_tool.specs.declared.progress.Progress.{Progress}
 use Rattle.btr_tool.specs.declared.progress.Progress.TheVariants.{Start}
 use Rattle.btr_tool.proofs.Machine.{reached, reached_more}
