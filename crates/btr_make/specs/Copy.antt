@@ -11,38 +11,38 @@ unfoldable pub zeros : ℕ → List ℕ
 zeros n = replicate n 0
 
 -- a number of 8, 4 or 2 bytes
-unfoldable pub number_8 : ℕ → List ℕ
-number_8 n = to_le_bytes w64 n
+unfoldable pub number_u64 : ℕ → List ℕ
+number_u64 n = to_le_bytes w64 n
 
-unfoldable pub number_4 : ℕ → List ℕ
-number_4 n = to_le_bytes w32 n
+unfoldable pub number_u32 : ℕ → List ℕ
+number_u32 n = to_le_bytes w32 n
 
-unfoldable pub number_2 : ℕ → List ℕ
-number_2 n = to_le_bytes w16 n
+unfoldable pub number_u16 : ℕ → List ℕ
+number_u16 n = to_le_bytes w16 n
 
 -- from 20h: whose copy this is, where it stands, and when it was written
 unfoldable pub ids : Super → ℕ → List ℕ
-ids s place = s.fsid ++ number_8 place ++ number_8 s.flags ++ magic ++ number_8 s.generation
+ids s place = s.fsid ++ number_u64 place ++ number_u64 s.flags ++ magic ++ number_u64 s.generation
 
 -- from 50h: where the trees begin
 unfoldable pub roots : Super → List ℕ
-roots s = number_8 s.root ++ number_8 s.chunk_root ++ number_8 s.log_root ++ zeros 8
+roots s = number_u64 s.root ++ number_u64 s.chunk_root ++ number_u64 s.log_root ++ zeros 8
 
 -- from 70h: how much there is
 unfoldable pub sizes : Super → List ℕ
-sizes s = number_8 s.total_bytes ++ number_8 s.bytes_used ++ number_8 s.root_dir ++ number_8 s.num_devices
+sizes s = number_u64 s.total_bytes ++ number_u64 s.bytes_used ++ number_u64 s.root_dir ++ number_u64 s.num_devices
 
 -- from 90h: the sizes of blocks and of the system array
 unfoldable pub geometry : Super → List ℕ
-geometry s = number_4 s.sectorsize ++ number_4 s.nodesize ++ number_4 s.leafsize ++ number_4 s.stripesize ++ number_4 s.sys_chunk_array_size ++ number_8 s.chunk_root_generation
+geometry s = number_u32 s.sectorsize ++ number_u32 s.nodesize ++ number_u32 s.leafsize ++ number_u32 s.stripesize ++ number_u32 s.sys_chunk_array_size ++ number_u64 s.chunk_root_generation
 
 -- from ach: features, the checksum type, and the levels of the roots
 unfoldable pub features : Super → List ℕ
-features s = number_8 s.compat ++ number_8 s.compat_ro ++ number_8 s.incompat ++ number_2 s.csum_type ++ (s.root_level ∷ s.chunk_root_level ∷ s.log_root_level ∷ [])
+features s = number_u64 s.compat ++ number_u64 s.compat_ro ++ number_u64 s.incompat ++ number_u16 s.csum_type ++ (s.root_level ∷ s.chunk_root_level ∷ s.log_root_level ∷ [])
 
 -- from c9h: the device that this image holds
 unfoldable pub device : Super → List ℕ
-device s = number_8 s.devid ++ zeros 58 ++ s.dev_uuid ++ zeros 16
+device s = number_u64 s.devid ++ zeros 58 ++ s.dev_uuid ++ zeros 16
 
 -- from 12bh: the label and the id in the headers of tree blocks
 unfoldable pub names : Super → List ℕ

@@ -2,7 +2,7 @@
 ghost use Rattle.std.specs.Prelude.{◌≡◌, ◌+◌, ◌≤◌, ◌++◌, length};
 ghost use Rattle.arrayvec.specs.ArrayVec.{array_vec_len};
 ghost use Rattle.btr_base.specs.Sum.{kind_of_type};
-ghost use Rattle.btr_make.specs.Copy.{super_copy, super_body, sum_before, zeros, number_8, number_4, number_2, ids, roots, sizes, geometry, features, device, names, chunks};
+ghost use Rattle.btr_make.specs.Copy.{super_copy, super_body, sum_before, zeros, number_u64, number_u32, number_u16, ids, roots, sizes, geometry, features, device, names, chunks};
 
 use arrayvec::ArrayVec;
 use btr_base::{SumKind, sum};
@@ -22,28 +22,28 @@ fn push(bytes: &mut Bytes, field: &[u8])
     }
 }
 
-#[tactic(auto, unfolding(crate::specs::Copy::number_8))]
-fn push_8(bytes: &mut Bytes, n: u64)
+#[tactic(auto, unfolding(crate::specs::Copy::number_u64))]
+fn push_u64(bytes: &mut Bytes, n: u64)
     requires { array_vec_len bytes.old + 8 ≤ 4096 }
-    ensures items { bytes.new.items ≡ bytes.old.items ++ number_8 n }
+    ensures items { bytes.new.items ≡ bytes.old.items ++ number_u64 n }
     ensures len { array_vec_len bytes.new ≡ array_vec_len bytes.old + 8 }
 {
     push(bytes, &n.to_le_bytes());
 }
 
-#[tactic(auto, unfolding(crate::specs::Copy::number_4))]
-fn push_4(bytes: &mut Bytes, n: u32)
+#[tactic(auto, unfolding(crate::specs::Copy::number_u32))]
+fn push_u32(bytes: &mut Bytes, n: u32)
     requires { array_vec_len bytes.old + 4 ≤ 4096 }
-    ensures items { bytes.new.items ≡ bytes.old.items ++ number_4 n }
+    ensures items { bytes.new.items ≡ bytes.old.items ++ number_u32 n }
     ensures len { array_vec_len bytes.new ≡ array_vec_len bytes.old + 4 }
 {
     push(bytes, &n.to_le_bytes());
 }
 
-#[tactic(auto, unfolding(crate::specs::Copy::number_2))]
-fn push_2(bytes: &mut Bytes, n: u16)
+#[tactic(auto, unfolding(crate::specs::Copy::number_u16))]
+fn push_u16(bytes: &mut Bytes, n: u16)
     requires { array_vec_len bytes.old + 2 ≤ 4096 }
-    ensures items { bytes.new.items ≡ bytes.old.items ++ number_2 n }
+    ensures items { bytes.new.items ≡ bytes.old.items ++ number_u16 n }
     ensures len { array_vec_len bytes.new ≡ array_vec_len bytes.old + 2 }
 {
     push(bytes, &n.to_le_bytes());
@@ -68,10 +68,10 @@ fn push_ids(bytes: &mut Bytes, sup: &Super, place: u64)
     ensures len { array_vec_len bytes.new ≡ array_vec_len bytes.old + 48 }
 {
     push(bytes, &sup.fsid);
-    push_8(bytes, place);
-    push_8(bytes, sup.flags);
+    push_u64(bytes, place);
+    push_u64(bytes, sup.flags);
     push(bytes, b"_BHRfS_M");
-    push_8(bytes, sup.generation);
+    push_u64(bytes, sup.generation);
 }
 
 #[tactic(auto, unfolding(crate::specs::Copy::roots))]
@@ -80,9 +80,9 @@ fn push_roots(bytes: &mut Bytes, sup: &Super)
     ensures items { bytes.new.items ≡ bytes.old.items ++ roots sup.now }
     ensures len { array_vec_len bytes.new ≡ array_vec_len bytes.old + 32 }
 {
-    push_8(bytes, sup.root);
-    push_8(bytes, sup.chunk_root);
-    push_8(bytes, sup.log_root);
+    push_u64(bytes, sup.root);
+    push_u64(bytes, sup.chunk_root);
+    push_u64(bytes, sup.log_root);
     push_zeros(bytes, 8);
 }
 
@@ -92,10 +92,10 @@ fn push_sizes(bytes: &mut Bytes, sup: &Super)
     ensures items { bytes.new.items ≡ bytes.old.items ++ sizes sup.now }
     ensures len { array_vec_len bytes.new ≡ array_vec_len bytes.old + 32 }
 {
-    push_8(bytes, sup.total_bytes);
-    push_8(bytes, sup.bytes_used);
-    push_8(bytes, sup.root_dir);
-    push_8(bytes, sup.num_devices);
+    push_u64(bytes, sup.total_bytes);
+    push_u64(bytes, sup.bytes_used);
+    push_u64(bytes, sup.root_dir);
+    push_u64(bytes, sup.num_devices);
 }
 
 #[tactic(auto, unfolding(crate::specs::Copy::geometry))]
@@ -104,12 +104,12 @@ fn push_geometry(bytes: &mut Bytes, sup: &Super)
     ensures items { bytes.new.items ≡ bytes.old.items ++ geometry sup.now }
     ensures len { array_vec_len bytes.new ≡ array_vec_len bytes.old + 28 }
 {
-    push_4(bytes, sup.sectorsize);
-    push_4(bytes, sup.nodesize);
-    push_4(bytes, sup.leafsize);
-    push_4(bytes, sup.stripesize);
-    push_4(bytes, sup.sys_chunk_array_size);
-    push_8(bytes, sup.chunk_root_generation);
+    push_u32(bytes, sup.sectorsize);
+    push_u32(bytes, sup.nodesize);
+    push_u32(bytes, sup.leafsize);
+    push_u32(bytes, sup.stripesize);
+    push_u32(bytes, sup.sys_chunk_array_size);
+    push_u64(bytes, sup.chunk_root_generation);
 }
 
 #[tactic(auto, unfolding(crate::specs::Copy::features))]
@@ -118,10 +118,10 @@ fn push_features(bytes: &mut Bytes, sup: &Super)
     ensures items { bytes.new.items ≡ bytes.old.items ++ features sup.now }
     ensures len { array_vec_len bytes.new ≡ array_vec_len bytes.old + 29 }
 {
-    push_8(bytes, sup.compat);
-    push_8(bytes, sup.compat_ro);
-    push_8(bytes, sup.incompat);
-    push_2(bytes, sup.csum_type);
+    push_u64(bytes, sup.compat);
+    push_u64(bytes, sup.compat_ro);
+    push_u64(bytes, sup.incompat);
+    push_u16(bytes, sup.csum_type);
     let levels = [sup.root_level, sup.chunk_root_level, sup.log_root_level];
     push(bytes, &levels);
 }
@@ -132,7 +132,7 @@ fn push_device(bytes: &mut Bytes, sup: &Super)
     ensures items { bytes.new.items ≡ bytes.old.items ++ device sup.now }
     ensures len { array_vec_len bytes.new ≡ array_vec_len bytes.old + 98 }
 {
-    push_8(bytes, sup.devid);
+    push_u64(bytes, sup.devid);
     push_zeros(bytes, 58);
     push(bytes, &sup.dev_uuid);
     push_zeros(bytes, 16);

@@ -1,4 +1,4 @@
-//! Volumes in memory: what tests and the program's own trial run over.
+//! Volumes in memory, for tests.
 //!
 //! So far it makes superblocks. `put_super` writes one copy, byte for byte what `specs/Copy.antt` says.
 #![tactic(auto)]

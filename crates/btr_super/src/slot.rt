@@ -81,7 +81,7 @@ fn refused(seen: Seen, fault: SuperFault) -> Seen
     }
 }
 
-fn with(seen: Seen, found: Result<Super, SuperFault>) -> Seen
+fn with_copy(seen: Seen, found: Result<Super, SuperFault>) -> Seen
     ensures { (before : List _) → IsSoFar before seen → IsSoFar (before ++ found ∷ []) result }
 {
     match found {
@@ -117,7 +117,7 @@ fn look<R: Rack>(rack: &mut R, slot: usize, place: u64, seen: Seen) -> Result<Se
         return Ok(seen);
     }
     match read_copy(rack, slot, place) {
-        Ok(found) => Ok(with(seen, found)),
+        Ok(found) => Ok(with_copy(seen, found)),
         Err(_) => Err(SlotFault::Failed),
     }
 }

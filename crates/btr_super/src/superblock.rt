@@ -8,6 +8,7 @@ pub struct Super {
     pub fsid: [u8; 16],
     /// The field bytenr: where in its image the copy stands.
     pub place: u64,
+    /// Flags of the volume, among them that this copy was written (1).
     pub flags: u64,
     /// The transaction that wrote the copy.
     pub generation: u64,
@@ -17,16 +18,25 @@ pub struct Super {
     pub chunk_root: u64,
     /// The logical address of a pending log tree's root block, or 0.
     pub log_root: u64,
+    /// The size of all devices together.
     pub total_bytes: u64,
+    /// How many of these bytes are in use.
     pub bytes_used: u64,
+    /// The objectid of the root tree's directory.
     pub root_dir: u64,
+    /// How many devices the filesystem has.
     pub num_devices: u64,
+    /// The size of a sector.
     pub sectorsize: u32,
+    /// The size of a tree block.
     pub nodesize: u32,
+    /// The same as `nodesize`, in filesystems of today.
     pub leafsize: u32,
+    /// A size that nothing is laid out by.
     pub stripesize: u32,
     /// How many bytes of `array` are in use.
     pub sys_chunk_array_size: u32,
+    /// The transaction that wrote the chunk tree's root block.
     pub chunk_root_generation: u64,
     /// Feature bits, of which none refuses a reader.
     pub compat: u64,
@@ -36,11 +46,15 @@ pub struct Super {
     pub incompat: u64,
     /// 0 is CRC-32C, 1 xxhash64, 2 SHA-256.
     pub csum_type: u16,
+    /// The level of the root tree's root block.
     pub root_level: u8,
+    /// The level of the chunk tree's root block.
     pub chunk_root_level: u8,
+    /// The level of the log tree's root block.
     pub log_root_level: u8,
     /// The number of the device that this image holds.
     pub devid: u64,
+    /// The id of that device.
     pub dev_uuid: [u8; 16],
     /// A text that ends before its first zero byte.
     pub label: [u8; 256],

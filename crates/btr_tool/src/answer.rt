@@ -5,7 +5,7 @@ ghost use Rattle.btr_tool.specs.Answers.{code_of};
 /// What there is too much of.
 #[derive(Clone, Copy, Debug, PartialEq, Eq)]
 pub enum Which {
-    /// Images that the words name; 64 are read.
+    /// Images that the words name; at most 64 are read.
     Images,
 }
 
@@ -14,7 +14,8 @@ pub enum Which {
 pub enum Answer {
     /// The command was done. `skipped` counts entries that were left out and named.
     Done { skipped: u64 },
-    /// No sentence has this word at its place, or so many words are too few.
+    /// The number, from 0, of the first word that no sentence has at its place, or the number of words
+    /// where more are missing.
     Usage(usize),
     /// There is more of something than is read, and this much.
     Limit(Which, u64),

@@ -163,7 +163,8 @@ fn an_image_without_a_superblock(rt: HostRuntime) -> Result<(), Fail> {
     let alloc = rt.alloc();
     let none: &[u8] = b"error: image 0 has no valid superblock\n";
     let unknown: &[u8] = b"error: checksum type 3 is not supported\n";
-    answers_one(&rt, alloc, 69631, &[], 0, none, 3)?;
+    let copy = sample(65536, 7, 0);
+    answers_one(&rt, alloc, 69631, &copy[..4095], 65536, none, 3)?;
     answers_one(&rt, alloc, 16777216, &sample(65536, 7, 0), 69632, none, 3)?;
     answers_one(
         &rt,
@@ -206,15 +207,42 @@ fn the_newest_copy(rt: HostRuntime) -> Result<(), Fail> {
     Ok(())
 }
 
+// A copy of generation 9 with another byte behind its checksum.
+fn damaged(place: u64) -> [u8; 4096] {
+    let mut copy = sample(place, 9, 0);
+    copy[4095] ^= 1;
+    copy
+}
+
+#[test]
+fn damaged_copies(rt: HostRuntime) -> Result<(), Fail> {
+    let alloc = rt.alloc();
+    let none: &[u8] = b"error: image 0 has no valid superblock\n";
+    let elsewhere = sample(65536, 9, 0);
+    answers_one(&rt, alloc, 67112960, &damaged(65536), 65536, none, 3)?;
+    answers_one(&rt, alloc, 67112960, &elsewhere, 67108864, none, 3)?;
+    let mut rack = MemRack::new(alloc);
+    add(&mut rack, "a", 67112960, 65536, &damaged(65536))?;
+    let poked = rack.poke("a", 67108864, &sample(67108864, 7, 0));
+    poked.map_err(|_| AllocError)?;
+    let mut out = MemOut::new(alloc);
+    let words = words(alloc, &["super", "a"])?;
+    assert_eq!(rt; rack.count(), 0);
+    let answer = run(alloc, &words, &mut rack, &mut out);
+    assert_eq!(rt; answer, Answer::Done { skipped: 0 });
+    assert!(rt; out.text().starts_with(b"slot 0 place 67108864\n"));
+    Ok(())
+}
+
 #[test]
 fn several_images(rt: HostRuntime) -> Result<(), Fail> {
     let alloc = rt.alloc();
-    let rows: [(u64, &[u8], u8); 3] = [
-        (8, b"slot 1 place 65536\n", 0),
-        (7, b"slot 0 place 65536\n", 0),
-        (6, b"slot 0 place 65536\n", 0),
+    let rows: [(u64, &[u8]); 3] = [
+        (8, b"slot 1 place 65536\n"),
+        (7, b"slot 0 place 65536\n"),
+        (6, b"slot 0 place 65536\n"),
     ];
-    for (generation, expected, code) in rows {
+    for (generation, expected) in rows {
         let mut rack = MemRack::new(alloc);
         add(&mut rack, "a", 69632, 65536, &sample(65536, 7, 0))?;
         add(&mut rack, "b", 69632, 65536, &sample(65536, generation, 0))?;
@@ -222,7 +250,7 @@ fn several_images(rt: HostRuntime) -> Result<(), Fail> {
         let words = words(alloc, &["super", "a", "b"])?;
         assert_eq!(rt; rack.count(), 0);
         let answer = run(alloc, &words, &mut rack, &mut out);
-        assert_eq!(rt; answer.code(), code);
+        assert_eq!(rt; answer.code(), 0);
         assert!(rt; out.text().starts_with(expected));
     }
     let mut rack = MemRack::new(alloc);
@@ -247,8 +275,10 @@ fn too_many_images(rt: HostRuntime) -> Result<(), Fail> {
 #[test]
 fn failing_images(rt: HostRuntime) -> Result<(), Fail> {
     let alloc = rt.alloc();
-    let rows: [(u64, &[&str], &[u8]); 5] = [
+    let rows: [(u64, &[&str], &[u8]); 7] = [
         (1, &["super", "a", "b"], b"error: image 0 failed\n"),
+        (2, &["super", "a"], b"error: image 0 failed\n"),
+        (3, &["super", "a", "b"], b"error: image 0 failed\n"),
         (2, &["super", "a", "b"], b"error: image 1 failed\n"),
         (4, &["super", "a", "b"], b"error: image 1 failed\n"),
         (9, &["super", "a", "c"], b"error: image 1 failed\n"),
@@ -277,7 +307,7 @@ fn a_failing_output(rt: HostRuntime) -> Result<(), Fail> {
         let answer = run(alloc, &words, &mut rack, &mut out);
         assert_eq!(rt; answer, Answer::OutFault);
         assert_eq!(rt; answer.code(), 4);
-        assert!(rt; text(alloc, b"0")?.as_slice().starts_with(out.text()));
+        assert!(rt; out.text().is_empty());
     }
     Ok(())
 }

@@ -8,5 +8,5 @@ returns-then-place-len-clause-seen g c =
 
 pub returns-in-Ok-clause-seen : goal.returns-in-Ok-clause-seen
 returns-in-Ok-clause-seen g c =
-    goes_on _ (g.R.Rack.slots c.args.rack.now) c.args.slot c.args.place c.args.seen c.with.result c.in-Ok.found (g.met.R.Rack.sized c.args.rack.now) c.requires.open (omega (arith, c.len.ensures.len))
-    c.in-Ok.ensures.found c.with.ensures
+    goes_on _ (g.R.Rack.slots c.args.rack.now) c.args.slot c.args.place c.args.seen c.with_copy.result c.in-Ok.found (g.met.R.Rack.sized c.args.rack.now) c.requires.open (omega (arith, c.len.ensures.len))
+    c.in-Ok.ensures.found c.with_copy.ensures
