@@ -29,6 +29,14 @@ any_before P xs ys h = (h.0, h.1, omega (arith, h.2, length-append xs ys), get_o
 any_last : {X : Type 0} (P : X → Type 0) (xs : List X) (y : X) → P y → Any P (xs ++ y ∷ [])
 any_last P xs y h = (length xs, y, omega (arith, length-append xs (y ∷ [])), get_or-append_seam xs y [] y, h)
 
+all_last : {X : Type 0} (P : X → Type 0) (xs : List X) (y : X) → All P xs → P y → All P (xs ++ y ∷ [])
+all_last P xs y all h j d lt = elim (cases_lt j (length xs)) [
+  | inl before ↦ subst P (sym (get_or_append_left xs (y ∷ []) d j before)) (all j d before)
+  | inr there ↦
+      let same : length xs ≡ j = omega (arith, there, lt, length-append xs (y ∷ [])) in
+      subst P (sym (subst (λ n. get_or (xs ++ y ∷ []) n d ≡ y) same (get_or-append_seam xs y [] d))) h
+]
+
 module _ (images : List (List ℕ)) (t : Target) where
   -- those of some candidates that stand and pass
   abbrev pub passing_of : List Candidate → List (List ℕ)
@@ -95,12 +103,13 @@ module _ (images : List (List ℕ)) (t : Target) where
 -- what stands of the cause, after some candidates: no call failed, or the last one that did was of a candidate
 abbrev pub CauseSoFar : Target → ℕ → Account → Option ℕ → Type 0
 CauseSoFar t before now None = (now.fresh ≡ 0) × (now.missed ≡ [])
-CauseSoFar t before now (Some s) = Rose before now.faults × (now.last.slot ≡ s) × Any (IsOf t now.last) (candidates t) × (1 ≤ now.fresh)
+CauseSoFar t before now (Some s) = Rose before now.faults × (now.last.slot ≡ s) × Any (λ c. (stands t c ≡ true) × IsOf t now.last c) (candidates t) × (1 ≤ now.fresh)
 
 -- after the first k candidates, of which none that could be read passes
 pub record TriedSoFar (t : Target) (held : Option (List (List ℕ))) (before : ℕ) (now : Account) (failed : Option ℕ) (k : ℕ) : Type 0 where
   pub later : before ≤ now.faults
   pub cause : CauseSoFar t before now failed
+  pub only : All (λ missed. Any (IsOf t missed) (candidates t)) now.missed
   pub enough : (images : List (List ℕ)) → held ≡ Some images → length (passing_of images t (take k (candidates t))) ≤ now.fresh
   pub each : (images : List (List ℕ)) → held ≡ Some images → (j : ℕ) (d : Candidate) → j < k → Passes images t (get_or (candidates t) j d) → Any (λ missed. IsOf t missed (get_or (candidates t) j d)) now.missed
 
@@ -108,6 +117,7 @@ pub tried_none : (t : Target) (held : Option (List (List ℕ))) (account : Accou
 tried_none t held account fresh missed = record {
   later = omega arith;
   cause = (fresh, missed);
+  only = λ j d lt. absurd (omega (arith, lt, ap length missed));
   enough = λ images e. omega arith;
   each = λ images e j d lt p. absurd (omega (arith, lt));
 }
@@ -129,7 +139,7 @@ cause_calm t before now after None h calm = (calm.fresh ∙ h.0, calm.missed ∙
 cause_calm t before now after (Some s) h calm = (
   (omega (arith, h.0.0, calm.faults), omega (arith, h.0.1, calm.faults)),
   ap (λ r. r.slot) calm.last ∙ h.1,
-  subst (λ r. Any (IsOf t r) (candidates t)) (sym calm.last) h.2,
+  subst (λ r. Any (λ c. (stands t c ≡ true) × IsOf t r c) (candidates t)) (sym calm.last) h.2,
   omega (arith, h.3, calm.fresh),
 )
 
@@ -138,6 +148,7 @@ pub tried_calm : (t : Target) (held : Option (List (List ℕ))) (before : ℕ) (
 tried_calm t held before now after failed k c h is lt calm none = record {
   later = omega (arith, h.later, calm.faults);
   cause = cause_calm t before now after failed h.cause calm;
+  only = subst (All (λ missed. Any (IsOf t missed) (candidates t))) (sym calm.missed) h.only;
   enough = λ images e.
       let more = ap length (take_one_more images t (candidates t) k c is lt) in
       let parts = length-append (passing_of images t (take k (candidates t))) (passing_of images t (c ∷ [])) in
@@ -151,8 +162,8 @@ tried_calm t held before now after failed k c h is lt calm none = record {
 }
 
 -- one more candidate, of which a read failed
-pub tried_failed : (t : Target) (held : Option (List (List ℕ))) (before : ℕ) (now after : Account) (failed : Option ℕ) (k s : ℕ) (c : Candidate) → TriedSoFar t held before now failed k → slice_get (candidates t) k ≡ Some c → k < length (candidates t) → k + 1 < 2 ^ 64 → IsMissed t c s now after → TriedSoFar t held before after (Some s) (k + 1)
-tried_failed t held before now after failed k s c h is lt short fault =
+pub tried_failed : (t : Target) (held : Option (List (List ℕ))) (before : ℕ) (now after : Account) (failed : Option ℕ) (k s : ℕ) (c : Candidate) → TriedSoFar t held before now failed k → slice_get (candidates t) k ≡ Some c → k < length (candidates t) → k + 1 < 2 ^ 64 → stands t c ≡ true → IsMissed t c s now after → TriedSoFar t held before after (Some s) (k + 1)
+tried_failed t held before now after failed k s c h is lt short standing fault =
     let m : Range = fault.0 in
     let one : OneFailed m now after = fault.1.0 in
     let here : IsOf t m c = fault.3 in
@@ -161,9 +172,10 @@ tried_failed t held before now after failed k s c h is lt short fault =
       cause = (
         (omega (arith, h.later, one.faults.0), omega (arith, h.later, one.faults.1)),
         ap (λ r. r.slot) one.last ∙ fault.2,
-        (k, c, lt, get_or_from_slice_get (candidates t) k c c is, subst (λ r. IsOf t r c) (sym one.last) here),
+        (k, c, lt, get_or_from_slice_get (candidates t) k c c is, (standing, subst (λ r. IsOf t r c) (sym one.last) here)),
         omega (arith, one.fresh),
       );
+      only = subst (All (λ missed. Any (IsOf t missed) (candidates t))) (sym one.missed) (all_last (λ missed. Any (IsOf t missed) (candidates t)) now.missed m h.only (k, c, lt, get_or_from_slice_get (candidates t) k c c is, here));
       enough = λ images e.
           let more = ap length (take_one_more images t (candidates t) k c is lt) in
           let parts = length-append (passing_of images t (take k (candidates t))) (passing_of images t (c ∷ [])) in
@@ -198,6 +210,7 @@ all_unread t held before now k s le h = record {
   rose = h.cause.0;
   on_slot = h.cause.1;
   of_candidate = h.cause.2;
+  only = h.only;
   some = h.cause.3;
   enough = told held (λ images. length (passing images t) ≤ now.fresh) (λ images e.
       subst (λ cs. length (passing_of images t cs) ≤ now.fresh) (take_all k (candidates t) le) (h.enough images e));

@@ -5,7 +5,7 @@ use Rattle.btr_rack.specs.Rack.{Account, Rose, OneFailed}
 use Rattle.btr_rack.specs.declared.place.Place.{Place as Range}
 use Rattle.btr_read.specs.declared.candidate.Candidate.{Candidate}
 use Rattle.btr_read.specs.Want.{passes}
-use Rattle.btr_read.specs.Candidates.{Target, candidates, ranges_of, reading}
+use Rattle.btr_read.specs.Candidates.{Target, candidates, ranges_of, stands, reading}
 use Rattle.btr_read.specs.Fate.{passing}
 
 -- a range lies in another
@@ -36,7 +36,8 @@ Passes images t candidate = IsSomeAnd (reading images t candidate) (λ bytes. pa
 pub record IsUnread (t : Target) (held : Option (List (List ℕ))) (faults : ℕ) (account : Account) (slot : ℕ) : Type 0 where
   pub rose : Rose faults account.faults
   pub on_slot : account.last.slot ≡ slot
-  pub of_candidate : Any (IsOf t account.last) (candidates t)
+  pub of_candidate : Any (λ candidate. (stands t candidate ≡ true) × IsOf t account.last candidate) (candidates t)
+  pub only : All (λ missed. Any (IsOf t missed) (candidates t)) account.missed
   pub some : 1 ≤ account.fresh
   pub enough : IfSome held (λ images. length (passing images t) ≤ account.fresh)
   pub each : IfSome held (λ images. All (λ candidate. Passes images t candidate → Any (λ missed. IsOf t missed candidate) account.missed) (candidates t))

@@ -48,7 +48,7 @@ loop-k-preserved g c =
           let e = w.in-Failed.ensures in
           record {
             keeps = keeps_more c.loop-k.invariant.keeps e.slots e.held e.shelf e.pool;
-            tried = rw w.failed-is (tried_failed t held before now after c.loop-k.failed c.loop-k.k _ cand c.loop-k.invariant.tried c.candidate.ensures.value lt (omega (arith, c.loop-k-test.true, c.candidate_count-k-end.type_inv)) e.account);
+            tried = rw w.failed-is (tried_failed t held before now after c.loop-k.failed c.loop-k.k _ cand c.loop-k.invariant.tried c.candidate.ensures.value lt (omega (arith, c.loop-k-test.true, c.candidate_count-k-end.type_inv)) e.attempt e.account);
             shut = e.account.1.2 ∙ c.loop-k.invariant.shut;
           }
     ]
