@@ -103,7 +103,7 @@ module _ (images : List (List ℕ)) (t : Target) where
 -- what stands of the cause, after some candidates: no call failed, or the last one that did was of a candidate
 abbrev pub CauseSoFar : Target → ℕ → Account → Option ℕ → Type 0
 CauseSoFar t before now None = (now.fresh ≡ 0) × (now.missed ≡ [])
-CauseSoFar t before now (Some s) = Rose before now.faults × (now.last.slot ≡ s) × Any (λ c. (stands t c ≡ true) × IsOf t now.last c) (candidates t) × (1 ≤ now.fresh)
+CauseSoFar t before now (Some s) = Rose before now.faults × (now.last.slot ≡ s) × Any (λ c. (stands t c ≡ true) × IsOf t now.last c) (candidates t) × (1 ≤ now.fresh) × (now.opening ≡ None)
 
 -- after the first k candidates, of which none that could be read passes
 pub record TriedSoFar (t : Target) (held : Option (List (List ℕ))) (before : ℕ) (now : Account) (failed : Option ℕ) (k : ℕ) : Type 0 where
@@ -141,6 +141,7 @@ cause_calm t before now after (Some s) h calm = (
   ap (λ r. r.slot) calm.last ∙ h.1,
   subst (λ r. Any (λ c. (stands t c ≡ true) × IsOf t r c) (candidates t)) (sym calm.last) h.2,
   omega (arith, h.3, calm.fresh),
+  calm.opening ∙ h.4,
 )
 
 -- one more candidate, which stands and doesn't pass, or doesn't stand
@@ -174,6 +175,7 @@ tried_failed t held before now after failed k s c h is lt short standing fault =
         ap (λ r. r.slot) one.last ∙ fault.2,
         (k, c, lt, get_or_from_slice_get (candidates t) k c c is, (standing, subst (λ r. IsOf t r c) (sym one.last) here)),
         omega (arith, one.fresh),
+        fault.1.1,
       );
       only = subst (All (λ missed. Any (IsOf t missed) (candidates t))) (sym one.missed) (all_last (λ missed. Any (IsOf t missed) (candidates t)) now.missed m h.only (k, c, lt, get_or_from_slice_get (candidates t) k c c is, here));
       enough = λ images e.
@@ -191,9 +193,10 @@ tried_failed t held before now after failed k s c h is lt short standing fault =
     }
 
 -- all were tried
-pub all_lost : (t : Target) (held : Option (List (List ℕ))) (before : ℕ) (now : Account) (k : ℕ) → length (candidates t) ≤ k → TriedSoFar t held before now None k → (now.fresh ≡ 0) × IfSome held (λ images. slice_get (passing images t) 0 ≡ None)
+pub all_lost : (t : Target) (held : Option (List (List ℕ))) (before : ℕ) (now : Account) (k : ℕ) → length (candidates t) ≤ k → TriedSoFar t held before now None k → (now.fresh ≡ 0) × (now.missed ≡ []) × IfSome held (λ images. slice_get (passing images t) 0 ≡ None)
 all_lost t held before now k le h = (
   h.cause.0,
+  h.cause.1,
   told held (λ images. slice_get (passing images t) 0 ≡ None) (λ images e.
       let whole : passing_of images t (take k (candidates t)) ≡ passing images t = ap (passing_of images t) (take_all k (candidates t) le) in
       let so_far = h.enough images e in
@@ -211,6 +214,7 @@ all_unread t held before now k s le h = record {
   on_slot = h.cause.1;
   of_candidate = h.cause.2;
   only = h.only;
+  read = h.cause.4;
   some = h.cause.3;
   enough = told held (λ images. length (passing images t) ≤ now.fresh) (λ images e.
       subst (λ cs. length (passing_of images t cs) ≤ now.fresh) (take_all k (candidates t) le) (h.enough images e));

@@ -36,5 +36,5 @@ FitsPassed t held old new bytes =
 -- all candidates, from an account of no fresh failure on
 abbrev pub FitsOutcome : Target → Option (List (List ℕ)) → Account → Account → List ℕ → Outcome → Type 0
 FitsOutcome t held old new slot outcome.Passed = FitsPassed t held old new (take (size_of t) slot)
-FitsOutcome t held old new slot outcome.Lost = (new.fresh ≡ 0) × IfSome held (λ images. slice_get (passing images t) 0 ≡ None)
+FitsOutcome t held old new slot outcome.Lost = NoneFailed old new × IfSome held (λ images. slice_get (passing images t) 0 ≡ None)
 FitsOutcome t held old new slot (outcome.Unread s) = IsUnread t held old.faults new s

@@ -35,6 +35,7 @@ Passes images t candidate = IsSomeAnd (reading images t candidate) (λ bytes. pa
 -- that failed since the reading began.
 pub record IsUnread (t : Target) (held : Option (List (List ℕ))) (faults : ℕ) (account : Account) (slot : ℕ) : Type 0 where
   pub rose : Rose faults account.faults
+  pub read : account.opening ≡ None
   pub on_slot : account.last.slot ≡ slot
   pub of_candidate : Any (λ candidate. (stands t candidate ≡ true) × IsOf t account.last candidate) (candidates t)
   pub only : All (λ missed. Any (IsOf t missed) (candidates t)) account.missed

@@ -1,7 +1,7 @@
 -- What a fetch answers.
-use Rattle.std.specs.Prelude.{◌≡◌, ℕ, true, List, Option, IfSome, Result, Ok, Err, IsOk, ⊤}
+use Rattle.std.specs.Prelude.{◌≡◌, ℕ, true, List, [], Option, IfSome, Result, Ok, Err, IsOk, ⊤}
 use Rattle.std.specs.List.{Contains}
-use Rattle.btr_rack.specs.Rack.{Account, Steady}
+use Rattle.btr_rack.specs.Rack.{Account, NoneFailed, Steady}
 use Rattle.btr_read.specs.declared.fault.ReadFault.{ReadFault}
 use Rattle.btr_read.specs.declared.fault.ReadFault.TheVariants as fault
 use Rattle.btr_read.specs.declared.want.Want.{Want}
@@ -35,13 +35,17 @@ FitsFetch layout want held old new store (Err (fault.Unread addr slot)) = IsUnre
 FitsFetch layout want held old new store (Err (fault.Unmapped addr)) = sought layout want ≡ Err (Unmapped addr)
 FitsFetch layout want held old new store (Err (fault.Crosses addr)) = sought layout want ≡ Err (Crosses addr)
 
--- no failed call is counted, but where the block is unread
-abbrev pub CountsNone : Account → Result Lent ReadFault → Type 0
-CountsNone account (Ok loan) = account.fresh ≡ 0
-CountsNone account (Err (fault.Lost addr)) = account.fresh ≡ 0
-CountsNone account (Err (fault.Unread addr slot)) = ⊤
-CountsNone account (Err (fault.Unmapped addr)) = account.fresh ≡ 0
-CountsNone account (Err (fault.Crosses addr)) = account.fresh ≡ 0
+-- the account as `forget` leaves it
+abbrev pub forgotten : Account → Account
+forgotten account = record account { fresh = 0; missed = [] }
+
+-- where a block is lost or has no position, no call failed; where it was had, those that failed are forgotten
+abbrev pub AccountsFetch : Account → Account → Result Lent ReadFault → Type 0
+AccountsFetch old new (Ok loan) = (new.fresh ≡ 0) × (new.missed ≡ [])
+AccountsFetch old new (Err (fault.Lost addr)) = NoneFailed (forgotten old) new
+AccountsFetch old new (Err (fault.Unread addr slot)) = ⊤
+AccountsFetch old new (Err (fault.Unmapped addr)) = NoneFailed (forgotten old) new
+AccountsFetch old new (Err (fault.Crosses addr)) = NoneFailed (forgotten old) new
 
 -- what is sought, or why it has no position
 abbrev pub IsLocated : Result Target Fault → Result Target ReadFault → Type 0

@@ -2,7 +2,7 @@ ghost use Rattle.std.specs.Prelude.{◌≡◌, ◌+◌, ◌≤◌, IfOk, OnErr};
 ghost use Rattle.btr_read.specs.Layout.{AreOpen};
 ghost use Rattle.btr_read.specs.Fate.{sought};
 ghost use Rattle.btr_read.specs.Store.{IsLentBy, free_count};
-ghost use Rattle.btr_read.specs.Fetch.{FitsFetch, CountsNone, IsLocated};
+ghost use Rattle.btr_read.specs.Fetch.{FitsFetch, AccountsFetch, IsLocated};
 
 use crate::attempt::Outcome;
 use crate::device::Member;
@@ -59,7 +59,7 @@ pub fn fetch<R: Rack>(want: &Want, rack: &mut R, store: &mut Store) -> Result<Lo
     ensures shelf { R.shelf rack.new ≡ R.shelf rack.old }
     ensures later { (R.account rack.old).faults ≤ (R.account rack.new).faults }
     ensures shut { (R.account rack.new).shut ≡ (R.account rack.old).shut }
-    ensures forgotten { CountsNone (R.account rack.new) result }
+    ensures account { AccountsFetch (R.account rack.old) (R.account rack.new) result }
     ensures lent { IfOk result (IsLentBy store.old store.new want.now) }
     ensures refused { OnErr result (store.new ≡ store.old) }
     ensures answer { FitsFetch store.old.layout want.now (R.held rack.old) (R.account rack.old) (R.account rack.new) store.new result }

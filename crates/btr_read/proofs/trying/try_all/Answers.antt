@@ -35,6 +35,7 @@ loop-k-preserved g c =
           record {
             keeps = keeps_more c.loop-k.invariant.keeps e.slots e.held e.shelf e.pool;
             tried = rw w.failed-is (tried_calm t held before now after c.loop-k.failed c.loop-k.k cand c.loop-k.invariant.tried c.candidate.ensures.value lt e.account (λ images is. differs_alone images t cand (value_of images t cand) (reading_stands images t cand e.attempt.0) (telling (g.R.Rack.held c.loop-k.rack) (λ images. passes t.setting t.want (value_of images t cand) ≡ false) e.attempt.1 images (c.loop-k.invariant.keeps.same_held ∙ is))));
+            calm = λ none. let so_far = c.loop-k.invariant.calm (sym w.failed-is ∙ none) in (e.account.last ∙ so_far.0, e.account.opening ∙ so_far.1);
             shut = e.account.shut ∙ c.loop-k.invariant.shut;
           }
       | in-Absent w ↦
@@ -42,6 +43,7 @@ loop-k-preserved g c =
           record {
             keeps = keeps_more c.loop-k.invariant.keeps e.slots e.held e.shelf e.pool;
             tried = rw w.failed-is (tried_calm t held before now after c.loop-k.failed c.loop-k.k cand c.loop-k.invariant.tried c.candidate.ensures.value lt e.account (λ images is. absent_alone images t cand (reading_absent images t cand e.attempt)));
+            calm = λ none. let so_far = c.loop-k.invariant.calm (sym w.failed-is ∙ none) in (e.account.last ∙ so_far.0, e.account.opening ∙ so_far.1);
             shut = e.account.shut ∙ c.loop-k.invariant.shut;
           }
       | in-Failed w ↦
@@ -49,6 +51,7 @@ loop-k-preserved g c =
           record {
             keeps = keeps_more c.loop-k.invariant.keeps e.slots e.held e.shelf e.pool;
             tried = rw w.failed-is (tried_failed t held before now after c.loop-k.failed c.loop-k.k _ cand c.loop-k.invariant.tried c.candidate.ensures.value lt (omega (arith, c.loop-k-test.true, c.candidate_count-k-end.type_inv)) e.attempt e.account);
+            calm = λ none. cc;
             shut = e.account.1.2 ∙ c.loop-k.invariant.shut;
           }
     ]
@@ -57,7 +60,17 @@ pub returns-in-None-clause-outcome : goal.returns-in-None-clause-outcome
 returns-in-None-clause-outcome g c =
     let t = c.args.search.now in
     let le : length (candidates t) ≤ c.loop-k.k = omega (arith, c.loop-k-test.false, c.candidate_count-k-end.ensures) in
-    all_lost t (g.R.Rack.held c.args.rack.now) (g.R.Rack.account c.args.rack.now).faults (g.R.Rack.account c.loop-k.rack) c.loop-k.k le (subst (λ f. TriedSoFar t (g.R.Rack.held c.args.rack.now) (g.R.Rack.account c.args.rack.now).faults (g.R.Rack.account c.loop-k.rack) f c.loop-k.k) c.in-None.is c.loop-k.invariant.tried)
+    let lost = all_lost t (g.R.Rack.held c.args.rack.now) (g.R.Rack.account c.args.rack.now).faults (g.R.Rack.account c.loop-k.rack) c.loop-k.k le (subst (λ f. TriedSoFar t (g.R.Rack.held c.args.rack.now) (g.R.Rack.account c.args.rack.now).faults (g.R.Rack.account c.loop-k.rack) f c.loop-k.k) c.in-None.is c.loop-k.invariant.tried) in
+    let calm = c.loop-k.invariant.calm c.in-None.is in
+    (record {
+      faults = c.loop-k.invariant.tried.later;
+      fresh = lost.0 ∙ sym c.requires.fresh;
+      missed = lost.1 ∙ sym c.requires.missed;
+      last = calm.0;
+      opening = calm.1;
+      shut = c.loop-k.invariant.shut;
+    }, lost.2)
+
 
 pub returns-in-Some-clause-outcome : goal.returns-in-Some-clause-outcome
 returns-in-Some-clause-outcome g c =
