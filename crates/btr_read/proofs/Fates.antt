@@ -61,6 +61,13 @@ len_fits setting (Block addr) h = omega arith
 len_fits setting (Sector addr sum) h = h
 len_fits setting (Plain addr) h = h
 
+-- a want is no shorter than a sector
+len_large : (setting : Setting) (want : Want) → 4096 ≤ setting.nodesize → 4096 ≤ len_of setting want
+len_large setting (Tree addr generation level) h = h
+len_large setting (Block addr) h = h
+len_large setting (Sector addr sum) h = omega arith
+len_large setting (Plain addr) h = omega arith
+
 some_is : (o : Option (List ℕ)) (bytes : List ℕ) → o ≡ Some bytes → IsSome o
 some_is o bytes e = ap is_some e
 
@@ -72,6 +79,8 @@ lent_by chunks devices setting p0 p2 k len old want is view free writes e =
       free = no_loan p0 k free;
       after = (bytes_at p2 k, ap (blocks chunks devices setting) (loans_taken p0 p2 k is.whole free writes));
       len = e;
+      large = omega (arith, e, len_large setting want is.large);
+      small = omega (arith, e, len_fits setting want is.large, is.small);
       live = record {
         live = some_is (get_or (loans_of p2) k None) (bytes_at p2 k) (loan_taken p0 p2 k is.whole free writes);
         fits = omega (arith, e, len_fits setting want is.large);

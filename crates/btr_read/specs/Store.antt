@@ -61,5 +61,7 @@ pub record IsLentBy (old new : Blocks) (want : Want) (loan : Lent) : Type 0 wher
   pub free : loan_in old loan.slot ≡ None
   pub after : (written : List ℕ) × (new ≡ with_loan old loan.slot (Some written))
   pub len : loan.len ≡ len_of old.layout.setting want
+  pub large : 4096 ≤ loan.len
+  pub small : loan.len ≤ 65536
   pub live : IsLiveIn new loan
   pub fewer : free_count new + 1 ≡ free_count old
