@@ -1,5 +1,5 @@
 -- What a fetch answers and leaves.
-use Rattle.std.proofs.Common.{◌≡◌, ℕ, ◌≤◌, true, List, [], ◌∷◌, take, get_or, slice_get, Option, Some, None, IfSome, IsSome, Result, Ok, Err, IfOk, refl, sym, ap, ◌∙◌, subst, arith}
+use Rattle.std.proofs.Common.{◌≡◌, ℕ, ◌≤◌, true, List, [], ◌∷◌, take, get_or, slice_get, Option, Some, None, IfSome, IsSomeAnd, IsSome, Result, Ok, Err, IfOk, refl, sym, ap, ◌∙◌, subst, arith}
 use Rattle.std.specs.List.{Contains}
 use Rattle.std.specs.Option.{is_some}
 use Rattle.btr_chunk.specs.declared.chunk.Chunk.{Chunk}
@@ -116,5 +116,5 @@ pub tried_passes : (s : Result Target Fault) (t : Target) (c : Candidate) (held 
 tried_passes s t c held store loan slot e fits block =
     subst (λ s. IfOk s (λ t. FitsTried t c held store (Ok (tried.Passed loan)))) (sym e) (
       fits.0,
-      subst (λ o. IfSome o (IsTried t c held)) (sym block) (record { pass = fits.1; value = fits.2 }),
+      subst (λ o. IsSomeAnd o (IsTried t c held)) (sym block) (record { pass = fits.1; value = fits.2 }),
     )

@@ -44,10 +44,11 @@ slice_count t = data_count t.chunk.profile (length t.chunk.stripes)
 abbrev pub others : ℕ → ℕ → List ℕ
 others k i = range_with_len 0 i ++ range_with_len (i + 1) (k - (i + 1))
 
--- the candidates where there are copies, and where there is parity: one for RAID5, two for RAID6
+-- the candidates where there are copies: each of them
 abbrev pub copies : ℕ → List Candidate
 copies n = map (λ copy. Stands (Mirror copy)) (range_with_len 0 n)
 
+-- the candidates for slice i of k where there is parity: P for RAID5, and P and Q for RAID6
 abbrev pub rebuilt : Profile → ℕ → ℕ → List Candidate
 rebuilt Raid5 k i = Stands (Slice i) ∷ ByP ∷ []
 rebuilt Raid6 k i = Stands (Slice i) ∷ ByP ∷ ByQ ∷ map ByBoth (others k i)
@@ -101,13 +102,15 @@ module _ (images : List (List ℕ)) (t : Target) where
   abbrev pub slices : List (List ℕ)
   slices = map (λ slice. element (Slice slice)) (range_with_len 0 (slice_count t))
 
-  -- slice i, where X stands in its place, and Y in that of slice j
+  -- P is that of the slices, where X stands in the place of the slice sought
   abbrev pub fits_p : List ℕ → Bool
   fits_p X = bytes_eq (parity_p (size_of t) (slice_set slices t.at.index X)) (element P)
 
+  -- Q is that of the slices, where X stands in the place of the slice sought
   abbrev pub fits_q : List ℕ → Bool
   fits_q X = bytes_eq (parity_q (size_of t) (slice_set slices t.at.index X)) (element Q)
 
+  -- P and Q are those of the slices, where X stands in the place of the slice sought, and Y in that of slice j
   abbrev pub fits_both : ℕ → List ℕ → List ℕ → Bool
   fits_both j X Y =
       let with_both = slice_set (slice_set slices j Y) t.at.index X in

@@ -30,9 +30,9 @@ IsMissed t candidate slot old new = (place : Range) × ReadFailed place old new 
 abbrev pub Passes : List (List ℕ) → Target → Candidate → Type 0
 Passes images t candidate = IsSomeAnd (reading images t candidate) (λ bytes. passes t.setting t.want bytes ≡ true)
 
--- Some call failed, the last one on this slot, in a range that a candidate reads. As many failed as there are candidates
--- that pass, and each of these reads a range in which one of those that failed lies. `missed` are the places of the calls
--- that failed since the reading began.
+-- Some call failed, the last one on this slot, in a range that a candidate reads. At least as many failed as there are
+-- candidates that pass, and each of these reads a range in which one of those that failed lies. `missed` are the places
+-- of the calls that failed since the reading began.
 pub record IsUnread (t : Target) (held : Option (List (List ℕ))) (faults : ℕ) (account : Account) (slot : ℕ) : Type 0 where
   pub rose : Rose faults account.faults
   pub read : account.opening ≡ None

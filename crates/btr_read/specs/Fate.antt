@@ -26,11 +26,13 @@ pub data Fault : Type 0 where
 abbrev pub target : Layout → Want → Chunk → Elements → Target
 target layout want chunk at = record { want = want; setting = layout.setting; chunk = chunk; at = at; devices = layout.devices }
 
+-- what is sought at a position, or why there is none
 abbrev pub sought_at : Layout → Want → Chunk → Result Elements MapFault → Result Target Fault
 sought_at layout want chunk (Err map_fault.Unmapped) = Err (Unmapped (addr_of want))
 sought_at layout want chunk (Err map_fault.Crosses) = Err (Crosses (addr_of want))
 sought_at layout want chunk (Ok at) = Ok (target layout want chunk at)
 
+-- what is sought in the chunk that holds the address, if one does
 abbrev pub sought_in : Layout → Want → Option Chunk → Result Target Fault
 sought_in layout want None = Err (Unmapped (addr_of want))
 sought_in layout want (Some chunk) = sought_at layout want chunk (elements_of chunk (addr_of want) (len_of layout.setting want))
@@ -43,6 +45,7 @@ sought layout want = sought_in layout want (chunk_at layout.chunks (addr_of want
 abbrev pub passing : List (List ℕ) → Target → List (List ℕ)
 passing images t = filter (passes t.setting t.want) (readings images t)
 
+-- the same for what is sought: none where it has no position
 abbrev pub passing_for : List (List ℕ) → Result Target Fault → List (List ℕ)
 passing_for images (Err fault) = []
 passing_for images (Ok t) = passing images t
@@ -52,6 +55,7 @@ abbrev pub or_lost : ℕ → Option (List ℕ) → Result (List ℕ) Fault
 or_lost addr None = Err (Lost addr)
 or_lost addr (Some bytes) = Ok bytes
 
+-- the bytes of the first candidate that stands and passes of what is sought, or why there are none
 abbrev pub fate_of : List (List ℕ) → ℕ → Result Target Fault → Result (List ℕ) Fault
 fate_of images addr (Err fault) = Err fault
 fate_of images addr (Ok t) = or_lost addr (slice_get (passing images t) 0)

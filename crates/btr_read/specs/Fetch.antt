@@ -1,5 +1,5 @@
 -- What a fetch answers.
-use Rattle.std.specs.Prelude.{◌≡◌, ℕ, true, List, [], Option, IfSome, Result, Ok, Err, IsOk, ⊤}
+use Rattle.std.specs.Prelude.{◌≡◌, ℕ, true, List, [], Option, IfSome, IsSomeAnd, Result, Ok, Err, IsOk, ⊤}
 use Rattle.std.specs.List.{Contains}
 use Rattle.btr_rack.specs.Rack.{Account, NoneFailed, Steady}
 use Rattle.btr_read.specs.declared.fault.ReadFault.{ReadFault}
@@ -29,7 +29,7 @@ pub record IsUnreadFor (layout : Layout) (want : Want) (held : Option (List (Lis
 
 -- each answer with what it says of the want's fate. `store` is the store afterwards
 abbrev pub FitsFetch : Layout → Want → Option (List (List ℕ)) → Account → Account → Blocks → Result Lent ReadFault → Type 0
-FitsFetch layout want held old new store (Ok loan) = IsOk (sought layout want) × IfSome (block_of store loan) (IsFetched layout want held old new)
+FitsFetch layout want held old new store (Ok loan) = IsOk (sought layout want) × IsSomeAnd (block_of store loan) (IsFetched layout want held old new)
 FitsFetch layout want held old new store (Err (fault.Lost addr)) = (addr ≡ addr_of want) × IsOk (sought layout want) × IfSome held (λ images. fate images layout want ≡ Err (Lost addr))
 FitsFetch layout want held old new store (Err (fault.Unread addr slot)) = IsUnreadFor layout want held old new addr slot
 FitsFetch layout want held old new store (Err (fault.Unmapped addr)) = sought layout want ≡ Err (Unmapped addr)

@@ -1,5 +1,5 @@
 -- What a try of one mirror answers.
-use Rattle.std.specs.Prelude.{◌≡◌, ℕ, true, false, List, length, Option, IfSome, Result, Ok, Err}
+use Rattle.std.specs.Prelude.{◌≡◌, ℕ, true, false, List, length, Option, IfSome, IsSomeAnd, Result, Ok, Err}
 use Rattle.btr_rack.specs.Rack.{Account, NoneFailed}
 use Rattle.btr_chunk.specs.declared.place.Part.TheVariants.{Mirror}
 use Rattle.btr_chunk.specs.Mapping.{HasPart}
@@ -30,7 +30,7 @@ pub record IsTried (t : Target) (c : Candidate) (held : Option (List (List ℕ))
 
 -- each answer with what it says of the mirror. `store` is the store afterwards
 abbrev pub FitsTried : Target → Candidate → Option (List (List ℕ)) → Blocks → Result Tried TryFault → Type 0
-FitsTried t c held store (Ok (Passed loan)) = (stands t c ≡ true) × IfSome (block_of store loan) (IsTried t c held)
+FitsTried t c held store (Ok (Passed loan)) = (stands t c ≡ true) × IsSomeAnd (block_of store loan) (IsTried t c held)
 FitsTried t c held store (Ok Differs) = (stands t c ≡ true) × IfSome held (λ images. passes t.setting t.want (value_of images t c) ≡ false)
 FitsTried t c held store (Ok Absent) = stands t c ≡ false
 FitsTried t c held store (Err (Failed slot)) = stands t c ≡ true

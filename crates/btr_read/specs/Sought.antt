@@ -28,13 +28,14 @@ CanTry t ByP = IsNone (mirror_count t.chunk.profile (length t.chunk.stripes))
 CanTry t ByQ = t.chunk.profile ≡ Raid6
 CanTry t (ByBoth j) = (t.chunk.profile ≡ Raid6) × (j < slice_count t) × (j ≢ t.at.index)
 
--- a candidate for slice i of a row with P, and of one of k slices with P and Q
+-- a candidate for slice i of a row with P
 abbrev pub IsOneParity : ℕ → Candidate → Type 0
 IsOneParity i (Stands part) = part ≡ Slice i
 IsOneParity i ByP = Unit {0}
 IsOneParity i ByQ = ⊥
 IsOneParity i (ByBoth j) = ⊥
 
+-- a candidate for slice i of a row of k slices with P and Q
 abbrev pub IsTwoParities : ℕ → ℕ → Candidate → Type 0
 IsTwoParities k i (Stands part) = part ≡ Slice i
 IsTwoParities k i ByP = Unit {0}

@@ -41,16 +41,15 @@ pub(crate) fn locate<'a>(
     }
 }
 
-/// Fetches a block: lends a slot with the bytes of the first of its candidates that passes. A read that fails ends its
-/// candidate alone, so the block is had in spite of it where another candidate passes. It takes no memory. After a
-/// refusal the loans are as before.
+/// Fetches a block: lends a slot with the bytes of a candidate that stands and passes; of the first one, where no read
+/// failed. A read that fails ends its candidate alone. It takes no memory. After a refusal the loans are as before.
 ///
 /// Each device's slot is open in the rack, with the device's length, and four slots are free. The rack is told to
 /// forget the calls that failed before; after each answer but `Unread` it counts none.
 ///
-/// `Unmapped` and `Crosses` where the block has no position; `Lost` where no candidate passes and no read failed;
-/// `Unread` where no candidate passes and a read failed, and then each candidate that passes reads a range in which a
-/// read failed.
+/// `Unmapped`: no chunk holds the address. `Crosses`: the block passes the end of its chunk or, in a profile with rows,
+/// of an element. `Lost`: no candidate passes, and no read failed. `Unread`: a read failed, and each candidate that
+/// passes reads a range in which a read failed.
 pub fn fetch<R: Rack>(want: &Want, rack: &mut R, store: &mut Store) -> Result<Loan, ReadFault>
     requires open { AreOpen (R.slots rack.old) store.old.layout.devices }
     requires room { 4 ≤ free_count store.old }

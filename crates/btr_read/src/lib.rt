@@ -2,10 +2,11 @@
 //!
 //! A `Want` says which block is sought and how a reading is tested. Its candidates are the copies in the profile of
 //! its chunk and, for RAID5 and RAID6, the slices that are computed from the others and the parities; each stands only
-//! where the devices that it reads are given. The layer above is promised the first standing candidate that passes, or
-//! the reason why there is none. `specs/Want.antt` says what passes, `specs/Candidates.antt` what the candidates are,
-//! `specs/Fate.antt` what becomes of a want over the bytes of the images, and `specs/Cause.antt` when a block may be
-//! called unread. `try_mirror` looks at one copy by itself, as repairing needs it: `specs/Mirror.antt`.
+//! where the devices that it reads are given and its ranges lie in their images. The layer above is promised a standing
+//! candidate that passes, the first one where no read failed, or the reason why none was had. `specs/Want.antt` says
+//! what passes, `specs/Candidates.antt` what the candidates are, `specs/Fate.antt` what becomes of a want over the bytes
+//! of the images, and `specs/Cause.antt` when a block may be called unread. `try_mirror` looks at one copy by itself, as
+//! repairing needs it: `specs/Mirror.antt`.
 #![tactic(auto)]
 
 mod attempt;

@@ -29,8 +29,8 @@ pub enum TryFault {
     Failed(usize),
 }
 
-/// Tries one mirror of a block, counted from 0: lends a slot with its bytes where it passes. It makes one read at most,
-/// and takes no memory. After each answer but `Passed` the loans are as before.
+/// Tries one mirror of a block, counted from 0: lends a slot with its bytes where it passes. At most one call of
+/// it fails, and it takes no memory. After each answer but `Passed` the loans are as before.
 ///
 /// The block lies in a chunk, crosses neither its end nor an element's, and the chunk has that mirror. Each device's slot
 /// is open in the rack, with the device's length, and a slot is free. The rack isn't told to forget the calls that failed

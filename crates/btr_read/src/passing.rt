@@ -3,8 +3,8 @@ ghost use Rattle.btr_read.specs.Want.{len_of, passes};
 
 use crate::{Store, Want};
 
-/// Whether a reading passes for a want: the checksum and, for a tree block, what its header says. The bytes are as
-/// many as the want has.
+/// Whether a reading passes for a want: the checksum and, for a tree block, what its header says. `Plain` always
+/// passes. The bytes are as many as the want has.
 pub fn passes(want: &Want, store: &Store, bytes: &[u8]) -> bool
     requires { length bytes.now ≡ len_of store.now.layout.setting want.now }
     ensures { result ≡ passes store.now.layout.setting want.now bytes.now }

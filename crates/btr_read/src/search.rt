@@ -32,10 +32,9 @@ impl<'a> Model for Search<'a> {
 }
 
 impl Search<'_> {
-    ghost use Rattle.std.specs.Prelude.{◌≡◌, ◌<◌, length, slice_get, Some};
+    ghost use Rattle.std.specs.Prelude.{◌≡◌, ◌<◌, ◌≤◌, ◌&&◌, not, length, slice_get, Some, IsNone, is_some};
     ghost use Rattle.btr_chunk.specs.Mapping.{HasPart};
     ghost use Rattle.btr_read.specs.Want.{passes};
-    ghost use Rattle.std.specs.Prelude.{◌≤◌, ◌&&◌, not, IsNone, is_some};
     ghost use Rattle.btr_chunk.specs.declared.place.Part.{Part};
     ghost use Rattle.std.specs.List.{list_all};
     ghost use Rattle.btr_chunk.specs.Chunk.{mirror_count};

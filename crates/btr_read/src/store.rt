@@ -11,6 +11,7 @@ use btr_pool::Pool;
 use std::alloc::Global;
 use std::marker::Model;
 
+// How many slots a store has for blocks.
 const SLOTS: usize = 24;
 
 /// What is needed to read the blocks of a filesystem: its chunks, the devices that are given, how its blocks are
@@ -35,8 +36,9 @@ impl Model for Store {
 }
 
 impl Store {
-    /// A store with no device: the kind of the checksums, the id in the headers of tree blocks, the length of a tree
-    /// block in bytes, which is from 4096 to 65536, and the chunks.
+    /// A store with no device: the kind of the checksums; the id in the headers of tree blocks, which is metadata_uuid
+    /// where the superblock's incompat bit 400h is set, else fsid; the length of a tree block in bytes, which is from
+    /// 4096 to 65536; and the chunks.
     ///
     /// `Memory`: the slots couldn't be had, and the chunks are dropped.
     pub fn new(

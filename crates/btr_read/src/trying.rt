@@ -63,7 +63,7 @@ fn try_candidate<R: Rack>(
     requires can { CanTry search.now candidate }
     requires open { AreOpen (R.slots rack.old) search.now.devices }
     requires live { IsLive pool.old loan.now }
-    requires room { 3 ≤ free_count pool.old }
+    requires room { 2 ≤ free_count pool.old }
     requires fits { size_of search.now ≤ pool.old.size }
     ensures slots { R.slots rack.new ≡ R.slots rack.old }
     ensures held { R.held rack.new ≡ R.held rack.old }
@@ -91,7 +91,7 @@ pub(crate) fn try_all<R: Rack>(
 ) -> Outcome
     requires open { AreOpen (R.slots rack.old) search.now.devices }
     requires live { IsLive pool.old loan.now }
-    requires room { 3 ≤ free_count pool.old }
+    requires room { 2 ≤ free_count pool.old }
     requires fits { size_of search.now ≤ pool.old.size }
     requires fresh { (R.account rack.old).fresh ≡ 0 }
     requires missed { (R.account rack.old).missed ≡ [] }

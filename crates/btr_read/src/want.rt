@@ -3,7 +3,7 @@ ghost use Rattle.btr_read.specs.Want.{addr_of};
 
 use btr_base::Sum;
 
-/// Which block is sought, and how a reading of it is tested.
+/// Which block is sought, and how a reading of it is tested. Addresses are logical, in bytes.
 #[derive(Clone, Copy, Debug, PartialEq, Eq)]
 pub enum Want {
     /// The tree block at an address, of this generation and level. It is as long as a node.
@@ -16,7 +16,7 @@ pub enum Want {
     Block {
         addr: u64,
     },
-    /// The 4096 bytes of data at an address, which have this checksum.
+    /// The 4096 bytes of data at an address, which have this checksum, of the store's kind; its unused bytes are zero.
     Sector {
         addr: u64,
         sum: Sum,

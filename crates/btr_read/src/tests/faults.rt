@@ -250,3 +250,16 @@ fn images_are_cut_short(rt: HostRuntime) -> Result<(), Fail> {
     }
     Ok(())
 }
+
+#[test]
+fn what_lacks_a_device_is_not_read(rt: HostRuntime) -> Result<(), Fail> {
+    let mut rack = images(rt.alloc(), &RAID5)?;
+    open(&mut rack, &RAID5)?;
+    fail_stripes(&mut rack, &RAID5, 0b1111)?;
+    let mut store = store_without(&rt, rt.alloc(), &rack, &RAID5, 0b0011)?;
+    let addr = RAID5.addr(0, 0);
+    let want = Want::Plain { addr };
+    let fetched = fetches(&rt, &want, &mut rack, &mut store, &[]);
+    assert_eq!(rt; fetched, Err(ReadFault::Lost(addr)));
+    Ok(())
+}

@@ -9,6 +9,7 @@ use crate::fetching::locate;
 use crate::{Store, Tried, TryFault, Want, try_mirror};
 use btr_base::{SumKind, sum};
 use btr_rack::MemRack;
+use std::alloc::Global;
 use std::process::Abort;
 use std::test::Fail;
 
@@ -105,5 +106,26 @@ fn each_mirror_is_tried(rt: HostRuntime) -> Result<(), Fail> {
         let found = outcome_of(&rt, &want, mirror, &mut rack, &mut store, &bytes);
         assert_eq!(rt; found, outcome, "{:x}, mirror {mirror}", shape.kind);
     }
+    Ok(())
+}
+
+// Tries the first mirror of row 1, whose image ends `short` bytes before the end of the data.
+fn try_cut(rt: &impl Abort, alloc: Global, short: u64) -> Result<Outcome, Fail> {
+    let mut rack = images(alloc, &RAID1C4)?;
+    let end = place_of(1, 0).wrapping_add(4096);
+    assert!(rt; rack.cut(name_of(0), end.wrapping_sub(short)));
+    open(&mut rack, &RAID1C4)?;
+    let mut store = store_without(rt, alloc, &rack, &RAID1C4, 0)?;
+    let bytes = RAID1C4.slice(1, 0);
+    let want = Want::Plain {
+        addr: RAID1C4.addr(1, 0),
+    };
+    Ok(outcome_of(rt, &want, 0, &mut rack, &mut store, &bytes))
+}
+
+#[test]
+fn a_mirror_is_cut_short(rt: HostRuntime) -> Result<(), Fail> {
+    assert_eq!(rt; try_cut(&rt, rt.alloc(), 0)?, Outcome::Passed);
+    assert_eq!(rt; try_cut(&rt, rt.alloc(), 1)?, Outcome::Absent);
     Ok(())
 }

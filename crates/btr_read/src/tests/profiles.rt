@@ -1,5 +1,5 @@
 // Each profile, with each set of missing devices and of damaged elements.
-use super::shape::{COPIES, PARITIES, Shape, survives};
+use super::shape::{COPIES, PARITIES, RAID6, Shape, survives};
 use super::volume::{damage, fetches, images, open, store_without};
 use crate::{ReadFault, Store, Want};
 use btr_base::{SumKind, sum};
@@ -84,5 +84,23 @@ fn parities_make_up_for_the_lost(rt: HostRuntime) -> Result<(), Fail> {
     for shape in &PARITIES {
         fetch_each_set(&rt, rt.alloc(), shape)?;
     }
+    Ok(())
+}
+
+// What isn't tested is what the first candidate gives that stands. Here that is what P leaves, though P is damaged and Q
+// isn't.
+#[test]
+fn p_comes_before_q(rt: HostRuntime) -> Result<(), Fail> {
+    let mut rack = images(rt.alloc(), &RAID6)?;
+    damage(&mut rack, &RAID6, 0b01000)?;
+    open(&mut rack, &RAID6)?;
+    let mut store = store_without(&rt, rt.alloc(), &rack, &RAID6, 0b00001)?;
+    let mut left = RAID6.slice(0, 0);
+    left[3] ^= 0x5a;
+    let want = Want::Plain {
+        addr: RAID6.addr(0, 0),
+    };
+    let fetched = fetches(&rt, &want, &mut rack, &mut store, &left);
+    assert_eq!(rt; fetched, Ok(true));
     Ok(())
 }

@@ -1,4 +1,4 @@
-use Rattle.std.proofs.Common.{◌≡◌, ℕ, List, take, get_or, count_by, Some, None, IfSome, refl, subst, sym, ap, ◌∙◌, arith}
+use Rattle.std.proofs.Common.{◌≡◌, ℕ, List, take, get_or, count_by, Some, None, IsSomeAnd, refl, subst, sym, ap, ◌∙◌, arith}
 use Rattle.std.specs.Option.{option_map, is_none}
 use Rattle.std.specs.Result.{is_ok}
 use Rattle.btr_pool.specs.Slots.{loans_of, bytes_at, free_count}
@@ -66,7 +66,7 @@ returns-in-Passed-clause-answer g c =
     let answer = fetched layout c.args.want.now c.in_ok-search.search (g.R.Rack.held c.forget.new.self) (g.R.Rack.account c.args.rack.now) (g.R.Rack.account c.forget.new.self) (g.R.Rack.account c.try_all.new.rack) (g.R.Rack.account c.forget-in-Passed.new.self) bytes seeks begin end outcome.0 outcome.1 outcome.2 in
     let here = subst (λ held. IsFetched layout c.args.want.now held (g.R.Rack.account c.args.rack.now) (g.R.Rack.account c.forget-in-Passed.new.self) bytes) c.forget.ensures.held answer in
     let block : option_map (take c.size-len.result) (get_or (loans_of p2) k None) ≡ Some bytes = ap (option_map (take c.size-len.result)) (loan_taken p0 p2 k c.store.invariant.whole c.in-Ok.ensures.was_free writes) in
-    (ap is_ok seeks, subst (λ o. IfSome o (IsFetched layout c.args.want.now (g.R.Rack.held c.args.rack.now) (g.R.Rack.account c.args.rack.now) (g.R.Rack.account c.forget-in-Passed.new.self))) (sym block) here)
+    (ap is_ok seeks, subst (λ o. IsSomeAnd o (IsFetched layout c.args.want.now (g.R.Rack.held c.args.rack.now) (g.R.Rack.account c.args.rack.now) (g.R.Rack.account c.forget-in-Passed.new.self))) (sym block) here)
 
 pub returns-in-Lost-clause-refused : goal.returns-in-Lost-clause-refused
 returns-in-Lost-clause-refused g c =

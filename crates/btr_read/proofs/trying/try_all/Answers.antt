@@ -61,16 +61,17 @@ returns-in-None-clause-outcome g c =
     let t = c.args.search.now in
     let le : length (candidates t) ≤ c.loop-k.k = omega (arith, c.loop-k-test.false, c.candidate_count-k-end.ensures) in
     let lost = all_lost t (g.R.Rack.held c.args.rack.now) (g.R.Rack.account c.args.rack.now).faults (g.R.Rack.account c.loop-k.rack) c.loop-k.k le (subst (λ f. TriedSoFar t (g.R.Rack.held c.args.rack.now) (g.R.Rack.account c.args.rack.now).faults (g.R.Rack.account c.loop-k.rack) f c.loop-k.k) c.in-None.is c.loop-k.invariant.tried) in
-    let calm = c.loop-k.invariant.calm c.in-None.is in
-    (record {
-      faults = c.loop-k.invariant.tried.later;
-      fresh = lost.0 ∙ sym c.requires.fresh;
-      missed = lost.1 ∙ sym c.requires.missed;
-      last = calm.0;
-      opening = calm.1;
-      shut = c.loop-k.invariant.shut;
-    }, lost.2)
-
+    let calm = c.loop-k.invariant.calm c.in-None.is in (
+      record {
+        faults = c.loop-k.invariant.tried.later;
+        fresh = lost.0 ∙ sym c.requires.fresh;
+        missed = lost.1 ∙ sym c.requires.missed;
+        last = calm.0;
+        opening = calm.1;
+        shut = c.loop-k.invariant.shut;
+      },
+      lost.2,
+    )
 
 pub returns-in-Some-clause-outcome : goal.returns-in-Some-clause-outcome
 returns-in-Some-clause-outcome g c =
