@@ -1,17 +1,18 @@
 -- How a run ends, by what its command came to and what was put.
-use Rattle.std.proofs.Common.{◌≡◌, ◌≢◌, ◌⊎◌, inl, inr, ⊎_elim, ℕ, ◌<◌, ◌≤◌, List, length, map, take, drop, String, ◌-◌, Option, Some, None, Err, refl, sym, ap, ◌∙◌, subst, arith}
+use Rattle.std.proofs.Common.{◌≡◌, ◌≢◌, ◌⊎◌, inl, inr, ⊎_elim, ℕ, ◌<◌, ◌≤◌, List, ◌++◌, length, map, take, drop, String, ◌-◌, Option, Some, None, Err, refl, sym, ap, ◌∙◌, subst, arith}
 use Rattle.std.specs.Option.{IfSome}
 use Rattle.std.specs.declared.alloc.Global.{Global}
 use Rattle.std.specs.String.{string_bytes}
-use Rattle.std.proofs.lemmas.List.{drop-map, take_rest}
+use Rattle.std.proofs.lemmas.List.{append_assoc, append-nil, drop-map, take_all, take_rest}
 use Rattle.std.proofs.lemmas.Bool.{cases_lt}
 use Rattle.btr_rack.specs.Rack.{Slot, Account, Rose, Steady, NoneFailed, Shelf}
 use Rattle.btr_rack.specs.Out.{Adds}
 use Rattle.btr_tool.specs.Words.{Words, IsSentence, IsUsageAt, images_of}
 use Rattle.btr_tool.specs.Answers.{error_line}
 use Rattle.btr_tool.specs.Causes.{OpeningFailed, ReadFailed, SuperCause, ImageCause, IsUnopened}
-use Rattle.btr_tool.specs.Puts.{IsPut, IsRefused, IsTold, IsMessage, IsSuperText}
+use Rattle.btr_tool.specs.Puts.{IsPut, IsShown, AddsPart, IsRefused, IsTold, IsMessage, IsSuperText}
 use Rattle.btr_tool.specs.Effects.{Effect, refused, IsEffect, HasEffect, IsDecided, FollowsWords, IsSuperEffect, HasTooMany, images_effect, most_images}
+use Rattle.btr_tool.proofs.Causing.{rose_behind}
 use Rattle.btr_tool.specs.declared.plan.Command.TheVariants.{Super as super_command}
 use Rattle.btr_tool.specs.declared.plan.Plan.{Plan}
 use Rattle.btr_tool.specs.declared.answer.Answer.{Answer}
@@ -35,9 +36,48 @@ Ends faults faults' answer result = (result ≡ answer) ⊎ ((result ≡ OutFaul
 steady_not_rose : (before now : ℕ) → Steady before now → Rose before now → ⊥
 steady_not_rose before now steady rose = omega (arith, steady.0, steady.1, rose.0, rose.1)
 
+-- a first part of a text, with nothing behind it
+first_part : (old new : Option (List ℕ)) (text : List ℕ) (n : ℕ) → Adds old new (take n text) → AddsPart old new text
+first_part old new text n adds = (n, 0, subst (Adds old new) (sym (append-nil (take n text))) adds)
+
+whole_part : (old new : Option (List ℕ)) (text : List ℕ) → Adds old new text → AddsPart old new text
+whole_part old new text adds = first_part old new text (length text) (subst (Adds old new) (sym (take_all (length text) text (omega arith))) adds)
+
+-- one text behind another
+adds_twice : (old mid new : Option (List ℕ)) (first second : List ℕ) → Adds old mid first → Adds mid new second → Adds old new (first ++ second)
+adds_twice None mid new first second a b = subst (λ o. Adds o new second) a b
+adds_twice (Some text) mid new first second a b = subst (λ o. Adds o new second) a b ∙ ap (λ l. Some l) (append_assoc text first second)
+
+-- the line for want of memory, or a first part of it, behind a first part of a text
+pub memory_behind : (old mid new : Option (List ℕ)) (faults faults' faults'' : ℕ) (text : List ℕ) (result result' : Answer) → IsPut old mid faults faults' text (Done 0) result → result ≡ Memory
+    → IsPut mid new faults' faults'' (error_line Memory) Memory result' → IsShown old new faults faults'' text result'
+memory_behind old mid new faults faults' faults'' text result result' put is again =
+    ⊎_elim (λ done. absurd (cc (sym done.0 ∙ is)))
+    (λ rest. ⊎_elim (λ fault. absurd (cc (sym fault.0 ∙ is))) (λ memory. behind memory.1 memory.2.0 memory.2.1) rest) put
+  where
+    line : List ℕ
+    line = error_line Memory
+
+    part : (n m : ℕ) → Adds old mid (take n text) → Adds mid new (take m line) → AddsPart old new text
+    part n m a b = (n, m, adds_twice old mid new (take n text) (take m line) a b)
+
+    behind : faults ≤ faults' → (n : ℕ) → Adds old mid (take n text) → IsShown old new faults faults'' text result'
+    behind le n a =
+        ⊎_elim (λ done. inr (inr (done.0, part n (length line) a (subst (Adds mid new) (sym (take_all (length line) line (omega arith))) done.1))))
+        (λ rest. ⊎_elim (λ fault. inr (inl (fault.0, rose_behind faults faults' faults'' le fault.1, part n fault.2.0 a fault.2.1))) (λ memory. inr (inr (memory.0, part n memory.2.0 a memory.2.1))) rest) again
+
+-- a text that was put, or not for a fault
+pub shown_at_once : (old new : Option (List ℕ)) (faults faults' : ℕ) (text : List ℕ) (result : Answer) → IsPut old new faults faults' text (Done 0) result → IsShown old new faults faults' text result
+shown_at_once old new faults faults' text result put =
+    ⊎_elim (λ done. inl done)
+    (λ rest. ⊎_elim (λ fault. inr (inl (fault.0, fault.1, first_part old new text fault.2.0 fault.2.1))) (λ memory. inr (inr (memory.0, first_part old new text memory.2.0 memory.2.1))) rest) put
+
 module _ (old new : Option (List ℕ)) (faults faults' : ℕ) where
   pub put_ends : (text : List ℕ) (answer result : Answer) → IsPut old new faults faults' text answer result → Ends faults faults' answer result
   put_ends text answer result put = ⊎_elim (λ done. inl done.0) (λ rest. ⊎_elim (λ fault. inr (inl (fault.0, fault.1))) (λ memory. inr (inr memory.0)) rest) put
+
+  pub shown_ends : (text : List ℕ) (result : Answer) → IsShown old new faults faults' text result → Ends faults faults' (Done 0) result
+  shown_ends text result put = ⊎_elim (λ done. inl done.0) (λ rest. ⊎_elim (λ fault. inr (inl (fault.0, fault.1))) (λ memory. inr (inr memory.0)) rest) put
 
   pub refused_ends : (answer result : Answer) → IsRefused old new faults faults' answer result → Ends faults faults' answer result
   refused_ends answer result refusal =
@@ -46,7 +86,7 @@ module _ (old new : Option (List ℕ)) (faults faults' : ℕ) where
   put_told : (text : List ℕ) (answer result : Answer) → IsMessage text → (Adds old new text → IsTold old new answer) → IsPut old new faults faults' text answer result → IsTold old new result
   put_told text answer result message told put =
       ⊎_elim (λ done. subst (IsTold old new) (sym done.0) (told done.1))
-      (λ rest. ⊎_elim (λ fault. subst (IsTold old new) (sym fault.0) (text, message, fault.2)) (λ memory. subst (IsTold old new) (sym memory.0) (inr (text, message, memory.1))) rest) put
+      (λ rest. ⊎_elim (λ fault. subst (IsTold old new) (sym fault.0) (text, message, first_part old new text fault.2.0 fault.2.1)) (λ memory. subst (IsTold old new) (sym memory.0) (text, message, first_part old new text memory.2.0 memory.2.1)) rest) put
 
   line_told : (answer : Answer) → IsRefusal answer → Adds old new (error_line answer) → IsTold old new answer
   line_told (Done skipped) is adds = absurd is
@@ -56,11 +96,13 @@ module _ (old new : Option (List ℕ)) (faults faults' : ℕ) where
   line_told (SumKind kind) is adds = adds
   line_told (ImageFault slot) is adds = adds
   line_told OutFault is adds = absurd is
-  line_told Memory is adds = inl adds
+  line_told Memory is adds = (error_line Memory, inr (Memory, refl), whole_part old new (error_line Memory) adds)
 
   -- the superblock's text is told
-  pub shown_told : (text : List ℕ) (result : Answer) → IsSuperText text → IsPut old new faults faults' text (Done 0) result → IsTold old new result
-  shown_told text result is put = put_told text (Done 0) result (inl is) (λ adds. (is.0, is.1, subst (Adds old new) is.2 adds)) put
+  pub shown_told : (text : List ℕ) (result : Answer) → IsSuperText text → IsShown old new faults faults' text result → IsTold old new result
+  shown_told text result is put =
+      ⊎_elim (λ done. subst (IsTold old new) (sym done.0) (is.0, is.1, subst (Adds old new) is.2 done.1))
+      (λ rest. ⊎_elim (λ fault. subst (IsTold old new) (sym fault.0) (text, inl is, fault.2)) (λ memory. subst (IsTold old new) (sym memory.0) (text, inl is, memory.1)) rest) put
 
   -- the line of a refusal is told
   pub refused_told : (answer result : Answer) → IsRefusal answer → IsRefused old new faults faults' answer result → IsTold old new result
@@ -74,9 +116,11 @@ module _ (old new : Option (List ℕ)) (faults faults' : ℕ) where
         ⊎_elim (λ done. record { effect = record { answer = answer; text = text }; is = is; answered = done.0; put = done.1 })
         (λ rest. ⊎_elim (λ fault. absurd (steady_not_rose faults faults' steady fault.1)) (λ memory. absurd (enough memory.0)) rest) put
 
-    pub shown_effect : (words : Words) (shelf : Shelf) (text : List ℕ) (result : Answer) → result ≢ Memory → IsEffect words shelf (record { answer = Done 0; text = text }) → IsPut old new faults faults' text (Done 0) result
+    pub shown_effect : (words : Words) (shelf : Shelf) (text : List ℕ) (result : Answer) → result ≢ Memory → IsEffect words shelf (record { answer = Done 0; text = text }) → IsShown old new faults faults' text result
         → HasEffect words shelf old new result
-    shown_effect words shelf text result enough is put = put_effect words shelf text (Done 0) result enough is put
+    shown_effect words shelf text result enough is put =
+        ⊎_elim (λ done. record { effect = record { answer = Done 0; text = text }; is = is; answered = done.0; put = done.1 })
+        (λ rest. ⊎_elim (λ fault. absurd (steady_not_rose faults faults' steady fault.1)) (λ memory. absurd (enough memory.0)) rest) put
 
     -- want of memory ends otherwise
     no_memory : (result : Answer) → result ≢ Memory → IsPut old new faults faults' (error_line Memory) Memory result → ⊥

@@ -4,7 +4,7 @@ ghost use Rattle.std.specs.String.{string_bytes};
 ghost use Rattle.btr_rack.specs.Rack.{Rose, Steady};
 ghost use Rattle.btr_tool.specs.Effects.{HasEffect, IsDecided, FollowsWords, IsSuperEffect, HasTooMany, most_images};
 ghost use Rattle.btr_tool.specs.Causes.{ImageCause, IsUnopened, SuperCause};
-ghost use Rattle.btr_tool.specs.Puts.{IsPut, IsRefused, IsTold, IsSuperText};
+ghost use Rattle.btr_tool.specs.Puts.{IsPut, IsShown, IsRefused, IsTold, IsSuperText};
 
 use crate::answer::{Answer, Which};
 use crate::images::{open_images, read_supers};
@@ -20,7 +20,8 @@ const MOST_IMAGES: usize = 64;
 /// Does what the words say over the images of the rack, puts its text, and answers how it ended.
 ///
 /// Words that are no sentence and more than 64 images are refused before any call on the rack. The
-/// last thing put for a refusal is its error line.
+/// last thing put for a refusal is its error line, also where memory is wanted for the text itself: a
+/// first part of the text may then stand before the line.
 pub fn run<R: Rack, O: Out>(alloc: Global, words: &[String], rack: &mut R, out: &mut O) -> Answer
     requires { R.slots rack.old ≡ [] }
 
@@ -46,7 +47,7 @@ pub fn run<R: Rack, O: Out>(alloc: Global, words: &[String], rack: &mut R, out: 
         Err(at) => return refuse(alloc, Answer::Usage(at), out),
     };
     match superblock_text(alloc, &words[plan.images..], rack) {
-        Ok(text) => put(&text, Answer::Done { skipped: 0 }, out),
+        Ok(text) => show(&text, out),
         Err(answer) => refuse(alloc, answer, out),
     }
 }
@@ -77,6 +78,16 @@ fn superblock_text<R: Rack>(
     }
 }
 
+// Puts the text of a command that was done. Where memory is wanted for it, the line that says so comes last.
+fn show<O: Out>(text: &[u8], out: &mut O) -> Answer
+    ensures { IsShown (O.text out.old) (O.text out.new) (O.faults out.old) (O.faults out.new) text.now result }
+{
+    match put(text, Answer::Done { skipped: 0 }, out) {
+        Answer::Memory => put(NO_MEMORY, Answer::Memory, out),
+        answer => answer,
+    }
+}
+
 // Puts the line of a refusal, and answers it.
 fn refuse<O: Out>(alloc: Global, answer: Answer, out: &mut O) -> Answer
     ensures { IsRefused (O.text out.old) (O.text out.new) (O.faults out.old) (O.faults out.new) answer result }
@@ -87,7 +98,7 @@ fn refuse<O: Out>(alloc: Global, answer: Answer, out: &mut O) -> Answer
     }
 }
 
-// Puts a text, and answers that it was done.
+// Puts a text, and gives the answer that is due then.
 fn put<O: Out>(text: &[u8], answer: Answer, out: &mut O) -> Answer
     ensures { IsPut (O.text out.old) (O.text out.new) (O.faults out.old) (O.faults out.new) text.now answer result }
 {

@@ -1,7 +1,7 @@
 use Rattle.std.proofs.Common.{ℕ, Vec, map, refl, subst, inl}
 use Rattle.std.specs.String.{string_bytes}
 use Rattle.std.specs.declared.alloc.Global.{Global}
-use Rattle.btr_tool.specs.Puts.{IsPut}
+use Rattle.btr_tool.specs.Puts.{IsShown}
 use Rattle.btr_tool.specs.declared.answer.Answer.TheVariants.{Done, Usage}
 use Rattle.btr_tool.proofs.Ending.{all_told, when_told, names_are, refused_effect, refused_told, refused_ends, one_of, shown_effect, shown_told, effect_is, cause_refusal, shut_cause, refusal_effect}
 use Rattle.btr_tool.proofs.run.run.Goals as goal
@@ -19,16 +19,16 @@ returns-in-Err-clause-told g c =
 pub returns-in-Ok-superblock_text-clause-effect : goal.returns-in-Ok-superblock_text-clause-effect
 returns-in-Ok-superblock_text-clause-effect g c =
     let items = c.in-Ok-superblock_text.text.items in
-    let shown : IsPut (g.O.Out.text c.args.out.now) (g.O.Out.text c.put.new.out) (g.O.Out.faults c.args.out.now) (g.O.Out.faults c.put.new.out) items (Done 0) c.put.result =
-    subst (λ l. IsPut (g.O.Out.text c.args.out.now) (g.O.Out.text c.put.new.out) (g.O.Out.faults c.args.out.now) (g.O.Out.faults c.put.new.out) l (Done 0) c.put.result) c.deref.ensures.value c.put.ensures in
+    let shown : IsShown (g.O.Out.text c.args.out.now) (g.O.Out.text c.show.new.out) (g.O.Out.faults c.args.out.now) (g.O.Out.faults c.show.new.out) items c.show.result =
+    subst (λ l. IsShown (g.O.Out.text c.args.out.now) (g.O.Out.text c.show.new.out) (g.O.Out.faults c.args.out.now) (g.O.Out.faults c.show.new.out) l c.show.result) c.deref.ensures.value c.show.ensures in
     when_told (g.R.Rack.shelf c.args.rack.now) _ _ c.in-Ok-superblock_text.ensures.effect (λ shelf effect still steady enough.
-    shown_effect (g.O.Out.text c.args.out.now) (g.O.Out.text c.put.new.out) (g.O.Out.faults c.args.out.now) (g.O.Out.faults c.put.new.out) steady (map string_bytes c.args.words.now) shelf items c.put.result enough
+    shown_effect (g.O.Out.text c.args.out.now) (g.O.Out.text c.show.new.out) (g.O.Out.faults c.args.out.now) (g.O.Out.faults c.show.new.out) steady (map string_bytes c.args.words.now) shelf items c.show.result enough
     (effect_is (map string_bytes c.args.words.now) _ c.in-Ok.plan c.in-Ok.ensures.sentence (names_are c.args.words.now c.in-Ok.plan.images) shelf (record { answer = Done 0; text = items }) effect) shown)
 
 pub returns-in-Ok-superblock_text-clause-told : goal.returns-in-Ok-superblock_text-clause-told
 returns-in-Ok-superblock_text-clause-told g c =
-    shown_told (g.O.Out.text c.args.out.now) (g.O.Out.text c.put.new.out) (g.O.Out.faults c.args.out.now) (g.O.Out.faults c.put.new.out) c.in-Ok-superblock_text.text.items c.put.result c.in-Ok-superblock_text.ensures.shown
-    (subst (λ l. IsPut (g.O.Out.text c.args.out.now) (g.O.Out.text c.put.new.out) (g.O.Out.faults c.args.out.now) (g.O.Out.faults c.put.new.out) l (Done 0) c.put.result) c.deref.ensures.value c.put.ensures)
+    shown_told (g.O.Out.text c.args.out.now) (g.O.Out.text c.show.new.out) (g.O.Out.faults c.args.out.now) (g.O.Out.faults c.show.new.out) c.in-Ok-superblock_text.text.items c.show.result c.in-Ok-superblock_text.ensures.shown
+    (subst (λ l. IsShown (g.O.Out.text c.args.out.now) (g.O.Out.text c.show.new.out) (g.O.Out.faults c.args.out.now) (g.O.Out.faults c.show.new.out) l c.show.result) c.deref.ensures.value c.show.ensures)
 
 pub returns-in-Err-superblock_text-clause-effect : goal.returns-in-Err-superblock_text-clause-effect
 returns-in-Err-superblock_text-clause-effect g c =
