@@ -1,26 +1,30 @@
 -- The images that openings take from the shelf, one after another.
-use Rattle.std.proofs.Common.{◌≡◌, ◌≢◌, ◌⊎◌, inr, ⊎_elim, ℕ, suc, ◌+◌, ◌<◌, ◌≤◌, Bool, true, false, cond, List, [], ◌∷◌, ◌++◌, length, map, take, drop, get_or, Option, Some, None, Ok, refl, sym, ap, ◌∙◌, subst, arith, add-one}
+use Rattle.std.proofs.Common.{◌≡◌, ◌≢◌, ◌⊎◌, inl, inr, ⊎_elim, ℕ, suc, ◌+◌, ◌<◌, ◌≤◌, Bool, true, false, cond, List, [], ◌∷◌, ◌++◌, length, map, take, drop, get_or, Option, Some, None, Ok, Err, refl, sym, ap, ◌∙◌, subst, arith, add-one}
 use Rattle.std.specs.Option.{IfSome, IsSomeAnd, option_and_then, option_map}
 use Rattle.std.specs.Bool.{Decides}
 use Rattle.std.specs.Str.{bytes_eq}
-use Rattle.std.proofs.lemmas.List.{append_assoc, append-nil, nil_from_length, length-map, length-append, map-append, take_more, drop_all}
+use Rattle.std.specs.List.{All}
+use Rattle.std.proofs.lemmas.List.Elements.{All-nil, All-cons, All-append}
+use Rattle.std.proofs.lemmas.List.{append_assoc, append-nil, nil_from_length, length-map, length-append, map-append, take_more, take_all}
 use Rattle.std.proofs.Math.Seq.{drop-cons}
 use Rattle.std.proofs.lemmas.Slice.Eq.{bytes_eq-Decides}
 use Rattle.btr_rack.specs.Rack.{Slot, Shelf, Takes, TakesImage}
 use Rattle.btr_tool.specs.Words.{Words}
-use Rattle.btr_tool.specs.Images.{without, taken}
+use Rattle.btr_rack.specs.declared.error.RackError.{RackError}
+use Rattle.btr_tool.specs.Images.{without, taken, AreUnchanged}
 
 abbrev pub Images : Type 0
 Images = List (List ℕ)
 
--- these are open behind the first i names
-abbrev pub Holds : Words → Shelf → ℕ → Option Shelf → Option Images → Type 0
-Holds names at i shelf held = (now : Shelf) × (images : Images) × (shelf ≡ Some now) × (held ≡ Some images) × (taken names at ≡ option_map (λ more. images ++ more) (taken (drop i names) now))
+-- these are open behind some names: what is taken for those and more is these, and what is taken for more from what is left
+abbrev pub Holds : Words → Shelf → Option Shelf → Option Images → Type 0
+Holds before at shelf held =
+    (now : Shelf) × (images : Images) × (shelf ≡ Some now) × (held ≡ Some images) × ((rest : Words) → taken (before ++ rest) at ≡ option_map (λ more. images ++ more) (taken rest now))
 
--- what is open behind the first i names, where the shelf was told
-abbrev pub OpenSoFar : Words → Option Shelf → ℕ → Option Shelf → Option Images → Type 0
-OpenSoFar names None i shelf held = Unit {0}
-OpenSoFar names (Some at) i shelf held = ((i ≡ 0) × (shelf ≡ Some at)) ⊎ Holds names at i shelf held
+-- what is open behind some names, where the shelf was told
+abbrev pub OpenSoFar : Words → Option Shelf → Option Shelf → Option Images → Type 0
+OpenSoFar before None shelf held = Unit {0}
+OpenSoFar before (Some at) shelf held = ((before ≡ []) × (shelf ≡ Some at)) ⊎ Holds before at shelf held
 
 -- an opening over a shelf that is told
 record Told (name : List ℕ) (at : Shelf) (shelf' : Option Shelf) (held held' : Option Images) : Type 0 where
@@ -77,41 +81,87 @@ none_open (Some all) images slots sized e none =
 same_some : (o : Option Images) (a b : Images) → o ≡ Some a → o ≡ Some b → a ≡ b
 same_some o a b e f = cc
 
-pub open_more : (names : Words) (at : Option Shelf) (i : ℕ) (name : List ℕ) (shelf shelf' : Option Shelf) (held held' : Option Images) (slots : List Slot) (slot : ℕ) → drop i names ≡ name ∷ drop (i + 1) names
-    → OpenSoFar names at i shelf held → Takes name shelf shelf' held held' (Ok slot) → Sized held slots → length slots ≡ i → OpenSoFar names at (i + 1) shelf' held'
-open_more names None i name shelf shelf' held held' slots slot here so takes sized many = tt
-open_more names (Some at) i name shelf shelf' held held' slots slot here so takes sized many =
-    ⊎_elim (λ first. inr (begun first.0 (told name at shelf shelf' held held' slot takes first.1))) (λ later. inr (further later (told name later.0 shelf shelf' held held' slot takes later.2))) so
+-- one name more
+pub open_more : (at : Option Shelf) (before after : Words) (name : List ℕ) (shelf shelf' : Option Shelf) (held held' : Option Images) (slots : List Slot) (slot : ℕ) → after ≡ before ++ name ∷ []
+    → OpenSoFar before at shelf held → Takes name shelf shelf' held held' (Ok slot) → Sized held slots → length slots ≡ length before → OpenSoFar after at shelf' held'
+open_more None before after name shelf shelf' held held' slots slot more so takes sized many = tt
+open_more (Some at) before after name shelf shelf' held held' slots slot more so takes sized many =
+    subst (λ l. OpenSoFar l (Some at) shelf' held') (sym more)
+    (⊎_elim (λ first. inr (begun first.0 (told name at shelf shelf' held held' slot takes first.1))) (λ later. inr (further later (told name later.0 shelf shelf' held held' slot takes later.2))) so)
   where
-    begun : i ≡ 0 → Told name at shelf' held held' → Holds names at (i + 1) shelf' held'
+    begun : before ≡ [] → Told name at shelf' held held' → Holds (before ++ name ∷ []) at shelf' held'
     begun first t =
-        let rest = drop (i + 1) names in
-        let whole : names ≡ name ∷ rest = ap (λ k. drop k names) (sym first) ∙ here in
-        let empty = none_open held t.images slots sized t.held_was (many ∙ first) in
-        let opened : t.images' ≡ t.takes.bytes ∷ [] = t.takes.opened ∙ ap (λ l. l ++ t.takes.bytes ∷ []) empty in
-        (t.now, t.images', t.shelf_is, t.held_is, ap (λ l. taken l at) whole ∙ taken_more name rest at t.now t.images t.images' t.takes ∙ ap (λ l. option_map (λ more. l ++ more) (taken rest t.now)) (sym opened))
+        let empty = none_open held t.images slots sized t.held_was (many ∙ ap length first) in
+        let opened : t.images' ≡ t.takes.bytes ∷ [] = t.takes.opened ∙ ap (λ l. l ++ t.takes.bytes ∷ []) empty in (
+          t.now,
+          t.images',
+          t.shelf_is,
+          t.held_is,
+          λ rest. ap (λ l. taken ((l ++ name ∷ []) ++ rest) at) first ∙ taken_more name rest at t.now t.images t.images' t.takes ∙ ap (λ l. option_map (λ more. l ++ more) (taken rest t.now)) (sym opened),
+        )
 
-    further : (later : Holds names at i shelf held) → Told name later.0 shelf' held held' → Holds names at (i + 1) shelf' held'
+    further : (later : Holds before at shelf held) → Told name later.0 shelf' held held' → Holds (before ++ name ∷ []) at shelf' held'
     further later t =
-        let rest = drop (i + 1) names in
         let same : t.images ≡ later.1 = same_some held t.images later.1 t.held_was later.3 in
         let opened : t.images' ≡ later.1 ++ t.takes.bytes ∷ [] = t.takes.opened ∙ ap (λ l. l ++ t.takes.bytes ∷ []) same in (
           t.now,
           t.images',
           t.shelf_is,
           t.held_is,
-          later.4 ∙ ap (λ l. option_map (λ more. later.1 ++ more) (taken l later.0)) here
+          λ rest. ap (λ l. taken l at) (append_assoc before (name ∷ []) rest) ∙ later.4 (name ∷ rest)
               ∙ ap (option_map (λ more. later.1 ++ more)) (taken_more name rest later.0 t.now t.images t.images' t.takes)
               ∙ map_twice later.1 t.takes.bytes (taken rest t.now) ∙ ap (λ l. option_map (λ more. l ++ more) (taken rest t.now)) (sym opened),
         )
 
-pub all_open : (names : Words) (at : Option Shelf) (i : ℕ) (shelf : Option Shelf) (held : Option Images) → 0 < length names → length names ≤ i → OpenSoFar names at i shelf held
+-- behind some names, those were taken
+held_are : (before : Words) (at : Shelf) (shelf : Option Shelf) (held : Option Images) → (later : Holds before at shelf held) → taken before at ≡ Some later.1
+held_are before at shelf held later = ap (λ l. taken l at) (sym (append-nil before)) ∙ later.4 [] ∙ ap (λ l. Some l) (append-nil later.1)
+
+pub all_open : (names before : Words) (i : ℕ) (at : Option Shelf) (shelf : Option Shelf) (held : Option Images) → 0 < length names → before ≡ take i names → length names ≤ i → OpenSoFar before at shelf held
     → IfSome at (λ s. IsSomeAnd held (λ images. taken names s ≡ Some images))
-all_open names None i shelf held some all so = tt
-all_open names (Some at) i shelf held some all so =
-    ⊎_elim (λ first. absurd (omega (arith, first.0)))
-    (λ later. subst (λ h. IsSomeAnd h (λ images. taken names at ≡ Some images)) (sym later.3)
-    (later.4 ∙ ap (λ l. option_map (λ more. later.1 ++ more) (taken l later.0)) (drop_all i names all) ∙ ap (λ l. Some l) (append-nil later.1))) so
+all_open names before i None shelf held some are all so = tt
+all_open names before i (Some at) shelf held some are all so =
+    let same : before ≡ names = are ∙ take_all i names all in
+    ⊎_elim (λ first. absurd (omega (arith, ap length first.0, ap length same)))
+    (λ later. subst (λ h. IsSomeAnd h (λ images. taken names at ≡ Some images)) (sym later.3) (ap (λ l. taken l at) (sym same) ∙ held_are before at shelf held later)) so
+
+-- images were taken under these names, where that is told
+abbrev pub AreTaken : Words → Option Shelf → Option Images → Type 0
+AreTaken names shelf held = IfSome shelf (λ at. IfSome held (λ images. taken names at ≡ Some images))
+
+none_taken : (names : Words) (at : Shelf) (held : Option Images) (slots : List Slot) → Sized held slots → length slots ≡ 0 → names ≡ [] → IfSome held (λ images. taken names at ≡ Some images)
+none_taken names at None slots sized none empty = tt
+none_taken names at (Some images) slots sized none empty = ap (λ l. taken l at) empty ∙ ap (λ l. Some l) (sym (none_open (Some images) images slots sized refl none))
+
+pub so_far_unchanged : (at shelf : Option Shelf) (held : Option Images) (slots : List Slot) → All (λ (s : Slot). s.write ≡ false) slots → Sized held slots → OpenSoFar (map (λ s. s.name) slots) at shelf held → AreUnchanged at slots held
+so_far_unchanged None shelf held slots closed sized so = (closed, tt)
+so_far_unchanged (Some at) shelf held slots closed sized so =
+    (closed, ⊎_elim (λ first. none_taken (map (λ s. s.name) slots) at held slots sized (sym (length-map slots (λ s. s.name)) ∙ ap length first.0) first.0)
+    (λ later. subst (λ h. IfSome h (λ images. taken (map (λ s. s.name) slots) at ≡ Some images)) (sym later.3) (held_are (map (λ s. s.name) slots) at shelf held later)) so)
+
+-- a refused opening takes nothing
+takes_none : (name : List ℕ) (shelf shelf' : Option Shelf) (held held' : Option Images) (e : RackError) → Takes name shelf shelf' held held' (Err e) → held' ≡ held
+takes_none name None shelf' held held' e takes = takes.1
+takes_none name (Some x) None held held' e takes = takes.1
+takes_none name (Some x) (Some y) None held' e takes = takes.1
+takes_none name (Some x) (Some y) (Some z) None e takes = takes.1
+takes_none name (Some x) (Some y) (Some z) (Some w) e takes = takes.1
+
+pub refused_unchanged : (name : List ℕ) (at shelf shelf' : Option Shelf) (held held' : Option Images) (slots slots' : List Slot) (e : RackError) → All (λ (s : Slot). s.write ≡ false) slots → Sized held slots
+    → OpenSoFar (map (λ s. s.name) slots) at shelf held → Takes name shelf shelf' held held' (Err e) → slots' ≡ slots → AreUnchanged at slots' held'
+refused_unchanged name at shelf shelf' held held' slots slots' e closed sized so takes same =
+    subst (λ l. AreUnchanged at l held') (sym same) (subst (AreUnchanged at slots) (sym (takes_none name shelf shelf' held held' e takes)) (so_far_unchanged at shelf held slots closed sized so))
+
+-- where none was opened
+pub unopened : (at : Option Shelf) (held : Option Images) (slots : List Slot) → Sized held slots → slots ≡ [] → AreUnchanged at slots held
+unopened at held slots sized none = so_far_unchanged at at held slots (subst (All (λ (s : Slot). s.write ≡ false)) (sym none) (All-nil (λ (s : Slot). s.write ≡ false))) sized (begins at)
+  where
+    begins : (o : Option Shelf) → OpenSoFar (map (λ s. s.name) slots) o o held
+    begins None = tt
+    begins (Some s) = inl (ap (map (λ s. s.name)) none, refl)
+
+pub closed_more : (old new : List Slot) (s : Slot) → new ≡ old ++ s ∷ [] → s.write ≡ false → All (λ (t : Slot). t.write ≡ false) old → All (λ (t : Slot). t.write ≡ false) new
+closed_more old new s is shut all = subst (All (λ (t : Slot). t.write ≡ false)) (sym is) (All-append (λ (t : Slot). t.write ≡ false) old (s ∷ []) all (All-cons (λ (t : Slot). t.write ≡ false) s [] shut (All-nil (λ (t : Slot). t.write ≡ false))))
 
 -- the name at an index stands before the names behind it
 pub name_first : (names : Words) (i : ℕ) (name : List ℕ) → i < length names → get_or names i [] ≡ name → drop i names ≡ name ∷ drop (i + 1) names
@@ -121,7 +171,10 @@ name_first names i name lt is = drop-cons names i [] lt ∙ ap (λ n. n ∷ drop
 pub slot_count : (old new : List Slot) (s : Slot) (i : ℕ) → new ≡ old ++ s ∷ [] → length old ≡ i → length new ≡ i + 1
 slot_count old new s i is many = ap length is ∙ length-append old (s ∷ []) ∙ ap (λ k. k + 1) many
 
-pub slot_names : (names : Words) (old new : List Slot) (s : Slot) (i : ℕ) → new ≡ old ++ s ∷ [] → i < length names → get_or names i [] ≡ s.name → map (λ t. t.name) old ≡ take i names → map (λ t. t.name) new ≡ take (i + 1) names
-slot_names names old new s i is lt name before =
-    ap (map (λ t. t.name)) is ∙ map-append (λ t. t.name) old (s ∷ []) ∙ ap (λ l. l ++ s.name ∷ []) before
-    ∙ ap (λ n. take i names ++ n ∷ []) (sym name) ∙ sym (take_more names i [] lt)
+pub slot_names : (old new : List Slot) (s : Slot) → new ≡ old ++ s ∷ [] → map (λ t. t.name) new ≡ map (λ t. t.name) old ++ s.name ∷ []
+slot_names old new s is = ap (map (λ t. t.name)) is ∙ map-append (λ t. t.name) old (s ∷ [])
+
+-- the names of the slots are the first of the names
+pub names_before : (names : Words) (old new : List Slot) (s : Slot) (i : ℕ) → new ≡ old ++ s ∷ [] → i < length names → get_or names i [] ≡ s.name → map (λ t. t.name) old ≡ take i names → map (λ t. t.name) new ≡ take (i + 1) names
+names_before names old new s i is lt name before =
+    slot_names old new s is ∙ ap (λ l. l ++ s.name ∷ []) before ∙ ap (λ n. take i names ++ n ∷ []) (sym name) ∙ sym (take_more names i [] lt)

@@ -1,9 +1,9 @@
 -- The images that the words name, and their superblocks.
-use Rattle.std.specs.Prelude.{◌≡◌, ℕ, ◌+◌, if◌then◌else◌, List, [], ◌∷◌, Option, Some, None, IfSome, IsSomeAnd, Result, Ok, Err, Vec}
+use Rattle.std.specs.Prelude.{◌≡◌, ℕ, ◌+◌, false, if◌then◌else◌, List, [], ◌∷◌, map, All, Option, Some, None, IfSome, IsSomeAnd, Result, Ok, Err, Vec}
 use Rattle.std.specs.Option.{option_and_then, option_map}
 use Rattle.std.specs.Str.{bytes_eq}
 use Rattle.std.specs.declared.alloc.Global.{Global}
-use Rattle.btr_rack.specs.Rack.{Shelf}
+use Rattle.btr_rack.specs.Rack.{Slot, Shelf}
 use Rattle.btr_super.specs.Slot.{image_super}
 use Rattle.btr_super.specs.declared.superblock.Super.{Super}
 use Rattle.btr_super.specs.declared.fault.SlotFault.{SlotFault}
@@ -42,6 +42,10 @@ supers_of slot (image ∷ images) = supers_then slot (image_super image) (supers
 abbrev pub OpensAll : Words → Option Shelf → Option (List (List ℕ)) → Result Unit Answer → Type 0
 OpensAll names shelf held (Ok _) = IfSome shelf (λ at. IsSomeAnd held (λ images. taken names at ≡ Some images))
 OpensAll names shelf held (Err _) = Unit {0}
+
+-- the opened images were opened only to be read, and hold what the shelf held under their names, where that is told
+abbrev pub AreUnchanged : Option Shelf → List Slot → Option (List (List ℕ)) → Type 0
+AreUnchanged shelf slots held = All (λ s. s.write ≡ false) slots × IfSome shelf (λ at. IfSome held (λ images. taken (map (λ s. s.name) slots) at ≡ Some images))
 
 -- what was read is the superblocks of the images, or the first refusal
 abbrev pub Reads : List (List ℕ) → Result (Vec Super Global) Answer → Type 0

@@ -1,7 +1,7 @@
 // Opening the images that the words name, and reading their superblocks.
 ghost use Rattle.std.specs.Prelude.{◌≡◌, ◌<◌, [], map, length, IfSome, IfOk, OnOk};
 ghost use Rattle.std.specs.String.{string_bytes};
-ghost use Rattle.btr_tool.specs.Images.{OpensAll, Reads, refusal_of};
+ghost use Rattle.btr_tool.specs.Images.{OpensAll, AreUnchanged, Reads, refusal_of};
 ghost use Rattle.btr_tool.specs.Causes.{OpeningCause, ReadingCause};
 
 use crate::answer::Answer;
@@ -17,6 +17,7 @@ pub(crate) fn open_images<R: Rack>(names: &[String], rack: &mut R) -> Result<(),
     requires some { 0 < length names.now }
     ensures images { OpensAll (map string_bytes names.now) (R.shelf rack.old) (R.held rack.new) result }
     ensures cause { OpeningCause (map string_bytes names.now) (R.slots rack.new) (R.account rack.old) (R.account rack.new) result }
+    ensures unchanged { AreUnchanged (R.shelf rack.old) (R.slots rack.new) (R.held rack.new) }
     ensures count { OnOk result (length (R.slots rack.new) ≡ length names.now) }
 {
     for (slot, name) in names.iter().enumerate() {

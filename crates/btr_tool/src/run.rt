@@ -3,6 +3,7 @@ ghost use Rattle.std.specs.Prelude.{◌≡◌, ◌≢◌, ◌⊎◌, ◌<◌, []
 ghost use Rattle.std.specs.String.{string_bytes};
 ghost use Rattle.btr_rack.specs.Rack.{Rose, Steady};
 ghost use Rattle.btr_tool.specs.Effects.{HasEffect, IsDecided, FollowsWords, IsSuperEffect, HasTooMany, most_images};
+ghost use Rattle.btr_tool.specs.Images.{AreUnchanged};
 ghost use Rattle.btr_tool.specs.Causes.{ImageCause, IsUnopened, SuperCause};
 ghost use Rattle.btr_tool.specs.Puts.{IsPut, IsShown, IsRefused, IsTold, IsSuperText};
 
@@ -39,6 +40,9 @@ pub fn run<R: Rack, O: Out>(alloc: Global, words: &[String], rack: &mut R, out: 
         → ((slot : ℕ) × (result ≡ Answer.ImageFault slot) × IsUnopened (map string_bytes words.now) (R.slots rack.new) (R.account rack.old) (R.account rack.new) slot) ⊎ (result ≡ Answer.OutFault) ⊎ (result ≡ Answer.Memory) }
     ensures out { result ≡ Answer.OutFault → Rose (O.faults out.old) (O.faults out.new) }
 
+    // The opened images were opened only to be read, and stay as they were.
+    ensures unchanged { AreUnchanged (R.shelf rack.old) (R.slots rack.new) (R.held rack.new) }
+
     // What stands in the output after each answer.
     ensures told { IsTold (O.text out.old) (O.text out.new) result }
 {
@@ -64,6 +68,7 @@ fn superblock_text<R: Rack>(
     ensures cause { SuperCause (map string_bytes names.now) (R.slots rack.new) (R.account rack.old) (R.account rack.new) result }
     ensures shown { IfOk result (λ text. IsSuperText text.items) }
     ensures limit { HasTooMany (map string_bytes names.now) result }
+    ensures unchanged { AreUnchanged (R.shelf rack.old) (R.slots rack.new) (R.held rack.new) }
     ensures early { most_images < length names.now → rack.new ≡ rack.old }
 {
     if names.len() > MOST_IMAGES {

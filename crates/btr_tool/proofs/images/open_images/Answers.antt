@@ -1,8 +1,9 @@
-use Rattle.std.proofs.Common.{◌<◌, ℕ, List, String, length, map, arith}
+use Rattle.std.proofs.Common.{◌<◌, ◌≤◌, ℕ, List, String, length, map, refl, sym, arith}
 use Rattle.std.specs.declared.alloc.Global.{Global}
 use Rattle.std.specs.String.{string_bytes}
 use Rattle.std.proofs.lemmas.List.{length-map}
-use Rattle.btr_tool.proofs.Openings.{open_more, name_first, slot_count, slot_names}
+use Rattle.btr_rack.specs.declared.error.RackError.TheVariants.{Failed, Memory}
+use Rattle.btr_tool.proofs.Openings.{open_more, slot_count, slot_names, names_before, closed_more, all_open, so_far_unchanged, refused_unchanged}
 use Rattle.btr_tool.proofs.Causing.{none_failed_twice, name_at}
 use Rattle.btr_tool.proofs.images.open_images.Goals as goal
 
@@ -15,10 +16,37 @@ loop-slot-preserved g c =
     let slots = g.R.Rack.slots c.loop-slot.rack in
     let name = name_at c.args.names.now c.loop-slot.slot c.index-names-slot.result c.as_str.result.now (omega arith) c.as_str.ensures.value c.index-names-slot.is in
     let within = omega_within c.args.names.now c.loop-slot.slot c.loop-slot-test.true in
+    let more = slot_names slots _ _ c.in-Ok.ensures.slots.1.2 in
     record {
       count = slot_count slots _ _ c.loop-slot.slot c.in-Ok.ensures.slots.1.2 c.loop-slot.invariant.count;
-      before = slot_names names slots _ _ c.loop-slot.slot c.in-Ok.ensures.slots.1.2 within name c.loop-slot.invariant.before;
+      before = names_before names slots _ _ c.loop-slot.slot c.in-Ok.ensures.slots.1.2 within name c.loop-slot.invariant.before;
       account = none_failed_twice _ _ _ c.loop-slot.invariant.account c.in-Ok.ensures.account;
-      images = open_more names (g.R.Rack.shelf c.args.rack.now) c.loop-slot.slot c.as_str.result.now _ _ _ _ slots c.in-Ok.field-0 (name_first names c.loop-slot.slot c.as_str.result.now within name)
-          c.loop-slot.invariant.images c.in-Ok.ensures.images (g.met.R.Rack.sized c.loop-slot.rack) c.loop-slot.invariant.count;
+      closed = closed_more slots _ _ c.in-Ok.ensures.slots.1.2 refl c.loop-slot.invariant.closed;
+      images = open_more (g.R.Rack.shelf c.args.rack.now) (map (λ s. s.name) slots) _ c.as_str.result.now _ _ _ _ slots c.in-Ok.field-0 more
+          c.loop-slot.invariant.images c.in-Ok.ensures.images (g.met.R.Rack.sized c.loop-slot.rack) (sym (length-map slots (λ s. s.name)));
     }
+
+pub returns-in-Err-Failed-clause-unchanged : goal.returns-in-Err-Failed-clause-unchanged
+returns-in-Err-Failed-clause-unchanged g c =
+    refused_unchanged c.as_str.result.now (g.R.Rack.shelf c.args.rack.now) _ _ _ _ (g.R.Rack.slots c.loop-slot.rack) _ Failed c.loop-slot.invariant.closed (g.met.R.Rack.sized c.loop-slot.rack)
+    c.loop-slot.invariant.images c.in-Err-Failed.ensures.images c.in-Err-Failed.ensures.slots
+
+pub returns-in-Err-Memory-clause-unchanged : goal.returns-in-Err-Memory-clause-unchanged
+returns-in-Err-Memory-clause-unchanged g c =
+    refused_unchanged c.as_str.result.now (g.R.Rack.shelf c.args.rack.now) _ _ _ _ (g.R.Rack.slots c.loop-slot.rack) _ Memory c.loop-slot.invariant.closed (g.met.R.Rack.sized c.loop-slot.rack)
+    c.loop-slot.invariant.images c.in-Err-Memory.ensures.images c.in-Err-Memory.ensures.slots
+
+all_within : (xs : List (String Global)) (i : ℕ) → length xs ≤ i → length (map string_bytes xs) ≤ i
+all_within xs i le = omega (arith, length-map xs string_bytes)
+
+some_named : (xs : List (String Global)) → 0 < length xs → 0 < length (map string_bytes xs)
+some_named xs lt = omega (arith, length-map xs string_bytes)
+
+pub returns-clause-images : goal.returns-clause-images
+returns-clause-images g c =
+    all_open (map string_bytes c.args.names.now) (map (λ s. s.name) (g.R.Rack.slots c.loop-slot.rack)) c.loop-slot.slot (g.R.Rack.shelf c.args.rack.now) (g.R.Rack.shelf c.loop-slot.rack) (g.R.Rack.held c.loop-slot.rack)
+    (some_named c.args.names.now c.requires.some) c.loop-slot.invariant.before (all_within c.args.names.now c.loop-slot.slot c.loop-slot-test.false) c.loop-slot.invariant.images
+
+pub returns-clause-unchanged : goal.returns-clause-unchanged
+returns-clause-unchanged g c =
+    so_far_unchanged (g.R.Rack.shelf c.args.rack.now) (g.R.Rack.shelf c.loop-slot.rack) (g.R.Rack.held c.loop-slot.rack) (g.R.Rack.slots c.loop-slot.rack) c.loop-slot.invariant.closed (g.met.R.Rack.sized c.loop-slot.rack) c.loop-slot.invariant.images

@@ -3,6 +3,7 @@ use Rattle.std.specs.String.{string_bytes}
 use Rattle.std.specs.declared.alloc.Global.{Global}
 use Rattle.std.proofs.lemmas.List.{length-map}
 use Rattle.btr_super.specs.Newest.{newest_index}
+use Rattle.btr_tool.proofs.Openings.{unopened}
 use Rattle.btr_tool.proofs.Showing.{shown_is}
 use Rattle.btr_tool.proofs.run.superblock_text.Goals as goal
 
@@ -17,3 +18,7 @@ returns-in-Ok-clause-effect g c =
 
 pub returns-in-Ok-clause-shown : goal.returns-in-Ok-clause-shown
 returns-in-Ok-clause-shown g c = (c.choose-slot.result, c.index.result.now, c.in-Ok.ensures)
+
+pub returns-then-names-gt-MOST_IMAGES-clause-unchanged : goal.returns-then-names-gt-MOST_IMAGES-clause-unchanged
+returns-then-names-gt-MOST_IMAGES-clause-unchanged g c =
+    unopened (g.R.Rack.shelf c.args.rack.now) (g.R.Rack.held c.args.rack.now) (g.R.Rack.slots c.args.rack.now) (g.met.R.Rack.sized c.args.rack.now) c.requires.empty
