@@ -1,5 +1,5 @@
 -- How a run ends, by what its command came to and what was put.
-use Rattle.std.proofs.Common.{◌≡◌, ◌≢◌, ◌⊎◌, inl, inr, ⊎_elim, ℕ, ◌<◌, ◌≤◌, List, ◌++◌, length, map, take, drop, String, ◌-◌, Option, Some, None, Err, refl, sym, ap, ◌∙◌, subst, arith}
+use Rattle.std.proofs.Common.{◌≡◌, ◌≢◌, ◌⊎◌, inl, inr, ⊎_elim, ℕ, ◌<◌, ◌≤◌, List, [], ◌++◌, length, map, take, drop, String, ◌-◌, Option, Some, None, Err, refl, sym, ap, ◌∙◌, subst, arith}
 use Rattle.std.specs.Option.{IfSome}
 use Rattle.std.specs.declared.alloc.Global.{Global}
 use Rattle.std.specs.String.{string_bytes}
@@ -11,7 +11,7 @@ use Rattle.btr_tool.specs.Words.{Words, IsSentence, IsUsageAt, images_of}
 use Rattle.btr_tool.specs.Answers.{error_line}
 use Rattle.btr_tool.specs.Causes.{OpeningFailed, ReadFailed, SuperCause, ImageCause, IsUnopened}
 use Rattle.btr_tool.specs.Puts.{IsPut, IsShown, AddsPart, IsRefused, IsTold, IsMessage, IsSuperText}
-use Rattle.btr_tool.specs.Effects.{Effect, refused, IsEffect, HasEffect, IsDecided, FollowsWords, IsSuperEffect, HasTooMany, images_effect, most_images}
+use Rattle.btr_tool.specs.Effects.{Effect, refused, IsEffect, HasEffect, HasPart, IsDecided, FollowsWords, IsSuperEffect, HasTooMany, images_effect, most_images}
 use Rattle.btr_tool.proofs.Causing.{rose_behind}
 use Rattle.btr_tool.specs.declared.plan.Command.TheVariants.{Super as super_command}
 use Rattle.btr_tool.specs.declared.plan.Plan.{Plan}
@@ -82,6 +82,29 @@ module _ (old new : Option (List ℕ)) (faults faults' : ℕ) where
   pub refused_ends : (answer result : Answer) → IsRefused old new faults faults' answer result → Ends faults faults' answer result
   refused_ends answer result refusal =
       ⊎_elim (put_ends (error_line answer) answer result) (λ put. ⊎_elim (λ done. inr (inr done)) (λ rest. inr rest) (put_ends (error_line Memory) Memory result put)) refusal
+
+  put_part : (text : List ℕ) (answer result : Answer) → IsPut old new faults faults' text answer result → AddsPart old new text
+  put_part text answer result put =
+      ⊎_elim (λ done. whole_part old new text done.1) (λ rest. ⊎_elim (λ fault. first_part old new text fault.2.0 fault.2.1) (λ memory. first_part old new text memory.2.0 memory.2.1) rest) put
+
+  shown_adds : (text : List ℕ) (result : Answer) → IsShown old new faults faults' text result → AddsPart old new text
+  shown_adds text result put = ⊎_elim (λ done. whole_part old new text done.1) (λ rest. ⊎_elim (λ fault. fault.2) (λ memory. memory.1) rest) put
+
+  -- the line for want of memory, or a first part of it
+  memory_part : (result : Answer) → IsPut old new faults faults' (error_line Memory) Memory result → AddsPart old new []
+  memory_part result put =
+      ⊎_elim (λ done. (0, length (error_line Memory), subst (Adds old new) (sym (take_all (length (error_line Memory)) (error_line Memory) (omega arith))) done.1))
+      (λ rest. ⊎_elim (λ fault. (0, fault.2.0, fault.2.1)) (λ memory. (0, memory.2.0, memory.2.1)) rest) put
+
+  -- a first part of what the words come to
+  pub shown_part : (words : Words) (shelf : Shelf) (text : List ℕ) (result : Answer) → IsEffect words shelf (record { answer = Done 0; text = text }) → IsShown old new faults faults' text result → HasPart words shelf old new
+  shown_part words shelf text result is put = inr (record { answer = Done 0; text = text }, is, shown_adds text result put)
+
+  pub refused_part : (words : Words) (shelf : Shelf) (answer result : Answer) → IsEffect words shelf (refused answer) → IsRefused old new faults faults' answer result → HasPart words shelf old new
+  refused_part words shelf answer result is refusal = ⊎_elim (λ put. inr (refused answer, is, put_part (error_line answer) answer result put)) (λ put. inl (memory_part result put)) refusal
+
+  pub exhausted_part : (words : Words) (shelf : Shelf) (result : Answer) → IsRefused old new faults faults' Memory result → HasPart words shelf old new
+  exhausted_part words shelf result refusal = inl (⊎_elim (memory_part result) (memory_part result) refusal)
 
   put_told : (text : List ℕ) (answer result : Answer) → IsMessage text → (Adds old new text → IsTold old new answer) → IsPut old new faults faults' text answer result → IsTold old new result
   put_told text answer result message told put =
@@ -295,6 +318,22 @@ module _ (T : Type 0) (names : Words) (slots : List Slot) (old new : Account) wh
   refusal_effect words plan shelf texts texts' faults faults' (Done skipped) result sentence named cause still steady enough effect put = absurd effect
   refusal_effect words plan shelf texts texts' faults faults' (Usage at) result sentence named cause still steady enough effect put = absurd effect
   refusal_effect words plan shelf texts texts' faults faults' OutFault result sentence named cause still steady enough effect put = absurd effect
+
+  -- what `super` puts, where nothing failed
+  pub refusal_part : (words : Words) (plan : Plan) (shelf : Shelf) (texts texts' : Option (List ℕ)) (faults faults' : ℕ) (answer result : Answer) → IsSentence plan words → images_of plan words ≡ names
+      → SuperCause {T = T} names slots old new (Err answer) → Steady old.faults new.faults → IsSuperEffect names shelf (Err answer) → IsRefused texts texts' faults faults' answer result → HasPart words shelf texts texts'
+  refusal_part words plan shelf texts texts' faults faults' (Limit which n) result sentence named cause still effect put =
+      refused_part texts texts' faults faults' words shelf (Limit which n) result (effect_is words names plan sentence named shelf (refused (Limit which n)) effect) put
+  refusal_part words plan shelf texts texts' faults faults' (NoSuper slot) result sentence named cause still effect put =
+      refused_part texts texts' faults faults' words shelf (NoSuper slot) result (effect_is words names plan sentence named shelf (refused (NoSuper slot)) effect) put
+  refusal_part words plan shelf texts texts' faults faults' (SumKind kind) result sentence named cause still effect put =
+      refused_part texts texts' faults faults' words shelf (SumKind kind) result (effect_is words names plan sentence named shelf (refused (SumKind kind)) effect) put
+  refusal_part words plan shelf texts texts' faults faults' (ImageFault slot) result sentence named cause still effect put =
+      absurd (⊎_elim (λ opening. steady_not_rose old.faults new.faults still opening.faults) (λ read. steady_not_rose old.faults new.faults still read.faults) cause)
+  refusal_part words plan shelf texts texts' faults faults' Memory result sentence named cause still effect put = exhausted_part texts texts' faults faults' words shelf result put
+  refusal_part words plan shelf texts texts' faults faults' (Done skipped) result sentence named cause still effect put = absurd effect
+  refusal_part words plan shelf texts texts' faults faults' (Usage at) result sentence named cause still effect put = absurd effect
+  refusal_part words plan shelf texts texts' faults faults' OutFault result sentence named cause still effect put = absurd effect
 
 -- a clause on what may not be told
 pub when_told : {X : Type 0} (o : Option X) (P Q : X → Type 0) → IfSome o P → ((x : X) → P x → Q x) → IfSome o Q

@@ -1,5 +1,5 @@
 -- What the words and the images come to: the answer, and the text that is put.
-use Rattle.std.specs.Prelude.{◌≡◌, ◌⊎◌, ℕ, ◌<◌, ◌≤◌, nat_lt, if◌then◌else◌, List, length, Option, Some, Result, Ok, Err, Vec}
+use Rattle.std.specs.Prelude.{◌≡◌, ◌⊎◌, ℕ, ◌<◌, ◌≤◌, nat_lt, if◌then◌else◌, List, [], length, Option, Some, Result, Ok, Err, Vec}
 use Rattle.std.specs.declared.alloc.Global.{Global}
 use Rattle.std.specs.Option.{option_and_then, option_map}
 use Rattle.btr_rack.specs.Rack.{Shelf}
@@ -8,6 +8,7 @@ use Rattle.btr_super.specs.Newest.{newest, newest_index}
 use Rattle.btr_super.specs.declared.superblock.Super.{Super}
 use Rattle.btr_tool.specs.Answers.{error_line}
 use Rattle.btr_tool.specs.Images.{taken, supers_of}
+use Rattle.btr_tool.specs.Puts.{AddsPart}
 use Rattle.btr_tool.specs.Text.{super_text}
 use Rattle.btr_tool.specs.Words.{Words, IsSentence, IsUsageAt, images_of}
 use Rattle.btr_tool.specs.declared.plan.Command.{Command}
@@ -58,6 +59,10 @@ pub record HasEffect (words : Words) (shelf : Shelf) (old new : Option (List ℕ
   pub is : IsEffect words shelf effect
   pub answered : answer ≡ effect.answer
   pub put : Adds old new effect.text
+
+-- a first part of the text that the words come to over the shelf was put, or nothing, and behind it a first part of the line for want of memory, or nothing
+abbrev pub HasPart : Words → Shelf → Option (List ℕ) → Option (List ℕ) → Type 0
+HasPart words shelf old new = AddsPart old new [] ⊎ ((effect : Effect) × IsEffect words shelf effect × AddsPart old new effect.text)
 
 -- the words alone decide this answer, whatever the images hold
 abbrev pub IsDecided : Words → Answer → Type 0

@@ -2,7 +2,7 @@
 ghost use Rattle.std.specs.Prelude.{◌≡◌, ◌≢◌, ◌⊎◌, ◌<◌, [], ℕ, map, length, IfOk, IfSome};
 ghost use Rattle.std.specs.String.{string_bytes};
 ghost use Rattle.btr_rack.specs.Rack.{Rose, Steady};
-ghost use Rattle.btr_tool.specs.Effects.{HasEffect, IsDecided, FollowsWords, IsSuperEffect, HasTooMany, most_images};
+ghost use Rattle.btr_tool.specs.Effects.{HasEffect, HasPart, IsDecided, FollowsWords, IsSuperEffect, HasTooMany, most_images};
 ghost use Rattle.btr_tool.specs.Images.{AreUnchanged};
 ghost use Rattle.btr_tool.specs.Causes.{ImageCause, IsUnopened, SuperCause};
 ghost use Rattle.btr_tool.specs.Puts.{IsPut, IsShown, IsRefused, IsTold, IsSuperText};
@@ -29,6 +29,9 @@ pub fn run<R: Rack, O: Out>(alloc: Global, words: &[String], rack: &mut R, out: 
     // Where no call failed and memory sufficed, the answer and the text are those of the words and the images.
     ensures effect { IfSome (R.shelf rack.old) (λ shelf. Steady (R.account rack.old).faults (R.account rack.new).faults → Steady (O.faults out.old) (O.faults out.new)
         → result ≢ Answer.Memory → HasEffect (map string_bytes words.now) shelf (O.text out.old) (O.text out.new) result) }
+
+    // Where no call on an image failed, nothing is put but a part of that text and of the line for want of memory.
+    ensures part { IfSome (R.shelf rack.old) (λ shelf. Steady (R.account rack.old).faults (R.account rack.new).faults → HasPart (map string_bytes words.now) shelf (O.text out.old) (O.text out.new)) }
 
     // What the words alone decide is answered before any call on the rack, and only then.
     ensures decided { (answer : Answer) → IsDecided (map string_bytes words.now) answer → (rack.new ≡ rack.old) × ((result ≡ answer) ⊎ (result ≡ Answer.OutFault) ⊎ (result ≡ Answer.Memory)) }

@@ -16,12 +16,12 @@ loop-slot-preserved g c =
     let slots = g.R.Rack.slots c.loop-slot.rack in
     let name = name_at c.args.names.now c.loop-slot.slot c.index-names-slot.result c.as_str.result.now (omega arith) c.as_str.ensures.value c.index-names-slot.is in
     let within = omega_within c.args.names.now c.loop-slot.slot c.loop-slot-test.true in
-    let more = slot_names slots _ _ c.in-Ok.ensures.slots.1.2 in
+    let more = slot_names slots (g.R.Rack.slots c.open.new.self) _ c.in-Ok.ensures.slots.1.2 in
     record {
-      count = slot_count slots _ _ c.loop-slot.slot c.in-Ok.ensures.slots.1.2 c.loop-slot.invariant.count;
-      before = names_before names slots _ _ c.loop-slot.slot c.in-Ok.ensures.slots.1.2 within name c.loop-slot.invariant.before;
+      count = slot_count slots (g.R.Rack.slots c.open.new.self) _ c.loop-slot.slot c.in-Ok.ensures.slots.1.2 c.loop-slot.invariant.count;
+      before = names_before names slots (g.R.Rack.slots c.open.new.self) _ c.loop-slot.slot c.in-Ok.ensures.slots.1.2 within name c.loop-slot.invariant.before;
       account = none_failed_twice _ _ _ c.loop-slot.invariant.account c.in-Ok.ensures.account;
-      closed = closed_more slots _ _ c.in-Ok.ensures.slots.1.2 refl c.loop-slot.invariant.closed;
+      closed = closed_more slots (g.R.Rack.slots c.open.new.self) _ c.in-Ok.ensures.slots.1.2 refl c.loop-slot.invariant.closed;
       images = open_more (g.R.Rack.shelf c.args.rack.now) (map (λ s. s.name) slots) _ c.as_str.result.now _ _ _ _ slots c.in-Ok.field-0 more
           c.loop-slot.invariant.images c.in-Ok.ensures.images (g.met.R.Rack.sized c.loop-slot.rack) (sym (length-map slots (λ s. s.name)));
     }

@@ -3,7 +3,7 @@ use Rattle.std.specs.String.{string_bytes}
 use Rattle.std.specs.declared.alloc.Global.{Global}
 use Rattle.btr_tool.specs.Puts.{IsShown}
 use Rattle.btr_tool.specs.declared.answer.Answer.TheVariants.{Done, Usage}
-use Rattle.btr_tool.proofs.Ending.{all_told, when_told, names_are, refused_effect, refused_told, refused_ends, one_of, shown_effect, shown_told, effect_is, cause_refusal, shut_cause, refusal_effect}
+use Rattle.btr_tool.proofs.Ending.{all_told, when_told, names_are, refused_effect, refused_told, refused_ends, one_of, shown_effect, shown_told, effect_is, cause_refusal, shut_cause, refusal_effect, refused_part, shown_part, refusal_part}
 use Rattle.btr_tool.proofs.run.run.Goals as goal
 
 pub returns-in-Err-clause-effect : goal.returns-in-Err-clause-effect
@@ -53,3 +53,26 @@ returns-in-Err-superblock_text-clause-told g c =
     c.in-Err-superblock_text.answer c.refuse-in-Err-superblock_text.result
     (cause_refusal (Vec ℕ Global) _ (g.R.Rack.slots c.superblock_text.new.rack) (g.R.Rack.account c.args.rack.now) (g.R.Rack.account c.superblock_text.new.rack) c.in-Err-superblock_text.answer c.in-Err-superblock_text.ensures.cause)
     c.refuse-in-Err-superblock_text.ensures
+
+pub returns-in-Err-clause-part : goal.returns-in-Err-clause-part
+returns-in-Err-clause-part g c =
+    all_told (g.R.Rack.shelf c.args.rack.now) _ (λ shelf still.
+    refused_part (g.O.Out.text c.args.out.now) (g.O.Out.text c.refuse.new.out) (g.O.Out.faults c.args.out.now) (g.O.Out.faults c.refuse.new.out) (map string_bytes c.args.words.now) shelf (Usage c.in-Err.at) c.refuse.result
+    (inl (c.in-Err.at, c.in-Err.ensures.usage, refl)) c.refuse.ensures)
+
+pub returns-in-Ok-superblock_text-clause-part : goal.returns-in-Ok-superblock_text-clause-part
+returns-in-Ok-superblock_text-clause-part g c =
+    let items = c.in-Ok-superblock_text.text.items in
+    let put : IsShown (g.O.Out.text c.args.out.now) (g.O.Out.text c.show.new.out) (g.O.Out.faults c.args.out.now) (g.O.Out.faults c.show.new.out) items c.show.result =
+    subst (λ l. IsShown (g.O.Out.text c.args.out.now) (g.O.Out.text c.show.new.out) (g.O.Out.faults c.args.out.now) (g.O.Out.faults c.show.new.out) l c.show.result) c.deref.ensures.value c.show.ensures in
+    when_told (g.R.Rack.shelf c.args.rack.now) _ _ c.in-Ok-superblock_text.ensures.effect (λ shelf effect still.
+    shown_part (g.O.Out.text c.args.out.now) (g.O.Out.text c.show.new.out) (g.O.Out.faults c.args.out.now) (g.O.Out.faults c.show.new.out) (map string_bytes c.args.words.now) shelf items c.show.result
+    (effect_is (map string_bytes c.args.words.now) _ c.in-Ok.plan c.in-Ok.ensures.sentence (names_are c.args.words.now c.in-Ok.plan.images) shelf (record { answer = Done 0; text = items }) effect) put)
+
+pub returns-in-Err-superblock_text-clause-part : goal.returns-in-Err-superblock_text-clause-part
+returns-in-Err-superblock_text-clause-part g c =
+    when_told (g.R.Rack.shelf c.args.rack.now) _ _ c.in-Err-superblock_text.ensures.effect (λ shelf effect still.
+    refusal_part (Vec ℕ Global) _ (g.R.Rack.slots c.superblock_text.new.rack) (g.R.Rack.account c.args.rack.now) (g.R.Rack.account c.superblock_text.new.rack) (map string_bytes c.args.words.now) c.in-Ok.plan shelf
+    (g.O.Out.text c.args.out.now) (g.O.Out.text c.refuse-in-Err-superblock_text.new.out) (g.O.Out.faults c.args.out.now) (g.O.Out.faults c.refuse-in-Err-superblock_text.new.out)
+    c.in-Err-superblock_text.answer c.refuse-in-Err-superblock_text.result c.in-Ok.ensures.sentence (names_are c.args.words.now c.in-Ok.plan.images)
+    c.in-Err-superblock_text.ensures.cause still effect c.refuse-in-Err-superblock_text.ensures)
