@@ -135,9 +135,11 @@ none_taken names at (Some images) slots sized none empty = ap (λ l. taken l at)
 
 pub so_far_unchanged : (at shelf : Option Shelf) (held : Option Images) (slots : List Slot) → All (λ (s : Slot). s.write ≡ false) slots → Sized held slots → OpenSoFar (map (λ s. s.name) slots) at shelf held → AreUnchanged at slots held
 so_far_unchanged None shelf held slots closed sized so = (closed, tt)
-so_far_unchanged (Some at) shelf held slots closed sized so =
-    (closed, ⊎_elim (λ first. none_taken (map (λ s. s.name) slots) at held slots sized (sym (length-map slots (λ s. s.name)) ∙ ap length first.0) first.0)
-    (λ later. subst (λ h. IfSome h (λ images. taken (map (λ s. s.name) slots) at ≡ Some images)) (sym later.3) (held_are (map (λ s. s.name) slots) at shelf held later)) so)
+so_far_unchanged (Some at) shelf held slots closed sized so = (
+  closed,
+  ⊎_elim (λ first. none_taken (map (λ s. s.name) slots) at held slots sized (sym (length-map slots (λ s. s.name)) ∙ ap length first.0) first.0)
+      (λ later. subst (λ h. IfSome h (λ images. taken (map (λ s. s.name) slots) at ≡ Some images)) (sym later.3) (held_are (map (λ s. s.name) slots) at shelf held later)) so,
+)
 
 -- a refused opening takes nothing
 takes_none : (name : List ℕ) (shelf shelf' : Option Shelf) (held held' : Option Images) (e : RackError) → Takes name shelf shelf' held held' (Err e) → held' ≡ held
