@@ -1,12 +1,11 @@
 -- The images that openings take from the shelf, one after another.
-use Rattle.std.proofs.Common.{◌≡◌, ◌≢◌, ◌⊎◌, inl, inr, ⊎_elim, ℕ, suc, ◌+◌, ◌<◌, ◌≤◌, Bool, true, false, cond, List, [], ◌∷◌, ◌++◌, length, map, take, drop, get_or, Option, Some, None, Ok, Err, refl, sym, ap, ◌∙◌, subst, arith, add-one}
+use Rattle.std.proofs.Common.{◌≡◌, ◌≢◌, ◌⊎◌, inl, inr, ⊎_elim, ℕ, ◌+◌, ◌<◌, ◌≤◌, Bool, true, false, cond, List, [], ◌∷◌, ◌++◌, length, map, take, get_or, Option, Some, None, Ok, Err, refl, sym, ap, ◌∙◌, subst, arith}
 use Rattle.std.specs.Option.{IfSome, IsSomeAnd, option_and_then, option_map}
 use Rattle.std.specs.Bool.{Decides}
 use Rattle.std.specs.Str.{bytes_eq}
 use Rattle.std.specs.List.{All}
 use Rattle.std.proofs.lemmas.List.Elements.{All-nil, All-cons, All-append}
 use Rattle.std.proofs.lemmas.List.{append_assoc, append-nil, nil_from_length, length-map, length-append, map-append, take_more, take_all}
-use Rattle.std.proofs.Math.Seq.{drop-cons}
 use Rattle.std.proofs.lemmas.Slice.Eq.{bytes_eq-Decides}
 use Rattle.btr_rack.specs.Rack.{Slot, Shelf, Takes, TakesImage}
 use Rattle.btr_tool.specs.Words.{Words}
@@ -125,14 +124,12 @@ all_open names before i (Some at) shelf held some are all so =
     ⊎_elim (λ first. absurd (omega (arith, ap length first.0, ap length same)))
     (λ later. subst (λ h. IsSomeAnd h (λ images. taken names at ≡ Some images)) (sym later.3) (ap (λ l. taken l at) (sym same) ∙ held_are before at shelf held later)) so
 
--- images were taken under these names, where that is told
-abbrev pub AreTaken : Words → Option Shelf → Option Images → Type 0
-AreTaken names shelf held = IfSome shelf (λ at. IfSome held (λ images. taken names at ≡ Some images))
-
+-- nothing is taken where nothing is open
 none_taken : (names : Words) (at : Shelf) (held : Option Images) (slots : List Slot) → Sized held slots → length slots ≡ 0 → names ≡ [] → IfSome held (λ images. taken names at ≡ Some images)
 none_taken names at None slots sized none empty = tt
 none_taken names at (Some images) slots sized none empty = ap (λ l. taken l at) empty ∙ ap (λ l. Some l) (sym (none_open (Some images) images slots sized refl none))
 
+-- the opened images are unchanged behind each opening
 pub so_far_unchanged : (at shelf : Option Shelf) (held : Option Images) (slots : List Slot) → All (λ (s : Slot). s.write ≡ false) slots → Sized held slots → OpenSoFar (map (λ s. s.name) slots) at shelf held → AreUnchanged at slots held
 so_far_unchanged None shelf held slots closed sized so = (closed, tt)
 so_far_unchanged (Some at) shelf held slots closed sized so = (
@@ -162,17 +159,15 @@ unopened at held slots sized none = so_far_unchanged at at held slots (subst (Al
     begins None = tt
     begins (Some s) = inl (ap (map (λ s. s.name)) none, refl)
 
+-- one slot more that is only read
 pub closed_more : (old new : List Slot) (s : Slot) → new ≡ old ++ s ∷ [] → s.write ≡ false → All (λ (t : Slot). t.write ≡ false) old → All (λ (t : Slot). t.write ≡ false) new
 closed_more old new s is shut all = subst (All (λ (t : Slot). t.write ≡ false)) (sym is) (All-append (λ (t : Slot). t.write ≡ false) old (s ∷ []) all (All-cons (λ (t : Slot). t.write ≡ false) s [] shut (All-nil (λ (t : Slot). t.write ≡ false))))
-
--- the name at an index stands before the names behind it
-pub name_first : (names : Words) (i : ℕ) (name : List ℕ) → i < length names → get_or names i [] ≡ name → drop i names ≡ name ∷ drop (i + 1) names
-name_first names i name lt is = drop-cons names i [] lt ∙ ap (λ n. n ∷ drop (suc i) names) is ∙ ap (λ k. name ∷ drop k names) (sym (add-one i))
 
 -- one slot more
 pub slot_count : (old new : List Slot) (s : Slot) (i : ℕ) → new ≡ old ++ s ∷ [] → length old ≡ i → length new ≡ i + 1
 slot_count old new s i is many = ap length is ∙ length-append old (s ∷ []) ∙ ap (λ k. k + 1) many
 
+-- its name is the last
 pub slot_names : (old new : List Slot) (s : Slot) → new ≡ old ++ s ∷ [] → map (λ t. t.name) new ≡ map (λ t. t.name) old ++ s.name ∷ []
 slot_names old new s is = ap (map (λ t. t.name)) is ∙ map-append (λ t. t.name) old (s ∷ [])
 

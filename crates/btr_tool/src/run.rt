@@ -30,7 +30,8 @@ pub fn run<R: Rack, O: Out>(alloc: Global, words: &[String], rack: &mut R, out: 
     ensures effect { IfSome (R.shelf rack.old) (λ shelf. Steady (R.account rack.old).faults (R.account rack.new).faults → Steady (O.faults out.old) (O.faults out.new)
         → result ≢ Answer.Memory → HasEffect (map string_bytes words.now) shelf (O.text out.old) (O.text out.new) result) }
 
-    // Where no call on an image failed, nothing is put but a part of that text and of the line for want of memory.
+    // Where no call on an image failed, a first part of that text is put, and behind it one of the line for want of
+    // memory, whatever the answer.
     ensures part { IfSome (R.shelf rack.old) (λ shelf. Steady (R.account rack.old).faults (R.account rack.new).faults → HasPart (map string_bytes words.now) shelf (O.text out.old) (O.text out.new)) }
 
     // What the words alone decide is answered before any call on the rack, and only then.
@@ -43,7 +44,7 @@ pub fn run<R: Rack, O: Out>(alloc: Global, words: &[String], rack: &mut R, out: 
         → ((slot : ℕ) × (result ≡ Answer.ImageFault slot) × IsUnopened (map string_bytes words.now) (R.slots rack.new) (R.account rack.old) (R.account rack.new) slot) ⊎ (result ≡ Answer.OutFault) ⊎ (result ≡ Answer.Memory) }
     ensures out { result ≡ Answer.OutFault → Rose (O.faults out.old) (O.faults out.new) }
 
-    // The opened images were opened only to be read, and stay as they were.
+    // The images were opened only to be read, and hold what the shelf held, where the rack tells it.
     ensures unchanged { AreUnchanged (R.shelf rack.old) (R.slots rack.new) (R.held rack.new) }
 
     // What stands in the output after each answer.

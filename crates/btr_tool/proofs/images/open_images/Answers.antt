@@ -1,7 +1,8 @@
-use Rattle.std.proofs.Common.{◌<◌, ◌≤◌, ℕ, List, String, length, map, refl, sym, arith}
+use Rattle.std.proofs.Common.{◌<◌, ◌≤◌, ℕ, List, String, length, map, false, refl, sym, arith}
 use Rattle.std.specs.declared.alloc.Global.{Global}
 use Rattle.std.specs.String.{string_bytes}
 use Rattle.std.proofs.lemmas.List.{length-map}
+use Rattle.btr_rack.specs.Rack.{Slot}
 use Rattle.btr_rack.specs.declared.error.RackError.TheVariants.{Failed, Memory}
 use Rattle.btr_tool.proofs.Openings.{open_more, slot_count, slot_names, names_before, closed_more, all_open, so_far_unchanged, refused_unchanged}
 use Rattle.btr_tool.proofs.Causing.{none_failed_twice, name_at}
@@ -16,13 +17,15 @@ loop-slot-preserved g c =
     let slots = g.R.Rack.slots c.loop-slot.rack in
     let name = name_at c.args.names.now c.loop-slot.slot c.index-names-slot.result c.as_str.result.now (omega arith) c.as_str.ensures.value c.index-names-slot.is in
     let within = omega_within c.args.names.now c.loop-slot.slot c.loop-slot-test.true in
-    let more = slot_names slots (g.R.Rack.slots c.open.new.self) _ c.in-Ok.ensures.slots.1.2 in
+    let new = g.R.Rack.slots c.open.new.self in
+    let opened : Slot = record { name = c.as_str.result.now; len = c.in-Ok.ensures.slots.1.0; write = false } in
+    let more = slot_names slots new opened c.in-Ok.ensures.slots.1.2 in
     record {
-      count = slot_count slots (g.R.Rack.slots c.open.new.self) _ c.loop-slot.slot c.in-Ok.ensures.slots.1.2 c.loop-slot.invariant.count;
-      before = names_before names slots (g.R.Rack.slots c.open.new.self) _ c.loop-slot.slot c.in-Ok.ensures.slots.1.2 within name c.loop-slot.invariant.before;
+      count = slot_count slots new opened c.loop-slot.slot c.in-Ok.ensures.slots.1.2 c.loop-slot.invariant.count;
+      before = names_before names slots new opened c.loop-slot.slot c.in-Ok.ensures.slots.1.2 within name c.loop-slot.invariant.before;
       account = none_failed_twice _ _ _ c.loop-slot.invariant.account c.in-Ok.ensures.account;
-      closed = closed_more slots (g.R.Rack.slots c.open.new.self) _ c.in-Ok.ensures.slots.1.2 refl c.loop-slot.invariant.closed;
-      images = open_more (g.R.Rack.shelf c.args.rack.now) (map (λ s. s.name) slots) _ c.as_str.result.now _ _ _ _ slots c.in-Ok.field-0 more
+      closed = closed_more slots new opened c.in-Ok.ensures.slots.1.2 refl c.loop-slot.invariant.closed;
+      images = open_more (g.R.Rack.shelf c.args.rack.now) (map (λ s. s.name) slots) (map (λ s. s.name) new) c.as_str.result.now _ _ _ _ slots c.in-Ok.field-0 more
           c.loop-slot.invariant.images c.in-Ok.ensures.images (g.met.R.Rack.sized c.loop-slot.rack) (sym (length-map slots (λ s. s.name)));
     }
 
