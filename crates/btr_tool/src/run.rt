@@ -21,8 +21,8 @@ const MOST_IMAGES: usize = 64;
 /// Does what the words say over the images of the rack, puts its text, and answers how it ended.
 ///
 /// Words that are no sentence and more than 64 images are refused before any call on the rack. The
-/// last thing put for a refusal is its error line, also where memory is wanted for the text itself: a
-/// first part of the text may then stand before the line.
+/// last thing put for a refusal is its error line, unless the output refuses that. Where memory is
+/// wanted for the text itself, a first part of the text may stand before the line that says so.
 pub fn run<R: Rack, O: Out>(alloc: Global, words: &[String], rack: &mut R, out: &mut O) -> Answer
     requires { R.slots rack.old ≡ [] }
 
