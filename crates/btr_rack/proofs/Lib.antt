@@ -1,3 +1,5 @@
 pub mod Patches
 pub mod Racks
+pub mod Reading
 pub mod Shelves
+pub mod Sures

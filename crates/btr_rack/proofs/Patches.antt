@@ -1,11 +1,11 @@
 -- The bytes of images in memory.
-use Rattle.std.proofs.Common.{◌≡◌, ℕ, zero, suc, ◌+◌, ◌-◌, ◌<◌, ◌≤◌, List, ◌∷◌, ◌++◌, length, map, take, drop, get_or, replicate, Some, None, refl, sym, ap, ◌∙◌, arith, length-append}
+use Rattle.std.proofs.Common.{◌≡◌, ℕ, zero, suc, ◌+◌, ◌-◌, ◌%◌, ◌<◌, ◌≤◌, List, ◌∷◌, ◌++◌, length, map, take, drop, get_or, replicate, Some, None, refl, sym, ap, ◌∙◌, arith, length-append}
 use Rattle.std.specs.List.{range_with_len, slice_get, slice_range}
 use Rattle.std.proofs.lemmas.List.{same_lists, places, length-take, length-drop, get_or_default, get_or-drop, get_or-take}
 use Rattle.std.proofs.lemmas.List.FromFn.{length-map-range_with_len, get_or-map-range_with_len}
 use Rattle.std.proofs.lemmas.Bool.Decides.{nat_tests}
 use Rattle.btr_rack.specs.Rack.{pasted}
-use Rattle.btr_rack.specs.Image.{patched}
+use Rattle.btr_rack.specs.Image.{Pages, Patches, page_byte, kept_byte, patched}
 
 -- a list that a function makes, at an index
 pub get_made : (f : ℕ → ℕ) (a n i : ℕ) → i < n → slice_get (map f (range_with_len a n)) i ≡ Some (f (a + i))
@@ -88,3 +88,24 @@ pasted-same bytes off n le = same_lists _ _ whole at
 
     at : (k d : ℕ) → k < length (pasted bytes off (slice_range bytes off (off + n))) → get_or (pasted bytes off (slice_range bytes off (off + n))) k d ≡ get_or bytes k d
     at k d lt = grind (arith, places, nat_tests, part, whole)
+
+-- a byte that is a number is that number's byte
+pub byte_is : (b n : ℕ) → b < 256 → b ≡ n → b ≡ n % 256
+byte_is b n fits is = omega arith
+
+-- what was patched in, as bytes
+pub patched_byte : (old new at : ℕ) (piece : List ℕ) (i : ℕ) → ((k : ℕ) → get_or piece k 0 < 256) → new ≡ patched old at piece i → new % 256 ≡ patched (old % 256) at piece i
+patched_byte old new at piece i fits is =
+    let small = fits (i - at) in
+    grind (arith, nat_tests, small, is)
+
+pub patched_pages : (old new : Pages) (off : ℕ) (piece : List ℕ) → ((k : ℕ) → get_or piece k 0 < 256) → Patches old new off piece → (i : ℕ) → page_byte new i ≡ patched (page_byte old i) off piece i
+patched_pages old new off piece fits each = λ i. patched_byte (kept_byte old i) (kept_byte new i) off piece i fits (each i)
+
+pub take_fits : (n : ℕ) (piece : List ℕ) → ((k : ℕ) → get_or piece k 0 < 256) → (k : ℕ) → get_or (take n piece) k 0 < 256
+take_fits n piece fits k = let small = fits k in grind (arith, places, small)
+
+pub replicate_fits : (n b : ℕ) → b < 256 → (k : ℕ) → get_or (replicate n b) k 0 < 256
+replicate_fits zero b small k = omega arith
+replicate_fits (suc n) b small zero = small
+replicate_fits (suc n) b small (suc k) = replicate_fits n b small k

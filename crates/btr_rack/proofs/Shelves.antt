@@ -55,6 +55,7 @@ rewrites name off at bytes old ys image found read fits o = record {
       ap (λ zs. option_map bytes_in (find (is_named other) zs)) o.now ∙ ap (option_map bytes_in) (find_past (is_named other) old.images at o.after image was (not-named name other o.after called apart));
   slots = ap (λ zs. map (λ (i : MemoryImage). i.slot) (take old.opened zs)) o.now ∙ slots-set old.images old.opened at o.after o.before (o.slot ∙ ap (λ (i : MemoryImage). i.slot) o.stood);
   failing = refl;
+  unsynced = refl;
   account = refl;
 }
   where
@@ -104,6 +105,7 @@ cuts name len at old ys true found c = record {
       (not-named name other c.0 called apart));
   opened = front;
   failing = refl;
+  unsynced = refl;
   account = refl;
 }
   where

@@ -33,9 +33,13 @@ shortened len image = record image { slot = record image.slot { len = len } }
 abbrev pub page_at : Pages → ℕ → Option (List ℕ)
 page_at pages index = lookup (is_at (nat_cmp index)) pages
 
--- the byte at a place: a page that isn't kept reads as zeros
+-- what is kept at a place: a page that isn't kept reads as zeros
+abbrev pub kept_byte : Pages → ℕ → ℕ
+kept_byte pages i = option_map_or (λ page. slice_index page (i % 4096)) (page_at pages (i / 4096)) 0
+
+-- the byte at a place
 abbrev pub page_byte : Pages → ℕ → ℕ
-page_byte pages i = option_map_or (λ page. slice_index page (i % 4096)) (page_at pages (i / 4096)) 0
+page_byte pages i = kept_byte pages i % 256
 
 -- the bytes of an image
 abbrev pub bytes_in : MemoryImage → List ℕ
@@ -51,7 +55,7 @@ patched old at piece i = if nat_lt i at then old else if nat_lt i (at + length p
 
 -- a piece was written over the bytes from `off` on
 abbrev pub Patches : Pages → Pages → ℕ → List ℕ → Type 0
-Patches old new off piece = (i : ℕ) → page_byte new i ≡ patched (page_byte old i) off piece i
+Patches old new off piece = (i : ℕ) → kept_byte new i ≡ patched (kept_byte old i) off piece i
 
 -- some n bytes were written over those from `off` on
 abbrev pub PastesSome : List ℕ → List ℕ → ℕ → ℕ → Type 0

@@ -6,6 +6,9 @@ pub mod Memory
 pub mod MemoryLaws
 pub mod Sink
 pub mod Calls
+pub mod CallsLaws
+pub mod MemOut
 pub mod MemTree
 pub mod MemTreeLaws
+pub mod FileRack
 pub mod FolderTree

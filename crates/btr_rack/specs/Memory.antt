@@ -1,5 +1,5 @@
 -- A rack in memory.
-use Rattle.std.specs.Prelude.{◌≡◌, ◌≢◌, ℕ, ◌+◌, ◌≤◌, ◌<◌, min, max, Bool, true, false, ◌&&◌, ◌||◌, ◌==◌, nat_lt, if◌then◌else◌, List, [], ◌∷◌, ◌++◌, length, map, take, drop, replicate, Option, Some, None, IfSome, Result, Ok, Err, ⊤}
+use Rattle.std.specs.Prelude.{◌≡◌, ◌≢◌, ℕ, ◌+◌, ◌-◌, ◌^◌, ◌≤◌, ◌<◌, min, max, Bool, true, false, ◌&&◌, ◌||◌, ◌==◌, nat_lt, if◌then◌else◌, List, [], ◌∷◌, ◌++◌, length, map, take, drop, replicate, Option, Some, None, IfSome, Result, Ok, Err, ⊤}
 use Rattle.std.specs.Option.{option_map, option_and_then}
 use Rattle.std.specs.List.{list_any, find}
 use Rattle.std.specs.Str.{bytes_eq}
@@ -7,7 +7,8 @@ use Rattle.btr_rack.specs.declared.error.PokeError.{PokeError}
 use Rattle.btr_rack.specs.declared.error.PokeError.TheVariants.{NoImage, Range, Memory}
 use Rattle.btr_rack.specs.declared.error.RackError.{RackError}
 use Rattle.btr_rack.specs.declared.error.RackError.TheVariants.{Failed, Memory as Exhausted}
-use Rattle.btr_rack.specs.Rack.{Slot, Shelf, Account, slot_at, next_count, no_failure, pasted, written}
+use Rattle.btr_rack.specs.declared.place.Place.{Place}
+use Rattle.btr_rack.specs.Rack.{Slot, Shelf, Account, Seen, slot_at, next_count, no_failure, pasted, written}
 use Rattle.btr_rack.specs.Image.{MemoryImage, bytes_in, is_named, page_at}
 
 -- a range of the image of a name
@@ -62,16 +63,17 @@ abbrev pub touches : List ℕ → ℕ → ℕ → NamedRange → Bool
 touches name off len range = bytes_eq range.name name && nat_lt (max range.off off) (min (range.off + range.len) (off + len))
 
 -- A rack in memory: its images, of which the first `opened` are open, in the order of their opening, and
--- the others are on the shelf; what is to fail; and the account of the failed calls.
+-- the others are on the shelf; what is to fail; the ranges that wait for a sync; and the account of the failed calls.
 pub record MemoryRack : Type 0 where
   pub images : List MemoryImage
   pub opened : ℕ
   pub failing : Failures
+  pub unsynced : List Place
   pub account : Account
 
 -- a rack with no images
 abbrev pub empty_rack : MemoryRack
-empty_rack = record { images = []; opened = 0; failing = nothing_fails; account = no_failure }
+empty_rack = record { images = []; opened = 0; failing = nothing_fails; unsynced = []; account = no_failure }
 
 -- the rack with one more image on the shelf, and with this to fail
 abbrev pub with_image : MemoryImage → MemoryRack → MemoryRack
@@ -106,6 +108,22 @@ abbrev pub shelf_of : MemoryRack → Shelf
 shelf_of rack name =
     if list_any (is_named name) (open_images rack) then None else option_map bytes_in (find (is_named name) (shelved_images rack))
 
+abbrev pub is_empty : {X : Type 0} → List X → Bool
+is_empty [] = true
+is_empty (_ ∷ _) = false
+
+-- nothing is to fail
+abbrev pub is_calm : Failures → Bool
+is_calm f = is_empty f.failing_calls && is_empty f.failing_writes && is_empty f.failing_ranges
+
+-- nothing is to fail, and the count of faults is below its type's last value
+abbrev pub is_sure : MemoryRack → Bool
+is_sure rack = is_calm rack.failing && nat_lt rack.account.faults (2 ^ 64 - 1)
+
+-- what is seen of it
+abbrev pub seen_of : MemoryRack → Seen
+seen_of rack = record { slots = slots_of rack; held = Some (held_of rack); shelf = Some (shelf_of rack); unsynced = rack.unsynced; sure = is_sure rack; account = rack.account }
+
 -- a read or a write of this range of an open image is to fail
 abbrev pub hits : MemoryRack → ℕ → ℕ → ℕ → Bool
 hits rack slot off len = list_any (touches (slot_at (slots_of rack) slot).name off len) rack.failing.failing_ranges
@@ -119,6 +137,7 @@ pub record Rewrites (name : List ℕ) (off : ℕ) (bytes : List ℕ) (old new : 
   pub others : (other : List ℕ) → other ≢ name → named new other ≡ named old other
   pub slots : slots_of new ≡ slots_of old
   pub failing : new.failing ≡ old.failing
+  pub unsynced : new.unsynced ≡ old.unsynced
   pub account : new.account ≡ old.account
 
 -- what `poke` does: where memory runs out, some bytes of the range were written
@@ -137,6 +156,7 @@ pub record Shortens (name : List ℕ) (len : ℕ) (old new : MemoryRack) : Type 
   pub others : (other : List ℕ) → other ≢ name → shelf_of new other ≡ shelf_of old other
   pub opened : open_images new ≡ open_images old
   pub failing : new.failing ≡ old.failing
+  pub unsynced : new.unsynced ≡ old.unsynced
   pub account : new.account ≡ old.account
 
 -- what `cut` does: it refuses a name that is not on the shelf, and an image that is shorter

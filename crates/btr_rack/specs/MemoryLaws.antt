@@ -1,13 +1,33 @@
 -- What holds of every rack in memory.
-use Rattle.std.specs.Prelude.{◌≡◌, List, [], ◌∷◌, length, map, take, refl}
+use Rattle.std.specs.Prelude.{◌≡◌, ℕ, ◌+◌, ◌-◌, ◌%◌, ◌^◌, ◌<◌, nat_lt, Bool, true, false, ◌&&◌, List, [], ◌∷◌, length, map, take, All, refl}
+use Rattle.std.specs.List.{range_with_len}
+use Rattle.std.proofs.Common.{zero, suc, arith}
+use Rattle.std.proofs.lemmas.List.Elements.{All-cons}
+use Rattle.std.proofs.lemmas.Bool.{ltb-true}
 use Rattle.std.proofs.lemmas.List.FromFn.{length-map-range_with_len}
-use Rattle.btr_rack.specs.Image.{MemoryImage, bytes_in, page_byte}
-use Rattle.btr_rack.specs.Memory.{MemoryRack, held_of, slots_of}
+use Rattle.btr_rack.specs.Rack.{IsRack}
+use Rattle.btr_rack.specs.Image.{MemoryImage, Pages, bytes_in, kept_byte, page_byte}
+use Rattle.btr_rack.specs.Memory.{MemoryRack, held_of, slots_of, seen_of, is_calm, is_sure}
 
 sized : (images : List MemoryImage) → map length (map bytes_in images) ≡ map (λ slot. slot.len) (map (λ image. image.slot) images)
 sized [] = refl
 sized (image ∷ images) = λ i. length-map-range_with_len (page_byte image.pages) 0 image.slot.len i ∷ sized images i
 
--- the open images have the lengths of their slots
-pub sized_images : (rack : MemoryRack) → map length (held_of rack) ≡ map (λ slot. slot.len) (slots_of rack)
-sized_images rack = sized (take rack.opened rack.images)
+below : (n : ℕ) → n % 256 < 256
+below n = omega arith
+
+small : (pages : Pages) (from len : ℕ) → All (λ b. b < 256) (map (page_byte pages) (range_with_len from len))
+small pages from zero = λ k d lt. absurd (omega arith)
+small pages from (suc len) = All-cons (λ b. b < 256) (page_byte pages from) (map (page_byte pages) (range_with_len (from + 1) len)) (below (kept_byte pages from)) (small pages (from + 1) len)
+
+bytes : (images : List MemoryImage) → All (All (λ b. b < 256)) (map bytes_in images)
+bytes [] = λ k d lt. absurd (omega arith)
+bytes (image ∷ images) = All-cons (All (λ b. b < 256)) (bytes_in image) (map bytes_in images) (small image.pages 0 image.slot.len) (bytes images)
+
+calm : (calm? : Bool) (faults : ℕ) → (calm? && nat_lt faults (2 ^ 64 - 1)) ≡ true → faults < 2 ^ 64 - 1
+calm true faults e = ltb-true faults (2 ^ 64 - 1) e
+calm false faults e = cc
+
+-- what is seen of a rack in memory
+pub sound_rack : (rack : MemoryRack) → IsRack (seen_of rack)
+sound_rack rack = record { sized = sized (take rack.opened rack.images); bytes = bytes (take rack.opened rack.images); calm = calm (is_calm rack.failing) rack.account.faults }

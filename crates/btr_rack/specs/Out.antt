@@ -1,9 +1,8 @@
 -- What the calls of an output do.
-use Rattle.std.specs.Prelude.{◌≡◌, ℕ, ◌≤◌, List, [], ◌++◌, take, Option, Some, None, Result, Ok, Err}
+use Rattle.std.specs.Prelude.{◌≡◌, ℕ, ◌-◌, ◌^◌, ◌<◌, Bool, true, false, List, ◌++◌, take, Option, Some, None, Result, Ok, Err}
 use Rattle.btr_rack.specs.declared.error.SinkError.{SinkError}
 use Rattle.btr_rack.specs.declared.error.SinkError.TheVariants.{Failed, Memory}
 use Rattle.btr_rack.specs.Rack.{Rose}
-use Rattle.btr_rack.specs.Calls.{CallCount, no_calls}
 
 -- the bytes are added to the text, where it is told
 abbrev pub Adds : Option (List ℕ) → Option (List ℕ) → List ℕ → Type 0
@@ -15,16 +14,19 @@ abbrev pub Puts : {T : Type 0} → Option (List ℕ) → Option (List ℕ) → L
 Puts old new bytes (Ok _) = Adds old new bytes
 Puts old new bytes (Err _) = (n : ℕ) × Adds old new (take n bytes)
 
--- what a call does to the count of faults: it never falls, and rises where the call answers Failed
-abbrev pub Counts : {T : Type 0} → ℕ → ℕ → Result T SinkError → Type 0
-Counts before now (Ok _) = before ≤ now
-Counts before now (Err Failed) = Rose before now
-Counts before now (Err Memory) = before ≤ now
+-- The account of an output or a sink: how many calls failed, whether it is sure, so that no call is to fail, and whether it is ample, so that
+-- no call wants memory.
+pub record CallAccount : Type 0 where
+  pub faults : ℕ
+  pub sure : Bool
+  pub ample : Bool
 
--- an output in memory: its text, and its calls
-pub record MemoryOut : Type 0 where
-  pub text : List ℕ
-  pub calls : CallCount
+-- what a call does to the account: the count of faults rises where the call answers Failed, and only there
+abbrev pub Counts : {T : Type 0} → CallAccount → CallAccount → Result T SinkError → Type 0
+Counts old new (Ok _) = new ≡ old
+Counts old new (Err Failed) = (old.sure ≡ false) × Rose old.faults new.faults × (new ≡ record old { faults = new.faults })
+Counts old new (Err Memory) = (old.ample ≡ false) × (new ≡ old)
 
-abbrev pub empty_out : MemoryOut
-empty_out = record { text = []; calls = no_calls }
+-- the count of faults of a sure output or sink is below its type's last value
+abbrev pub IsCalm : CallAccount → Type 0
+IsCalm account = account.sure ≡ true → account.faults < 2 ^ 64 - 1

@@ -1,5 +1,5 @@
 -- What the calls of a rack of images do.
-use Rattle.std.specs.Prelude.{◌≡◌, ◌≢◌, ℕ, ◌+◌, ◌-◌, ◌^◌, ◌≤◌, ◌<◌, min, Bool, true, false, List, [], ◌∷◌, ◌++◌, length, take, drop, slice_index_or, slice_range, slice_set, Option, Some, None, Result, Ok, Err, ⊤}
+use Rattle.std.specs.Prelude.{◌≡◌, ◌≢◌, ℕ, ◌+◌, ◌-◌, ◌^◌, ◌≤◌, ◌<◌, ◌==◌, min, Bool, true, false, not, List, [], ◌∷◌, ◌++◌, length, map, filter, take, drop, All, slice_index_or, slice_range, slice_set, Option, Some, None, IfSome, Result, Ok, Err, ⊤}
 use Rattle.btr_rack.specs.declared.error.RackError.{RackError}
 use Rattle.btr_rack.specs.declared.error.RackError.TheVariants.{Failed, Memory}
 use Rattle.btr_rack.specs.declared.place.Place.{Place}
@@ -80,9 +80,9 @@ Rose before now = (before ≤ now) × (next_count before ≤ now)
 abbrev pub Steady : ℕ → ℕ → Type 0
 Steady before now = (now ≤ before) × (now < 2 ^ 64 - 1)
 
--- no call failed
+-- no call failed: the account is as before
 pub record NoneFailed (old new : Account) : Type 0 where
-  pub faults : old.faults ≤ new.faults
+  pub faults : new.faults ≡ old.faults
   pub fresh : new.fresh ≡ old.fresh
   pub missed : new.missed ≡ old.missed
   pub last : new.last ≡ old.last
@@ -136,6 +136,62 @@ abbrev pub Writes : {T : Type 0} → ℕ → ℕ → List ℕ → Option (List (
 Writes slot off bytes None new result = new ≡ None
 Writes slot off bytes (Some images) new (Ok _) = new ≡ Some (written images slot off bytes)
 Writes slot off bytes (Some images) new (Err _) = (some : List ℕ) × (length some ≡ length bytes) × (new ≡ Some (written images slot off some))
+
+-- What is seen of a rack: the opened images, in the order of their opening; their bytes, and the images that may be opened, where it tells
+-- them; the ranges that were written since the last sync of their image; whether it is sure, so that no call is to fail; and the calls that failed.
+pub record Seen : Type 0 where
+  pub slots : List Slot
+  pub held : Option (List (List ℕ))
+  pub shelf : Option Shelf
+  pub unsynced : List Place
+  pub sure : Bool
+  pub account : Account
+
+-- only the account may have changed
+abbrev pub OnlyCounts : Seen → Seen → Type 0
+OnlyCounts old new = new ≡ record old { account = new.account }
+
+-- The images were only read: they and all else but the account are as before. No opening failed, and the count of faults never falls.
+pub record OnlyReads (old new : Seen) : Type 0 where
+  pub same : OnlyCounts old new
+  pub later : old.account.faults ≤ new.account.faults
+  pub same_shut : new.account.shut ≡ old.account.shut
+
+-- the account without the number and the places of the failed calls
+abbrev pub forgotten : Account → Account
+forgotten account = record account { fresh = 0; missed = [] }
+
+-- A sure rack opens what stands on its shelf, and stays sure. The only fault that it answers is that of an image that isn't there.
+abbrev pub OpensSurely : {T : Type 0} → List ℕ → Seen → Seen → Result T RackError → Type 0
+OpensSurely name old new (Ok _) = new.sure ≡ old.sure
+OpensSurely name old new (Err Failed) = old.sure ≡ true → IfSome old.shelf (λ shelf. shelf name ≡ None)
+OpensSurely name old new (Err Memory) = new.sure ≡ old.sure
+
+-- a sure rack answers no fault
+abbrev pub FailsUnsure : {T : Type 0} → Bool → Result T RackError → Type 0
+FailsUnsure sure (Ok _) = ⊤
+FailsUnsure sure (Err Failed) = sure ≡ false
+FailsUnsure sure (Err Memory) = ⊤
+
+-- what a write does beside the image's bytes: its range waits for a sync, whatever became of it
+abbrev pub Unsyncs : Place → Seen → Seen → Type 0
+Unsyncs range old new = new ≡ record old { held = new.held; unsynced = old.unsynced ++ range ∷ []; account = new.account }
+
+-- the ranges of the other slots
+abbrev pub in_others : ℕ → List Place → List Place
+in_others slot ranges = filter (λ range. not (range.slot == slot)) ranges
+
+-- what a sync does: at Ok nothing of the slot waits any more
+abbrev pub Syncs : {T : Type 0} → ℕ → Seen → Seen → Result T RackError → Type 0
+Syncs slot old new (Ok _) = new ≡ record old { unsynced = in_others slot old.unsynced; account = new.account }
+Syncs slot old new (Err _) = OnlyCounts old new
+
+-- What holds of every rack that can be seen: the opened images have the lengths of their slots, what is told are bytes, and the count of faults
+-- of a sure rack is below its type's last value.
+pub record IsRack (seen : Seen) : Type 0 where
+  pub sized : IfSome seen.held (λ images. map length images ≡ map (λ slot. slot.len) seen.slots)
+  pub bytes : IfSome seen.held (λ images. All (All (λ b. b < 256)) images)
+  pub calm : seen.sure ≡ true → seen.account.faults < 2 ^ 64 - 1
 
 -- a call fails exactly where the test says so; want of memory comes freely
 abbrev pub FailsWhere : {T : Type 0} → Bool → Result T RackError → Type 0

@@ -1,10 +1,10 @@
 // The account of the failed calls of a rack.
-ghost use Rattle.std.specs.Prelude.{◌≡◌, [], Some, None};
-ghost use Rattle.btr_rack.specs.Rack.{OneFailed, next_count, no_failure};
+ghost use Rattle.std.specs.Prelude.{◌≡◌, Some, None};
+ghost use Rattle.btr_rack.specs.Rack.{OneFailed, forgotten, next_count, no_failure};
 
-use crate::missed::Missed;
 use crate::opening::Opening;
 use crate::place::Place;
+use crate::place_list::PlaceList;
 use std::marker::Model;
 
 /// The failed calls of a rack. Clauses see it as an `Account`.
@@ -15,7 +15,7 @@ pub(crate) struct Ledger {
     shut: u64,
     last: Place,
     opening: Option<Opening>,
-    missed: Missed,
+    missed: PlaceList,
 }
 
 impl Model for Ledger {
@@ -40,7 +40,7 @@ impl Ledger {
                 len: 0,
             },
             opening: None,
-            missed: Missed::new(),
+            missed: PlaceList::new(),
         }
     }
 
@@ -52,7 +52,7 @@ impl Ledger {
     {
         self.faults = self.faults.saturating_add(1);
         self.fresh = self.fresh.saturating_add(1);
-        self.missed = Missed::with(&self.missed, &place);
+        self.missed = PlaceList::with(&self.missed, &place);
         self.last = place;
         self.opening = None;
     }
@@ -69,9 +69,9 @@ impl Ledger {
     }
 
     pub(crate) fn forget(&mut self)
-        ensures { self.new ≡ record self.old { fresh = 0; missed = [] } }
+        ensures { self.new ≡ forgotten self.old }
     {
         self.fresh = 0;
-        self.missed = Missed::new();
+        self.missed = PlaceList::new();
     }
 }

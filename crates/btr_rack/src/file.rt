@@ -5,6 +5,7 @@ use crate::account::Ledger;
 use crate::opened::{OpenedFile, length_of};
 use crate::opening::Opening;
 use crate::place::Place;
+use crate::place_list::PlaceList;
 use crate::{Rack, RackError};
 use std::alloc::Global;
 use std::fs::File;
@@ -16,6 +17,7 @@ pub struct FileRack<R: Files<File = File> + Drop> {
     rt: R,
     alloc: Global,
     files: Vec<OpenedFile>,
+    unsynced: PlaceList,
     ledger: Ledger,
 }
 
@@ -28,21 +30,19 @@ impl<R: Files<File = File> + Drop> FileRack<R> {
             rt,
             alloc,
             files: Vec::new(alloc),
+            unsynced: PlaceList::new(),
             ledger: Ledger::new(),
         }
     }
 }
 
 impl<R: Files<File = File> + Drop> Rack for FileRack<R> {
-    ghost slots = { λ rack. rack.files.items };
+    ghost use Rattle.std.specs.Prelude.{None, false};
+    ghost use Rattle.btr_rack.specs.FileRack.{sound_files};
 
-    ghost held = { λ rack. None };
+    ghost seen = { λ rack. record { slots = rack.files.items; held = None; shelf = None; unsynced = rack.unsynced.places; sure = false; account = rack.ledger } };
 
-    ghost shelf = { λ rack. None };
-
-    ghost account = { λ rack. rack.ledger };
-
-    ghost sized = { λ rack. tt };
+    ghost sound = { λ rack. sound_files rack.files.items rack.unsynced.places rack.ledger };
 
     fn open(&mut self, name: &str, write: bool) -> Result<usize, RackError> {
         let slot = self.files.len();
@@ -84,20 +84,24 @@ impl<R: Files<File = File> + Drop> Rack for FileRack<R> {
 
     fn write_at(&mut self, slot: usize, off: u64, bytes: &[u8]) -> Result<(), RackError> {
         let len = bytes.len() as u64;
+        let place = Place { slot, off, len };
+        self.unsynced = PlaceList::with(&self.unsynced, &place);
         let file = &self.files[slot];
         let _end = file.len();
         if file.store(off, bytes) {
             return Ok(());
         }
-        self.ledger.fail(Place { slot, off, len });
+        self.ledger.fail(place);
         Err(RackError::Failed)
     }
 
     fn sync(&mut self, slot: usize) -> Result<(), RackError> {
+        let place = Place::of_slot(slot);
         if self.files[slot].sync() {
+            self.unsynced = PlaceList::without(&self.unsynced, &place);
             return Ok(());
         }
-        self.ledger.fail(Place::of_slot(slot));
+        self.ledger.fail(place);
         Err(RackError::Failed)
     }
 

@@ -1,5 +1,6 @@
 // A sink that is a real folder. It tells no content.
-ghost use Rattle.std.specs.Prelude.{◌≡◌, None, Err};
+ghost use Rattle.std.specs.Prelude.{◌≡◌, None, Err, true, false};
+ghost use Rattle.btr_rack.specs.CallsLaws.{unsure_calm};
 ghost use Rattle.std.specs.Option.{option_map};
 ghost use Rattle.btr_rack.specs.Rack.{Rose};
 ghost use Rattle.btr_rack.specs.FolderTree.{folder_sink, folder_sound, without_file};
@@ -75,7 +76,9 @@ fn close(at: &mut Option<Destination>)
 impl<R: Files<File = File> + Env + Drop> TreeSink for FolderTree<R> {
     ghost sink = { λ t. folder_sink t.at };
 
-    ghost faults = { λ t. t.faults };
+    ghost account = { λ t. record { faults = t.faults; sure = false; ample = true } };
+
+    ghost calm = { λ t. unsure_calm t.faults true };
 
     ghost sound = { λ t. folder_sound t.at };
 

@@ -2,7 +2,7 @@
 ghost use Rattle.std.specs.Prelude.{◌≡◌, ℕ, ◌+◌, ◌-◌, ◌*◌, ◌/◌, ◌%◌, ◌^◌, ◌<◌, ◌≤◌, List, length, take, slice_get, slice_index, slice_range, replicate, if◌then◌else◌, IsTrue, OnOk, OnErr, IfOk, ◌↔◌};
 ghost use Rattle.std.specs.Option.{option_copied};
 ghost use Rattle.btr_rack.specs.Rack.{pasted};
-ghost use Rattle.btr_rack.specs.Image.{bytes_in, page_byte, patched, page_at, is_named, opened_for, shortened, zeros, Patches, PastesSome};
+ghost use Rattle.btr_rack.specs.Image.{bytes_in, kept_byte, patched, page_at, is_named, opened_for, shortened, zeros, Patches, PastesSome};
 
 use btr_base::Memory;
 use std::alloc::Global;
@@ -83,7 +83,10 @@ impl Image {
         ensures { result ≡ slice_get (bytes_in self.now) at }
     {
         if at < self.len {
-            Some(page_of(&self.pages, at / PAGE_SIZE as u64)[at as usize % PAGE_SIZE])
+            Some(byte_of(
+                page_of(&self.pages, at / PAGE_SIZE as u64),
+                at as usize % PAGE_SIZE,
+            ))
         } else {
             None
         }
@@ -150,12 +153,19 @@ fn page_of_byte(byte: u8) -> Page
 }
 
 fn page_of(pages: &BTreeMap<u64, Page>, index: u64) -> Page
-    ensures { (k : ℕ) → k < 4096 → slice_index result k ≡ page_byte pages.now.entries (4096 * index + k) }
+    ensures { (k : ℕ) → k < 4096 → slice_index result k ≡ kept_byte pages.now.entries (4096 * index + k) }
 {
     match pages.get(&index) {
         Some(page) => *page,
         None => page_of_byte(0),
     }
+}
+
+fn byte_of(page: Page, within: usize) -> u8
+    requires { within < 4096 }
+    ensures { result ≡ slice_index page within }
+{
+    page[within]
 }
 
 // A page with a piece written over its bytes.
@@ -171,7 +181,7 @@ fn page_with(mut page: Page, within: usize, piece: &[u8]) -> Page
 fn write_page(pages: &mut BTreeMap<u64, Page>, at: u64, piece: &[u8]) -> Result<(), Memory>
     requires { at % 4096 + length piece.now ≤ 4096 }
     ensures written { OnOk result (Patches pages.old.entries pages.new.entries at piece.now) }
-    ensures refused { OnErr result ((i : ℕ) → page_byte pages.new.entries i ≡ page_byte pages.old.entries i) }
+    ensures refused { OnErr result ((i : ℕ) → kept_byte pages.new.entries i ≡ kept_byte pages.old.entries i) }
 {
     let index = at / PAGE_SIZE as u64;
     let page = page_with(page_of(pages, index), at as usize % PAGE_SIZE, piece);
@@ -209,7 +219,7 @@ fn write_pages(pages: &mut BTreeMap<u64, Page>, off: u64, bytes: &[u8]) -> Resul
 // Fills the buffer from one page.
 fn read_page(pages: &BTreeMap<u64, Page>, at: u64, buf: &mut [u8])
     requires { at % 4096 + length buf.old ≤ 4096 }
-    ensures { (k : ℕ) → k < length buf.old → slice_index buf.new k ≡ page_byte pages.now.entries (at + k) }
+    ensures { (k : ℕ) → k < length buf.old → slice_index buf.new k ≡ kept_byte pages.now.entries (at + k) }
 {
     let within = at as usize % PAGE_SIZE;
     match pages.get(&(at / PAGE_SIZE as u64)) {
@@ -221,7 +231,7 @@ fn read_page(pages: &BTreeMap<u64, Page>, at: u64, buf: &mut [u8])
 // Fills the buffer with the bytes from `off` on.
 fn read_pages(pages: &BTreeMap<u64, Page>, off: u64, buf: &mut [u8])
     requires { off + length buf.old < 2 ^ 63 }
-    ensures { (k : ℕ) → k < length buf.old → slice_index buf.new k ≡ page_byte pages.now.entries (off + k) }
+    ensures { (k : ℕ) → k < length buf.old → slice_index buf.new k ≡ kept_byte pages.now.entries (off + k) }
 {
     let mut done = 0;
     while done < buf.len() {

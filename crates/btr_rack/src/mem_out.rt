@@ -1,7 +1,9 @@
 // An output in memory.
 ghost use Rattle.std.specs.Prelude.{◌≡◌, Some, OnOk, OnErr};
-ghost use Rattle.btr_rack.specs.Out.{Puts, Counts, empty_out};
-ghost use Rattle.btr_rack.specs.Calls.{failing_call, CallsOnce};
+ghost use Rattle.btr_rack.specs.MemOut.{empty_out};
+ghost use Rattle.btr_rack.specs.Out.{Puts, Counts};
+ghost use Rattle.btr_rack.specs.Calls.{account_of, failing_call, CallsOnce};
+ghost use Rattle.btr_rack.specs.CallsLaws.{calm_calls};
 
 use crate::calls::Calls;
 use crate::{Out, SinkError};
@@ -17,7 +19,7 @@ pub struct MemOut {
 }
 
 impl Model for MemOut {
-    ghost use Rattle.btr_rack.specs.Out.{MemoryOut};
+    ghost use Rattle.btr_rack.specs.MemOut.{MemoryOut};
 
     ghost Value = { MemoryOut };
 
@@ -54,12 +56,14 @@ impl MemOut {
 impl Out for MemOut {
     ghost text = { λ out. Some out.text };
 
-    ghost faults = { λ out. out.calls.faults };
+    ghost account = { λ out. account_of out.calls };
+
+    ghost calm = { λ out. calm_calls out.calls };
 
     // A call that is made to fail changes nothing but the count of faults.
     fn put(&mut self, bytes: &[u8]) -> Result<(), SinkError>
         ensures text { Puts (Some self.old.text) (Some self.new.text) bytes.now result }
-        ensures faults { Counts self.old.calls.faults self.new.calls.faults result }
+        ensures account { Counts (account_of self.old.calls) (account_of self.new.calls) result }
         ensures calls { CallsOnce self.old.calls self.new.calls result }
         ensures refused { OnErr result (self.new.text ≡ self.old.text) }
     {

@@ -2,8 +2,8 @@
 ghost use Rattle.std.specs.Prelude.{◌≡◌, ◌+◌, ◌<◌, ◌≤◌, ◌^◌, ◌↔◌, ◌||◌, [], Some, IsSome, is_none, OnOk, OnErr, Err, IsErrOf, slice_get, length};
 ghost use Rattle.std.specs.Option.{option_and_then, option_copied};
 ghost use Rattle.btr_rack.specs.Image.{zeros};
-ghost use Rattle.btr_rack.specs.Rack.{opening_of, range_in, len_of, bytes_of, Opens, Takes, Writes, Accounts, AccountsOpening, FailsWhere};
-ghost use Rattle.btr_rack.specs.Memory.{empty_rack, nothing_fails, after_call, after_write, call_strikes, write_strikes, hits, named, named_page, slots_of, held_of, shelf_of, with_image, with_failing, with_counts, failing_call, failing_write, failing_range, tearing, Pokes, Cuts, Tears};
+ghost use Rattle.btr_rack.specs.Rack.{opening_of, range_in, len_of, bytes_of, forgotten, Opens, OpensSurely, Takes, OnlyCounts, Writes, Unsyncs, Syncs, Accounts, AccountsOpening, FailsWhere, FailsUnsure};
+ghost use Rattle.btr_rack.specs.Memory.{empty_rack, nothing_fails, after_call, after_write, call_strikes, write_strikes, hits, named, named_page, slots_of, held_of, shelf_of, seen_of, is_sure, with_image, with_failing, with_counts, failing_call, failing_write, failing_range, tearing, Pokes, Cuts, Tears};
 
 use crate::account::Ledger;
 use crate::failing::Failing;
@@ -13,6 +13,7 @@ use crate::images::{
 };
 use crate::opening::Opening;
 use crate::place::Place;
+use crate::place_list::PlaceList;
 use crate::{AddError, PokeError, Rack, RackError};
 use btr_base::Memory;
 use std::alloc::Global;
@@ -26,6 +27,7 @@ pub struct MemRack {
     images: Vec<Image>,
     opened: usize,
     failing: Failing,
+    unsynced: PlaceList,
     ledger: Ledger,
 }
 
@@ -35,7 +37,7 @@ impl Model for MemRack {
 
     ghost Value = { MemoryRack };
 
-    ghost view = { λ r. record { images = r.images.items; opened = r.opened; failing = r.failing; account = r.ledger } };
+    ghost view = { λ r. record { images = r.images.items; opened = r.opened; failing = r.failing; unsynced = r.unsynced.places; account = r.ledger } };
 
     ghost invariant = { λ r. r.opened ≤ length r.images.items };
 }
@@ -50,6 +52,7 @@ impl MemRack {
             images: Vec::new(alloc),
             opened: 0,
             failing: Failing::new(alloc),
+            unsynced: PlaceList::new(),
             ledger: Ledger::new(),
         }
     }
@@ -122,11 +125,12 @@ impl MemRack {
     }
 
     /// Puts every image back on the shelf. Nothing is to fail any more, and calls and writes are counted anew;
-    /// the account of the failed calls stays.
+    /// nothing waits for a sync; the account of the failed calls stays.
     pub fn close_all(&mut self)
-        ensures { self.new ≡ record self.old { opened = 0; failing = nothing_fails } }
+        ensures { self.new ≡ record self.old { opened = 0; failing = nothing_fails; unsynced = [] } }
     {
         self.opened = 0;
+        self.unsynced = PlaceList::new();
         self.failing.clear();
     }
 
@@ -163,24 +167,19 @@ impl MemRack {
 }
 
 impl Rack for MemRack {
-    ghost use Rattle.std.specs.Prelude.{Some};
-    ghost use Rattle.btr_rack.specs.Memory.{slots_of, held_of, shelf_of};
-    ghost use Rattle.btr_rack.specs.MemoryLaws.{sized_images};
+    ghost use Rattle.btr_rack.specs.Memory.{seen_of};
+    ghost use Rattle.btr_rack.specs.MemoryLaws.{sound_rack};
 
-    ghost slots = { slots_of };
+    ghost seen = { seen_of };
 
-    ghost held = { λ rack. Some (held_of rack) };
-
-    ghost shelf = { λ rack. Some (shelf_of rack) };
-
-    ghost account = { λ rack. rack.account };
-
-    ghost sized = { sized_images };
+    ghost sound = { sound_rack };
 
     fn open(&mut self, name: &str, write: bool) -> Result<usize, RackError>
         ensures slots { Opens name.now write (slots_of self.old) (slots_of self.new) result }
         ensures images { Takes name.now (Some (shelf_of self.old)) (Some (shelf_of self.new)) (Some (held_of self.old)) (Some (held_of self.new)) result }
+        ensures unsynced { self.new.unsynced ≡ self.old.unsynced }
         ensures account { AccountsOpening (opening_of name.now write) (range_in (length (slots_of self.old)) 0 0) self.old.account self.new.account result }
+        ensures sure { OpensSurely name.now (seen_of self.old) (seen_of self.new) result }
         ensures calls { self.new.failing ≡ after_call self.old.failing }
 
         // It fails exactly where it is made to, or where the name is open or isn't on the shelf.
@@ -217,10 +216,12 @@ impl Rack for MemRack {
         requires range { off + length buf.old ≤ len_of (slots_of self.old) slot }
         ensures bytes { OnOk result (buf.new ≡ bytes_of (held_of self.old) slot off (length buf.old)) }
         ensures account { Accounts (range_in slot off (length buf.old)) self.old.account self.new.account result }
-        ensures same { self.new ≡ with_counts (after_call self.old.failing) self.new.account self.old }
+        ensures same { OnlyCounts (seen_of self.old) (seen_of self.new) }
+        ensures counts { self.new ≡ with_counts (after_call self.old.failing) self.new.account self.old }
 
         // It fails exactly where it is made to.
         ensures fails { FailsWhere (call_strikes self.old.failing || hits self.old slot off (length buf.old)) result }
+        ensures sure { FailsUnsure (is_sure self.old) result }
         ensures memory { IsErrOf result RackError.Memory → ⊥ }
     {
         let len = buf.len() as u64;
@@ -238,9 +239,9 @@ impl Rack for MemRack {
         requires open { slot < length (slots_of self.old) }
         requires range { off + length bytes.now ≤ len_of (slots_of self.old) slot }
         ensures held { Writes slot off bytes.now (Some (held_of self.old)) (Some (held_of self.new)) result }
-        ensures slots { slots_of self.new ≡ slots_of self.old }
-        ensures shelf { Some (shelf_of self.new) ≡ Some (shelf_of self.old) }
+        ensures rest { Unsyncs (range_in slot off (length bytes.now)) (seen_of self.old) (seen_of self.new) }
         ensures account { Accounts (range_in slot off (length bytes.now)) self.old.account self.new.account result }
+        ensures sure { FailsUnsure (is_sure self.old) result }
         ensures calls { self.new.failing ≡ after_write self.old.failing }
 
         // It fails exactly where it is made to, and then leaves the tear, or what stood there.
@@ -248,13 +249,15 @@ impl Rack for MemRack {
         ensures torn { Tears self.old.failing.tear slot off (length bytes.now) (held_of self.old) (held_of self.new) result }
     {
         let len = bytes.len() as u64;
+        let place = Place { slot, off, len };
+        self.unsynced = PlaceList::with(&self.unsynced, &place);
         let struck = self.failing.write();
         if struck || self.failing.meets(self.images[slot].name(), off, len) {
             let tear = self.failing.tear();
             let Ok(()) = tear_image(&mut self.images, slot, off, bytes.len(), tear) else {
                 return Err(RackError::Memory);
             };
-            self.ledger.fail(Place { slot, off, len });
+            self.ledger.fail(place);
             return Err(RackError::Failed);
         }
         let Ok(()) = write_image(&mut self.images, slot, off, bytes) else {
@@ -264,22 +267,26 @@ impl Rack for MemRack {
     }
 
     fn sync(&mut self, slot: usize) -> Result<(), RackError>
+        ensures synced { Syncs slot (seen_of self.old) (seen_of self.new) result }
         ensures account { Accounts (range_in slot 0 0) self.old.account self.new.account result }
-        ensures same { self.new ≡ with_counts (after_call self.old.failing) self.new.account self.old }
+        ensures counts { record self.new { unsynced = self.old.unsynced } ≡ with_counts (after_call self.old.failing) self.new.account self.old }
 
         // It fails exactly where it is made to.
         ensures fails { FailsWhere (call_strikes self.old.failing) result }
+        ensures sure { FailsUnsure (is_sure self.old) result }
         ensures memory { IsErrOf result RackError.Memory → ⊥ }
     {
+        let place = Place::of_slot(slot);
         if self.failing.call() {
-            self.ledger.fail(Place::of_slot(slot));
+            self.ledger.fail(place);
             return Err(RackError::Failed);
         }
+        self.unsynced = PlaceList::without(&self.unsynced, &place);
         Ok(())
     }
 
     fn forget(&mut self)
-        ensures { self.new ≡ record self.old { account = record self.old.account { fresh = 0; missed = [] } } }
+        ensures { self.new ≡ record self.old { account = forgotten self.old.account } }
     {
         self.ledger.forget();
     }

@@ -3,7 +3,8 @@ ghost use Rattle.std.specs.Prelude.{◌≡◌, ◌<◌, ◌++◌, [], ◌∷◌,
 ghost use Rattle.std.specs.Option.{option_copied};
 ghost use Rattle.std.specs.Vec.{vec_capacity};
 ghost use Rattle.btr_rack.specs.Out.{Counts};
-ghost use Rattle.btr_rack.specs.Calls.{failing_call, CallsOnce};
+ghost use Rattle.btr_rack.specs.Calls.{account_of, failing_call, CallsOnce};
+ghost use Rattle.btr_rack.specs.CallsLaws.{calm_calls};
 ghost use Rattle.btr_rack.specs.Sink.{NotStarted, BetweenFiles, InFile, Steps, Grows, started, entered, left, begun, finished, longer};
 ghost use Rattle.btr_rack.specs.MemTree.{empty_tree, stage_of, depth_of, sink_of};
 ghost use Rattle.btr_rack.specs.MemTreeLaws.{sound_tree};
@@ -109,14 +110,16 @@ fn append_zeros(part: &mut Part, count: u64) -> Result<(), SinkError>
 impl TreeSink for MemTree {
     ghost sink = { λ t. sink_of t.tree };
 
-    ghost faults = { λ t. t.calls.faults };
+    ghost account = { λ t. account_of t.calls };
+
+    ghost calm = { λ t. calm_calls t.calls };
 
     ghost sound = { λ t. sound_tree t.tree };
 
     fn start(&mut self, name: &str) -> Result<(), SinkError>
         requires { stage_of self.old.tree.rows self.old.tree.part ≡ NotStarted }
         ensures step { Steps (started name.now) (sink_of self.old.tree) (sink_of self.new.tree) result }
-        ensures faults { Counts self.old.calls.faults self.new.calls.faults result }
+        ensures account { Counts (account_of self.old.calls) (account_of self.new.calls) result }
         ensures calls { CallsOnce self.old.calls self.new.calls result }
     {
         if self.calls.next_fails() {
@@ -131,7 +134,7 @@ impl TreeSink for MemTree {
     fn dir(&mut self, name: &str) -> Result<(), SinkError>
         requires { stage_of self.old.tree.rows self.old.tree.part ≡ BetweenFiles }
         ensures step { Steps (entered name.now) (sink_of self.old.tree) (sink_of self.new.tree) result }
-        ensures faults { Counts self.old.calls.faults self.new.calls.faults result }
+        ensures account { Counts (account_of self.old.calls) (account_of self.new.calls) result }
         ensures calls { CallsOnce self.old.calls self.new.calls result }
     {
         if self.calls.next_fails() {
@@ -147,7 +150,7 @@ impl TreeSink for MemTree {
         requires between { stage_of self.old.tree.rows self.old.tree.part ≡ BetweenFiles }
         requires below { 0 < depth_of self.old.tree.rows }
         ensures step { Steps left (sink_of self.old.tree) (sink_of self.new.tree) result }
-        ensures faults { Counts self.old.calls.faults self.new.calls.faults result }
+        ensures account { Counts (account_of self.old.calls) (account_of self.new.calls) result }
         ensures calls { CallsOnce self.old.calls self.new.calls result }
     {
         if self.calls.next_fails() {
@@ -159,7 +162,7 @@ impl TreeSink for MemTree {
     fn file(&mut self, name: &str) -> Result<(), SinkError>
         requires { stage_of self.old.tree.rows self.old.tree.part ≡ BetweenFiles }
         ensures step { Steps (begun name.now) (sink_of self.old.tree) (sink_of self.new.tree) result }
-        ensures faults { Counts self.old.calls.faults self.new.calls.faults result }
+        ensures account { Counts (account_of self.old.calls) (account_of self.new.calls) result }
         ensures calls { CallsOnce self.old.calls self.new.calls result }
     {
         if self.calls.next_fails() {
@@ -178,7 +181,8 @@ impl TreeSink for MemTree {
     fn put(&mut self, bytes: &[u8]) -> Result<(), SinkError>
         requires { stage_of self.old.tree.rows self.old.tree.part ≡ InFile }
         ensures step { Grows bytes.now (sink_of self.old.tree) (sink_of self.new.tree) result }
-        ensures faults { Counts self.old.calls.faults self.new.calls.faults result }
+        ensures refused { OnErr result (self.new.tree ≡ self.old.tree) }
+        ensures account { Counts (account_of self.old.calls) (account_of self.new.calls) result }
         ensures calls { CallsOnce self.old.calls self.new.calls result }
     {
         if self.calls.next_fails() {
@@ -193,7 +197,8 @@ impl TreeSink for MemTree {
     fn gap(&mut self, count: u64) -> Result<(), SinkError>
         requires { stage_of self.old.tree.rows self.old.tree.part ≡ InFile }
         ensures step { Grows (replicate count 0) (sink_of self.old.tree) (sink_of self.new.tree) result }
-        ensures faults { Counts self.old.calls.faults self.new.calls.faults result }
+        ensures refused { OnErr result (self.new.tree ≡ self.old.tree) }
+        ensures account { Counts (account_of self.old.calls) (account_of self.new.calls) result }
         ensures calls { CallsOnce self.old.calls self.new.calls result }
     {
         if self.calls.next_fails() {
@@ -208,7 +213,7 @@ impl TreeSink for MemTree {
     fn done(&mut self) -> Result<(), SinkError>
         requires { stage_of self.old.tree.rows self.old.tree.part ≡ InFile }
         ensures step { Steps finished (sink_of self.old.tree) (sink_of self.new.tree) result }
-        ensures faults { Counts self.old.calls.faults self.new.calls.faults result }
+        ensures account { Counts (account_of self.old.calls) (account_of self.new.calls) result }
         ensures calls { CallsOnce self.old.calls self.new.calls result }
     {
         if self.calls.next_fails() {

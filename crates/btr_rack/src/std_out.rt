@@ -1,5 +1,6 @@
 // The standard output. It tells no content.
-ghost use Rattle.std.specs.Prelude.{◌≡◌, None};
+ghost use Rattle.std.specs.Prelude.{◌≡◌, None, true, false};
+ghost use Rattle.btr_rack.specs.CallsLaws.{unsure_calm};
 
 use crate::{Out, SinkError};
 
@@ -22,7 +23,9 @@ impl<R: Print + Drop> StdOut<R> {
 impl<R: Print + Drop> Out for StdOut<R> {
     ghost text = { λ out. None };
 
-    ghost faults = { λ out. out.faults };
+    ghost account = { λ out. record { faults = out.faults; sure = false; ample = true } };
+
+    ghost calm = { λ out. unsure_calm out.faults true };
 
     fn put(&mut self, bytes: &[u8]) -> Result<(), SinkError> {
         let Ok(()) = self.rt.write_all(bytes) else {

@@ -1,6 +1,6 @@
 // A sink of folders and files, as the engine sees it.
 ghost use Rattle.std.specs.Prelude.{◌≡◌, ◌≢◌, ◌<◌, ℕ, [], length, replicate};
-ghost use Rattle.btr_rack.specs.Out.{Counts};
+ghost use Rattle.btr_rack.specs.Out.{CallAccount, IsCalm, Counts};
 ghost use Rattle.btr_rack.specs.Sink.{Sink, NotStarted, BetweenFiles, InFile, Steps, Grows, IsSound, started, entered, left, begun, finished};
 
 use crate::SinkError;
@@ -11,54 +11,57 @@ pub trait TreeSink {
     /// Where the sink stands, and what was written, where it tells that.
     ghost sink: { Self → Sink };
 
-    /// How often a call failed.
-    ghost faults: { Self → ℕ };
+    /// How often a call failed, and whether one is to fail or to want memory.
+    ghost account: { Self → CallAccount };
 
     /// Begins in the destination folder.
     fn start(&mut self, name: &str) -> Result<(), SinkError>
         requires { (sink self.old).stage ≡ NotStarted }
         ensures step { Steps (started name.now) (sink self.old) (sink self.new) result }
-        ensures faults { Counts (faults self.old) (faults self.new) result };
+        ensures account { Counts (account self.old) (account self.new) result };
 
     /// Makes a folder and enters it.
     fn dir(&mut self, name: &str) -> Result<(), SinkError>
         requires { (sink self.old).stage ≡ BetweenFiles }
         ensures step { Steps (entered name.now) (sink self.old) (sink self.new) result }
-        ensures faults { Counts (faults self.old) (faults self.new) result };
+        ensures account { Counts (account self.old) (account self.new) result };
 
     /// Leaves a folder.
     fn up(&mut self) -> Result<(), SinkError>
         requires between { (sink self.old).stage ≡ BetweenFiles }
         requires below { 0 < (sink self.old).depth }
         ensures step { Steps left (sink self.old) (sink self.new) result }
-        ensures faults { Counts (faults self.old) (faults self.new) result };
+        ensures account { Counts (account self.old) (account self.new) result };
 
     /// Begins an empty file.
     fn file(&mut self, name: &str) -> Result<(), SinkError>
         requires { (sink self.old).stage ≡ BetweenFiles }
         ensures step { Steps (begun name.now) (sink self.old) (sink self.new) result }
-        ensures faults { Counts (faults self.old) (faults self.new) result };
+        ensures account { Counts (account self.old) (account self.new) result };
 
     /// Appends bytes to the file. After a refusal a first part of them may stand there.
     fn put(&mut self, bytes: &[u8]) -> Result<(), SinkError>
         requires begun { (sink self.old).stage ≡ InFile }
         requires some { bytes.now ≢ [] }
         ensures step { Grows bytes.now (sink self.old) (sink self.new) result }
-        ensures faults { Counts (faults self.old) (faults self.new) result };
+        ensures account { Counts (account self.old) (account self.new) result };
 
     /// Appends zeros to the file. After a refusal some of them may stand there.
     fn gap(&mut self, count: u64) -> Result<(), SinkError>
         requires begun { (sink self.old).stage ≡ InFile }
         requires some { 0 < count }
         ensures step { Grows (replicate count 0) (sink self.old) (sink self.new) result }
-        ensures faults { Counts (faults self.old) (faults self.new) result };
+        ensures account { Counts (account self.old) (account self.new) result };
 
     /// Finishes the file.
     fn done(&mut self) -> Result<(), SinkError>
         requires { (sink self.old).stage ≡ InFile }
         ensures step { Steps finished (sink self.old) (sink self.new) result }
-        ensures faults { Counts (faults self.old) (faults self.new) result };
+        ensures account { Counts (account self.old) (account self.new) result };
 
     /// A file is unfinished exactly in a file, and nothing was written before the start.
     ghost sound: { (s : Self) → IsSound (sink s) };
+
+    /// The count of faults of a sure sink is below its type's last value.
+    ghost calm: { (s : Self) → IsCalm (account s) };
 }
