@@ -1,6 +1,6 @@
 // The superblock of a slot.
-ghost use Rattle.std.specs.Prelude.{◌≡◌, ◌≢◌, ◌+◌, ◌<◌, ◌≤◌, ℕ, [], ◌∷◌, ◌++◌, List, Ok, Err, length, slice_get, slice_range, IfSome, IfOk, IfErr, ◌^◌, IsErrOf, OnOk, OnErr, Option, Result, Some, None, MatchOption};
-ghost use Rattle.btr_rack.specs.Rack.{image_of, len_of, Rose, NoneFailed, Account};
+ghost use Rattle.std.specs.Prelude.{false, ◌≡◌, ◌≢◌, ◌+◌, ◌<◌, ◌≤◌, ℕ, [], ◌∷◌, ◌++◌, List, Ok, Err, length, slice_get, slice_range, IfSome, IfOk, IfErr, ◌^◌, IsErrOf, OnOk, OnErr, Option, Result, Some, None, MatchOption};
+ghost use Rattle.btr_rack.specs.Rack.{image_of, len_of, OnlyCounts};
 ghost use Rattle.btr_base.specs.Field.{bytes_at};
 ghost use Rattle.btr_super.specs.Slot.{Answers, FailedAt, FailedAtPlace, IsSoFar, image_super, kind_then, places, standing, slot_answer, sum_kind};
 
@@ -16,13 +16,12 @@ fn read_copy<R: Rack>(
     slot: usize,
     place: u64,
 ) -> Result<Result<Super, SuperFault>, RackError>
-    requires open { slot < length (R.slots rack.old) }
-    requires range { place + 4096 ≤ len_of (R.slots rack.old) slot }
-    ensures found { IfSome (R.held rack.old) (λ images. Answers (bytes_at 4096 place (image_of images slot)) place result) }
-    ensures slots { R.slots rack.new ≡ R.slots rack.old }
-    ensures held { R.held rack.new ≡ R.held rack.old }
-    ensures shelf { R.shelf rack.new ≡ R.shelf rack.old }
-    ensures account { FailedAt slot place (R.account rack.old) (R.account rack.new) result }
+    requires open { slot < length (R.seen rack.old).slots }
+    requires range { place + 4096 ≤ len_of (R.seen rack.old).slots slot }
+    ensures found { IfSome (R.seen rack.old).held (λ images. Answers (bytes_at 4096 place (image_of images slot)) place result) }
+    ensures same { OnlyCounts (R.seen rack.old) (R.seen rack.new) }
+    ensures account { FailedAt slot place (R.seen rack.old).account (R.seen rack.new).account result }
+    ensures sure { OnErr result ((R.seen rack.old).sure ≡ false) }
 {
     let mut bytes = [0u8; 4096];
     match rack.read_at(slot, place, &mut bytes) {
@@ -103,15 +102,14 @@ fn answer(seen: Seen) -> Result<Super, SlotFault>
 
 // Looks at one more place.
 fn look<R: Rack>(rack: &mut R, slot: usize, place: u64, seen: Seen) -> Result<Seen, SlotFault>
-    requires open { slot < length (R.slots rack.old) }
+    requires open { slot < length (R.seen rack.old).slots }
     requires bound { place < 2 ^ 63 }
-    ensures seen { IfOk result (λ after. IfSome (R.held rack.old) (λ images. (before : List ℕ) → IsSoFar (standing (image_of images slot) before) seen
+    ensures seen { IfOk result (λ after. IfSome (R.seen rack.old).held (λ images. (before : List ℕ) → IsSoFar (standing (image_of images slot) before) seen
         → IsSoFar (standing (image_of images slot) (before ++ place ∷ [])) after)) }
     ensures fault { IfErr result (λ e. e ≡ SlotFault.Failed) }
-    ensures slots { R.slots rack.new ≡ R.slots rack.old }
-    ensures held { R.held rack.new ≡ R.held rack.old }
-    ensures shelf { R.shelf rack.new ≡ R.shelf rack.old }
-    ensures account { FailedAt slot place (R.account rack.old) (R.account rack.new) result }
+    ensures same { OnlyCounts (R.seen rack.old) (R.seen rack.new) }
+    ensures account { FailedAt slot place (R.seen rack.old).account (R.seen rack.new).account result }
+    ensures sure { OnErr result ((R.seen rack.old).sure ≡ false) }
 {
     if place + 4096 > rack.len(slot) {
         return Ok(seen);
@@ -127,12 +125,11 @@ fn look<R: Rack>(rack: &mut R, slot: usize, place: u64, seen: Seen) -> Result<Se
 /// `Failed` comes only where a read of a copy's 4096 bytes failed in this call; the other two errors
 /// say that no copy is valid.
 pub fn read_slot<R: Rack>(rack: &mut R, slot: usize) -> Result<Super, SlotFault>
-    requires { slot < length (R.slots rack.old) }
-    ensures answer { IfSome (R.held rack.old) (λ images. result ≢ Err SlotFault.Failed → image_super (image_of images slot) ≡ result) }
-    ensures slots { R.slots rack.new ≡ R.slots rack.old }
-    ensures held { R.held rack.new ≡ R.held rack.old }
-    ensures shelf { R.shelf rack.new ≡ R.shelf rack.old }
-    ensures account { FailedAtPlace slot (R.account rack.old) (R.account rack.new) result }
+    requires { slot < length (R.seen rack.old).slots }
+    ensures answer { IfSome (R.seen rack.old).held (λ images. result ≢ Err SlotFault.Failed → image_super (image_of images slot) ≡ result) }
+    ensures same { OnlyCounts (R.seen rack.old) (R.seen rack.new) }
+    ensures account { FailedAtPlace slot (R.seen rack.old).account (R.seen rack.new).account result }
+    ensures sure { result ≡ Err SlotFault.Failed → (R.seen rack.old).sure ≡ false }
 {
     let mut seen = Seen {
         newest: None,
