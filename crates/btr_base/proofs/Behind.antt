@@ -87,14 +87,14 @@ moved_front xs ys n long_x long_y le same =
     (λ i lt. let small : i < 79 = omega (arith, length-take 79 xs) in
     get_or-take 79 xs i 0 small ∙ same i small ∙ sym (get_or-drop n ys i 0) ∙ sym (get_or-take 79 (drop n ys) i 0 small))
 
--- behind its first numbers a list has zeros
-pub sent_cleared : (xs ys : List ℕ) (j : ℕ) → take 79 xs ≡ take 79 ys → ((i : ℕ) → 79 ≤ i → at xs i ≡ 0) → sent xs j ≡ sent (take 79 ys) j
-sent_cleared xs ys j kept zeros = sent-same xs (take 79 ys) j j (λ a small. here (j + a))
+-- behind its first numbers a list has zeros, as far as what was sent depends on it
+pub sent_cleared : (xs ys : List ℕ) (j : ℕ) → j < 79 → take 79 xs ≡ take 79 ys → ((i : ℕ) → 79 ≤ i → i < 154 → at xs i ≡ 0) → sent xs j ≡ sent (take 79 ys) j
+sent_cleared xs ys j near kept zeros = sent-same xs (take 79 ys) j j (λ a small. here (j + a) (omega arith))
   where
-    here : (i : ℕ) → at xs i ≡ at (take 79 ys) i
-    here i = elim (cases_lt i 79) [
+    here : (i : ℕ) → i < 154 → at xs i ≡ at (take 79 ys) i
+    here i reached = elim (cases_lt i 79) [
       | inl lt ↦ sym (get_or-take 79 xs i 0 lt) ∙ ap (λ (l : List ℕ). at l i) kept
-      | inr le ↦ zeros i le ∙ sym (past_take 79 i ys le)
+      | inr le ↦ zeros i le reached ∙ sym (past_take 79 i ys le)
     ]
 
 -- a list of zeros

@@ -15,7 +15,7 @@ pub struct Key {
 
 impl Key {
     ghost use Rattle.std.specs.Prelude.{◌≡◌, ◌+◌, ◌≤◌, ◌↔◌, length, IsNone, IfSome};
-    ghost use Rattle.btr_base.specs.Key.{key_at, key_number, last_key};
+    ghost use Rattle.btr_base.specs.Key.{key_at, key_lt, key_number, last_key};
 
     /// The key in the first 17 bytes.
     pub fn read(bytes: &[u8]) -> Key
@@ -55,6 +55,20 @@ impl Key {
             });
         }
         None
+    }
+
+    /// Whether this key stands before the other one. Field by field, since the view of a block spends half of its time
+    /// here.
+    pub fn is_before(self, other: Key) -> bool
+        ensures { result ≡ key_lt self other }
+    {
+        if self.objectid != other.objectid {
+            return self.objectid < other.objectid;
+        }
+        if self.kind != other.kind {
+            return self.kind < other.kind;
+        }
+        self.offset < other.offset
     }
 }
 

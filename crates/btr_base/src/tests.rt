@@ -277,6 +277,7 @@ fn keys(rt: HostRuntime) {
         (key(2, 200, 3), key(2, 200, 9)),
     ] {
         assert!(rt; less < more && more > less && less <= less && less != more);
+        assert!(rt; less.is_before(more) && !more.is_before(less) && !less.is_before(less));
     }
 }
 

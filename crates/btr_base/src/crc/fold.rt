@@ -20,6 +20,9 @@ const WINDOW: usize = 512;
 // The words that are dropped at once, and the last ones before them.
 const ROOM: usize = WINDOW + AHEAD;
 
+// The farthest place behind `j` that `sent_to` looks at.
+const REACH: usize = 75;
+
 // What the dropped words have sent to the place `j`.
 #[tactic(auto, unfolding(crate::specs::Fold::sent))]
 fn sent_to(dropped: &[u64; ROOM], j: usize) -> u64
@@ -87,12 +90,12 @@ fn drop_words(dropped: &mut [u64; ROOM], bytes: &[u8], count: usize)
     carry(dropped, count);
 }
 
-// Forgets all but the first 79 words.
+// Forgets the words behind the first 79, as far as what was sent to the first 79 places depends on them.
 fn clear(dropped: &mut [u64; ROOM])
     ensures kept { take AHEAD dropped.new ≡ take AHEAD dropped.old }
-    ensures zeros { (i : ℕ) → AHEAD ≤ i → slice_index dropped.new i ≡ 0 }
+    ensures zeros { (i : ℕ) → AHEAD ≤ i → i < AHEAD + REACH → slice_index dropped.new i ≡ 0 }
 {
-    for k in AHEAD..ROOM {
+    for k in AHEAD..AHEAD + REACH {
         dropped[k] = 0;
     }
 }

@@ -1,7 +1,7 @@
 use Rattle.std.proofs.Common.{◌∙◌, inl, inr, ap, get_or, arith}
 use Rattle.std.proofs.Math.ListN.{set}
-use Rattle.std.proofs.lemmas.Bool.{cases_lt, cases_eq}
-use Rattle.std.proofs.lemmas.List.{length-set, take-set-le, get_or_past, get_or-set_same, get_or-set_other}
+use Rattle.std.proofs.lemmas.Bool.{cases_eq}
+use Rattle.std.proofs.lemmas.List.{length-set, take-set-le, get_or-set_same, get_or-set_other}
 use Rattle.btr_base.proofs.crc.fold.clear.Goals as goal
 
 pub loop-k-preserved : goal.loop-k-preserved
@@ -19,7 +19,4 @@ loop-k-preserved c =
     }
 
 pub returns-clause-zeros : goal.returns-clause-zeros
-returns-clause-zeros c = λ i le. elim (cases_lt i c.loop-k.k) [
-  | inl lt ↦ c.loop-k.invariant.zeros i le lt
-  | inr past ↦ get_or_past c.loop-k.dropped i 0 (omega (arith, c.loop-k.invariant.sized))
-]
+returns-clause-zeros c = λ i le lt. c.loop-k.invariant.zeros i le (omega arith)

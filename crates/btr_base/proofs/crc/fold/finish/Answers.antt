@@ -15,7 +15,7 @@ loop-j-preserved c =
     let old = c.args.dropped.now in
     let next : suc j ≡ j + 1 = omega arith in
     c.take_word-reg.ensures
-    ∙ (λ i. shifted_by 64 (bit_xor (c.loop-j.invariant i) (bit_xor (c.u64_at.ensures i) ((c.sent_to.ensures ∙ sent_cleared c.clear.new.dropped old j c.clear.ensures.kept c.clear.ensures.zeros) i))))
+    ∙ (λ i. shifted_by 64 (bit_xor (c.loop-j.invariant i) (bit_xor (c.u64_at.ensures i) ((c.sent_to.ensures ∙ sent_cleared c.clear.new.dropped old j (omega arith) c.clear.ensures.kept c.clear.ensures.zeros) i))))
     ∙ ap (λ n. after 0 n (received (take 79 old) c.args.bytes.now)) next
 
 pub returns : goal.returns
