@@ -18,3 +18,4 @@ pub mod Parts
 pub mod RootItem
 pub mod RootRef
 pub mod SumRun
+pub mod Types

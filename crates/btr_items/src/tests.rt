@@ -4,4 +4,6 @@ mod broken;
 mod extents;
 mod files;
 mod keys;
+mod leaves;
 mod trees;
+mod whole;
