@@ -1,5 +1,5 @@
 -- DIR_ITEM, DIR_INDEX and XATTR_ITEM: entries of directories and extended attributes.
-use Rattle.std.specs.Prelude.{ℕ, ◌+◌, ◌≤◌, ◌==◌, ◌&&◌, ◌||◌, Bool, nat_le, List, length, slice_index, Result, Ok, Err, IfOk}
+use Rattle.std.specs.Prelude.{ℕ, ◌+◌, ◌==◌, ◌&&◌, ◌||◌, Bool, nat_le, List, length, slice_index, Result, Ok, Err}
 use Rattle.btr_base.specs.Field.{number_at}
 use Rattle.btr_base.specs.Key.{key_at}
 use Rattle.btr_items.specs.Form.{fields_if, is_name}
@@ -42,7 +42,3 @@ index_entry_of body = index_entry (length body) (entry_at 0 body)
 -- the entries in a body
 abbrev pub entries_of : List ℕ → List (Result Entry ItemFault)
 entries_of body = parts_from entry_at (λ part. part.end) 0 body
-
--- where there is an entry, its name lies in the body
-abbrev pub HasName : List ℕ → Result Entry ItemFault → Type 0
-HasName body read = IfOk read (λ part. part.name_at + part.name_len ≤ length body)

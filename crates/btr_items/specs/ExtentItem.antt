@@ -1,6 +1,8 @@
 -- EXTENT_ITEM and METADATA_ITEM: an extent.
 use Rattle.std.specs.Prelude.{ℕ, ◌==◌, ◌&&◌, ◌||◌, not, Bool, if◌then◌else◌, nat_le, List, length, slice_index, Option, Some, None, Result, bit_and}
 use Rattle.btr_base.specs.Field.{number_at}
+use Rattle.btr_base.specs.Key.{key_at}
+use Rattle.btr_base.specs.declared.key.Key.{Key}
 use Rattle.btr_items.specs.Form.{fields_if}
 use Rattle.btr_items.specs.Types.{extent_item, metadata_item}
 use Rattle.btr_items.specs.declared.extent_item.ExtentItem.{ExtentItem}
@@ -25,6 +27,10 @@ first_place kind flags = if (kind == extent_item) && is_tree_block flags then 42
 -- that level
 abbrev pub level_of : ℕ → List ℕ → Option ℕ
 level_of first body = if first == 42 then Some (slice_index body 41) else None
+
+-- the first key of that block
+abbrev pub block_key : ℕ → List ℕ → Option Key
+block_key first body = if first == 42 then Some (key_at 24 body) else None
 
 -- the extent in the front of a body
 abbrev pub extent_item_of : ℕ → List ℕ → Result ExtentItem ItemFault

@@ -4,6 +4,7 @@ use Rattle.std.specs.List.{list_all}
 use Rattle.btr_base.specs.declared.key.Key.{Key}
 use Rattle.btr_base.specs.declared.kind.SumKind.{SumKind}
 use Rattle.btr_items.specs.BlockGroup.{block_group_of}
+use Rattle.btr_items.specs.ChunkItem.{has_chunk_size}
 use Rattle.btr_items.specs.DevExtent.{dev_extent_of}
 use Rattle.btr_items.specs.DevItem.{dev_item_of}
 use Rattle.btr_items.specs.Entry.{entries_of, index_entry_of}
@@ -18,11 +19,11 @@ use Rattle.btr_items.specs.LooseRef.{loose_ref_of}
 use Rattle.btr_items.specs.RootItem.{root_item_of}
 use Rattle.btr_items.specs.RootRef.{root_ref_of}
 use Rattle.btr_items.specs.SumRun.{sum_run_of}
-use Rattle.btr_items.specs.Types.{inode_item, inode_ref, inode_extref, xattr_item, orphan_item, dir_item, dir_index, extent_data, extent_csum, root_item, root_backref, root_ref, extent_item, metadata_item, tree_block_ref, extent_data_ref, shared_block_ref, shared_data_ref, block_group_item, dev_extent, dev_item}
+use Rattle.btr_items.specs.Types.{inode_item, inode_ref, inode_extref, xattr_item, orphan_item, dir_item, dir_index, extent_data, extent_csum, root_item, root_backref, root_ref, extent_item, metadata_item, tree_block_ref, extent_data_ref, shared_block_ref, shared_data_ref, block_group_item, dev_extent, dev_item, chunk_item}
 use Rattle.btr_items.specs.declared.extent_item.ExtentItem.{ExtentItem}
 use Rattle.btr_items.specs.declared.fault.ItemFault.{ItemFault}
 use Rattle.btr_items.specs.declared.form.Form.{Form}
-use Rattle.btr_items.specs.declared.form.Form.TheVariants.{Inode, InodeRefs, ExtRefs, Entries, IndexEntry, Empty, FileExtent, Sums, Root, RootRef, Extent, LooseRef, BlockGroup, DevExtent, DevItem, Other}
+use Rattle.btr_items.specs.declared.form.Form.TheVariants.{Inode, InodeRefs, ExtRefs, Entries, IndexEntry, Empty, FileExtent, Sums, Root, RootRef, Extent, LooseRef, BlockGroup, DevExtent, DevItem, Chunk, Other}
 
 -- one or more parts, from the first byte to the last
 abbrev pub are_some : {T : Type 0} → List ℕ → List (Result T ItemFault) → Bool
@@ -55,6 +56,7 @@ form_of kind =
     else if kind == block_group_item then BlockGroup
     else if kind == dev_extent then DevExtent
     else if kind == dev_item then DevItem
+    else if kind == chunk_item then Chunk
     else Other
 
 -- a body has a form; the others have no rule here
@@ -74,6 +76,7 @@ body_fits LooseRef sums key body = is_ok (loose_ref_of key body)
 body_fits BlockGroup sums key body = is_ok (block_group_of body)
 body_fits DevExtent sums key body = is_ok (dev_extent_of body)
 body_fits DevItem sums key body = is_ok (dev_item_of body)
+body_fits Chunk sums key body = has_chunk_size body
 body_fits Other sums key body = true
 
 -- an item has its form: its key keeps the rules of its type, and its body has the form

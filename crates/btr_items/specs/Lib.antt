@@ -1,4 +1,5 @@
 pub mod BlockGroup
+pub mod ChunkItem
 pub mod DevExtent
 pub mod DevItem
 pub mod Ends

@@ -6,4 +6,5 @@ mod files;
 mod keys;
 mod leaves;
 mod trees;
+mod views;
 mod whole;

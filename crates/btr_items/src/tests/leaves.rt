@@ -1,4 +1,4 @@
-// Two whole leaves of 4096 bytes of a filesystem that the kernel made: the table of each, and the bodies at its end, with what
+// Three whole leaves of 4096 bytes of a filesystem that the kernel made: the table of each, and the bodies at its end, with what
 // `btrfs inspect-internal dump-tree` shows of them.
 use crate::Form;
 
@@ -78,4 +78,21 @@ pub(crate) const FILES_ROWS: [Row; 36] = [
     (5402, 96, 9, 2477, 36, Form::IndexEntry),
     (5402, 96, 10, 2440, 37, Form::IndexEntry),
     (5403, 1, 0, 2280, 160, Form::Inode),
+];
+
+/// The table of a leaf of the chunk tree.
+pub(crate) const CHUNKS_TABLE: &[u8; 150] =
+    b"\x01\0\0\0\0\0\0\0\xd8\x01\0\0\0\0\0\0\09\x0f\0\0b\0\0\0\0\x01\0\0\0\0\0\0\xe4\0\0\xd0\0\0\0\0\0\xe9\x0e\0\0P\0\0\0\0\x01\0\0\0\0\0\0\xe4\0\0P\x01\0\0\0\0y\x0e\0\0p\0\0\0\0\x01\0\0\0\0\0\0\xe4\0\0\xd0\x01\0\0\0\0\x09\x0e\0\0p\0\0\0\0\x01\0\0\0\0\0\0\xe4\0\0\xd0\x03\0\0\0\0\xb9\x0d\0\0P\0\0\0\0\x01\0\0\0\0\0\0\xe4\0\0\xd0\x05\0\0\0\0i\x0d\0\0P\0\0\0";
+
+/// The bodies of its items, up to its last byte.
+pub(crate) const CHUNKS_BODIES: &[u8; 562] =
+    b"\0\0\0\x02\0\0\0\0\x02\0\0\0\0\0\0\0\0\0\x01\0\0\0\0\0\x01\0\0\0\0\0\0\0\0\0\x01\0\0\0\x01\0\0\x10\0\0\x01\0\x01\0\x01\0\0\0\0\0\0\0\0\0P\x08\0\0\0\0\xc7$4\x8f\x1b\xb3J\xdd\xbaO\x13V\x07\x062*\0\0\0\x02\0\0\0\0\x02\0\0\0\0\0\0\0\0\0\x01\0\0\0\0\0\x01\0\0\0\0\0\0\0\0\0\x01\0\0\0\x01\0\0\x10\0\0\x01\0\x01\0\x01\0\0\0\0\0\0\0\0\0P\x06\0\0\0\0\xc7$4\x8f\x1b\xb3J\xdd\xbaO\x13V\x07\x062*\0\0\0\x02\0\0\0\0\x02\0\0\0\0\0\0\0\0\0\x01\0\0\0\0\0$\0\0\0\0\0\0\0\0\0\x01\0\0\0\x01\0\0\x10\0\0\x02\0\x01\0\x01\0\0\0\0\0\0\0\0\0P\x02\0\0\0\0\xc7$4\x8f\x1b\xb3J\xdd\xbaO\x13V\x07\x062*\x01\0\0\0\0\0\0\0\0\0P\x04\0\0\0\0\xc7$4\x8f\x1b\xb3J\xdd\xbaO\x13V\x07\x062*\0\0\x80\0\0\0\0\0\x02\0\0\0\0\0\0\0\0\0\x01\0\0\0\0\0\"\0\0\0\0\0\0\0\0\0\x01\0\0\0\x01\0\0\x10\0\0\x02\0\x01\0\x01\0\0\0\0\0\0\0\0\0P\x01\0\0\0\0\xc7$4\x8f\x1b\xb3J\xdd\xbaO\x13V\x07\x062*\x01\0\0\0\0\0\0\0\0\0\xd0\x01\0\0\0\0\xc7$4\x8f\x1b\xb3J\xdd\xbaO\x13V\x07\x062*\0\0\x80\0\0\0\0\0\x02\0\0\0\0\0\0\0\0\0\x01\0\0\0\0\0\x01\0\0\0\0\0\0\0\0\0\x01\0\0\0\x01\0\0\x10\0\0\x01\0\x01\0\x01\0\0\0\0\0\0\0\0\0\xd0\0\0\0\0\0\xc7$4\x8f\x1b\xb3J\xdd\xbaO\x13V\x07\x062*\x01\0\0\0\0\0\0\0\0\0\0\x10\0\0\0\0\0\0\x80\x09\0\0\0\0\0\x10\0\0\0\x10\0\0\0\x10\0\0\0\0\0\0\0\0\0\0\0\0\0\0\0\0\0\0\0\0\0\0\0\0\0\0\0\0\0\0\0\0\xc7$4\x8f\x1b\xb3J\xdd\xbaO\x13V\x07\x062*\x01\x16E:\x83/J/\xad\x01,\x07\x17)\xce\xfa";
+
+pub(crate) const CHUNKS_ROWS: [Row; 6] = [
+    (1, 216, 1, 3897, 98, Form::DevItem),
+    (256, 228, 13_631_488, 3817, 80, Form::Chunk),
+    (256, 228, 22_020_096, 3705, 112, Form::Chunk),
+    (256, 228, 30_408_704, 3593, 112, Form::Chunk),
+    (256, 228, 63_963_136, 3513, 80, Form::Chunk),
+    (256, 228, 97_517_568, 3433, 80, Form::Chunk),
 ];

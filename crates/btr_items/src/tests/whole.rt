@@ -1,6 +1,7 @@
 // Each item of whole leaves, with its key.
 use super::leaves::{
-    FILES_BODIES, FILES_ROWS, FILES_TABLE, ROOTS_BODIES, ROOTS_ROWS, ROOTS_TABLE, Row,
+    CHUNKS_BODIES, CHUNKS_ROWS, CHUNKS_TABLE, FILES_BODIES, FILES_ROWS, FILES_TABLE, ROOTS_BODIES,
+    ROOTS_ROWS, ROOTS_TABLE, Row,
 };
 use crate::{Form, item_fits};
 use btr_base::{Key, SumKind, u32_at};
@@ -37,5 +38,6 @@ fn check(rt: &impl Abort, table: &[u8], bodies: &[u8], rows: &[Row]) -> Result<(
 #[test]
 fn whole_leaves(rt: HostRuntime) -> Result<(), Fail> {
     check(&rt, ROOTS_TABLE, ROOTS_BODIES, &ROOTS_ROWS)?;
-    check(&rt, FILES_TABLE, FILES_BODIES, &FILES_ROWS)
+    check(&rt, FILES_TABLE, FILES_BODIES, &FILES_ROWS)?;
+    check(&rt, CHUNKS_TABLE, CHUNKS_BODIES, &CHUNKS_ROWS)
 }
