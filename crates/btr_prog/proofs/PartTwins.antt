@@ -1,5 +1,5 @@
 -- The same of programs of two parts, of those without steps, and of runs that end well.
-use Rattle.std.proofs.Common.{◌≡◌, ◌⊎◌, inl, inr, ℕ, Bool, true, false, IsTrue, List, [], ◌∷◌, ◌++◌, Result, Ok, Err, refl, sym, ap, ◌∙◌, arith}
+use Rattle.std.proofs.Common.{◌≡◌, ◌⊎◌, inl, inr, ℕ, Bool, false, IsTrue, List, [], ◌++◌, Result, Ok, Err, refl, sym, ap, ◌∙◌, arith}
 use Rattle.btr_prog.specs.Prog.{Prog, Return, Stop, Run, run, exec, needs}
 use Rattle.btr_prog.specs.Maps.{Each, EndsWell, cut, Loses}
 use Rattle.btr_prog.specs.Answers.{Fault, no_part, Follows}

@@ -1,6 +1,6 @@
 -- A program without steps, as a part of one with steps.
 use Rattle.std.proofs.Common.{◌≡◌, ℕ, List, [], ◌∷◌, ◌++◌, Option, None, Result, Ok, Err, refl, sym, ap, ◌∙◌, subst, append-nil}
-use Rattle.btr_prog.specs.Prog.{BlockMap, Prog, Return, Stop, Need, Emit, Mark, Wants, Does, Run, run, first, given, exec, steps_of, wants_of, needs}
+use Rattle.btr_prog.specs.Prog.{BlockMap, Prog, Return, Stop, Need, Emit, Mark, Wants, Does, Run, first, given, exec, steps_of, wants_of, needs}
 use Rattle.btr_prog.specs.Answers.{Halt, Fault, Unread, Broke, Names, Breaks, Follows, no_part}
 use Rattle.btr_prog.specs.Goes.{goes_given, GoesTo, Goes}
 use Rattle.btr_prog.specs.Quiet.{quiet, quiet_marks, quiet_run}

@@ -1,9 +1,9 @@
 -- Two maps one after another.
 use Rattle.std.proofs.Common.{◌≡◌, ◌⊎◌, ℕ, List, [], ◌∷◌, ◌++◌, Option, Result, Ok, Err, refl, sym, ap, ◌∙◌, subst, append-nil}
-use Rattle.btr_prog.specs.Prog.{BlockMap, Prog, Mark, Run, run, exec, after, and_then, wants_of, needs}
+use Rattle.btr_prog.specs.Prog.{BlockMap, Prog, Mark, Run, run, exec, and_then, wants_of, needs}
 use Rattle.btr_prog.specs.Maps.{Each, IsWithin, cut, Loses}
 use Rattle.btr_prog.specs.Answers.{Halt, Follows}
-use Rattle.btr_prog.specs.Goes.{GoesTo, Goes}
+use Rattle.btr_prog.specs.Goes.{Goes}
 use Rattle.btr_prog.specs.Stages.{Staged, Early, Late, both, renamed, renamed_marks, renamed_run, unless_refused, run_unless_refused, staged, staged_run, staged_needs, IsWithinBoth}
 use Rattle.btr_prog.proofs.Runs.{exec-bind, wants_of-append, cut_law}
 use Rattle.btr_prog.proofs.Threads.{after_same}
