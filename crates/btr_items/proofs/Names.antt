@@ -3,10 +3,10 @@ use Rattle.std.proofs.Common.{◌≡◌, ℕ, ◌+◌, ◌≤◌, Bool, true, fa
 use Rattle.std.specs.Result.{IfOk}
 use Rattle.std.proofs.lemmas.Bool.Decides.{nat_tests}
 use Rattle.btr_base.specs.Field.{number_at}
-use Rattle.btr_items.specs.Entry as entry
-use Rattle.btr_items.specs.ExtRef as ext_ref
-use Rattle.btr_items.specs.Form.{fields_if}
-use Rattle.btr_items.specs.InodeRef as inode_ref
+use Rattle.btr_items.specs.Entry.{entry_at}
+use Rattle.btr_items.specs.ExtRef.{ext_ref_at}
+use Rattle.btr_items.specs.Form.{fields_if, HasName}
+use Rattle.btr_items.specs.InodeRef.{inode_ref_at}
 use Rattle.btr_items.specs.declared.entry.Entry.{Entry}
 use Rattle.btr_items.specs.declared.ext_ref.ExtRef.{ExtRef}
 use Rattle.btr_items.specs.declared.inode_ref.InodeRef.{InodeRef}
@@ -20,11 +20,11 @@ named last true end size fields before =
       | false ↦ λ fits. tt
     ] refl
 
-pub entry_named : (at : ℕ) (body : List ℕ) → entry.HasName body (entry.entry_at at body)
+pub entry_named : (at : ℕ) (body : List ℕ) → IfOk (entry_at at body) (λ (part : Entry). HasName body part.name_at part.name_len)
 entry_named at body = named (λ (part : Entry). part.name_at + part.name_len) _ (at + 30 + number_at 2 (at + 27) body + number_at 2 (at + 25) body) (length body) _ (omega arith)
 
-pub inode_ref_named : (at : ℕ) (body : List ℕ) → inode_ref.HasName body (inode_ref.inode_ref_at at body)
+pub inode_ref_named : (at : ℕ) (body : List ℕ) → IfOk (inode_ref_at at body) (λ (part : InodeRef). HasName body part.name_at part.name_len)
 inode_ref_named at body = named (λ (part : InodeRef). part.name_at + part.name_len) _ (at + 10 + number_at 2 (at + 8) body) (length body) _ (omega arith)
 
-pub ext_ref_named : (at : ℕ) (body : List ℕ) → ext_ref.HasName body (ext_ref.ext_ref_at at body)
+pub ext_ref_named : (at : ℕ) (body : List ℕ) → IfOk (ext_ref_at at body) (λ (part : ExtRef). HasName body part.name_at part.name_len)
 ext_ref_named at body = named (λ (part : ExtRef). part.name_at + part.name_len) _ (at + 18 + number_at 2 (at + 16) body) (length body) _ (omega arith)

@@ -1,12 +1,12 @@
 -- DIR_ITEM, DIR_INDEX and XATTR_ITEM: entries of directories and extended attributes.
-use Rattle.std.specs.Prelude.{ℕ, ◌+◌, ◌≤◌, ◌==◌, ◌&&◌, ◌||◌, Bool, nat_le, List, length, slice_index, Result, Ok, Err, IfOk}
+use Rattle.std.specs.Prelude.{ℕ, ◌+◌, ◌==◌, ◌&&◌, ◌||◌, Bool, nat_le, List, length, slice_index, Result, Ok, Err}
 use Rattle.btr_base.specs.Field.{number_at}
 use Rattle.btr_base.specs.Key.{key_at}
 use Rattle.btr_items.specs.Form.{fields_if, is_name}
 use Rattle.btr_items.specs.Parts.{parts_from}
+use Rattle.btr_items.specs.Types.{inode_item, root_item}
 use Rattle.btr_items.specs.declared.entry.Entry.{Entry}
 use Rattle.btr_items.specs.declared.fault.ItemFault.{ItemFault}
-use Rattle.btr_items.specs.declared.item.TheConstants.{INODE_ITEM, ROOT_ITEM}
 
 -- the entry that begins at a place: 30 bytes, the name, and the data
 abbrev pub entry_at : ℕ → List ℕ → Result Entry ItemFault
@@ -28,7 +28,7 @@ entry_at at body =
 abbrev pub is_index : Entry → ℕ → Bool
 is_index entry size =
     nat_le 1 entry.kind && nat_le entry.kind 7 && (entry.extra_len == 0) && (entry.end == size)
-    && ((entry.location.kind == INODE_ITEM) || ((entry.location.kind == ROOT_ITEM) && (entry.kind == 2)))
+    && ((entry.location.kind == inode_item) || ((entry.location.kind == root_item) && (entry.kind == 2)))
 
 -- what was read, where a rule on it holds
 abbrev pub index_entry : ℕ → Result Entry ItemFault → Result Entry ItemFault
@@ -42,7 +42,3 @@ index_entry_of body = index_entry (length body) (entry_at 0 body)
 -- the entries in a body
 abbrev pub entries_of : List ℕ → List (Result Entry ItemFault)
 entries_of body = parts_from entry_at (λ part. part.end) 0 body
-
--- where there is an entry, its name lies in the body
-abbrev pub HasName : List ℕ → Result Entry ItemFault → Type 0
-HasName body read = IfOk read (λ part. part.name_at + part.name_len ≤ length body)

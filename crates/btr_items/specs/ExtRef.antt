@@ -1,5 +1,5 @@
 -- INODE_EXTREF: names of an inode, where an INODE_REF had no room.
-use Rattle.std.specs.Prelude.{ℕ, ◌+◌, ◌≤◌, ◌&&◌, nat_le, List, length, Result, IfOk}
+use Rattle.std.specs.Prelude.{ℕ, ◌+◌, ◌&&◌, nat_le, List, length, Result}
 use Rattle.btr_base.specs.Field.{number_at}
 use Rattle.btr_items.specs.Form.{fields_if, is_name}
 use Rattle.btr_items.specs.Parts.{parts_from}
@@ -22,7 +22,3 @@ ext_ref_at at body =
 -- the references in a body
 abbrev pub ext_refs_of : List ℕ → List (Result ExtRef ItemFault)
 ext_refs_of body = parts_from ext_ref_at (λ part. part.end) 0 body
-
--- where there is a reference, its name lies in the body
-abbrev pub HasName : List ℕ → Result ExtRef ItemFault → Type 0
-HasName body read = IfOk read (λ part. part.name_at + part.name_len ≤ length body)

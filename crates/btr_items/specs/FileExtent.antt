@@ -1,5 +1,5 @@
 -- EXTENT_DATA: a range of a file.
-use Rattle.std.specs.Prelude.{ℕ, ◌+◌, ◌-◌, ◌^◌, ◌==◌, ◌&&◌, ◌||◌, not, Bool, if◌then◌else◌, nat_le, nat_lt, List, length, slice_index, Result, Ok, Err}
+use Rattle.std.specs.Prelude.{ℕ, ◌+◌, ◌-◌, ◌^◌, ◌==◌, ◌&&◌, ◌||◌, not, Bool, if◌then◌else◌, nat_le, nat_lt, List, length, drop, slice_index, Result, Ok, Err}
 use Rattle.btr_base.specs.Field.{number_at}
 use Rattle.btr_items.specs.Form.{fields_if, map_ok}
 use Rattle.btr_items.specs.Key.{is_aligned}
@@ -35,6 +35,20 @@ shape_of offset body =
     else if kind == 1 then fields_if (place_fits offset body) (Regular (number_at 8 21 body) (number_at 8 29 body) (number_at 8 37 body) (number_at 8 45 body))
     else if kind == 2 then fields_if (place_fits offset body) (Prealloc (number_at 8 21 body) (number_at 8 29 body) (number_at 8 37 body) (number_at 8 45 body))
     else Err (record {})
+
+-- how many bytes of the file an extent covers: an inline one as many as stand in the item, or, compressed, as they make
+abbrev pub file_len : FileExtent → Shape → ℕ
+file_len extent (Inline len) = if extent.compression == 0 then len else extent.ram
+file_len extent (Regular addr disk_len skip len) = len
+file_len extent (Prealloc addr disk_len skip len) = len
+
+-- where in the file an extent ends that begins at an offset; what an inline one makes has no bound
+abbrev pub end_of : ℕ → FileExtent → ℕ
+end_of offset extent = offset + file_len extent extent.shape
+
+-- the bytes that stand in the body of an inline extent
+abbrev pub inline_data : List ℕ → List ℕ
+inline_data body = drop 21 body
 
 -- the extent in the body of an EXTENT_DATA, by the offset in its key
 abbrev pub file_extent_of : ℕ → List ℕ → Result FileExtent ItemFault

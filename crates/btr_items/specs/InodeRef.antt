@@ -1,5 +1,5 @@
 -- INODE_REF: names of an inode in one directory.
-use Rattle.std.specs.Prelude.{ℕ, ◌+◌, ◌≤◌, ◌&&◌, nat_le, List, length, Result, IfOk}
+use Rattle.std.specs.Prelude.{ℕ, ◌+◌, ◌&&◌, nat_le, List, length, Result}
 use Rattle.btr_base.specs.Field.{number_at}
 use Rattle.btr_items.specs.Form.{fields_if, is_name}
 use Rattle.btr_items.specs.Parts.{parts_from}
@@ -21,7 +21,3 @@ inode_ref_at at body =
 -- the references in a body
 abbrev pub inode_refs_of : List ℕ → List (Result InodeRef ItemFault)
 inode_refs_of body = parts_from inode_ref_at (λ part. part.end) 0 body
-
--- where there is a reference, its name lies in the body
-abbrev pub HasName : List ℕ → Result InodeRef ItemFault → Type 0
-HasName body read = IfOk read (λ part. part.name_at + part.name_len ≤ length body)

@@ -4,6 +4,7 @@ use Rattle.std.specs.List.{list_all}
 use Rattle.btr_base.specs.declared.key.Key.{Key}
 use Rattle.btr_base.specs.declared.kind.SumKind.{SumKind}
 use Rattle.btr_items.specs.BlockGroup.{block_group_of}
+use Rattle.btr_items.specs.ChunkItem.{has_chunk_size}
 use Rattle.btr_items.specs.DevExtent.{dev_extent_of}
 use Rattle.btr_items.specs.DevItem.{dev_item_of}
 use Rattle.btr_items.specs.Entry.{entries_of, index_entry_of}
@@ -18,11 +19,11 @@ use Rattle.btr_items.specs.LooseRef.{loose_ref_of}
 use Rattle.btr_items.specs.RootItem.{root_item_of}
 use Rattle.btr_items.specs.RootRef.{root_ref_of}
 use Rattle.btr_items.specs.SumRun.{sum_run_of}
+use Rattle.btr_items.specs.Types.{inode_item, inode_ref, inode_extref, xattr_item, orphan_item, dir_item, dir_index, extent_data, extent_csum, root_item, root_backref, root_ref, extent_item, metadata_item, tree_block_ref, extent_data_ref, shared_block_ref, shared_data_ref, block_group_item, dev_extent, dev_item, chunk_item}
 use Rattle.btr_items.specs.declared.extent_item.ExtentItem.{ExtentItem}
 use Rattle.btr_items.specs.declared.fault.ItemFault.{ItemFault}
 use Rattle.btr_items.specs.declared.form.Form.{Form}
-use Rattle.btr_items.specs.declared.form.Form.TheVariants.{Inode, InodeRefs, ExtRefs, Entries, IndexEntry, Empty, FileExtent, Sums, Root, RootRef, Extent, LooseRef, BlockGroup, DevExtent, DevItem, Other}
-use Rattle.btr_items.specs.declared.item.TheConstants.{INODE_ITEM, INODE_REF, INODE_EXTREF, XATTR_ITEM, ORPHAN_ITEM, DIR_ITEM, DIR_INDEX, EXTENT_DATA, EXTENT_CSUM, ROOT_ITEM, ROOT_BACKREF, ROOT_REF, EXTENT_ITEM, METADATA_ITEM, TREE_BLOCK_REF, EXTENT_DATA_REF, SHARED_BLOCK_REF, SHARED_DATA_REF, BLOCK_GROUP_ITEM, DEV_EXTENT, DEV_ITEM}
+use Rattle.btr_items.specs.declared.form.Form.TheVariants.{Inode, InodeRefs, ExtRefs, Entries, IndexEntry, Empty, FileExtent, Sums, Root, RootRef, Extent, LooseRef, BlockGroup, DevExtent, DevItem, Chunk, Other}
 
 -- one or more parts, from the first byte to the last
 abbrev pub are_some : {T : Type 0} → List ℕ → List (Result T ItemFault) → Bool
@@ -40,21 +41,22 @@ extent_fits kind body = references_fit body (extent_item_of kind body)
 -- what the body of an item is, by the item's type
 abbrev pub form_of : ℕ → Form
 form_of kind =
-    if kind == INODE_ITEM then Inode
-    else if kind == INODE_REF then InodeRefs
-    else if kind == INODE_EXTREF then ExtRefs
-    else if (kind == XATTR_ITEM) || (kind == DIR_ITEM) then Entries
-    else if kind == DIR_INDEX then IndexEntry
-    else if kind == ORPHAN_ITEM then Empty
-    else if kind == EXTENT_DATA then FileExtent
-    else if kind == EXTENT_CSUM then Sums
-    else if kind == ROOT_ITEM then Root
-    else if (kind == ROOT_BACKREF) || (kind == ROOT_REF) then RootRef
-    else if (kind == EXTENT_ITEM) || (kind == METADATA_ITEM) then Extent
-    else if ((kind == TREE_BLOCK_REF) || (kind == EXTENT_DATA_REF)) || ((kind == SHARED_BLOCK_REF) || (kind == SHARED_DATA_REF)) then LooseRef
-    else if kind == BLOCK_GROUP_ITEM then BlockGroup
-    else if kind == DEV_EXTENT then DevExtent
-    else if kind == DEV_ITEM then DevItem
+    if kind == inode_item then Inode
+    else if kind == inode_ref then InodeRefs
+    else if kind == inode_extref then ExtRefs
+    else if (kind == xattr_item) || (kind == dir_item) then Entries
+    else if kind == dir_index then IndexEntry
+    else if kind == orphan_item then Empty
+    else if kind == extent_data then FileExtent
+    else if kind == extent_csum then Sums
+    else if kind == root_item then Root
+    else if (kind == root_backref) || (kind == root_ref) then RootRef
+    else if (kind == extent_item) || (kind == metadata_item) then Extent
+    else if ((kind == tree_block_ref) || (kind == extent_data_ref)) || ((kind == shared_block_ref) || (kind == shared_data_ref)) then LooseRef
+    else if kind == block_group_item then BlockGroup
+    else if kind == dev_extent then DevExtent
+    else if kind == dev_item then DevItem
+    else if kind == chunk_item then Chunk
     else Other
 
 -- a body has a form; the others have no rule here
@@ -74,6 +76,7 @@ body_fits LooseRef sums key body = is_ok (loose_ref_of key body)
 body_fits BlockGroup sums key body = is_ok (block_group_of body)
 body_fits DevExtent sums key body = is_ok (dev_extent_of body)
 body_fits DevItem sums key body = is_ok (dev_item_of body)
+body_fits Chunk sums key body = has_chunk_size body
 body_fits Other sums key body = true
 
 -- an item has its form: its key keeps the rules of its type, and its body has the form

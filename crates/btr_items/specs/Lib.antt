@@ -1,4 +1,5 @@
 pub mod BlockGroup
+pub mod ChunkItem
 pub mod DevExtent
 pub mod DevItem
 pub mod Ends
@@ -18,3 +19,4 @@ pub mod Parts
 pub mod RootItem
 pub mod RootRef
 pub mod SumRun
+pub mod Types

@@ -1,5 +1,5 @@
 -- ROOT_REF and ROOT_BACKREF: a name of a subvolume.
-use Rattle.std.specs.Prelude.{ℕ, ◌+◌, ◌≤◌, ◌==◌, ◌&&◌, nat_le, List, length, Result, IfOk}
+use Rattle.std.specs.Prelude.{ℕ, ◌+◌, ◌==◌, ◌&&◌, nat_le, List, length, Result}
 use Rattle.btr_base.specs.Field.{number_at}
 use Rattle.btr_items.specs.Form.{fields_if, is_name}
 use Rattle.btr_items.specs.declared.fault.ItemFault.{ItemFault}
@@ -15,7 +15,3 @@ root_ref_of body =
       name_at = 18;
       name_len = name_len;
     })
-
--- where there is a reference, its name lies in the body
-abbrev pub HasName : List ℕ → Result RootRef ItemFault → Type 0
-HasName body read = IfOk read (λ part. part.name_at + part.name_len ≤ length body)

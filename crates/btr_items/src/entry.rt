@@ -1,8 +1,9 @@
-ghost use Rattle.std.specs.Prelude.{◌≡◌, All};
+ghost use Rattle.std.specs.Prelude.{◌≡◌, All, IfOk};
 ghost use Rattle.btr_items.specs.Entry as spec;
+ghost use Rattle.btr_items.specs.Form.{HasName};
 
 use crate::field::key_at;
-use crate::name::is_name_length;
+use crate::name::{is_name_length, name_at};
 use crate::{ItemFault, Part, Parts, item};
 use btr_base::{Key, u16_at, u64_at};
 
@@ -28,14 +29,16 @@ pub struct Entry {
 }
 
 impl Entry {
-    ghost use Rattle.std.specs.Prelude.{◌≡◌, ◌≤◌, length};
-    ghost use Rattle.btr_items.specs.Entry.{entry_at, HasName, index_entry_of};
+    ghost use Rattle.std.specs.Prelude.{◌≡◌, ◌≤◌, length, IfOk};
+    ghost use Rattle.btr_base.specs.Field.{bytes_at};
+    ghost use Rattle.btr_items.specs.Entry.{entry_at, index_entry_of};
+    ghost use Rattle.btr_items.specs.Form.{HasName};
 
     /// The entry that begins at `at`.
     pub fn read(body: &[u8], at: usize) -> Result<Entry, ItemFault>
         requires { at ≤ length body.now }
         ensures form { result ≡ entry_at at body.now }
-        ensures name { HasName body.now result }
+        ensures name { IfOk result (λ entry. HasName body.now entry.name_at entry.name_len) }
     {
         if body.len() - at < 30 {
             return Err(ItemFault);
@@ -61,13 +64,21 @@ impl Entry {
     /// a directory, to a subvolume.
     pub fn index(body: &[u8]) -> Result<Entry, ItemFault>
         ensures form { result ≡ index_entry_of body.now }
-        ensures name { HasName body.now result }
+        ensures name { IfOk result (λ entry. HasName body.now entry.name_at entry.name_len) }
     {
         let entry = Entry::read(body, 0)?;
         if !is_index(&entry, body.len()) {
             return Err(ItemFault);
         }
         Ok(entry)
+    }
+
+    /// The bytes of the name, in the body that it was read from.
+    pub fn name<'a>(&self, body: &'a [u8]) -> &'a [u8]
+        requires { HasName body.now self.now.name_at self.now.name_len }
+        ensures { result.now ≡ bytes_at self.now.name_len self.now.name_at body.now }
+    {
+        name_at(body, self.name_at, self.name_len)
     }
 }
 
@@ -105,7 +116,7 @@ impl Part for Entry {
 /// The entries of a DIR_ITEM, a DIR_INDEX or an XATTR_ITEM. Their names lie in the body.
 pub fn entries(body: &[u8]) -> Parts<'_, Entry>
     ensures list { result ≡ spec.entries_of body.now }
-    ensures names { All (spec.HasName body.now) result }
+    ensures names { All (λ read. IfOk read (λ entry. HasName body.now entry.name_at entry.name_len)) result }
 {
     Parts::new(body, 0)
 }

@@ -1,8 +1,9 @@
 ghost use Rattle.std.specs.Prelude.{◌≡◌, ◌≤◌, length};
 ghost use Rattle.btr_items.specs.ExtentItem as spec;
 
+use crate::field::key_at;
 use crate::{ItemFault, item};
-use btr_base::u64_at;
+use btr_base::{Key, u64_at};
 
 /// An extent: the front of the body of an EXTENT_ITEM or a METADATA_ITEM, whose key has its logical address.
 /// Inline references come behind it.
@@ -22,7 +23,7 @@ pub struct ExtentItem {
 
 impl ExtentItem {
     ghost use Rattle.std.specs.Prelude.{◌≡◌, ◌≤◌, length, IfOk};
-    ghost use Rattle.btr_items.specs.ExtentItem.{extent_item_of};
+    ghost use Rattle.btr_items.specs.ExtentItem.{extent_item_of, block_key};
 
     /// The flag of an extent of file data.
     pub const DATA: u64 = 1;
@@ -52,6 +53,18 @@ impl ExtentItem {
             level: level_of(first, body),
             first,
         })
+    }
+
+    /// The first key of the tree block of an EXTENT_ITEM, in the body that it was read from; a METADATA_ITEM has none.
+    pub fn block_key(&self, body: &[u8]) -> Option<Key>
+        requires { self.now.first ≤ length body.now }
+        ensures { result ≡ block_key self.now.first body.now }
+    {
+        if self.first == 42 {
+            Some(key_at(body, 24))
+        } else {
+            None
+        }
     }
 }
 

@@ -21,7 +21,7 @@ pub struct FileExtent {
 
 impl FileExtent {
     ghost use Rattle.std.specs.Prelude.{◌≡◌, ◌≤◌, length, OnOk};
-    ghost use Rattle.btr_items.specs.FileExtent.{file_extent_of};
+    ghost use Rattle.btr_items.specs.FileExtent.{file_extent_of, file_len, end_of, inline_data};
 
     /// The body of an EXTENT_DATA whose key has this offset.
     pub fn read(offset: u64, body: &[u8]) -> Result<FileExtent, ItemFault>
@@ -39,6 +39,33 @@ impl FileExtent {
             encoded: body[17] != 0 || u16_at(body, 18) != 0,
             shape,
         })
+    }
+
+    /// How many bytes of the file it covers: an inline extent as many as stand in the item, or, compressed, as they make.
+    pub fn file_len(&self) -> u64
+        ensures { result ≡ file_len self.now self.now.shape }
+    {
+        match self.shape {
+            Shape::Inline { len } if self.compression == 0 => len,
+            Shape::Inline { .. } => self.ram,
+            Shape::Regular { len, .. } | Shape::Prealloc { len, .. } => len,
+        }
+    }
+
+    /// Where in the file it ends, where it begins at `offset`. What an inline extent makes has no bound, so the end may pass
+    /// 2^64.
+    pub fn end(&self, offset: u64) -> u128
+        ensures { result ≡ end_of offset self.now }
+    {
+        u128::from(offset) + u128::from(self.file_len())
+    }
+
+    /// The bytes that stand in the body of an inline extent, compressed or not. A body that was read has 21 bytes at least.
+    pub fn inline_data(body: &[u8]) -> &[u8]
+        requires { 21 ≤ length body.now }
+        ensures { result.now ≡ inline_data body.now }
+    {
+        &body[21..]
     }
 }
 

@@ -1,17 +1,18 @@
 ghost use Rattle.std.specs.Prelude.{◌≡◌};
 ghost use Rattle.std.specs.List.{list_all};
 ghost use Rattle.std.specs.Result.{is_ok};
+ghost use Rattle.btr_items.specs.ChunkItem.{has_chunk_size};
 ghost use Rattle.btr_items.specs.Item as spec;
 
 use crate::{
     BlockGroup, DevExtent, DevItem, Entry, ExtentItem, FileExtent, Form, Inode, LooseRef, Part,
     Parts, RootItem, RootRef, SumRun, entries, ext_refs, inline_refs, inode_refs, key_fits,
 };
-use btr_base::{Key, SumKind};
+use btr_base::{Key, SumKind, u16_at};
 
 /// Whether an item has its form: its key keeps the rules of its type, and the readers of its type accept its
-/// body from the first byte to the last. Items of other types have no form to break, and of a CHUNK_ITEM the
-/// body isn't looked at. Checksums are of this kind.
+/// body from the first byte to the last. Items of other types have no form to break, and of a CHUNK_ITEM only
+/// the length is looked at. Checksums are of this kind.
 pub fn item_fits(sums: SumKind, key: Key, body: &[u8]) -> bool
     ensures { result ≡ spec.item_fits sums key body.now }
 {
@@ -37,8 +38,16 @@ fn body_fits(form: Form, sums: SumKind, key: Key, body: &[u8]) -> bool
         Form::BlockGroup => BlockGroup::read(body).is_ok(),
         Form::DevExtent => DevExtent::read(body).is_ok(),
         Form::DevItem => DevItem::read(body).is_ok(),
+        Form::Chunk => has_chunk_size(body),
         Form::Other => true,
     }
+}
+
+// A chunk has 48 bytes, the number of stripes among them, and 32 bytes for each stripe.
+fn has_chunk_size(body: &[u8]) -> bool
+    ensures { result ≡ has_chunk_size body.now }
+{
+    body.len() >= 48 && body.len() == 48 + 32 * usize::from(u16_at(body, 44))
 }
 
 // One or more parts, each in its form.

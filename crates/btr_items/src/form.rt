@@ -36,7 +36,9 @@ pub enum Form {
     DevExtent,
     /// A [`DevItem`](crate::DevItem).
     DevItem,
-    /// A chunk, or an item of a type that isn't read.
+    /// A chunk, of which only the length is looked at here.
+    Chunk,
+    /// An item of a type that isn't read.
     Other,
 }
 
@@ -64,6 +66,7 @@ impl Form {
             item::BLOCK_GROUP_ITEM => Form::BlockGroup,
             item::DEV_EXTENT => Form::DevExtent,
             item::DEV_ITEM => Form::DevItem,
+            item::CHUNK_ITEM => Form::Chunk,
             _ => Form::Other,
         }
     }

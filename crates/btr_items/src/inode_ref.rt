@@ -1,7 +1,8 @@
-ghost use Rattle.std.specs.Prelude.{◌≡◌, All};
+ghost use Rattle.std.specs.Prelude.{◌≡◌, All, IfOk};
 ghost use Rattle.btr_items.specs.InodeRef as spec;
+ghost use Rattle.btr_items.specs.Form.{HasName};
 
-use crate::name::is_name_length;
+use crate::name::{is_name_length, name_at};
 use crate::{ItemFault, Part, Parts};
 use btr_base::{u16_at, u64_at};
 
@@ -20,14 +21,16 @@ pub struct InodeRef {
 }
 
 impl InodeRef {
-    ghost use Rattle.std.specs.Prelude.{◌≡◌, ◌≤◌, length};
-    ghost use Rattle.btr_items.specs.InodeRef.{inode_ref_at, HasName};
+    ghost use Rattle.std.specs.Prelude.{◌≡◌, ◌≤◌, length, IfOk};
+    ghost use Rattle.btr_base.specs.Field.{bytes_at};
+    ghost use Rattle.btr_items.specs.InodeRef.{inode_ref_at};
+    ghost use Rattle.btr_items.specs.Form.{HasName};
 
     /// The reference that begins at `at`.
     pub fn read(body: &[u8], at: usize) -> Result<InodeRef, ItemFault>
         requires { at ≤ length body.now }
         ensures form { result ≡ inode_ref_at at body.now }
-        ensures name { HasName body.now result }
+        ensures name { IfOk result (λ found. HasName body.now found.name_at found.name_len) }
     {
         if body.len() - at < 10 {
             return Err(ItemFault);
@@ -43,6 +46,14 @@ impl InodeRef {
             name_len,
             end,
         })
+    }
+
+    /// The bytes of the name, in the body that it was read from.
+    pub fn name<'a>(&self, body: &'a [u8]) -> &'a [u8]
+        requires { HasName body.now self.now.name_at self.now.name_len }
+        ensures { result.now ≡ bytes_at self.now.name_len self.now.name_at body.now }
+    {
+        name_at(body, self.name_at, self.name_len)
     }
 }
 
@@ -68,7 +79,7 @@ impl Part for InodeRef {
 /// The references of an INODE_REF. Their names lie in the body.
 pub fn inode_refs(body: &[u8]) -> Parts<'_, InodeRef>
     ensures list { result ≡ spec.inode_refs_of body.now }
-    ensures names { All (spec.HasName body.now) result }
+    ensures names { All (λ read. IfOk read (λ found. HasName body.now found.name_at found.name_len)) result }
 {
     Parts::new(body, 0)
 }

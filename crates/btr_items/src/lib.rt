@@ -3,8 +3,8 @@
 //! Each reader is proved to answer what its definition in `specs/` says, at all bytes: the fields where the
 //! body has the form of its type, and `ItemFault` exactly where it doesn't. None takes memory or copies a
 //! body; a name is given by its place and length. `specs/` has one module a type, named after it, whose
-//! definition goes from bytes to fields: `Inode` has `inode_of`, and so on. `Key` has the rules on keys,
-//! `Parts` the list of what stands in a body one after another, which the iterators `entries`,
+//! definition goes from bytes to fields: `Inode` has `inode_of`, and so on. `Types` has the numbers of the
+//! types, `Key` the rules on keys, `Parts` the list of what stands in a body one after another, which the iterators `entries`,
 //! `inode_refs`, `ext_refs` and `inline_refs` go over, and `Item` says when a whole item has its form.
 #![tactic(auto)]
 

@@ -1,5 +1,5 @@
 use crate::ItemFault;
-use crate::name::is_name_length;
+use crate::name::{is_name_length, name_at};
 use btr_base::{u16_at, u64_at};
 
 /// A name of a subvolume: the body of a ROOT_REF or a ROOT_BACKREF.
@@ -16,13 +16,15 @@ pub struct RootRef {
 }
 
 impl RootRef {
-    ghost use Rattle.std.specs.Prelude.{◌≡◌};
-    ghost use Rattle.btr_items.specs.RootRef.{root_ref_of, HasName};
+    ghost use Rattle.std.specs.Prelude.{◌≡◌, IfOk};
+    ghost use Rattle.btr_base.specs.Field.{bytes_at};
+    ghost use Rattle.btr_items.specs.Form.{HasName};
+    ghost use Rattle.btr_items.specs.RootRef.{root_ref_of};
 
     /// The body of a ROOT_REF or a ROOT_BACKREF.
     pub fn read(body: &[u8]) -> Result<RootRef, ItemFault>
         ensures form { result ≡ root_ref_of body.now }
-        ensures name { HasName body.now result }
+        ensures name { IfOk result (λ found. HasName body.now found.name_at found.name_len) }
     {
         if body.len() < 18 {
             return Err(ItemFault);
@@ -37,5 +39,13 @@ impl RootRef {
             name_at: 18,
             name_len,
         })
+    }
+
+    /// The bytes of the name, in the body that it was read from.
+    pub fn name<'a>(&self, body: &'a [u8]) -> &'a [u8]
+        requires { HasName body.now self.now.name_at self.now.name_len }
+        ensures { result.now ≡ bytes_at self.now.name_len self.now.name_at body.now }
+    {
+        name_at(body, self.name_at, self.name_len)
     }
 }

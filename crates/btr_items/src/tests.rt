@@ -4,4 +4,7 @@ mod broken;
 mod extents;
 mod files;
 mod keys;
+mod leaves;
 mod trees;
+mod views;
+mod whole;

@@ -1,12 +1,12 @@
 -- Lists that are made of the entries of a table.
-use Rattle.std.proofs.Common.{◌≡◌, ℕ, zero, suc, ◌+◌, ◌-◌, ◌<◌, ◌≤◌, true, false, List, ◌∷◌, map, drop, refl, sym, ap, arith, subst, ⊎_elim}
+use Rattle.std.proofs.Common.{◌≡◌, ℕ, zero, suc, ◌+◌, ◌-◌, ◌<◌, ◌≤◌, true, false, List, [], ◌∷◌, map, drop, length, get_or, refl, sym, ap, arith, subst, ⊎_elim}
 use Rattle.std.specs.List.{range_with_len}
 use Rattle.std.proofs.lemmas.List.{get_or-drop, drop-drop}
 use Rattle.std.proofs.lemmas.Bool.{lt-ltb, le-ltb, and_from, and_left, and_right, and_parts, ltb-true, cases_eq}
 use Rattle.btr_base.specs.declared.key.Key.{Key}
 use Rattle.btr_base.specs.Field.{number_at}
 use Rattle.btr_base.specs.Key.{key_at, key_number, key_lt}
-use Rattle.btr_node.specs.Block.{ascends}
+use Rattle.btr_node.specs.Block.{is_before, ascends}
 
 -- a key at an offset is the first key behind that many bytes
 pub key_at-drop : (off : ℕ) (block : List ℕ) → key_at 0 (drop off block) ≡ key_at off block
@@ -56,3 +56,19 @@ ascends-order f a (suc (suc n)) up i j low less high =
     (cases_eq (a + 1) j))
     (λ (other : a ≡ i → ⊥). rest i j (omega arith) less (omega arith))
     (cases_eq a i)
+
+-- the first of keys that ascend stands before the others
+first_before : (key : Key) (keys : List Key) (d : Key) → ascends (key ∷ keys) ≡ true → (j : ℕ) → j < length keys → key_number key < key_number (get_or keys j d)
+first_before key [] d up j within = absurd (omega arith)
+first_before key (next ∷ keys) d up zero within = ltb-true _ _ (and_parts (key_lt key next) (ascends (next ∷ keys)) up).0
+first_before key (next ∷ keys) d up (suc j) within =
+    let parts = and_parts (key_lt key next) (ascends (next ∷ keys)) up in
+    let step : key_number key < key_number next = ltb-true _ _ parts.0 in
+    omega (arith, step, first_before next keys d parts.1 j (omega arith))
+
+-- each of them stands before all behind it
+pub ascends-pairs : (keys : List Key) → ascends keys ≡ true → (i j : ℕ) (d : Key) → i < j → j < length keys → key_number (get_or keys i d) < key_number (get_or keys j d)
+ascends-pairs [] up i j d less within = absurd (omega arith)
+ascends-pairs (key ∷ keys) up i zero d less within = absurd (omega arith)
+ascends-pairs (key ∷ keys) up zero (suc j) d less within = first_before key keys d up j (omega arith)
+ascends-pairs (key ∷ keys) up (suc i) (suc j) d less within = ascends-pairs keys (and_parts (is_before key keys) (ascends keys) up).1 i j d (omega arith) (omega arith)

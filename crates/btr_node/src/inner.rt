@@ -1,7 +1,7 @@
-ghost use Rattle.std.specs.Prelude.{◌≡◌, ◌+◌, ◌*◌, ◌-◌, ◌<◌, ◌≤◌, length, map, IsTrue, IfNone, IfSome, take, drop, All};
+ghost use Rattle.std.specs.Prelude.{◌≡◌, ◌+◌, ◌*◌, ◌-◌, ◌^◌, ◌<◌, ◌≤◌, length, map, IsTrue, IfNone, IfSome, take, drop, All};
 ghost use Rattle.std.specs.List.{HoldsAt};
 ghost use Rattle.btr_base.specs.Key.{key_number};
-ghost use Rattle.btr_node.specs.Block.{pointers, pointer_at, is_inner};
+ghost use Rattle.btr_node.specs.Block.{ascends, pointers, pointer_at, is_inner};
 
 use crate::Pointer;
 use crate::table::{HEADER, LEVEL, entry_count, entry_key, first_from, keys_ascend, last_up_to};
@@ -44,10 +44,12 @@ impl<'a> Inner<'a> {
         Inner { block }
     }
 
-    /// How many pointers there are, at least one.
+    /// How many pointers there are, at least one. Their keys ascend.
     pub fn count(&self) -> usize
         ensures all { result ≡ length self.now }
         ensures some { 0 < result }
+        ensures small { result < 2 ^ 32 }
+        ensures ascending { IsTrue (ascends (map (λ pointer. pointer.key) self.now)) }
     {
         entry_count(self.block)
     }
@@ -72,6 +74,7 @@ impl<'a> Inner<'a> {
     /// The first pointer whose key is at or above a key, or the number of pointers where there is none.
     pub fn seek(&self, key: Key) -> usize
         ensures within { result ≤ length self.now }
+        ensures small { result < 2 ^ 32 }
         ensures before { All (λ pointer. key_number pointer.key < key_number key) (take result self.now) }
         ensures behind { All (λ pointer. key_number key ≤ key_number pointer.key) (drop result self.now) }
     {
@@ -83,6 +86,7 @@ impl<'a> Inner<'a> {
         ensures some { 0 < length self.now }
         ensures none { IfNone result (All (λ pointer. key_number key < key_number pointer.key) self.now) }
         ensures within { IfSome result (λ last. last < length self.now) }
+        ensures small { IfSome result (λ last. last < 2 ^ 32) }
         ensures before { IfSome result
             (λ last. All (λ pointer. key_number pointer.key ≤ key_number key) (take (last + 1) self.now)) }
         ensures behind { IfSome result

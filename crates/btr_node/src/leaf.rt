@@ -1,9 +1,11 @@
-ghost use Rattle.std.specs.Prelude.{◌≡◌, ◌+◌, ◌*◌, ◌-◌, ◌<◌, ◌≤◌, length, map, IsTrue, IfSome, IfNone, take, drop, All};
+ghost use Rattle.std.specs.Prelude.{◌≡◌, ◌+◌, ◌*◌, ◌-◌, ◌^◌, ◌<◌, ◌≤◌, length, map, IsTrue, IfSome, IfNone, take, drop, All};
 ghost use Rattle.std.specs.List.{range_with_len, HoldsAt};
 ghost use Rattle.btr_base.specs.Key.{key_number};
-ghost use Rattle.btr_node.specs.Block.{items, item_at, is_packed, is_leaf};
+ghost use Rattle.btr_node.specs.Block.{ascends, items, item_at, is_packed, is_leaf};
+ghost use Rattle.btr_node.specs.LeafItem.{item_of};
 
 use crate::table::{HEADER, LEVEL, entry_count, entry_key, first_from, keys_ascend, last_up_to};
+use crate::{Items, LeafItem};
 use btr_base::{Key, u32_at};
 use std::marker::Model;
 
@@ -41,9 +43,11 @@ impl<'a> Leaf<'a> {
         Leaf { block }
     }
 
-    /// How many items there are.
+    /// How many items there are. Their keys ascend.
     pub fn count(&self) -> usize
-        ensures { result ≡ length self.now }
+        ensures all { result ≡ length self.now }
+        ensures small { result < 2 ^ 32 }
+        ensures ascending { IsTrue (ascends (map (λ item. item.key) self.now)) }
     {
         entry_count(self.block)
     }
@@ -76,9 +80,30 @@ impl<'a> Leaf<'a> {
         &block[begin..begin + size]
     }
 
+    /// Item `i`.
+    pub fn item(&self, i: usize) -> LeafItem<'a>
+        requires { i < length self.now }
+        ensures { HoldsAt (λ item. item ≡ item_of result) self.now i }
+    {
+        LeafItem {
+            key: self.key(i),
+            offset: self.offset(i),
+            body: self.body(i),
+        }
+    }
+
+    /// The items from item `first` on.
+    pub fn items_from(&self, first: usize) -> Items<'a>
+        requires { first ≤ length self.now }
+        ensures { result ≡ drop first self.now }
+    {
+        Items::from_place(self.block, first)
+    }
+
     /// The first item whose key is at or above a key, or the number of items where there is none.
     pub fn seek(&self, key: Key) -> usize
         ensures within { result ≤ length self.now }
+        ensures small { result < 2 ^ 32 }
         ensures before { All (λ item. key_number item.key < key_number key) (take result self.now) }
         ensures behind { All (λ item. key_number key ≤ key_number item.key) (drop result self.now) }
     {
@@ -89,6 +114,7 @@ impl<'a> Leaf<'a> {
     pub fn seek_le(&self, key: Key) -> Option<usize>
         ensures none { IfNone result (All (λ item. key_number key < key_number item.key) self.now) }
         ensures within { IfSome result (λ last. last < length self.now) }
+        ensures small { IfSome result (λ last. last < 2 ^ 32) }
         ensures before { IfSome result
             (λ last. All (λ item. key_number item.key ≤ key_number key) (take (last + 1) self.now)) }
         ensures behind { IfSome result

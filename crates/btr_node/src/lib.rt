@@ -8,6 +8,7 @@
 #![tactic(auto)]
 
 mod inner;
+mod items;
 mod leaf;
 mod malformed;
 mod node;
@@ -17,7 +18,9 @@ mod table;
 mod tests;
 
 pub use inner::Inner;
+pub use items::{Items, LeafItem};
 pub use leaf::Leaf;
 pub use malformed::Malformed;
 pub use node::Node;
 pub use pointer::Pointer;
+pub use table::level;

@@ -1,8 +1,8 @@
 // The table behind a block's header. Its entries have one size, and each begins with a key.
-ghost use Rattle.std.specs.Prelude.{◌≡◌, ℕ, ◌+◌, ◌*◌, ◌<◌, ◌≤◌, length, map, IfNone, IfSome};
+ghost use Rattle.std.specs.Prelude.{◌≡◌, ℕ, ◌+◌, ◌*◌, ◌^◌, ◌<◌, ◌≤◌, length, map, IfNone, IfSome};
 ghost use Rattle.std.specs.List.{range_with_len};
-ghost use Rattle.btr_base.specs.Key.{key_number, key_lt};
-ghost use Rattle.btr_node.specs.Block.{entry_count, entry_key, entry_number, ascends, IsAscending};
+ghost use Rattle.btr_base.specs.Key.{key_number};
+ghost use Rattle.btr_node.specs.Block.{level_of, entry_count, entry_key, entry_number, ascends, IsAscending};
 
 use btr_base::{Key, u32_at};
 
@@ -14,10 +14,19 @@ const COUNT: usize = 96;
 
 pub(crate) const LEVEL: usize = 100;
 
+/// The level that the header of a block states, 0 for a leaf.
+pub fn level(block: &[u8]) -> u8
+    requires { 101 ≤ length block.now }
+    ensures { result ≡ level_of block.now }
+{
+    block[LEVEL]
+}
+
 /// How many entries the header states.
 pub(crate) fn entry_count(block: &[u8]) -> usize
     requires { 101 ≤ length block.now }
-    ensures { result ≡ entry_count block.now }
+    ensures count { result ≡ entry_count block.now }
+    ensures small { result < 2 ^ 32 }
 {
     u32_at(block, COUNT) as usize
 }
@@ -31,19 +40,6 @@ pub(crate) fn entry_key(block: &[u8], size: usize, i: usize) -> Key
     Key::read(&block[HEADER + size * i..])
 }
 
-// Whether a key stands before another one. Field by field, since a view spends half of its time here.
-fn is_before(a: Key, b: Key) -> bool
-    ensures { result ≡ key_lt a b }
-{
-    if a.objectid != b.objectid {
-        return a.objectid < b.objectid;
-    }
-    if a.kind != b.kind {
-        return a.kind < b.kind;
-    }
-    a.offset < b.offset
-}
-
 /// Whether the keys of the first `count` entries ascend strictly.
 pub(crate) fn keys_ascend(block: &[u8], size: usize, count: usize) -> bool
     requires wide { 17 ≤ size }
@@ -51,7 +47,7 @@ pub(crate) fn keys_ascend(block: &[u8], size: usize, count: usize) -> bool
     ensures { result ≡ ascends (map (entry_key size block.now) (range_with_len 0 count)) }
 {
     for i in 1..count {
-        if !is_before(entry_key(block, size, i - 1), entry_key(block, size, i)) {
+        if !entry_key(block, size, i - 1).is_before(entry_key(block, size, i)) {
             return false;
         }
     }
@@ -71,7 +67,7 @@ pub(crate) fn first_from(block: &[u8], size: usize, count: usize, key: Key) -> u
     let mut high = count;
     while low < high {
         let middle = low + (high - low) / 2;
-        if is_before(entry_key(block, size, middle), key) {
+        if entry_key(block, size, middle).is_before(key) {
             low = middle + 1;
         } else {
             high = middle;
@@ -92,7 +88,7 @@ pub(crate) fn last_up_to(block: &[u8], size: usize, count: usize, key: Key) -> O
         (λ last. (i : ℕ) → last < i → i < count → key_number key < entry_number size block.now i) }
 {
     let first = first_from(block, size, count, key);
-    if first < count && !is_before(key, entry_key(block, size, first)) {
+    if first < count && !key.is_before(entry_key(block, size, first)) {
         return Some(first);
     }
     first.checked_sub(1)

@@ -1,6 +1,6 @@
 mod samples;
 
-use crate::{Inner, Leaf, Node, Pointer};
+use crate::{Inner, Leaf, Node, Pointer, level};
 use btr_base::Key;
 use samples::{
     CHUNK_LEAF, CHUNK_LEAF_ROWS, EXTENT_NODE, EXTENT_NODE_ROWS, FILES_NODE, FILES_NODE_ROWS,
@@ -57,8 +57,15 @@ fn check_leaf(rt: &impl Abort, block: &[u8], rows: &[Row], item: usize, end: &[u
         assert_eq!(rt; leaf.seek(key), i);
         assert_eq!(rt; leaf.seek_le(key), Some(i));
     }
+    for (found, row) in leaf.items_from(0).zip(rows) {
+        let key = (found.key.objectid, found.key.kind, found.key.offset);
+        assert_eq!(rt; key, (row.0, row.1, row.2));
+        assert_eq!(rt; (found.offset, found.body.len()), (row.3, row.4));
+    }
+    assert!(rt; leaf.items_from(rows.len()).next().is_none());
     assert!(rt; item < leaf.count());
-    assert!(rt; leaf.body(item).ends_with(end));
+    assert!(rt; leaf.item(item).body.ends_with(end));
+    assert_eq!(rt; level(block), 0);
     let again = Leaf::of(block);
     assert_eq!(rt; again.count(), rows.len());
 }
@@ -84,6 +91,7 @@ fn check_inner(rt: &impl Abort, block: &[u8], rows: &[PointerRow]) {
         assert_eq!(rt; inner.seek(key), i);
         assert_eq!(rt; inner.seek_le(key), Some(i));
     }
+    assert_eq!(rt; level(block), 1);
     let again = Inner::of(block);
     assert_eq!(rt; again.count(), rows.len());
 }

@@ -120,9 +120,9 @@ module _ {W F S A I J : Type 0} (some : J) (Bs : I → BlockMap W F) (Cs : J →
       given_cut w d.0 (Bs d.0 w) (Cs j.0 w) j.0 k d.1 r refl refl j.1 d.2
       (λ bytes e t g. goes_cut (k bytes) t (λ q c. (h (first (Wants w) q) (j.0, q, refl, subst (λ x. goes_given x (λ y. GoesTo Cs (k y)) q) (sym e) c)).1) g) d.3
 
-  module _ (addr : W → ℕ) (part : S → ℕ → Option S) (seen : List W) (p : Prog W F S A) (done : List S) where
-    abbrev Held : Result A (Halt F) → Type 0
-    Held ans = Goes addr part seen Cs p done ans ⊎ ((q : Run W F S A) × (r : Run W F S A) × GoesTo Cs p q × (m : Drops Bs q r) × (done ≡ steps_of m.before) × (ans ≡ Err (Fault m.fault)))
+  module _ {U : Type 0} (Is : U → W → Type 0) (part : S → ℕ → Option S) (seen : List W) (p : Prog W F S A) (done : List S) where
+    abbrev Held : Result A (Halt F U) → Type 0
+    Held ans = Goes Is part seen Cs p done ans ⊎ ((q : Run W F S A) × (r : Run W F S A) × GoesTo Cs p q × (m : Drops Bs q r) × (done ≡ steps_of m.before) × (ans ≡ Err (Fault m.fault)))
 
     -- the place where a shorter run is broken off is one of the longer
     drops_place : (part : S → ℕ → Option S) (P : List W → Type 0) (q r : Run W F S A) → Drops Bs q r → Breaks part P r done → Breaks part P q done
@@ -133,15 +133,15 @@ module _ {W F S A I J : Type 0} (some : J) (Bs : I → BlockMap W F) (Cs : J →
     drops_steps : (q r : Run W F S A) (m : Drops Bs q r) → done ≡ steps_of r.marks → done ≡ steps_of m.before
     drops_steps q r m e = e ∙ (ap steps_of m.marks ∙ (steps_of-append m.before (Wants m.want ∷ []) ∙ append-nil (steps_of m.before)))
 
-    held_by : (ans : Result A (Halt F)) (r : Run W F S A) → Follows addr part seen r done ans → Cut p r → Held ans
+    held_by : (ans : Result A (Halt F U)) (r : Run W F S A) → Follows Is part seen r done ans → Cut p r → Held ans
     held_by ans r f (inl g) = inl (r, g, f)
     held_by (Ok a) r f (inr c) = let no : Ok a ≡ Err c.2.fault = sym f.1 ∙ c.2.ending in cc
     held_by (Err (Fault x)) r f (inr c) =
         let same : Err x ≡ Err c.2.fault = sym f.1 ∙ c.2.ending in
         let e : x ≡ c.2.fault = cc in
         inr (c.0, r, c.1, c.2, drops_steps c.0 r c.2 f.0, ap (λ y. Err (Fault y)) e)
-    held_by (Err (Unread a)) r f (inr c) = inl (c.0, c.1, drops_place no_part (λ ws. Names addr a (seen ++ ws)) c.0 r c.2 f)
+    held_by (Err (Unread u)) r f (inr c) = inl (c.0, c.1, drops_place no_part (λ ws. Names Is u (seen ++ ws)) c.0 r c.2 f)
     held_by (Err Broke) r f (inr c) = inl (c.0, c.1, drops_place part (λ ws. Unit {0}) c.0 r c.2 f)
 
-    pub goes_held : (plain : W → Bool) (C : BlockMap W F) (ans : Result A (Halt F)) → IsBlind plain p → Each (λ w. (j : J) → IsAlike (plain w) (Cs j w) (C w)) (needs C p) → Each (Within Bs Cs) (needs C p) → Goes addr part seen Bs p done ans → Held ans
+    pub goes_held : (plain : W → Bool) (C : BlockMap W F) (ans : Result A (Halt F U)) → IsBlind plain p → Each (λ w. (j : J) → IsAlike (plain w) (Cs j w) (C w)) (needs C p) → Each (Within Bs Cs) (needs C p) → Goes Is part seen Bs p done ans → Held ans
     goes_held plain C ans b h g n = held_by ans n.0 n.2 (goes_cut p n.0 (λ q c. subst (Each (Within Bs Cs)) (sym (blind_law plain Cs C p q b h c).0) g) n.1)

@@ -104,52 +104,52 @@ module _ {W F S I : Type 0} (Bs : I → BlockMap W F) where
   after_exec i k ms (Ok a) = (exec (Bs i) (k a), refl, goes_map i (k a))
   after_exec i k ms (Err f) = refl
 
-  module _ {A C : Type 0} (addr : W → ℕ) (part : S → ℕ → Option S) (seen : List W) (p : Prog W F S A) (k : A → Prog W F S C) where
-    pub goes_then : (r : Run W F S A) (a : A) (done more : List S) (ans : Result C (Halt F)) → GoesTo Bs p r → Follows addr part seen r done (Ok a) → Goes addr part (seen ++ wants_of r.marks) Bs (k a) more ans → Goes addr part seen Bs (bind p k) (done ++ more) ans
+  module _ {A C U : Type 0} (Is : U → W → Type 0) (part : S → ℕ → Option S) (seen : List W) (p : Prog W F S A) (k : A → Prog W F S C) where
+    pub goes_then : (r : Run W F S A) (a : A) (done more : List S) (ans : Result C (Halt F U)) → GoesTo Bs p r → Follows Is part seen r done (Ok a) → Goes Is part (seen ++ wants_of r.marks) Bs (k a) more ans → Goes Is part seen Bs (bind p k) (done ++ more) ans
     goes_then r a done more ans g h n = (
       prepend r.marks n.0,
       goes_bind k p r (prepend r.marks n.0) g (subst (λ x. AfterTo r.marks x (λ b. GoesTo Bs (k b)) (prepend r.marks n.0)) (sym h.1) (n.0, refl, n.1)),
-      subst (λ (x : List S). Follows addr part seen (prepend r.marks n.0) (x ++ more) ans) (sym h.0) (follows_behind addr part seen r.marks n.0 more ans n.2),
+      subst (λ (x : List S). Follows Is part seen (prepend r.marks n.0) (x ++ more) ans) (sym h.0) (follows_behind Is part seen r.marks n.0 more ans n.2),
     )
 
-    pub goes_halt : (i : I) (done : List S) (h : Halt F) → Goes addr part seen Bs p done (Err h) → Goes addr part seen Bs (bind p k) done (Err h)
+    pub goes_halt : (i : I) (done : List S) (h : Halt F U) → Goes Is part seen Bs p done (Err h) → Goes Is part seen Bs (bind p k) done (Err h)
     goes_halt i done h g =
         let r = g.0 in (
           after r.marks r.ending (λ a. exec (Bs i) (k a)),
           goes_bind k p r (after r.marks r.ending (λ a. exec (Bs i) (k a))) g.1 (after_exec i k r.marks r.ending),
-          follows_halt addr part seen r (λ a. exec (Bs i) (k a)) done h g.2,
+          follows_halt Is part seen r (λ a. exec (Bs i) (k a)) done h g.2,
         )
 
-  module _ {A : Type 0} (addr : W → ℕ) (part : S → ℕ → Option S) (seen : List W) where
-    pub goes_came : (i : I) (w : W) (bytes : List ℕ) (k : List ℕ → Prog W F S A) (done : List S) (ans : Result A (Halt F)) → Bs i w ≡ Ok bytes → Goes addr part (seen ++ (w ∷ [])) Bs (k bytes) done ans → Goes addr part seen Bs (Need w k) done ans
+  module _ {A U : Type 0} (Is : U → W → Type 0) (part : S → ℕ → Option S) (seen : List W) where
+    pub goes_came : (i : I) (w : W) (bytes : List ℕ) (k : List ℕ → Prog W F S A) (done : List S) (ans : Result A (Halt F U)) → Bs i w ≡ Ok bytes → Goes Is part (seen ++ (w ∷ [])) Bs (k bytes) done ans → Goes Is part seen Bs (Need w k) done ans
     goes_came i w bytes k done ans e h = (
       first (Wants w) h.0,
       (i, h.0, refl, subst (λ x. goes_given x (λ y. GoesTo Bs (k y)) h.0) (sym e) h.1),
-      follows_behind addr part seen (Wants w ∷ []) h.0 done ans h.2,
+      follows_behind Is part seen (Wants w ∷ []) h.0 done ans h.2,
     )
 
-    pub goes_faults : (i : I) (w : W) (f : F) (k : List ℕ → Prog W F S A) → Bs i w ≡ Err f → Goes addr part seen Bs (Need w k) [] (Err (Fault f))
+    pub goes_faults : (i : I) (w : W) (f : F) (k : List ℕ → Prog W F S A) → Bs i w ≡ Err f → Goes Is part seen Bs (Need w k) [] (Err (Fault f))
     goes_faults i w f k e = (
       first (Wants w) (run [] (Err f)),
       (i, run [] (Err f), refl, subst (λ x. goes_given x (λ y. GoesTo Bs (k y)) (run [] (Err f))) (sym e) refl),
       (refl, refl),
     )
 
-    pub goes_unread : (i : I) (w : W) (k : List ℕ → Prog W F S A) → Goes addr part seen Bs (Need w k) [] (Err (Unread (addr w)))
-    goes_unread i w k = (exec (Bs i) (Need w k), goes_map i (Need w k), want_unread addr part seen w (given (Bs i w) (λ bytes. exec (Bs i) (k bytes))))
+    pub goes_unread : (i : I) (u : U) (w : W) (k : List ℕ → Prog W F S A) → Is u w → Goes Is part seen Bs (Need w k) [] (Err (Unread u))
+    goes_unread i u w k h = (exec (Bs i) (Need w k), goes_map i (Need w k), want_unread Is part seen u w (given (Bs i w) (λ bytes. exec (Bs i) (k bytes))) h)
 
-    pub goes_step : (s : S) (p : Prog W F S A) (done : List S) (ans : Result A (Halt F)) → Goes addr part seen Bs p done ans → Goes addr part seen Bs (Emit s p) (s ∷ done) ans
-    goes_step s p done ans h = (first (Does s) h.0, (h.0, refl, h.1), step_done addr part seen s h.0 done ans h.2)
+    pub goes_step : (s : S) (p : Prog W F S A) (done : List S) (ans : Result A (Halt F U)) → Goes Is part seen Bs p done ans → Goes Is part seen Bs (Emit s p) (s ∷ done) ans
+    goes_step s p done ans h = (first (Does s) h.0, (h.0, refl, h.1), step_done Is part seen s h.0 done ans h.2)
 
-    pub goes_broke : (i : I) (s t : S) (n : ℕ) (p : Prog W F S A) → part s n ≡ Some t → Goes addr part seen Bs (Emit s p) (t ∷ []) (Err Broke)
-    goes_broke i s t n p e = (exec (Bs i) (Emit s p), goes_map i (Emit s p), step_broke addr part seen s t n (exec (Bs i) p) e)
+    pub goes_broke : (i : I) (s t : S) (n : ℕ) (p : Prog W F S A) → part s n ≡ Some t → Goes Is part seen Bs (Emit s p) (t ∷ []) (Err Broke)
+    goes_broke i s t n p e = (exec (Bs i) (Emit s p), goes_map i (Emit s p), step_broke Is part seen s t n (exec (Bs i) p) e)
 
-    pub goes_nowhere : (i : I) (p : Prog W F S A) → Goes addr part seen Bs p [] (Err Broke)
-    goes_nowhere i p = (exec (Bs i) p, goes_map i p, broke_here addr part seen (exec (Bs i) p))
+    pub goes_nowhere : (i : I) (p : Prog W F S A) → Goes Is part seen Bs p [] (Err Broke)
+    goes_nowhere i p = (exec (Bs i) p, goes_map i p, broke_here Is part seen (exec (Bs i) p))
 
     -- a call of its own, whatever was wanted before it
-    pub goes_alone : (p : Prog W F S A) (done : List S) (ans : Result A (Halt F)) → Goes addr part [] Bs p done ans → Goes addr part seen Bs p done ans
-    goes_alone p done ans h = (h.0, h.1, follows_alone addr part seen h.0 done ans h.2)
+    pub goes_alone : (p : Prog W F S A) (done : List S) (ans : Result A (Halt F U)) → Goes Is part [] Bs p done ans → Goes Is part seen Bs p done ans
+    goes_alone p done ans h = (h.0, h.1, follows_alone Is part seen h.0 done ans h.2)
 
   -- a program whose value is only put into another form
   abbrev pub with_value : {A C : Type 0} → (A → C) → Run W F S A → Run W F S C

@@ -5,17 +5,17 @@ use Rattle.btr_prog.specs.Prog.{BlockMap, Prog, Mark, Wants, Does, Run, run, fir
 use Rattle.btr_prog.specs.Answers.{Halt, Fault, Unread, Broke, Names, Leaves, no_part, Breaks, Follows}
 use Rattle.btr_prog.proofs.Runs.{steps_of-append, wants_of-append}
 
-module _ {W : Type 0} (addr : W → ℕ) (a : ℕ) where
-  pub names_left : (vs ws : List W) → Names addr a vs → Names addr a (vs ++ ws)
+module _ {W U : Type 0} (Is : U → W → Type 0) (u : U) where
+  pub names_left : (vs ws : List W) → Names Is u vs → Names Is u (vs ++ ws)
   names_left [] ws h = absurd h
   names_left (v ∷ vs) ws (inl e) = inl e
   names_left (v ∷ vs) ws (inr h) = inr (names_left vs ws h)
 
-  pub names_right : (vs ws : List W) → Names addr a ws → Names addr a (vs ++ ws)
+  pub names_right : (vs ws : List W) → Names Is u ws → Names Is u (vs ++ ws)
   names_right [] ws h = h
   names_right (v ∷ vs) ws h = inr (names_right vs ws h)
 
-  pub names_split : (vs ws : List W) → Names addr a (vs ++ ws) → Names addr a vs ⊎ Names addr a ws
+  pub names_split : (vs ws : List W) → Names Is u (vs ++ ws) → Names Is u vs ⊎ Names Is u ws
   names_split [] ws h = inr h
   names_split (v ∷ vs) ws (inl e) = inl (inl e)
   names_split (v ∷ vs) ws (inr h) = elim (names_split vs ws h) [ inl g ↦ inl (inr g) | inr g ↦ inr g ]
@@ -64,57 +64,70 @@ module _ {W F S : Type 0} (part : S → ℕ → Option S) where
   pub breaks_here : {A : Type 0} (P : List W → Type 0) (r : Run W F S A) → P [] → Breaks part P r []
   breaks_here P r h = record { before = []; behind = r.marks; left = None; place = refl; steps = refl; leaves = tt; holds = h }
 
-module _ {W F S : Type 0} (addr : W → ℕ) (part : S → ℕ → Option S) where
+module _ {W F S U : Type 0} (Is : U → W → Type 0) (part : S → ℕ → Option S) where
   -- an answer of a run, behind some marks
-  pub follows_behind : {A : Type 0} (seen : List W) (ms : List (Mark W S)) (r : Run W F S A) (done : List S) (ans : Result A (Halt F)) → Follows addr part (seen ++ wants_of ms) r done ans → Follows addr part seen (prepend ms r) (steps_of ms ++ done) ans
+  pub follows_behind : {A : Type 0} (seen : List W) (ms : List (Mark W S)) (r : Run W F S A) (done : List S) (ans : Result A (Halt F U)) → Follows Is part (seen ++ wants_of ms) r done ans → Follows Is part seen (prepend ms r) (steps_of ms ++ done) ans
   follows_behind seen ms r done (Ok a) h = (ap (λ x. steps_of ms ++ x) h.0 ∙ sym (steps_of-append ms r.marks), h.1)
   follows_behind seen ms r done (Err (Fault f)) h = (ap (λ x. steps_of ms ++ x) h.0 ∙ sym (steps_of-append ms r.marks), h.1)
-  follows_behind seen ms r done (Err (Unread a)) h =
-      breaks_behind no_part (λ ws. Names addr a (seen ++ ws)) ms r done
-      (breaks_weak no_part _ (λ ws. Names addr a (seen ++ (wants_of ms ++ ws))) r done (λ ws g. subst (Names addr a) (append_assoc seen (wants_of ms) ws) g) h)
+  follows_behind seen ms r done (Err (Unread u)) h =
+      breaks_behind no_part (λ ws. Names Is u (seen ++ ws)) ms r done
+      (breaks_weak no_part _ (λ ws. Names Is u (seen ++ (wants_of ms ++ ws))) r done (λ ws g. subst (Names Is u) (append_assoc seen (wants_of ms) ws) g) h)
   follows_behind seen ms r done (Err Broke) h = breaks_behind part (λ ws. Unit {0}) ms r done h
 
-  pub follows_then : {A C : Type 0} (seen : List W) (r : Run W F S A) (a : A) (k : A → Run W F S C) (done more : List S) (ans : Result C (Halt F)) → Follows addr part seen r done (Ok a) → Follows addr part (seen ++ wants_of r.marks) (k a) more ans → Follows addr part seen (and_then r k) (done ++ more) ans
+  pub follows_then : {A C : Type 0} (seen : List W) (r : Run W F S A) (a : A) (k : A → Run W F S C) (done more : List S) (ans : Result C (Halt F U)) → Follows Is part seen r done (Ok a) → Follows Is part (seen ++ wants_of r.marks) (k a) more ans → Follows Is part seen (and_then r k) (done ++ more) ans
   follows_then seen r a k done more ans h g =
-      subst (λ x. Follows addr part seen (after r.marks x k) (done ++ more) ans) (sym h.1)
-      (subst (λ x. Follows addr part seen (prepend r.marks (k a)) (x ++ more) ans) (sym h.0) (follows_behind seen r.marks (k a) more ans g))
+      subst (λ x. Follows Is part seen (after r.marks x k) (done ++ more) ans) (sym h.1)
+      (subst (λ x. Follows Is part seen (prepend r.marks (k a)) (x ++ more) ans) (sym h.0) (follows_behind seen r.marks (k a) more ans g))
 
-  pub follows_halt : {A C : Type 0} (seen : List W) (r : Run W F S A) (k : A → Run W F S C) (done : List S) (h : Halt F) → Follows addr part seen r done (Err h) → Follows addr part seen (and_then r k) done (Err h)
-  follows_halt seen r k done (Fault f) h = subst (λ x. Follows addr part seen (after r.marks x k) done (Err (Fault f))) (sym h.1) (h.0, refl)
-  follows_halt seen r k done (Unread a) h = breaks_then no_part (λ ws. Names addr a (seen ++ ws)) r.marks r.ending k done h
+  pub follows_halt : {A C : Type 0} (seen : List W) (r : Run W F S A) (k : A → Run W F S C) (done : List S) (h : Halt F U) → Follows Is part seen r done (Err h) → Follows Is part seen (and_then r k) done (Err h)
+  follows_halt seen r k done (Fault f) h = subst (λ x. Follows Is part seen (after r.marks x k) done (Err (Fault f))) (sym h.1) (h.0, refl)
+  follows_halt seen r k done (Unread u) h = breaks_then no_part (λ ws. Names Is u (seen ++ ws)) r.marks r.ending k done h
   follows_halt seen r k done Broke h = breaks_then part (λ ws. Unit {0}) r.marks r.ending k done h
 
   -- a value that is only put into another form
-  pub follows_value : {A C : Type 0} (seen : List W) (f : A → C) (r : Run W F S A) (a : A) (done : List S) → Follows addr part seen r done (Ok a) → Follows addr part seen (and_then r (λ x. run [] (Ok (f x)))) done (Ok (f a))
-  follows_value seen f r a done h = subst (λ (x : Result _ F). Follows addr part seen (after r.marks x (λ y. run [] (Ok (f y)))) done (Ok (f a))) (sym h.1) (h.0 ∙ ap steps_of (sym (append-nil r.marks)), refl)
+  pub follows_value : {A C : Type 0} (seen : List W) (f : A → C) (r : Run W F S A) (a : A) (done : List S) → Follows Is part seen r done (Ok a) → Follows Is part seen (and_then r (λ x. run [] (Ok (f x)))) done (Ok (f a))
+  follows_value seen f r a done h = subst (λ (x : Result _ F). Follows Is part seen (after r.marks x (λ y. run [] (Ok (f y)))) done (Ok (f a))) (sym h.1) (h.0 ∙ ap steps_of (sym (append-nil r.marks)), refl)
 
-  pub follows_seen : {A : Type 0} (earlier seen : List W) (r : Run W F S A) (done : List S) (ans : Result A (Halt F)) → Follows addr part seen r done ans → Follows addr part (earlier ++ seen) r done ans
+  pub follows_seen : {A : Type 0} (earlier seen : List W) (r : Run W F S A) (done : List S) (ans : Result A (Halt F U)) → Follows Is part seen r done ans → Follows Is part (earlier ++ seen) r done ans
   follows_seen earlier seen r done (Ok a) h = h
   follows_seen earlier seen r done (Err (Fault f)) h = h
-  follows_seen earlier seen r done (Err (Unread a)) h = breaks_weak no_part _ _ r done (λ ws g. subst (Names addr a) (sym (append_assoc earlier seen ws)) (names_right addr a earlier (seen ++ ws) g)) h
+  follows_seen earlier seen r done (Err (Unread u)) h = breaks_weak no_part _ _ r done (λ ws g. subst (Names Is u) (sym (append_assoc earlier seen ws)) (names_right Is u earlier (seen ++ ws) g)) h
   follows_seen earlier seen r done (Err Broke) h = h
 
   -- a call of its own, whatever was wanted before it
-  pub follows_alone : {A : Type 0} (earlier : List W) (r : Run W F S A) (done : List S) (ans : Result A (Halt F)) → Follows addr part [] r done ans → Follows addr part earlier r done ans
-  follows_alone earlier r done ans h = subst (λ (x : List W). Follows addr part x r done ans) (append-nil earlier) (follows_seen earlier [] r done ans h)
+  pub follows_alone : {A : Type 0} (earlier : List W) (r : Run W F S A) (done : List S) (ans : Result A (Halt F U)) → Follows Is part [] r done ans → Follows Is part earlier r done ans
+  follows_alone earlier r done ans h = subst (λ (x : List W). Follows Is part x r done ans) (append-nil earlier) (follows_seen earlier [] r done ans h)
 
-  pub broke_here : {A : Type 0} (seen : List W) (r : Run W F S A) → Follows addr part seen r [] (Err Broke)
+  pub broke_here : {A : Type 0} (seen : List W) (r : Run W F S A) → Follows Is part seen r [] (Err Broke)
   broke_here seen r = breaks_here part (λ ws. Unit {0}) r tt
 
-  pub unread_here : {A : Type 0} (seen : List W) (a : ℕ) (r : Run W F S A) → Names addr a seen → Follows addr part seen r [] (Err (Unread a))
-  unread_here seen a r h = breaks_here no_part (λ ws. Names addr a (seen ++ ws)) r (names_left addr a seen [] h)
+  pub unread_here : {A : Type 0} (seen : List W) (u : U) (r : Run W F S A) → Names Is u seen → Follows Is part seen r [] (Err (Unread u))
+  unread_here seen u r h = breaks_here no_part (λ ws. Names Is u (seen ++ ws)) r (names_left Is u seen [] h)
 
-  pub want_came : {A : Type 0} (seen : List W) (B : BlockMap W F) (w : W) (bytes : List ℕ) (k : List ℕ → Prog W F S A) (done : List S) (ans : Result A (Halt F)) → B w ≡ Ok bytes → Follows addr part (seen ++ (w ∷ [])) (exec B (k bytes)) done ans → Follows addr part seen (first (Wants w) (given (B w) (λ bytes. exec B (k bytes)))) done ans
-  want_came seen B w bytes k done ans e h = subst (λ x. Follows addr part seen (first (Wants w) (given x (λ bytes. exec B (k bytes)))) done ans) (sym e) (follows_behind seen (Wants w ∷ []) (exec B (k bytes)) done ans h)
+  pub want_came : {A : Type 0} (seen : List W) (B : BlockMap W F) (w : W) (bytes : List ℕ) (k : List ℕ → Prog W F S A) (done : List S) (ans : Result A (Halt F U)) → B w ≡ Ok bytes → Follows Is part (seen ++ (w ∷ [])) (exec B (k bytes)) done ans → Follows Is part seen (first (Wants w) (given (B w) (λ bytes. exec B (k bytes)))) done ans
+  want_came seen B w bytes k done ans e h = subst (λ x. Follows Is part seen (first (Wants w) (given x (λ bytes. exec B (k bytes)))) done ans) (sym e) (follows_behind seen (Wants w ∷ []) (exec B (k bytes)) done ans h)
 
-  pub want_faults : {A : Type 0} (seen : List W) (B : BlockMap W F) (w : W) (f : F) (k : List ℕ → Prog W F S A) → B w ≡ Err f → Follows addr part seen (first (Wants w) (given (B w) (λ bytes. exec B (k bytes)))) [] (Err (Fault f))
-  want_faults seen B w f k e = subst (λ x. Follows addr part seen (first (Wants w) (given x (λ bytes. exec B (k bytes)))) [] (Err (Fault f))) (sym e) (refl, refl)
+  pub want_faults : {A : Type 0} (seen : List W) (B : BlockMap W F) (w : W) (f : F) (k : List ℕ → Prog W F S A) → B w ≡ Err f → Follows Is part seen (first (Wants w) (given (B w) (λ bytes. exec B (k bytes)))) [] (Err (Fault f))
+  want_faults seen B w f k e = subst (λ x. Follows Is part seen (first (Wants w) (given x (λ bytes. exec B (k bytes)))) [] (Err (Fault f))) (sym e) (refl, refl)
 
-  pub want_unread : {A : Type 0} (seen : List W) (w : W) (r : Run W F S A) → Follows addr part seen (first (Wants w) r) [] (Err (Unread (addr w)))
-  want_unread seen w r = record { before = Wants w ∷ []; behind = r.marks; left = None; place = refl; steps = refl; leaves = tt; holds = names_right addr (addr w) seen (w ∷ []) (inl refl) }
+  pub want_unread : {A : Type 0} (seen : List W) (u : U) (w : W) (r : Run W F S A) → Is u w → Follows Is part seen (first (Wants w) r) [] (Err (Unread u))
+  want_unread seen u w r h = record { before = Wants w ∷ []; behind = r.marks; left = None; place = refl; steps = refl; leaves = tt; holds = names_right Is u seen (w ∷ []) (inl h) }
 
-  pub step_done : {A : Type 0} (seen : List W) (s : S) (r : Run W F S A) (done : List S) (ans : Result A (Halt F)) → Follows addr part seen r done ans → Follows addr part seen (first (Does s) r) (s ∷ done) ans
-  step_done seen s r done ans h = follows_behind seen (Does s ∷ []) r done ans (subst (λ x. Follows addr part x r done ans) (sym (append-nil seen)) h)
+  pub step_done : {A : Type 0} (seen : List W) (s : S) (r : Run W F S A) (done : List S) (ans : Result A (Halt F U)) → Follows Is part seen r done ans → Follows Is part seen (first (Does s) r) (s ∷ done) ans
+  step_done seen s r done ans h = follows_behind seen (Does s ∷ []) r done ans (subst (λ x. Follows Is part x r done ans) (sym (append-nil seen)) h)
 
-  pub step_broke : {A : Type 0} (seen : List W) (s t : S) (n : ℕ) (r : Run W F S A) → part s n ≡ Some t → Follows addr part seen (first (Does s) r) (t ∷ []) (Err Broke)
+  pub step_broke : {A : Type 0} (seen : List W) (s t : S) (n : ℕ) (r : Run W F S A) → part s n ≡ Some t → Follows Is part seen (first (Does s) r) (t ∷ []) (Err Broke)
   step_broke seen s t n r h = record { before = []; behind = Does s ∷ r.marks; left = Some t; place = refl; steps = refl; leaves = (n, h); holds = tt }
+
+module _ {W U : Type 0} (Is Less : U → W → Type 0) (weaker : (u : U) (w : W) → Is u w → Less u w) where
+  names_as : (u : U) (ws : List W) → Names Is u ws → Names Less u ws
+  names_as u [] h = absurd h
+  names_as u (w ∷ ws) (inl h) = inl (weaker u w h)
+  names_as u (w ∷ ws) (inr h) = inr (names_as u ws h)
+
+  -- less may be said of the want that could not be read
+  pub follows_as : {F S A : Type 0} (part : S → ℕ → Option S) (seen : List W) (r : Run W F S A) (done : List S) (ans : Result A (Halt F U)) → Follows Is part seen r done ans → Follows Less part seen r done ans
+  follows_as part seen r done (Ok a) h = h
+  follows_as part seen r done (Err (Fault f)) h = h
+  follows_as part seen r done (Err (Unread u)) h = breaks_weak no_part (λ ws. Names Is u (seen ++ ws)) (λ ws. Names Less u (seen ++ ws)) r done (λ ws n. names_as u (seen ++ ws) n) h
+  follows_as part seen r done (Err Broke) h = h

@@ -7,7 +7,13 @@ pub mod Follow
 pub mod Choices
 pub mod ChoiceThreads
 pub mod Renaming
+pub mod TwoParts
+pub mod Quieting
+pub mod Wells
+pub mod Showing
 pub mod Successive
 pub mod SoFars
+pub mod Cursors
 pub mod Blinds
 pub mod Twins
+pub mod PartTwins

@@ -25,33 +25,33 @@ module _ {W F S A : Type 0} where
       let e : (exec B p).marks ++ q.0 ≡ (exec C p).marks = ap (λ (r : Run W F S A). r.marks ++ q.0) (cut_law B C p h) ∙ sym q.1 in
       subst (λ x. Breaks part P (run x (exec C p).ending) done) e (breaks_longer part P (exec B p) q.0 (exec C p).ending done b)
 
-  pub unread_place : (addr : W → ℕ) (part : S → ℕ → Option S) (seen : List W) (B C : BlockMap W F) (p : Prog W F S A) (done : List S) (a : ℕ) → Each (λ w. IsWithin (B w) (C w)) (needs C p) → Follows addr part seen (exec B p) done (Err (Unread a)) → Follows addr part seen (exec C p) done (Err (Unread a))
-  unread_place addr part seen B C p done a h f = same_place no_part (λ ws. Names addr a (seen ++ ws)) B C p done h f
+  pub unread_place : {U : Type 0} (Is : U → W → Type 0) (part : S → ℕ → Option S) (seen : List W) (B C : BlockMap W F) (p : Prog W F S A) (done : List S) (u : U) → Each (λ w. IsWithin (B w) (C w)) (needs C p) → Follows Is part seen (exec B p) done (Err (Unread u)) → Follows Is part seen (exec C p) done (Err (Unread u))
+  unread_place Is part seen B C p done u h f = same_place no_part (λ ws. Names Is u (seen ++ ws)) B C p done h f
 
-  pub broke_place : (addr : W → ℕ) (part : S → ℕ → Option S) (seen : List W) (B C : BlockMap W F) (p : Prog W F S A) (done : List S) → Each (λ w. IsWithin (B w) (C w)) (needs C p) → Follows addr part seen (exec B p) done (Err Broke) → Follows addr part seen (exec C p) done (Err Broke)
-  broke_place addr part seen B C p done h f = same_place part (λ ws. Unit {0}) B C p done h f
+  pub broke_place : {U : Type 0} (Is : U → W → Type 0) (part : S → ℕ → Option S) (seen : List W) (B C : BlockMap W F) (p : Prog W F S A) (done : List S) → Each (λ w. IsWithin (B w) (C w)) (needs C p) → Follows Is part seen (exec B p) done (Err Broke) → Follows Is part seen (exec C p) done (Err Broke)
+  broke_place Is part seen B C p done h f = same_place part (λ ws. Unit {0}) B C p done h f
 
   -- the steps of a run that is cut are those before the want that is lost
   lost_steps : (B : BlockMap W F) (long short : Run W F S A) (m : Loses B long short) (done : List S) → done ≡ steps_of short.marks → done ≡ steps_of m.before
   lost_steps B long short m done e = e ∙ (ap steps_of m.marks ∙ (steps_of-append m.before (Wants m.want ∷ []) ∙ append-nil (steps_of m.before)))
 
-  module _ (addr : W → ℕ) (part : S → ℕ → Option S) (seen : List W) (B C : BlockMap W F) (p : Prog W F S A) (done : List S) where
-    abbrev Held : Result A (Halt F) → Type 0
-    Held ans = Follows addr part seen (exec C p) done ans ⊎ ((m : Loses B (exec C p) (exec B p)) × (done ≡ steps_of m.before) × (ans ≡ Err (Fault m.fault)))
+  module _ {U : Type 0} (Is : U → W → Type 0) (part : S → ℕ → Option S) (seen : List W) (B C : BlockMap W F) (p : Prog W F S A) (done : List S) where
+    abbrev Held : Result A (Halt F U) → Type 0
+    Held ans = Follows Is part seen (exec C p) done ans ⊎ ((m : Loses B (exec C p) (exec B p)) × (done ≡ steps_of m.before) × (ans ≡ Err (Fault m.fault)))
 
-    held_value : (a : A) → (exec B p ≡ exec C p) ⊎ Loses B (exec C p) (exec B p) → Follows addr part seen (exec B p) done (Ok a) → Held (Ok a)
-    held_value a (inl e) f = inl (subst (λ r. Follows addr part seen r done (Ok a)) e f)
+    held_value : (a : A) → (exec B p ≡ exec C p) ⊎ Loses B (exec C p) (exec B p) → Follows Is part seen (exec B p) done (Ok a) → Held (Ok a)
+    held_value a (inl e) f = inl (subst (λ r. Follows Is part seen r done (Ok a)) e f)
     held_value a (inr m) f = let no : Ok a ≡ Err m.fault = sym f.1 ∙ m.ending in cc
 
-    held_fault : (x : F) → (exec B p ≡ exec C p) ⊎ Loses B (exec C p) (exec B p) → Follows addr part seen (exec B p) done (Err (Fault x)) → Held (Err (Fault x))
-    held_fault x (inl e) f = inl (subst (λ r. Follows addr part seen r done (Err (Fault x))) e f)
+    held_fault : (x : F) → (exec B p ≡ exec C p) ⊎ Loses B (exec C p) (exec B p) → Follows Is part seen (exec B p) done (Err (Fault x)) → Held (Err (Fault x))
+    held_fault x (inl e) f = inl (subst (λ r. Follows Is part seen r done (Err (Fault x))) e f)
     held_fault x (inr m) f =
         let same : Err x ≡ Err m.fault = sym f.1 ∙ m.ending in
         let e : x ≡ m.fault = cc in
         inr (m, lost_steps B (exec C p) (exec B p) m done f.0, ap (λ y. Err (Fault y)) e)
 
-    pub held_law : (ans : Result A (Halt F)) → Each (λ w. IsWithin (B w) (C w)) (needs C p) → Follows addr part seen (exec B p) done ans → Held ans
+    pub held_law : (ans : Result A (Halt F U)) → Each (λ w. IsWithin (B w) (C w)) (needs C p) → Follows Is part seen (exec B p) done ans → Held ans
     held_law (Ok a) h f = held_value a (lost_law B C p h) f
     held_law (Err (Fault x)) h f = held_fault x (lost_law B C p h) f
-    held_law (Err (Unread a)) h f = inl (same_place no_part (λ ws. Names addr a (seen ++ ws)) B C p done h f)
+    held_law (Err (Unread u)) h f = inl (same_place no_part (λ ws. Names Is u (seen ++ ws)) B C p done h f)
     held_law (Err Broke) h f = inl (same_place part (λ ws. Unit {0}) B C p done h f)

@@ -32,17 +32,17 @@ module _ {W F S A : Type 0} where
   }
 
   -- what is answered of the rest is answered of the whole
-  pub so_far_ends : (addr : W → ℕ) (part : S → ℕ → Option S) (Whole Rest : Run W F S A → Type 0) (seen : List W) (done more : List S) (ans : Result A (Halt F)) → SoFar Whole Rest seen done → (q : Run W F S A) × Rest q × Follows addr part seen q more ans → (r : Run W F S A) × Whole r × Follows addr part [] r (done ++ more) ans
-  so_far_ends addr part Whole Rest seen done more ans s h = (
+  pub so_far_ends : {U : Type 0} (Is : U → W → Type 0) (part : S → ℕ → Option S) (Whole Rest : Run W F S A → Type 0) (seen : List W) (done more : List S) (ans : Result A (Halt F U)) → SoFar Whole Rest seen done → (q : Run W F S A) × Rest q × Follows Is part seen q more ans → (r : Run W F S A) × Whole r × Follows Is part [] r (done ++ more) ans
+  so_far_ends Is part Whole Rest seen done more ans s h = (
     prepend s.before h.0,
     s.goes h.0 h.1,
-    subst (λ (x : List S). Follows addr part [] (prepend s.before h.0) (x ++ more) ans) (sym s.steps)
-        (follows_behind addr part [] s.before h.0 more ans (subst (λ (x : List W). Follows addr part x h.0 more ans) s.wants h.2)),
+    subst (λ (x : List S). Follows Is part [] (prepend s.before h.0) (x ++ more) ans) (sym s.steps)
+        (follows_behind Is part [] s.before h.0 more ans (subst (λ (x : List W). Follows Is part x h.0 more ans) s.wants h.2)),
   )
 
 -- a run that Whole allows has the answer
-abbrev pub Answers : {W F S A : Type 0} → (W → ℕ) → (S → ℕ → Option S) → (Run W F S A → Type 0) → List S → Result A (Halt F) → Type 0
-Answers addr part Whole done ans = (r : Run _ _ _ _) × Whole r × Follows addr part [] r done ans
+abbrev pub Answers : {W F S A U : Type 0} → (U → W → Type 0) → (S → ℕ → Option S) → (Run W F S A → Type 0) → List S → Result A (Halt F U) → Type 0
+Answers Is part Whole done ans = (r : Run _ _ _ _) × Whole r × Follows Is part [] r done ans
 
 module _ {W F S A T St R : Type 0} (Body : St → S → Run W F T (Result St R) → Type 0) (fin : St → A → R) (ms : List (Mark W S)) (e : Result A F) where
   abbrev Left : St → Run W F T R → Type 0
@@ -55,16 +55,16 @@ module _ {W F S A T St R : Type 0} (Body : St → S → Run W F T (Result St R) 
   treated st' marks x q i h = subst (λ y. AfterTo marks y (GoOnTo Left) (prepend marks q)) (sym i) (q, refl, h)
 
   -- an item was treated by a run of its body, and the next is to come
-  pub so_far_step : (addr : W → ℕ) (part : T → ℕ → Option T) (Whole : Run W F T R → Type 0) (seen : List W) (done more : List T) (st st' : St) (s : S) (b : Run W F T (Result St R)) → Body st s b → Follows addr part seen b more (Ok (Ok st')) → SoFar Whole (LeftFrom st s) seen done → SoFar Whole (Left st') (seen ++ wants_of b.marks) (done ++ more)
-  so_far_step addr part Whole seen done more st st' s b g f sofar =
+  pub so_far_step : {U : Type 0} (Is : U → W → Type 0) (part : T → ℕ → Option T) (Whole : Run W F T R → Type 0) (seen : List W) (done more : List T) (st st' : St) (s : S) (b : Run W F T (Result St R)) → Body st s b → Follows Is part seen b more (Ok (Ok st')) → SoFar Whole (LeftFrom st s) seen done → SoFar Whole (Left st') (seen ++ wants_of b.marks) (done ++ more)
+  so_far_step Is part Whole seen done more st st' s b g f sofar =
       subst (λ (x : List T). SoFar Whole (Left st') (seen ++ wants_of b.marks) (done ++ x)) (sym f.0)
       (so_far_more Whole (LeftFrom st s) (Left st') seen done b.marks (λ q h. (b, g, treated st' b.marks b.ending q f.1 h)) sofar)
 
   -- an item was treated, and ends the whole
-  pub so_far_early : (addr : W → ℕ) (part : T → ℕ → Option T) (Whole : Run W F T R → Type 0) (seen : List W) (done more : List T) (st : St) (x : R) (s : S) (b : Run W F T (Result St R)) → Body st s b → Follows addr part seen b more (Ok (Err x)) → SoFar Whole (LeftFrom st s) seen done → Answers addr part Whole (done ++ more) (Ok x)
-  so_far_early addr part Whole seen done more st x s b g f sofar =
+  pub so_far_early : {U : Type 0} (Is : U → W → Type 0) (part : T → ℕ → Option T) (Whole : Run W F T R → Type 0) (seen : List W) (done more : List T) (st : St) (x : R) (s : S) (b : Run W F T (Result St R)) → Body st s b → Follows Is part seen b more (Ok (Err x)) → SoFar Whole (LeftFrom st s) seen done → Answers Is part Whole (done ++ more) (Ok x)
+  so_far_early Is part Whole seen done more st x s b g f sofar =
       let q = run b.marks (Ok x) in
-      so_far_ends addr part Whole (LeftFrom st s) seen done more (Ok x) sofar
+      so_far_ends Is part Whole (LeftFrom st s) seen done more (Ok x) sofar
       (q, (b, g, subst (λ y. AfterTo b.marks y (GoOnTo Left) q) (sym f.1) (run [] (Ok x), ap (λ y. run y (Ok x)) (sym (append-nil b.marks)), refl)), (f.0, refl))
 
   after_some : (k : St → Run W F T R) → ((st : St) → Left st (k st)) → (marks : List (Mark W T)) (x : Result (Result St R) F) → AfterTo marks x (GoOnTo Left) (after marks x (go_on_run k))
@@ -73,17 +73,17 @@ module _ {W F S A T St R : Type 0} (Body : St → S → Run W F T (Result St R) 
   after_some k h marks (Err f) = refl
 
   -- an item was not treated to its end, which ends the whole; k is how it might have gone on
-  pub so_far_halts : (addr : W → ℕ) (part : T → ℕ → Option T) (Whole : Run W F T R → Type 0) (seen : List W) (done more : List T) (st : St) (s : S) (b : Run W F T (Result St R)) (halt : Halt F) (k : St → Run W F T R) → ((st' : St) → Left st' (k st')) → Body st s b → Follows addr part seen b more (Err halt) → SoFar Whole (LeftFrom st s) seen done → Answers addr part Whole (done ++ more) (Err halt)
-  so_far_halts addr part Whole seen done more st s b halt k h g f sofar =
-      so_far_ends addr part Whole (LeftFrom st s) seen done more (Err halt) sofar
-      (after b.marks b.ending (go_on_run k), (b, g, after_some k h b.marks b.ending), follows_halt addr part seen b (go_on_run k) more halt f)
+  pub so_far_halts : {U : Type 0} (Is : U → W → Type 0) (part : T → ℕ → Option T) (Whole : Run W F T R → Type 0) (seen : List W) (done more : List T) (st : St) (s : S) (b : Run W F T (Result St R)) (halt : Halt F U) (k : St → Run W F T R) → ((st' : St) → Left st' (k st')) → Body st s b → Follows Is part seen b more (Err halt) → SoFar Whole (LeftFrom st s) seen done → Answers Is part Whole (done ++ more) (Err halt)
+  so_far_halts Is part Whole seen done more st s b halt k h g f sofar =
+      so_far_ends Is part Whole (LeftFrom st s) seen done more (Err halt) sofar
+      (after b.marks b.ending (go_on_run k), (b, g, after_some k h b.marks b.ending), follows_halt Is part seen b (go_on_run k) more halt f)
 
 module _ {W F S A T St R : Type 0} (Body : St → S → Run W F T (Result St R) → Type 0) (fin : St → A → R) where
   -- all items were treated
-  pub so_far_ended : (addr : W → ℕ) (part : T → ℕ → Option T) (Whole : Run W F T R → Type 0) (seen : List W) (done : List T) (st : St) (a : A) → SoFar Whole (ThreadsTo Body fin st [] (Ok a)) seen done → Answers addr part Whole done (Ok (fin st a))
-  so_far_ended addr part Whole seen done st a sofar =
-      subst (λ (x : List T). Answers addr part Whole x (Ok (fin st a))) (append-nil done)
-      (so_far_ends addr part Whole (ThreadsTo Body fin st [] (Ok a)) seen done [] (Ok (fin st a)) sofar (run [] (Ok (fin st a)), refl, (refl, refl)))
+  pub so_far_ended : {U : Type 0} (Is : U → W → Type 0) (part : T → ℕ → Option T) (Whole : Run W F T R → Type 0) (seen : List W) (done : List T) (st : St) (a : A) → SoFar Whole (ThreadsTo Body fin st [] (Ok a)) seen done → Answers Is part Whole done (Ok (fin st a))
+  so_far_ended Is part Whole seen done st a sofar =
+      subst (λ (x : List T). Answers Is part Whole x (Ok (fin st a))) (append-nil done)
+      (so_far_ends Is part Whole (ThreadsTo Body fin st [] (Ok a)) seen done [] (Ok (fin st a)) sofar (run [] (Ok (fin st a)), refl, (refl, refl)))
 
 -- Where the items that are left are known, and not the wants between them: the next item, or the end
 module _ {W F S A T St R : Type 0} (Body : St → S → Run W F T (Result St R) → Type 0) (fin : St → A → R) (e : Result A F) (Whole : Run W F T R → Type 0) (done : List T) (st : St) where

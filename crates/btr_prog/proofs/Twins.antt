@@ -6,27 +6,26 @@ use Rattle.btr_prog.specs.Thread.{thread}
 use Rattle.btr_prog.specs.Maps.{Each, IsWithin, IsWhole, cut, Loses}
 use Rattle.btr_prog.specs.Answers.{Halt, Fault, Unread, Broke, Names, Leaves, no_part, Breaks, Follows}
 use Rattle.btr_prog.specs.Goes.{goes_given, GoesTo, ThreadsTo, Goes}
-use Rattle.btr_prog.specs.Stages.{Staged, both, addr_of, renamed, renamed_run, staged}
 use Rattle.btr_prog.specs.Blind.{IsBlind, IsAlike, Drops}
 
-abbrev Map : Type 0
+abbrev pub Map : Type 0
 Map = ℕ → Result (List ℕ) ℕ
 
-abbrev P : Type 0
+abbrev pub P : Type 0
 P = Prog ℕ ℕ ℕ ℕ
 
-abbrev R : Type 0
+abbrev pub R : Type 0
 R = Run ℕ ℕ ℕ ℕ
 
-abbrev Ans : Type 0
-Ans = Result ℕ (Halt ℕ)
+abbrev pub Ans : Type 0
+Ans = Result ℕ (Halt ℕ ℕ)
 
 -- a program that tells the first byte of block 0, and one that looks on from it at block 5
-abbrev told : List ℕ → P
+abbrev pub told : List ℕ → P
 told [] = Return 0
 told (x ∷ xs) = Return x
 
-abbrev asks : P
+abbrev pub asks : P
 asks = Need 0 told
 
 abbrev looks : List ℕ → P
@@ -37,52 +36,53 @@ looks (suc x ∷ xs) = Need 5 told
 abbrev looks_on : P
 looks_on = Need 0 looks
 
-abbrev one : Map
+abbrev pub one : Map
 one w = Ok (1 ∷ [])
 
-abbrev two : Map
+abbrev pub two : Map
 two w = Ok (2 ∷ [])
 
 abbrev nil : Map
 nil w = Ok (0 ∷ [])
 
-abbrev none : Map
+abbrev pub none : Map
 none w = Err 9
 
-abbrev ended : ℕ → R
+abbrev pub ended : ℕ → R
 ended a = run [] (Ok a)
 
-abbrev addr : ℕ → ℕ
-addr w = w
+-- a want that could not be read is told by its number
+abbrev pub Is : ℕ → ℕ → Type 0
+Is u w = w ≡ u
 
-abbrev value : R → Result ℕ ℕ
+abbrev pub value : R → Result ℕ ℕ
 value r = r.ending
 
-abbrev SameEnding : Result ℕ ℕ → Result ℕ ℕ → Type 0
+abbrev pub SameEnding : Result ℕ ℕ → Result ℕ ℕ → Type 0
 SameEnding x y = x ≡ y
 
-abbrev SameNumber : ℕ → ℕ → Type 0
+abbrev pub SameNumber : ℕ → ℕ → Type 0
 SameNumber a b = a ≡ b
 
 abbrev SameList : List ℕ → List ℕ → Type 0
 SameList xs ys = xs ≡ ys
 
-value_fault : (a f : ℕ) → SameEnding (Ok a) (Err f) → ⊥
+pub value_fault : (a f : ℕ) → SameEnding (Ok a) (Err f) → ⊥
 value_fault a f e = cc
 
 abbrev SameAnswer : Ans → Ans → Type 0
 SameAnswer x y = x ≡ y
 
-value_halt : (a : ℕ) (h : Halt ℕ) → SameAnswer (Ok a) (Err h) → ⊥
+value_halt : (a : ℕ) (h : Halt ℕ ℕ) → SameAnswer (Ok a) (Err h) → ⊥
 value_halt a h e = cc
 
-values : (a b : ℕ) → (a ≡ b → ⊥) → SameEnding (Ok a) (Ok b) → ⊥
+pub values : (a b : ℕ) → (a ≡ b → ⊥) → SameEnding (Ok a) (Ok b) → ⊥
 values a b n e = let i : a ≡ b = cc in n i
 
 some_list : (x : ℕ) (xs : List ℕ) → SameList (x ∷ xs) [] → ⊥
 some_list x xs e = cc
 
-one_two : SameNumber 1 2 → ⊥
+pub one_two : SameNumber 1 2 → ⊥
 one_two e = omega (arith, e)
 
 two_one : SameEnding (Ok 2) (Ok 1) → ⊥
@@ -112,25 +112,25 @@ lost_twin : ((B C : Map) (p : P) → (exec B p ≡ exec C p) ⊎ Loses B (exec C
 lost_twin h = elim (h one two asks) [ inl e ↦ values 1 2 one_two (ap value e) | inr m ↦ value_fault 1 m.fault m.ending ]
 
 -- calls without what the first of them answered, or the last
-follows_then_twin_first : ((r : R) (a : ℕ) (k : ℕ → R) (done more : List ℕ) (ans : Ans) → Follows addr no_part ([] ++ wants_of r.marks) (k a) more ans → Follows addr no_part [] (and_then r k) (done ++ more) ans) → ⊥
+follows_then_twin_first : ((r : R) (a : ℕ) (k : ℕ → R) (done more : List ℕ) (ans : Ans) → Follows Is no_part ([] ++ wants_of r.marks) (k a) more ans → Follows Is no_part [] (and_then r k) (done ++ more) ans) → ⊥
 follows_then_twin_first h = value_fault 1 9 (sym (h (run [] (Err 9)) 0 (λ a. ended 1) [] [] (Ok 1) (refl, refl)).1)
 
-follows_then_twin_last : ((r : R) (a : ℕ) (k : ℕ → R) (done more : List ℕ) (ans : Ans) → Follows addr no_part [] r done (Ok a) → Follows addr no_part [] (and_then r k) (done ++ more) ans) → ⊥
+follows_then_twin_last : ((r : R) (a : ℕ) (k : ℕ → R) (done more : List ℕ) (ans : Ans) → Follows Is no_part [] r done (Ok a) → Follows Is no_part [] (and_then r k) (done ++ more) ans) → ⊥
 follows_then_twin_last h = values 1 2 one_two (h (ended 0) 0 (λ a. ended 1) [] [] (Ok 2) (refl, refl)).1
 
-follows_halt_twin : ((r : R) (k : ℕ → R) (done : List ℕ) (f : ℕ) → Follows addr no_part [] (and_then r k) done (Err (Fault f))) → ⊥
+follows_halt_twin : ((r : R) (k : ℕ → R) (done : List ℕ) (f : ℕ) → Follows Is no_part [] (and_then r k) done (Err (Fault f))) → ⊥
 follows_halt_twin h = value_fault 1 9 (h (ended 0) (λ a. ended 1) [] 9).1
 
-want_came_twin : ((B : Map) (w : ℕ) (bytes : List ℕ) (k : List ℕ → P) (done : List ℕ) (ans : Ans) → Follows addr no_part (w ∷ []) (exec B (k bytes)) done ans → Follows addr no_part [] (first (Wants w) (given (B w) (λ bytes. exec B (k bytes)))) done ans) → ⊥
+want_came_twin : ((B : Map) (w : ℕ) (bytes : List ℕ) (k : List ℕ → P) (done : List ℕ) (ans : Ans) → Follows Is no_part (w ∷ []) (exec B (k bytes)) done ans → Follows Is no_part [] (first (Wants w) (given (B w) (λ bytes. exec B (k bytes)))) done ans) → ⊥
 want_came_twin h = value_fault 1 9 (sym (h none 0 (1 ∷ []) told [] (Ok 1) (refl, refl)).1)
 
-want_faults_twin : ((B : Map) (w f : ℕ) (k : List ℕ → P) → Follows addr no_part [] (first (Wants w) (given (B w) (λ bytes. exec B (k bytes)))) [] (Err (Fault f))) → ⊥
+want_faults_twin : ((B : Map) (w f : ℕ) (k : List ℕ → P) → Follows Is no_part [] (first (Wants w) (given (B w) (λ bytes. exec B (k bytes)))) [] (Err (Fault f))) → ⊥
 want_faults_twin h = value_fault 1 9 (h one 0 9 told).1
 
-step_done_twin : ((s : ℕ) (r : R) (done : List ℕ) (ans : Ans) → Follows addr no_part [] (first (Does s) r) (s ∷ done) ans) → ⊥
+step_done_twin : ((s : ℕ) (r : R) (done : List ℕ) (ans : Ans) → Follows Is no_part [] (first (Does s) r) (s ∷ done) ans) → ⊥
 step_done_twin h = value_fault 1 9 (h 0 (ended 1) [] (Err (Fault 9))).1
 
-follows_seen_twin : ((r : R) (done : List ℕ) (ans : Ans) → Follows addr no_part [] r done ans) → ⊥
+follows_seen_twin : ((r : R) (done : List ℕ) (ans : Ans) → Follows Is no_part [] r done ans) → ⊥
 follows_seen_twin h = value_fault 1 9 (h (ended 1) [] (Err (Fault 9))).1
 
 -- a first part of no marks, and of one step
@@ -146,10 +146,10 @@ steps_in (x ∷ xs) ys s e =
     inr (ap steps_of (ap (λ z. z ∷ xs) i ∙ ap (λ z. Does s ∷ z) (no_marks xs ys t)))
 
 -- a block that was never wanted could not be read
-unread_here_twin : ((seen : List ℕ) (a : ℕ) (r : R) → Follows addr no_part seen r [] (Err (Unread a))) → ⊥
+unread_here_twin : ((seen : List ℕ) (a : ℕ) (r : R) → Follows Is no_part seen r [] (Err (Unread a))) → ⊥
 unread_here_twin h =
     let b = h [] 0 (ended 1) in
-    subst (λ (ms : List (Mark ℕ ℕ)). Names addr 0 ([] ++ wants_of ms)) (no_marks b.before b.behind b.place) b.holds
+    subst (λ (ms : List (Mark ℕ ℕ)). Names Is 0 ([] ++ wants_of ms)) (no_marks b.before b.behind b.place) b.holds
 
 -- a step that can't be done in part was
 one_of : (xs : List ℕ) (o : Option ℕ) → (xs ≡ []) ⊎ SameList xs (1 ∷ []) → SameList (2 ∷ []) (xs ++ option_to_list o) → Leaves {W = ℕ} no_part o (Does 1 ∷ []) → ⊥
@@ -165,33 +165,37 @@ part_here (Some t) [] l = absurd l
 part_here (Some t) (Wants w ∷ ms) l = absurd l
 part_here (Some t) (Does s ∷ ms) l = let no : None ≡ Some t = l.1 in cc
 
-step_broke_twin : ((s t : ℕ) (r : R) → Follows addr no_part [] (first (Does s) r) (t ∷ []) (Err Broke)) → ⊥
+step_broke_twin : ((s t : ℕ) (r : R) → Follows Is no_part [] (first (Does s) r) (t ∷ []) (Err Broke)) → ⊥
 step_broke_twin h =
     let b = h 1 2 (ended 0) in
     one_of (steps_of b.before) b.left (steps_in b.before b.behind 1 b.place) b.steps (part_here b.left b.behind b.leaves)
 
 -- a place of a run under a map that has nothing to do with the other
 unread_of : R → Type 0
-unread_of r = Breaks no_part (λ ws. Names addr 5 ([] ++ ws)) r []
+unread_of r = Breaks no_part (λ ws. Names Is 5 ([] ++ ws)) r []
 
-names_five : (xs ys : List (Mark ℕ ℕ)) → Wants 0 ∷ [] ≡ xs ++ ys → Names addr 5 ([] ++ wants_of xs) → ⊥
+names_five : (xs ys : List (Mark ℕ ℕ)) → Wants 0 ∷ [] ≡ xs ++ ys → Names Is 5 ([] ++ wants_of xs) → ⊥
 names_five [] ys e n = n
 names_five (x ∷ xs) ys e n =
     let i : x ≡ Wants 0 = cc in
     let t : [] ≡ xs ++ ys = cc in
-    let m : Names addr 5 (0 ∷ []) = subst (λ (ms : List (Mark ℕ ℕ)). Names addr 5 (wants_of ms)) (ap (λ z. z ∷ xs) i ∙ ap (λ z. Wants 0 ∷ z) (no_marks xs ys t)) n in
+    let m : Names Is 5 (0 ∷ []) = subst (λ (ms : List (Mark ℕ ℕ)). Names Is 5 (wants_of ms)) (ap (λ z. z ∷ xs) i ∙ ap (λ z. Wants 0 ∷ z) (no_marks xs ys t)) n in
     elim m [ inl e ↦ omega (arith, e) | inr e ↦ e ]
 
-place_twin : ((B C : Map) (p : P) (done : List ℕ) (a : ℕ) → Follows addr no_part [] (exec B p) done (Err (Unread a)) → Follows addr no_part [] (exec C p) done (Err (Unread a))) → ⊥
+-- .. or another one could not
+want_unread_twin : ((u w : ℕ) (r : R) → Follows Is no_part [] (first (Wants w) r) [] (Err (Unread u))) → ⊥
+want_unread_twin h = let b = h 5 0 (ended 1) in names_five b.before b.behind b.place b.holds
+
+place_twin : ((B C : Map) (p : P) (done : List ℕ) (a : ℕ) → Follows Is no_part [] (exec B p) done (Err (Unread a)) → Follows Is no_part [] (exec C p) done (Err (Unread a))) → ⊥
 place_twin h =
     let b = h one nil looks_on [] 5 (record { before = Wants 0 ∷ (Wants 5 ∷ []); behind = []; left = None; place = refl; steps = refl; leaves = tt; holds = inr (inl refl) }) in
     names_five b.before b.behind b.place b.holds
 
-held_twin : ((B C : Map) (p : P) (done : List ℕ) (ans : Ans) → Follows addr no_part [] (exec B p) done ans → Follows addr no_part [] (exec C p) done ans ⊎ ((m : Loses B (exec C p) (exec B p)) × (done ≡ steps_of m.before) × (ans ≡ Err (Fault m.fault)))) → ⊥
+held_twin : ((B C : Map) (p : P) (done : List ℕ) (ans : Ans) → Follows Is no_part [] (exec B p) done ans → Follows Is no_part [] (exec C p) done ans ⊎ ((m : Loses B (exec C p) (exec B p)) × (done ≡ steps_of m.before) × (ans ≡ Err (Fault m.fault)))) → ⊥
 held_twin h = elim (h one two asks [] (Ok 1) (refl, refl)) [ inl f ↦ values 1 2 one_two (sym f.1) | inr m ↦ value_halt 1 (Fault m.0.fault) m.2 ]
 
 -- several maps that have nothing to do with the one
-abbrev each_one : Bool → Map
+abbrev pub each_one : Bool → Map
 each_one true = one
 each_one false = two
 
@@ -218,17 +222,17 @@ later = Emit 0 asks
 thread_goes_twin : ((Bs : ⊥ → Map) (body : ℕ → ℕ → Prog ℕ ℕ ℕ (Result ℕ ℕ)) (fin : ℕ → ℕ → ℕ) (st : ℕ) (p : P) (r : R) → GoesTo Bs (thread body fin st p) r → (q : R) × GoesTo Bs p q × ThreadsTo (λ st' s. GoesTo Bs (body st' s)) fin st q.marks q.ending r) → ⊥
 thread_goes_twin h = let g = h (λ i. absurd i) stops (λ st a. st) 0 later (ended 7) refl in g.1.2.0
 
-goes_then_twin : ((Bs : Bool → Map) (p : P) (k : ℕ → P) (r : R) (a : ℕ) (done more : List ℕ) (ans : Ans) → GoesTo Bs p r → Goes addr no_part ([] ++ wants_of r.marks) Bs (k a) more ans → Goes addr no_part [] Bs (bind p k) (done ++ more) ans) → ⊥
+goes_then_twin : ((Bs : Bool → Map) (p : P) (k : ℕ → P) (r : R) (a : ℕ) (done more : List ℕ) (ans : Ans) → GoesTo Bs p r → Goes Is no_part ([] ++ wants_of r.marks) Bs (k a) more ans → Goes Is no_part [] Bs (bind p k) (done ++ more) ans) → ⊥
 goes_then_twin h =
     let g = h each_one (Stop 9) (λ a. Return 1) (run [] (Err 9)) 0 [] [] (Ok 1) refl (ended 1, refl, (refl, refl)) in
     value_fault 1 9 (sym (sym (ap value g.1) ∙ g.2.1))
 
-goes_came_twin : ((Bs : Bool → Map) (i : Bool) (w : ℕ) (bytes : List ℕ) (k : List ℕ → P) (done : List ℕ) (ans : Ans) → Goes addr no_part (w ∷ []) Bs (k bytes) done ans → Goes addr no_part [] Bs (Need w k) done ans) → ⊥
+goes_came_twin : ((Bs : Bool → Map) (i : Bool) (w : ℕ) (bytes : List ℕ) (k : List ℕ → P) (done : List ℕ) (ans : Ans) → Goes Is no_part (w ∷ []) Bs (k bytes) done ans → Goes Is no_part [] Bs (Need w k) done ans) → ⊥
 goes_came_twin h =
     let g = h (λ i. none) true 0 (1 ∷ []) told [] (Ok 1) (ended 1, refl, (refl, refl)) in
     value_fault 1 9 (sym (sym (ap value (g.1.2 ∙ ap (first (Wants 0)) g.1.3)) ∙ g.2.1))
 
-goes_faults_twin : ((Bs : Bool → Map) (i : Bool) (w f : ℕ) (k : List ℕ → P) → Goes addr no_part [] Bs (Need w k) [] (Err (Fault f))) → ⊥
+goes_faults_twin : ((Bs : Bool → Map) (i : Bool) (w f : ℕ) (k : List ℕ → P) → Goes Is no_part [] Bs (Need w k) [] (Err (Fault f))) → ⊥
 goes_faults_twin h =
     let g = h (λ i. one) true 0 9 told in
     value_fault 1 9 (sym (ap value (g.1.2 ∙ ap (first (Wants 0)) g.1.3)) ∙ g.2.1)
@@ -246,32 +250,21 @@ goes_thread_twin_items h = value_fault 1 9 (sym (ap value (h each_one stops (λ 
 goes_thread_twin_bodies : ((Bs : Bool → Map) (body : ℕ → ℕ → Prog ℕ ℕ ℕ (Result ℕ ℕ)) (fin : ℕ → ℕ → ℕ) (st : ℕ) (p : P) (q r : R) → GoesTo Bs p q → GoesTo Bs (thread body fin st p) r) → ⊥
 goes_thread_twin_bodies h = value_fault 1 9 (sym (ap value (h each_one stops (λ st a. a) 0 (Return 1) (ended 1) (run [] (Err 9)) refl)))
 
-goes_halt_twin : ((Bs : Bool → Map) (p : P) (k : ℕ → P) (done : List ℕ) (f : ℕ) → Goes addr no_part [] Bs (bind p k) done (Err (Fault f))) → ⊥
+goes_halt_twin : ((Bs : Bool → Map) (p : P) (k : ℕ → P) (done : List ℕ) (f : ℕ) → Goes Is no_part [] Bs (bind p k) done (Err (Fault f))) → ⊥
 goes_halt_twin h = let g = h each_one (Return 0) (λ a. Return 1) [] 9 in value_fault 1 9 (sym (ap value g.1) ∙ g.2.1)
 
-goes_step_twin : ((Bs : Bool → Map) (s : ℕ) (p : P) (done : List ℕ) (ans : Ans) → Goes addr no_part [] Bs (Emit s p) (s ∷ done) ans) → ⊥
+goes_step_twin : ((Bs : Bool → Map) (s : ℕ) (p : P) (done : List ℕ) (ans : Ans) → Goes Is no_part [] Bs (Emit s p) (s ∷ done) ans) → ⊥
 goes_step_twin h = let g = h each_one 0 (Return 1) [] (Err (Fault 9)) in value_fault 1 9 (sym (ap value (g.1.1 ∙ ap (first (Does 0)) g.1.2)) ∙ g.2.1)
 
-goes_broke_twin : ((Bs : Bool → Map) (s t : ℕ) (p : P) → Goes addr no_part [] Bs (Emit s p) (t ∷ []) (Err Broke)) → ⊥
+goes_broke_twin : ((Bs : Bool → Map) (s t : ℕ) (p : P) → Goes Is no_part [] Bs (Emit s p) (t ∷ []) (Err Broke)) → ⊥
 goes_broke_twin h =
     let g = h each_one 1 2 (Return 0) in
     let e : g.0 ≡ run (Does 1 ∷ []) (Ok 0) = g.1.1 ∙ ap (first (Does 1)) g.1.2 in
-    let b = subst (λ (r : R). Follows addr no_part [] r (2 ∷ []) (Err Broke)) e g.2 in
+    let b = subst (λ (r : R). Follows Is no_part [] r (2 ∷ []) (Err Broke)) e g.2 in
     one_of (steps_of b.before) b.left (steps_in b.before b.behind 1 b.place) b.steps (part_here b.left b.behind b.leaves)
 
--- two parts under maps that have nothing to do with each other
-staged_cut_twin : ((B C : Map) (D E : ℕ → Map) (p : P) (k : ℕ → P) → exec (both B D) (staged p k) ≡ cut (both B D) (exec (both C E) (staged p k))) → ⊥
-staged_cut_twin h = values 1 2 one_two (ap (λ (r : Run (Staged ℕ ℕ) ℕ ℕ ℕ). r.ending) (h one one (λ t. one) (λ t. two) (Return 0) (λ t. asks)))
-
-staged_lost_twin : ((B C : Map) (D E : ℕ → Map) (p : P) (k : ℕ → P) → (exec (both B D) (staged p k) ≡ exec (both C E) (staged p k)) ⊎ Loses (both B D) (exec (both C E) (staged p k)) (exec (both B D) (staged p k))) → ⊥
-staged_lost_twin h = elim (h one one (λ t. one) (λ t. two) (Return 0) (λ t. asks)) [ inl e ↦ values 1 2 one_two (ap (λ (r : Run (Staged ℕ ℕ) ℕ ℕ ℕ). r.ending) e) | inr m ↦ value_fault 1 m.fault m.ending ]
-
--- the rest run under another table than the first part gave
-staged_then_twin : ((B : Map) (D : ℕ → Map) (p : P) (k : ℕ → P) (t : ℕ) (done more : List ℕ) (ans : Ans) → Follows addr no_part [] (exec (D t) (k t)) more ans → Follows (addr_of addr) no_part [] (exec (both B D) (staged p k)) (done ++ more) ans) → ⊥
-staged_then_twin h = value_fault 1 9 (sym (h one (λ t. one) (Stop 9) (λ t. asks) 0 [] [] (Ok 1) (refl, refl)).1)
-
 -- an answer by some maps under others
-goes_held_twin_within : ((plain : ℕ → Bool) (Bs Cs : Bool → Map) (C : Map) (p : P) (done : List ℕ) (ans : Ans) → IsBlind plain p → Each (λ w. (j : Bool) → IsAlike (plain w) (Cs j w) (C w)) (needs C p) → Goes addr no_part [] Bs p done ans → Goes addr no_part [] Cs p done ans ⊎ ((q : R) × (r : R) × GoesTo Cs p q × (m : Drops Bs q r) × (done ≡ steps_of m.before) × (ans ≡ Err (Fault m.fault)))) → ⊥
+goes_held_twin_within : ((plain : ℕ → Bool) (Bs Cs : Bool → Map) (C : Map) (p : P) (done : List ℕ) (ans : Ans) → IsBlind plain p → Each (λ w. (j : Bool) → IsAlike (plain w) (Cs j w) (C w)) (needs C p) → Goes Is no_part [] Bs p done ans → Goes Is no_part [] Cs p done ans ⊎ ((q : R) × (r : R) × GoesTo Cs p q × (m : Drops Bs q r) × (done ≡ steps_of m.before) × (ans ≡ Err (Fault m.fault)))) → ⊥
 goes_held_twin_within h =
     let blind : IsBlind (λ w. false) asks = (elim [ [] ↦ tt | x ∷ xs ↦ tt ], λ e bytes others. let no : ⊥ = cc in absurd no) in
     elim (h (λ w. false) (λ i. one) (λ j. two) two asks [] (Ok 1) blind ((λ j. inl refl), tt) (run (Wants 0 ∷ []) (Ok 1), (true, ended 1, refl, refl), (refl, refl))) [
@@ -300,10 +293,10 @@ no_seven false q d e =
     let g = subst (λ x. goes_given x (λ bytes. GoesTo eight (told bytes)) d.1) (eight_of d.0) d.3 in
     values 8 7 (λ i. omega (arith, i)) (sym (ap value (d.2 ∙ ap (first (Wants 5)) g)) ∙ e)
 
-goes_held_twin_blind : ((plain : ℕ → Bool) (Bs Cs : Bool → Map) (C : Map) (p : P) (done : List ℕ) (ans : Ans) → Each (λ w. (j : Bool) → IsAlike (plain w) (Cs j w) (C w)) (needs C p) → Each (λ w. (i : Bool) → (j : Bool) × IsWithin (Bs i w) (Cs j w)) (needs C p) → Goes addr no_part [] Bs p done ans → Goes addr no_part [] Cs p done ans ⊎ ((q : R) × (r : R) × GoesTo Cs p q × (m : Drops Bs q r) × (done ≡ steps_of m.before) × (ans ≡ Err (Fault m.fault)))) → ⊥
+goes_held_twin_blind : ((plain : ℕ → Bool) (Bs Cs : Bool → Map) (C : Map) (p : P) (done : List ℕ) (ans : Ans) → Each (λ w. (j : Bool) → IsAlike (plain w) (Cs j w) (C w)) (needs C p) → Each (λ w. (i : Bool) → (j : Bool) × IsWithin (Bs i w) (Cs j w)) (needs C p) → Goes Is no_part [] Bs p done ans → Goes Is no_part [] Cs p done ans ⊎ ((q : R) × (r : R) × GoesTo Cs p q × (m : Drops Bs q r) × (done ≡ steps_of m.before) × (ans ≡ Err (Fault m.fault)))) → ⊥
 goes_held_twin_blind h =
     let alike : Each (λ w. (j : Bool) → IsAlike true (eight j w) (eight true w)) (0 ∷ []) = (elim [ true ↦ inl refl | false ↦ inr (refl, tt, tt) ], tt) in
-    let came : Goes addr no_part [] (λ (i : Bool). seven) looks_on [] (Ok 7) = (run (Wants 0 ∷ (Wants 5 ∷ [])) (Ok 7), (true, run (Wants 5 ∷ []) (Ok 7), refl, (true, ended 7, refl, refl)), (refl, refl)) in
+    let came : Goes Is no_part [] (λ (i : Bool). seven) looks_on [] (Ok 7) = (run (Wants 0 ∷ (Wants 5 ∷ [])) (Ok 7), (true, run (Wants 5 ∷ []) (Ok 7), refl, (true, ended 7, refl, refl)), (refl, refl)) in
     elim (h (λ w. true) (λ i. seven) eight (eight true) looks_on [] (Ok 7) alike ((λ i. (false, refl)), tt) came) [
       | inl g ↦ no_seven g.1.0 g.1.1 g.1.3 (sym (ap value g.1.2) ∙ g.2.1)
       | inr g ↦ value_halt 7 (Fault g.3.fault) g.5
@@ -322,10 +315,10 @@ looks_blind (suc x ∷ xs) = (told_blind, λ e bytes others. let no : ⊥ = cc i
 blind_twin_alike : ((plain : ℕ → Bool) (Cs : Bool → Map) (C : Map) (p : P) (q : R) → IsBlind plain p → GoesTo Cs p q → (wants_of q.marks ≡ needs C p) × (q.ending ≡ (exec C p).ending)) → ⊥
 blind_twin_alike h = values 1 2 one_two (h (λ w. false) each_one two asks (run (Wants 0 ∷ []) (Ok 1)) (told_blind, λ e bytes others. let no : ⊥ = cc in absurd no) (true, ended 1, refl, refl)).1
 
-goes_held_twin_alike : ((plain : ℕ → Bool) (Bs Cs : Bool → Map) (C : Map) (p : P) (done : List ℕ) (ans : Ans) → IsBlind plain p → Each (λ w. (i : Bool) → (j : Bool) × IsWithin (Bs i w) (Cs j w)) (needs C p) → Goes addr no_part [] Bs p done ans → Goes addr no_part [] Cs p done ans ⊎ ((q : R) × (r : R) × GoesTo Cs p q × (m : Drops Bs q r) × (done ≡ steps_of m.before) × (ans ≡ Err (Fault m.fault)))) → ⊥
+goes_held_twin_alike : ((plain : ℕ → Bool) (Bs Cs : Bool → Map) (C : Map) (p : P) (done : List ℕ) (ans : Ans) → IsBlind plain p → Each (λ w. (i : Bool) → (j : Bool) × IsWithin (Bs i w) (Cs j w)) (needs C p) → Goes Is no_part [] Bs p done ans → Goes Is no_part [] Cs p done ans ⊎ ((q : R) × (r : R) × GoesTo Cs p q × (m : Drops Bs q r) × (done ≡ steps_of m.before) × (ans ≡ Err (Fault m.fault)))) → ⊥
 goes_held_twin_alike h =
     let blind : IsBlind (λ w. false) looks_on = (looks_blind, λ e bytes others. let no : ⊥ = cc in absurd no) in
-    let came : Goes addr no_part [] (λ (i : Bool). seven) looks_on [] (Ok 7) = (run (Wants 0 ∷ (Wants 5 ∷ [])) (Ok 7), (true, run (Wants 5 ∷ []) (Ok 7), refl, (true, ended 7, refl, refl)), (refl, refl)) in
+    let came : Goes Is no_part [] (λ (i : Bool). seven) looks_on [] (Ok 7) = (run (Wants 0 ∷ (Wants 5 ∷ [])) (Ok 7), (true, run (Wants 5 ∷ []) (Ok 7), refl, (true, ended 7, refl, refl)), (refl, refl)) in
     elim (h (λ w. false) (λ i. seven) eight (eight true) looks_on [] (Ok 7) blind ((λ i. (false, refl)), tt) came) [
       | inl g ↦ no_seven g.1.0 g.1.1 g.1.3 (sym (ap value g.1.2) ∙ g.2.1)
       | inr g ↦ value_halt 7 (Fault g.3.fault) g.5
@@ -335,13 +328,20 @@ goes_held_twin_alike h =
 abbrev no_map : ⊥ → Map
 no_map i = absurd i
 
-goes_unread_twin : ((Bs : ⊥ → Map) (w : ℕ) (k : List ℕ → P) → Goes addr no_part [] Bs (Need w k) [] (Err (Unread (addr w)))) → ⊥
+goes_unread_twin : ((Bs : ⊥ → Map) (w : ℕ) (k : List ℕ → P) → Goes Is no_part [] Bs (Need w k) [] (Err (Unread w))) → ⊥
 goes_unread_twin h = (h no_map 0 told).1.0
 
-goes_nowhere_twin : ((Bs : ⊥ → Map) (p : P) → Goes addr no_part [] Bs p [] (Err Broke)) → ⊥
+goes_unread_twin_is : ((Bs : Bool → Map) (u w : ℕ) (k : List ℕ → P) → Goes Is no_part [] Bs (Need w k) [] (Err (Unread u))) → ⊥
+goes_unread_twin_is h =
+    let g = h (λ i. one) 5 0 told in
+    let e : g.0 ≡ run (Wants 0 ∷ []) (Ok 1) = g.1.2 ∙ ap (first (Wants 0)) g.1.3 in
+    let b = subst (λ (r : R). Follows Is no_part [] r [] (Err (Unread 5))) e g.2 in
+    names_five b.before b.behind b.place b.holds
+
+goes_nowhere_twin : ((Bs : ⊥ → Map) (p : P) → Goes Is no_part [] Bs p [] (Err Broke)) → ⊥
 goes_nowhere_twin h = (h no_map asks).1.0
 
-goes_halt_twin_some : ((Bs : ⊥ → Map) (p : P) (k : ℕ → P) (done : List ℕ) (x : Halt ℕ) → Goes addr no_part [] Bs p done (Err x) → Goes addr no_part [] Bs (bind p k) done (Err x)) → ⊥
+goes_halt_twin_some : ((Bs : ⊥ → Map) (p : P) (k : ℕ → P) (done : List ℕ) (x : Halt ℕ ℕ) → Goes Is no_part [] Bs p done (Err x) → Goes Is no_part [] Bs (bind p k) done (Err x)) → ⊥
 goes_halt_twin_some h = (h no_map (Return 0) (λ a. asks) [] Broke (ended 0, refl, record { before = []; behind = []; left = None; place = refl; steps = refl; leaves = tt; holds = tt })).1.0
 
 -- a step that was done under another map
@@ -363,17 +363,7 @@ none_left xs (Some t) ms e f l =
     let never : Leaves {W = ℕ} no_part (Some t) (Does 1 ∷ []) = part_here (Some t) ms l in
     let no : None ≡ Some t = never.1 in cc
 
-part_twin : ((B C : Map) (p : P) (done : List ℕ) → Follows addr no_part [] (exec B p) done (Err Broke) → Follows addr no_part [] (exec C p) done (Err Broke)) → ⊥
+part_twin : ((B C : Map) (p : P) (done : List ℕ) → Follows Is no_part [] (exec B p) done (Err Broke) → Follows Is no_part [] (exec C p) done (Err Broke)) → ⊥
 part_twin h =
     let b = h one nil (Need 0 shows) (3 ∷ []) (record { before = Wants 0 ∷ (Does 3 ∷ []); behind = []; left = None; place = refl; steps = refl; leaves = tt; holds = tt }) in
     none_left (steps_of b.before) b.left b.behind (no_steps b.before b.behind b.place) b.steps b.leaves
-
--- the same of what the first part of two answered, and of wants that go by other names
-staged_halt_twin : ((B : Map) (D : ℕ → Map) (p : P) (k : ℕ → P) (done : List ℕ) (f : ℕ) → Follows (addr_of addr) no_part [] (exec (both B D) (staged p k)) done (Err (Fault f))) → ⊥
-staged_halt_twin h = value_fault 1 9 (h one (λ t. one) (Return 0) (λ t. asks) [] 9).1
-
-follows_renamed_twin : ((f : ℕ → ℕ) (r : R) (done : List ℕ) (ans : Ans) → Follows addr no_part [] (renamed_run f r) done ans) → ⊥
-follows_renamed_twin h = value_fault 1 9 (h addr (ended 1) [] (Err (Fault 9))).1
-
-goes_renamed_twin : ((f : ℕ → ℕ) (Bs : Bool → Map) (p : P) (r : R) → GoesTo Bs (renamed f p) (renamed_run f r)) → ⊥
-goes_renamed_twin h = value_fault 1 9 (sym (ap value (h addr each_one (Return 1) (run [] (Err 9)))))

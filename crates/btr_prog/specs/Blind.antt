@@ -43,16 +43,17 @@ module _ (W F S A J : Type 0) where
       → GoesTo Cs p q
       → (wants_of q.marks ≡ needs C p) × (q.ending ≡ (exec C p).ending)
 
+module _ (W F S A J I U : Type 0) (Is : U → W → Type 0) where
   -- Where the program is blind to what may differ among Cs, all its runs by Cs want what C's run wants. Let each map of Bs have,
   -- of each of these wants, the bytes of some map of Cs or none. Then an answer by Bs is one by Cs, or the call stopped at a want
   -- of such a run that one of Bs lacks, with its fault and exactly the steps before it.
-  abbrev pub GoesHeldLaw : Type 0 → Type 0
-  GoesHeldLaw I =
+  abbrev pub GoesHeldLaw : Type 0
+  GoesHeldLaw =
       J
-      → (addr : W → ℕ) (part : S → ℕ → Option S) (seen : List W) (plain : W → Bool) (Bs : I → BlockMap W F)
-      (Cs : J → BlockMap W F) (C : BlockMap W F) (p : Prog W F S A) (done : List S) (ans : Result A (Halt F))
+      → (part : S → ℕ → Option S) (seen : List W) (plain : W → Bool) (Bs : I → BlockMap W F)
+      (Cs : J → BlockMap W F) (C : BlockMap W F) (p : Prog W F S A) (done : List S) (ans : Result A (Halt F U))
       → IsBlind plain p
       → Each (λ w. (j : J) → IsAlike (plain w) (Cs j w) (C w)) (needs C p)
       → Each (λ w. (i : I) → (j : J) × IsWithin (Bs i w) (Cs j w)) (needs C p)
-      → Goes addr part seen Bs p done ans
-      → Goes addr part seen Cs p done ans ⊎ ((q : Run W F S A) × (r : Run W F S A) × GoesTo Cs p q × (m : Drops Bs q r) × (done ≡ steps_of m.before) × (ans ≡ Err (Fault m.fault)))
+      → Goes Is part seen Bs p done ans
+      → Goes Is part seen Cs p done ans ⊎ ((q : Run W F S A) × (r : Run W F S A) × GoesTo Cs p q × (m : Drops Bs q r) × (done ≡ steps_of m.before) × (ans ≡ Err (Fault m.fault)))

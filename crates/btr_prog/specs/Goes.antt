@@ -22,8 +22,8 @@ module _ {W F S : Type 0} where
   AfterTo ms (Err f) K r = r ≡ run ms (Err f)
 
   -- what was done, and the answer, are those of some run
-  abbrev pub Goes : {I A : Type 0} → (W → ℕ) → (S → ℕ → Option S) → List W → (I → BlockMap W F) → Prog W F S A → List S → Result A (Halt F) → Type 0
-  Goes addr part seen Bs p done ans = (r : Run W F S _) × GoesTo Bs p r × Follows addr part seen r done ans
+  abbrev pub Goes : {I A U : Type 0} → (U → W → Type 0) → (S → ℕ → Option S) → List W → (I → BlockMap W F) → Prog W F S A → List S → Result A (Halt F U) → Type 0
+  Goes Is part seen Bs p done ans = (r : Run W F S _) × GoesTo Bs p r × Follows Is part seen r done ans
 
 module _ {W F : Type 0} where
   abbrev pub GoOnTo : {T St R : Type 0} → (St → Run W F T R → Type 0) → Result St R → Run W F T R → Type 0

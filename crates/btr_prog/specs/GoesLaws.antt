@@ -54,67 +54,69 @@ module _ (W F S A I : Type 0) where
       → GoesTo Bs (thread body done st p) r
       → (q : Run W F S A) × GoesTo Bs p q × ThreadsTo (λ st' s. GoesTo Bs (body st' s)) done st q.marks q.ending r
 
+module _ (W F S A I U : Type 0) (Is : U → W → Type 0) where
   -- a call that came to a value by some run, and then another
   abbrev pub GoesThen : Type 0 → Type 0
   GoesThen C =
-      (addr : W → ℕ) (part : S → ℕ → Option S) (seen : List W) (Bs : I → BlockMap W F) (p : Prog W F S A)
-      (k : A → Prog W F S C) (r : Run W F S A) (a : A) (done more : List S) (ans : Result C (Halt F))
+      (part : S → ℕ → Option S) (seen : List W) (Bs : I → BlockMap W F) (p : Prog W F S A)
+      (k : A → Prog W F S C) (r : Run W F S A) (a : A) (done more : List S) (ans : Result C (Halt F U))
       → GoesTo Bs p r
-      → Follows addr part seen r done (Ok a)
-      → Goes addr part (seen ++ wants_of r.marks) Bs (k a) more ans
-      → Goes addr part seen Bs (bind p k) (done ++ more) ans
+      → Follows Is part seen r done (Ok a)
+      → Goes Is part (seen ++ wants_of r.marks) Bs (k a) more ans
+      → Goes Is part seen Bs (bind p k) (done ++ more) ans
 
   -- a call that came to no value, and then nothing
   abbrev pub GoesHalt : Type 0 → Type 0
   GoesHalt C =
       I
-      → (addr : W → ℕ) (part : S → ℕ → Option S) (seen : List W) (Bs : I → BlockMap W F) (p : Prog W F S A)
-      (k : A → Prog W F S C) (done : List S) (h : Halt F)
-      → Goes addr part seen Bs p done (Err h)
-      → Goes addr part seen Bs (bind p k) done (Err h)
+      → (part : S → ℕ → Option S) (seen : List W) (Bs : I → BlockMap W F) (p : Prog W F S A)
+      (k : A → Prog W F S C) (done : List S) (h : Halt F U)
+      → Goes Is part seen Bs p done (Err h)
+      → Goes Is part seen Bs (bind p k) done (Err h)
 
   -- a want that came to bytes, as one of the maps says; one that came to a fault; one that could not be read
   abbrev pub GoesCame : Type 0
   GoesCame =
-      (addr : W → ℕ) (part : S → ℕ → Option S) (seen : List W) (Bs : I → BlockMap W F) (i : I) (w : W) (bytes : List ℕ)
-      (k : List ℕ → Prog W F S A) (done : List S) (ans : Result A (Halt F))
+      (part : S → ℕ → Option S) (seen : List W) (Bs : I → BlockMap W F) (i : I) (w : W) (bytes : List ℕ)
+      (k : List ℕ → Prog W F S A) (done : List S) (ans : Result A (Halt F U))
       → Bs i w ≡ Ok bytes
-      → Goes addr part (seen ++ (w ∷ [])) Bs (k bytes) done ans
-      → Goes addr part seen Bs (Need w k) done ans
+      → Goes Is part (seen ++ (w ∷ [])) Bs (k bytes) done ans
+      → Goes Is part seen Bs (Need w k) done ans
 
   abbrev pub GoesFaults : Type 0
   GoesFaults =
-      (addr : W → ℕ) (part : S → ℕ → Option S) (seen : List W) (Bs : I → BlockMap W F) (i : I) (w : W) (f : F)
+      (part : S → ℕ → Option S) (seen : List W) (Bs : I → BlockMap W F) (i : I) (w : W) (f : F)
       (k : List ℕ → Prog W F S A)
       → Bs i w ≡ Err f
-      → Goes addr part seen Bs (Need w k) [] (Err (Fault f))
+      → Goes Is part seen Bs (Need w k) [] (Err (Fault f))
 
   abbrev pub GoesUnread : Type 0
   GoesUnread =
       I
-      → (addr : W → ℕ) (part : S → ℕ → Option S) (seen : List W) (Bs : I → BlockMap W F) (w : W)
-      (k : List ℕ → Prog W F S A)
-      → Goes addr part seen Bs (Need w k) [] (Err (Unread (addr w)))
+      → (part : S → ℕ → Option S) (seen : List W) (Bs : I → BlockMap W F) (u : U)
+      (w : W) (k : List ℕ → Prog W F S A)
+      → Is u w
+      → Goes Is part seen Bs (Need w k) [] (Err (Unread u))
 
   -- a step that was done, and what came then; one that was broken off, of which a part is left
   abbrev pub GoesStep : Type 0
   GoesStep =
-      (addr : W → ℕ) (part : S → ℕ → Option S) (seen : List W) (Bs : I → BlockMap W F) (s : S) (p : Prog W F S A)
-      (done : List S) (ans : Result A (Halt F))
-      → Goes addr part seen Bs p done ans
-      → Goes addr part seen Bs (Emit s p) (s ∷ done) ans
+      (part : S → ℕ → Option S) (seen : List W) (Bs : I → BlockMap W F) (s : S) (p : Prog W F S A)
+      (done : List S) (ans : Result A (Halt F U))
+      → Goes Is part seen Bs p done ans
+      → Goes Is part seen Bs (Emit s p) (s ∷ done) ans
 
   abbrev pub GoesBroke : Type 0
   GoesBroke =
       I
-      → (addr : W → ℕ) (part : S → ℕ → Option S) (seen : List W) (Bs : I → BlockMap W F) (s t : S) (n : ℕ)
+      → (part : S → ℕ → Option S) (seen : List W) (Bs : I → BlockMap W F) (s t : S) (n : ℕ)
       (p : Prog W F S A)
       → part s n ≡ Some t
-      → Goes addr part seen Bs (Emit s p) (t ∷ []) (Err Broke)
+      → Goes Is part seen Bs (Emit s p) (t ∷ []) (Err Broke)
 
   -- a call that was broken off before it did anything
   abbrev pub GoesNowhere : Type 0
   GoesNowhere =
       I
-      → (addr : W → ℕ) (part : S → ℕ → Option S) (seen : List W) (Bs : I → BlockMap W F) (p : Prog W F S A)
-      → Goes addr part seen Bs p [] (Err Broke)
+      → (part : S → ℕ → Option S) (seen : List W) (Bs : I → BlockMap W F) (p : Prog W F S A)
+      → Goes Is part seen Bs p [] (Err Broke)

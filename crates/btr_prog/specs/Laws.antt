@@ -1,8 +1,8 @@
 -- The laws of programs and their runs.
-use Rattle.std.specs.Prelude.{◌≡◌, ◌⊎◌, ◌++◌, Result, Ok, Err}
+use Rattle.std.specs.Prelude.{◌≡◌, ◌⊎◌, ◌++◌, Bool, IsTrue, Result, Ok, Err}
 use Rattle.btr_prog.specs.Prog.{BlockMap, Prog, exec, bind, and_then, needs}
 use Rattle.btr_prog.specs.Thread.{thread, thread_run}
-use Rattle.btr_prog.specs.Maps.{Each, IsWithin, IsWhole, cut, Loses}
+use Rattle.btr_prog.specs.Maps.{Each, IsWithin, IsWhole, EndsWell, cut, Loses}
 
 module _ (W F S A : Type 0) where
   -- the run of one program after another is one run after another
@@ -50,6 +50,13 @@ module _ (W F S A : Type 0) where
       (B C : BlockMap W F) (p : Prog W F S A)
       → Each (λ w. IsWithin (B w) (C w)) (needs C p)
       → (exec B p ≡ exec C p) ⊎ Loses B (exec C p) (exec B p)
+
+  -- where the run ends with a value, or with a fault that passes a test, so does each of its wants
+  abbrev pub WellLaw : Type 0
+  WellLaw =
+      (well : F → Bool) (B : BlockMap W F) (p : Prog W F S A)
+      → EndsWell (λ f. IsTrue (well f)) (exec B p).ending
+      → Each (λ w. EndsWell (λ f. IsTrue (well f)) (B w)) (needs B p)
 
   -- treating a program's steps is treating those of its run
   abbrev pub ThreadLaw : Type 0 → Type 0 → Type 0 → Type 0

@@ -8,5 +8,7 @@ pub mod AnswerLaws
 pub mod Goes
 pub mod GoesLaws
 pub mod Stages
+pub mod Quiet
 pub mod Calls
 pub mod Blind
+pub mod Shows

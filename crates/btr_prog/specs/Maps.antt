@@ -17,6 +17,11 @@ abbrev pub IsWhole : {F : Type 0} → Result (List ℕ) F → Type 0
 IsWhole (Ok bytes) = Unit {0}
 IsWhole (Err f) = ⊥
 
+-- there are bytes, or a value; or the fault is one of some
+abbrev pub EndsWell : {F A : Type 0} → (F → Type 0) → Result A F → Type 0
+EndsWell Well (Ok a) = Unit {0}
+EndsWell Well (Err f) = Well f
+
 -- what follows a want, where there are bytes
 abbrev pub marks_if : {W S F : Type 0} → Result (List ℕ) F → List (Mark W S) → List (Mark W S)
 marks_if (Ok bytes) ms = ms

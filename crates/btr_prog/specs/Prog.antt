@@ -29,6 +29,11 @@ steps_of [] = []
 steps_of (Wants w ∷ ms) = steps_of ms
 steps_of (Does s ∷ ms) = s ∷ steps_of ms
 
+-- the marks of some wants, with no step among them
+abbrev pub want_marks : {W S : Type 0} → List W → List (Mark W S)
+want_marks [] = []
+want_marks (w ∷ ws) = Wants w ∷ want_marks ws
+
 -- the wants among some marks
 abbrev pub wants_of : {W S : Type 0} → List (Mark W S) → List W
 wants_of [] = []

@@ -1,10 +1,10 @@
 -- Two block maps one after another: what is read under the first gives a table, and the rest is read under the table's map.
 -- So the chunk tree is found by the superblock's own chunks, and every other block by the whole chunk table.
-use Rattle.std.specs.Prelude.{◌≡◌, ◌⊎◌, ℕ, List, [], ◌∷◌, ◌++◌, Option, Result, Ok, Err}
+use Rattle.std.specs.Prelude.{◌≡◌, ◌⊎◌, ℕ, List, [], ◌∷◌, ◌++◌, map, Option, Result, Ok, Err}
 use Rattle.btr_prog.specs.Prog.{BlockMap, Prog, Return, Stop, Need, Emit, Mark, Wants, Does, Run, run, exec, bind, and_then, needs}
 use Rattle.btr_prog.specs.Maps.{Each, IsWithin, cut, Loses}
 use Rattle.btr_prog.specs.Answers.{Halt, Follows}
-use Rattle.btr_prog.specs.Goes.{GoesTo}
+use Rattle.btr_prog.specs.Goes.{GoesTo, Goes}
 
 -- a want of the first part, or one of the rest with the table that it is looked up in
 pub data Staged (T W : Type 0) : Type 0 where
@@ -15,10 +15,6 @@ pub data Staged (T W : Type 0) : Type 0 where
 abbrev pub both : {T W F : Type 0} → BlockMap W F → (T → BlockMap W F) → Staged T W → Result (List ℕ) F
 both B D (Early w) = B w
 both B D (Late t w) = D t w
-
-abbrev pub addr_of : {T W : Type 0} → (W → ℕ) → Staged T W → ℕ
-addr_of addr (Early w) = addr w
-addr_of addr (Late t w) = addr w
 
 abbrev pub renamed_mark : {V W S : Type 0} → (V → W) → Mark V S → Mark W S
 renamed_mark f (Wants v) = Wants (f v)
@@ -39,13 +35,33 @@ module _ {V W F S A : Type 0} where
   renamed f (Need v k) = Need (f v) (λ bytes. renamed f (k bytes))
   renamed f (Emit s p) = Emit s (renamed f p)
 
--- a program whose value is a table, and then another under that table
-abbrev pub staged : {T W F S A : Type 0} → Prog W F S T → (T → Prog W F S A) → Prog (Staged T W) F S A
-staged p k = bind (renamed Early p) (λ t. renamed (Late t) (k t))
+-- on from a table; a refusal of the first part is the value of the whole
+abbrev pub unless_refused : {T X W F S A : Type 0} → (X → A) → (T → Prog W F S A) → Result T X → Prog W F S A
+unless_refused refused k (Ok t) = k t
+unless_refused refused k (Err x) = Return (refused x)
 
--- B has, of each want of C's run, C's bytes or none; so has D of E's, under the table that C's run gives
-abbrev pub IsWithinBoth : {T W F S A : Type 0} → (B C : BlockMap W F) (D E : T → BlockMap W F) → Prog W F S T → (T → Prog W F S A) → Type 0
-IsWithinBoth {T} B C D E p k = Each (λ w. IsWithin (B w) (C w)) (needs C p) × ((t : T) → (exec C p).ending ≡ Ok t → Each (λ w. IsWithin (D t w) (E t w)) (needs (E t) (k t)))
+abbrev pub run_unless_refused : {T X W F S A : Type 0} → (X → A) → (T → Run W F S A) → Result T X → Run W F S A
+run_unless_refused refused k (Ok t) = k t
+run_unless_refused refused k (Err x) = run [] (Ok (refused x))
+
+-- the wants of both parts: those of the first, and then where it gives a table those of the rest under it
+abbrev pub staged_needs : {T X W F : Type 0} → List W → Result (Result T X) F → (T → List W) → List (Staged T W)
+staged_needs ws (Ok (Ok t)) rest = map Early ws ++ map (Late t) (rest t)
+staged_needs ws (Ok (Err x)) rest = map Early ws
+staged_needs ws (Err f) rest = map Early ws
+
+module _ {T X W F S A : Type 0} where
+  -- a program whose value is a table or a refusal, and then another under that table
+  abbrev pub staged : (X → A) → Prog W F S (Result T X) → (T → Prog W F S A) → Prog (Staged T W) F S A
+  staged refused p k = bind (renamed Early p) (unless_refused refused (λ (t : T). renamed (Late t) (k t)))
+
+  -- the same of runs
+  abbrev pub staged_run : (X → A) → Run W F S (Result T X) → (T → Run W F S A) → Run (Staged T W) F S A
+  staged_run refused r k = and_then (renamed_run Early r) (run_unless_refused refused (λ (t : T). renamed_run (Late t) (k t)))
+
+  -- B has, of each want of C's run, C's bytes or none; so has D of E's, under the table that C's run gives
+  abbrev pub IsWithinBoth : (B C : BlockMap W F) (D E : T → BlockMap W F) → Prog W F S (Result T X) → (T → Prog W F S A) → Type 0
+  IsWithinBoth B C D E p k = Each (λ w. IsWithin (B w) (C w)) (needs C p) × ((t : T) → (exec C p).ending ≡ Ok (Ok t) → Each (λ w. IsWithin (D t w) (E t w)) (needs (E t) (k t)))
 
 module _ (V W F S A : Type 0) where
   -- the run of a program whose wants go by other names
@@ -55,11 +71,12 @@ module _ (V W F S A : Type 0) where
       → exec B (renamed f p) ≡ renamed_run f (exec (λ v. B (f v)) p)
 
   -- what is answered of a run holds where its wants go by other names
-  abbrev pub FollowsRenamed : Type 0
-  FollowsRenamed =
-      (f : V → W) (addr : W → ℕ) (part : S → ℕ → Option S) (r : Run V F S A) (done : List S) (ans : Result A (Halt F))
-      → Follows (λ v. addr (f v)) part [] r done ans
-      → Follows addr part [] (renamed_run f r) done ans
+  abbrev pub FollowsRenamed : (U : Type 0) → (U → W → Type 0) → Type 0
+  FollowsRenamed U Is =
+      (f : V → W) (part : S → ℕ → Option S) (r : Run V F S A) (done : List S)
+      (ans : Result A (Halt F U))
+      → Follows (λ u v. Is u (f v)) part [] r done ans
+      → Follows Is part [] (renamed_run f r) done ans
 
   -- so does one of several runs
   abbrev pub GoesRenamed : Type 0 → Type 0
@@ -68,40 +85,81 @@ module _ (V W F S A : Type 0) where
       → GoesTo (λ i v. Bs i (f v)) p r
       → GoesTo Bs (renamed f p) (renamed_run f r)
 
-module _ (T W F S A : Type 0) where
+module _ (T X W F S A : Type 0) where
   -- the run of both parts is the run of the first, and then that of the rest under its table's map
   abbrev pub ExecStaged : Type 0
   ExecStaged =
-      (B : BlockMap W F) (D : T → BlockMap W F) (p : Prog W F S T) (k : T → Prog W F S A)
-      → exec (both B D) (staged p k) ≡ and_then (renamed_run Early (exec B p)) (λ t. renamed_run (Late t) (exec (D t) (k t)))
+      (refused : X → A) (B : BlockMap W F) (D : T → BlockMap W F) (p : Prog W F S (Result T X)) (k : T → Prog W F S A)
+      → exec (both B D) (staged refused p k) ≡ staged_run refused (exec B p) (λ t. exec (D t) (k t))
+
+  -- so are its wants
+  abbrev pub NeedsStaged : Type 0
+  NeedsStaged =
+      (refused : X → A) (B : BlockMap W F) (D : T → BlockMap W F) (p : Prog W F S (Result T X)) (k : T → Prog W F S A)
+      → needs (both B D) (staged refused p k) ≡ staged_needs (needs B p) (exec B p).ending (λ t. needs (D t) (k t))
 
   -- where B and D have of C's and E's bytes or none, the run under them is that under C and E, cut at the first want, of either part, that is lacked
   abbrev pub StagedCut : Type 0
   StagedCut =
-      (B C : BlockMap W F) (D E : T → BlockMap W F) (p : Prog W F S T) (k : T → Prog W F S A)
+      (refused : X → A) (B C : BlockMap W F) (D E : T → BlockMap W F) (p : Prog W F S (Result T X)) (k : T → Prog W F S A)
       → IsWithinBoth B C D E p k
-      → exec (both B D) (staged p k) ≡ cut (both B D) (exec (both C E) (staged p k))
+      → exec (both B D) (staged refused p k) ≡ cut (both B D) (exec (both C E) (staged refused p k))
 
   -- .. and so it is that run, or stops at the first want that is lacked, with exactly the marks before it
   abbrev pub StagedLost : Type 0
   StagedLost =
-      (B C : BlockMap W F) (D E : T → BlockMap W F) (p : Prog W F S T) (k : T → Prog W F S A)
+      (refused : X → A) (B C : BlockMap W F) (D E : T → BlockMap W F) (p : Prog W F S (Result T X)) (k : T → Prog W F S A)
       → IsWithinBoth B C D E p k
-      → (exec (both B D) (staged p k) ≡ exec (both C E) (staged p k)) ⊎ Loses (both B D) (exec (both C E) (staged p k)) (exec (both B D) (staged p k))
+      → (exec (both B D) (staged refused p k) ≡ exec (both C E) (staged refused p k))
+      ⊎ Loses (both B D) (exec (both C E) (staged refused p k)) (exec (both B D) (staged refused p k))
 
+module _ (T X W F S A U : Type 0) (Is : U → Staged T W → Type 0) where
   -- a call that ran the first part to a table, and then one that ran the rest under it
   abbrev pub StagedThen : Type 0
   StagedThen =
-      (addr : W → ℕ) (part : S → ℕ → Option S) (B : BlockMap W F) (D : T → BlockMap W F) (p : Prog W F S T)
-      (k : T → Prog W F S A) (t : T) (done more : List S) (ans : Result A (Halt F))
-      → Follows addr part [] (exec B p) done (Ok t)
-      → Follows addr part [] (exec (D t) (k t)) more ans
-      → Follows (addr_of addr) part [] (exec (both B D) (staged p k)) (done ++ more) ans
+      (refused : X → A) (part : S → ℕ → Option S) (B : BlockMap W F) (D : T → BlockMap W F)
+      (p : Prog W F S (Result T X)) (k : T → Prog W F S A) (t : T) (done more : List S) (ans : Result A (Halt F U))
+      → Follows (λ u w. Is u (Early w)) part [] (exec B p) done (Ok (Ok t))
+      → Follows (λ u w. Is u (Late t w)) part [] (exec (D t) (k t)) more ans
+      → Follows Is part [] (exec (both B D) (staged refused p k)) (done ++ more) ans
 
-  -- a call that ran the first part to no table
+  -- a call that ran the first part to a refusal
+  abbrev pub StagedRefused : Type 0
+  StagedRefused =
+      (refused : X → A) (part : S → ℕ → Option S) (B : BlockMap W F) (D : T → BlockMap W F)
+      (p : Prog W F S (Result T X)) (k : T → Prog W F S A) (x : X) (done : List S)
+      → Follows (λ u w. Is u (Early w)) part [] (exec B p) done (Ok (Err x))
+      → Follows Is part [] (exec (both B D) (staged refused p k)) done (Ok (refused x))
+
+  -- a call that ran the first part to no value
   abbrev pub StagedHalt : Type 0
   StagedHalt =
-      (addr : W → ℕ) (part : S → ℕ → Option S) (B : BlockMap W F) (D : T → BlockMap W F) (p : Prog W F S T)
-      (k : T → Prog W F S A) (done : List S) (h : Halt F)
-      → Follows addr part [] (exec B p) done (Err h)
-      → Follows (addr_of addr) part [] (exec (both B D) (staged p k)) done (Err h)
+      (refused : X → A) (part : S → ℕ → Option S) (B : BlockMap W F) (D : T → BlockMap W F)
+      (p : Prog W F S (Result T X)) (k : T → Prog W F S A) (done : List S) (h : Halt F U)
+      → Follows (λ u w. Is u (Early w)) part [] (exec B p) done (Err h)
+      → Follows Is part [] (exec (both B D) (staged refused p k)) done (Err h)
+
+  -- the same where each want may come to any of several things
+  abbrev pub GoesStaged : Type 0 → Type 0
+  GoesStaged I =
+      (refused : X → A) (part : S → ℕ → Option S) (Bs : I → BlockMap W F)
+      (Ds : I → T → BlockMap W F) (p : Prog W F S (Result T X)) (k : T → Prog W F S A) (t : T) (done more : List S)
+      (ans : Result A (Halt F U))
+      → Goes (λ u w. Is u (Early w)) part [] Bs p done (Ok (Ok t))
+      → Goes (λ u w. Is u (Late t w)) part [] (λ i. Ds i t) (k t) more ans
+      → Goes Is part [] (λ i. both (Bs i) (Ds i)) (staged refused p k) (done ++ more) ans
+
+  abbrev pub GoesStagedRefused : Type 0 → Type 0
+  GoesStagedRefused I =
+      (refused : X → A) (part : S → ℕ → Option S) (Bs : I → BlockMap W F)
+      (Ds : I → T → BlockMap W F) (p : Prog W F S (Result T X)) (k : T → Prog W F S A) (x : X) (done : List S)
+      → Goes (λ u w. Is u (Early w)) part [] Bs p done (Ok (Err x))
+      → Goes Is part [] (λ i. both (Bs i) (Ds i)) (staged refused p k) done (Ok (refused x))
+
+  abbrev pub GoesStagedHalt : Type 0 → Type 0
+  GoesStagedHalt I =
+      I
+      → (refused : X → A) (part : S → ℕ → Option S) (Bs : I → BlockMap W F)
+      (Ds : I → T → BlockMap W F) (p : Prog W F S (Result T X)) (k : T → Prog W F S A) (done : List S) (h : Halt F U)
+      → Goes (λ u w. Is u (Early w)) part [] Bs p done (Err h)
+      → Goes Is part [] (λ i. both (Bs i) (Ds i)) (staged refused p k) done (Err h)

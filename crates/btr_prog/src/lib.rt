@@ -6,19 +6,21 @@
 #![tactic(auto)]
 
 mod answering;
+mod cause;
 mod going;
 mod mapping;
 mod running;
 mod staging;
 
 pub use answering::{
-    broke_here, follows_halt, follows_seen, follows_then, held_law, place_law, step_broke,
-    step_done, unread_here, want_came, want_faults, want_unread,
+    broke_here, follows_halt, follows_quiet, follows_seen, follows_then, held_law, place_law,
+    step_broke, step_done, unread_here, want_came, want_faults, want_unread,
 };
+pub use cause::{Cause, StagedCause};
 pub use going::{
     blind_law, goes_bind, goes_halt, goes_held, goes_more, goes_one, goes_some, goes_step,
     goes_then, goes_thread, goes_want,
 };
-pub use mapping::{cut_law, lost_law, only_needs, whole_law};
+pub use mapping::{cut_law, lost_law, only_needs, well_law, whole_law};
 pub use running::{exec_bind, exec_thread, needs_bind, outcome_of_thread};
-pub use staging::{exec_renamed, exec_staged, staged_cut, staged_lost, staged_then};
+pub use staging::{exec_renamed, exec_staged, goes_staged, staged_cut, staged_lost, staged_then};

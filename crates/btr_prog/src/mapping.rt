@@ -1,5 +1,5 @@
 //! Runs of one program under two block maps.
-ghost use Rattle.btr_prog.specs.Laws.{OnlyNeeds, CutLaw, WholeLaw, LostLaw};
+ghost use Rattle.btr_prog.specs.Laws.{OnlyNeeds, CutLaw, WholeLaw, LostLaw, WellLaw};
 
 /// A run hangs on the fates of its own wants alone.
 pub fn only_needs<W, F, S, A>()
@@ -19,4 +19,9 @@ pub fn whole_law<W, F, S, A>()
 /// .. and else stops at the first want that it lacks, with exactly the marks before.
 pub fn lost_law<W, F, S, A>()
     ensures { LostLaw W F S A }
+{}
+
+/// Where a run ends well, so does each of its wants.
+pub fn well_law<W, F, S, A>()
+    ensures { WellLaw W F S A }
 {}

@@ -1,30 +1,42 @@
 //! Two block maps one after another.
-ghost use Rattle.btr_prog.specs.Stages.{ExecRenamed, FollowsRenamed, GoesRenamed, ExecStaged, StagedCut, StagedLost, StagedThen, StagedHalt};
+ghost use Rattle.btr_prog.specs.Stages.{ExecRenamed, FollowsRenamed, GoesRenamed, ExecStaged, NeedsStaged, StagedCut, StagedLost, StagedThen, StagedRefused, StagedHalt, GoesStaged, GoesStagedRefused, GoesStagedHalt};
+
+use crate::{Cause, StagedCause};
 
 /// The run of a program whose wants go by other names, and what is answered of it.
-pub fn exec_renamed<V, W, F, S, A, I>()
+pub fn exec_renamed<V, W, F, S, A, I, U: Cause<W>>()
     ensures run { ExecRenamed V W F S A }
-    ensures answer { FollowsRenamed V W F S A }
+    ensures answer { FollowsRenamed V W F S A U U.is }
     ensures choice { GoesRenamed V W F S A I }
 {}
 
-/// The run of two parts is that of the first under its map, and then that of the rest under the map that it gives.
-pub fn exec_staged<T, W, F, S, A>()
-    ensures { ExecStaged T W F S A }
+/// The run of two parts is that of the first under its map, and then that of the rest under the map that it gives; so are the
+/// wants.
+pub fn exec_staged<T, X, W, F, S, A>()
+    ensures run { ExecStaged T X W F S A }
+    ensures wants { NeedsStaged T X W F S A }
 {}
 
 /// Under maps that lack blocks the run of both parts is cut at the first want that is lacked.
-pub fn staged_cut<T, W, F, S, A>()
-    ensures { StagedCut T W F S A }
+pub fn staged_cut<T, X, W, F, S, A>()
+    ensures { StagedCut T X W F S A }
 {}
 
 /// .. or is whole where none is.
-pub fn staged_lost<T, W, F, S, A>()
-    ensures { StagedLost T W F S A }
+pub fn staged_lost<T, X, W, F, S, A>()
+    ensures { StagedLost T X W F S A }
 {}
 
-/// Two calls, each of which ran one part.
-pub fn staged_then<T, W, F, S, A>()
-    ensures value { StagedThen T W F S A }
-    ensures halt { StagedHalt T W F S A }
+/// Two calls, each of which ran one part; or one call, which came to a refusal or to no value.
+pub fn staged_then<T, X, W, F, S, A, U: StagedCause<T, W>>()
+    ensures value { StagedThen T X W F S A U U.is }
+    ensures refused { StagedRefused T X W F S A U U.is }
+    ensures halt { StagedHalt T X W F S A U U.is }
+{}
+
+/// The same where each want may come to any of several things.
+pub fn goes_staged<T, X, W, F, S, A, U: StagedCause<T, W>, I>()
+    ensures value { GoesStaged T X W F S A U U.is I }
+    ensures refused { GoesStagedRefused T X W F S A U U.is I }
+    ensures halt { GoesStagedHalt T X W F S A U U.is I }
 {}

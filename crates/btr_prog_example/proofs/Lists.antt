@@ -12,7 +12,7 @@ use Rattle.btr_prog.proofs.SoFars.{SoFar, so_far_none, so_far_more, so_far_step,
 use Rattle.btr_prog_example.specs.declared.blocks.Want.{Want}
 use Rattle.btr_prog_example.specs.declared.blocks.Want.TheVariants.{Catalogue}
 use Rattle.btr_prog_example.specs.declared.blocks.Stop.{Stop}
-use Rattle.btr_prog_example.specs.Blocks.{addr_of, Misses, Reads}
+use Rattle.btr_prog_example.specs.Blocks.{IsTold, Misses, Reads}
 use Rattle.btr_prog_example.specs.Rows.{Row, part}
 use Rattle.btr_prog_example.specs.Listing.{items, catalogue, shown, next, treat, listing}
 use Rattle.btr_prog_example.specs.Answers.{halt_of, Puts}
@@ -73,8 +73,8 @@ module _ (Bs : ℕ → Want → Result (List ℕ) ℕ) (a : ℕ) where
           seen = f.seen ++ wants_of b.marks;
           done = f.done ++ p.0;
           rows = rows_then p.0 p.1;
-          sofar = so_far_step (Goings Bs) fin (does pages) (Ok tt) addr_of part (Whole Bs a) f.seen f.done p.0 last page page b (goes_value Bs (next last page) (shown page) r p.2.1)
-              (follows_alone addr_of part f.seen b p.0 (Ok (Ok page)) (follows_value addr_of part [] (next last page) r true p.0 p.2.2)) f.sofar;
+          sofar = so_far_step (Goings Bs) fin (does pages) (Ok tt) IsTold part (Whole Bs a) f.seen f.done p.0 last page page b (goes_value Bs (next last page) (shown page) r p.2.1)
+              (follows_alone IsTold part f.seen b p.0 (Ok (Ok page)) (follows_value IsTold part [] (next last page) r true p.0 p.2.2)) f.sofar;
         }
 
     -- .. or is empty, which ends the listing
@@ -84,8 +84,8 @@ module _ (Bs : ℕ → Want → Result (List ℕ) ℕ) (a : ℕ) where
         let b = with_value Bs (next last page) r in (
           f.done ++ p.0,
           rows_then p.0 p.1,
-          so_far_early (Goings Bs) fin (does pages) (Ok tt) addr_of part (Whole Bs a) f.seen f.done p.0 last last page b (goes_value Bs (next last page) (shown page) r p.2.1)
-              (follows_alone addr_of part f.seen b p.0 (Ok (Err last)) (follows_value addr_of part [] (next last page) r false p.0 p.2.2)) f.sofar,
+          so_far_early (Goings Bs) fin (does pages) (Ok tt) IsTold part (Whole Bs a) f.seen f.done p.0 last last page b (goes_value Bs (next last page) (shown page) r p.2.1)
+              (follows_alone IsTold part f.seen b p.0 (Ok (Err last)) (follows_value IsTold part [] (next last page) r false p.0 p.2.2)) f.sofar,
         )
 
     -- .. or stops it
@@ -95,15 +95,15 @@ module _ (Bs : ℕ → Want → Result (List ℕ) ℕ) (a : ℕ) where
         let b = with_value Bs (next last page) r in (
           f.done ++ p.0,
           rows_then p.0 p.1,
-          so_far_halts (Goings Bs) fin (does pages) (Ok tt) addr_of part (Whole Bs a) f.seen f.done p.0 last page b (halt_of stop)
+          so_far_halts (Goings Bs) fin (does pages) (Ok tt) IsTold part (Whole Bs a) f.seen f.done p.0 last page b (halt_of stop)
               (λ st. some_run Bs 0 treat fin st (does pages) (Ok tt)) (λ st. threads_map Bs 0 treat fin st (does pages) (Ok tt))
               (goes_value Bs (next last page) (shown page) r p.2.1)
-              (follows_alone addr_of part f.seen b p.0 (Err (halt_of stop)) (follows_halt addr_of part [] r (λ more. run [] (Ok (next last page more))) p.0 (halt_of stop) p.2.2)) f.sofar,
+              (follows_alone IsTold part f.seen b p.0 (Err (halt_of stop)) (follows_halt IsTold part [] r (λ more. run [] (Ok (next last page more))) p.0 (halt_of stop) p.2.2)) f.sofar,
         )
 
   -- no page is left
   pub far_all : (last : ℕ) (old now : List Row) → Far Bs a [] last old now → Puts Bs (listing a) old now (Ok last)
-  far_all last old now f = (f.done, f.rows, so_far_ended (Goings Bs) fin addr_of part (Whole Bs a) f.seen f.done last tt f.sofar)
+  far_all last old now f = (f.done, f.rows, so_far_ended (Goings Bs) fin IsTold part (Whole Bs a) f.seen f.done last tt f.sofar)
 
   -- the catalogue did not come
   pub stops_at_once : (old : List Row) (stop : Stop) → Misses Bs (Catalogue a) stop → Puts Bs (listing a) old old (Err stop)

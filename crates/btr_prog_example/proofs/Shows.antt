@@ -11,7 +11,7 @@ use Rattle.btr_prog_example.specs.declared.blocks.Want.{Want}
 use Rattle.btr_prog_example.specs.declared.blocks.Want.TheVariants.{Page}
 use Rattle.btr_prog_example.specs.declared.blocks.Stop.{Stop}
 use Rattle.btr_prog_example.specs.declared.blocks.Stop.TheVariants.{Lost, Unread, Sink, Memory}
-use Rattle.btr_prog_example.specs.Blocks.{addr_of, Misses, Reads}
+use Rattle.btr_prog_example.specs.Blocks.{IsTold, Misses, Reads}
 use Rattle.btr_prog_example.specs.Rows.{Row, Bytes, End, part}
 use Rattle.btr_prog_example.specs.Listing.{rows, shown}
 use Rattle.btr_prog_example.specs.Answers.{halt_of, answer_of, Puts, PutsPage}
@@ -32,11 +32,11 @@ err_is (Err x) e h = ap Err h
 
 module _ (Bs : ℕ → Want → Result (List ℕ) ℕ) where
   -- a want that stops a call
-  pub goes_stop : {A : Type 0} (w : Want) (k : List ℕ → Prog Want ℕ Row A) (stop : Stop) → Misses Bs w stop → Goes addr_of part [] Bs (Need w k) [] (Err (halt_of stop))
-  goes_stop w k (Lost a) h = goes_faults Bs addr_of part [] h.0 w a k h.1
-  goes_stop w k (Unread a) h = subst (λ (x : ℕ). Goes addr_of part [] Bs (Need w k) [] (Err (halt_of (Unread x)))) (sym h) (goes_unread Bs addr_of part [] 0 w k)
+  pub goes_stop : {A : Type 0} (w : Want) (k : List ℕ → Prog Want ℕ Row A) (stop : Stop) → Misses Bs w stop → Goes IsTold part [] Bs (Need w k) [] (Err (halt_of stop))
+  goes_stop w k (Lost a) h = goes_faults Bs IsTold part [] h.0 w a k h.1
+  goes_stop w k (Unread told) h = goes_unread Bs IsTold part [] 0 told w k h
   goes_stop w k Sink h = absurd h
-  goes_stop w k Memory h = goes_nowhere Bs addr_of part [] 0 (Need w k)
+  goes_stop w k Memory h = goes_nowhere Bs IsTold part [] 0 (Need w k)
 
   pub puts_stop : {A : Type 0} (w : Want) (k : List ℕ → Prog Want ℕ Row A) (old : List Row) (stop : Stop) → Misses Bs w stop → Puts Bs (Need w k) old old (Err stop)
   puts_stop w k old stop h = ([], sym (append-nil old), goes_stop w k stop h)
@@ -45,11 +45,11 @@ module _ (Bs : ℕ → Want → Result (List ℕ) ℕ) where
   pub puts_came : {Z : Type 0} (page : ℕ) (v : Vec ℕ Z) (old new : List Row) (result : Result Bool Stop) → Reads Bs (Page page) (Ok v) → PutsPage v.items old new result → Puts Bs (shown page) old new result
   puts_came page v old new result h a =
       let put = a Bs in
-      (put.0, put.1, goes_came Bs addr_of part [] h.0 (Page page) v.items rows put.0 (answer_of result) h.1 (goes_alone Bs addr_of part (Page page ∷ []) (rows v.items) put.0 (answer_of result) put.2))
+      (put.0, put.1, goes_came Bs IsTold part [] h.0 (Page page) v.items rows put.0 (answer_of result) h.1 (goes_alone Bs IsTold part (Page page ∷ []) (rows v.items) put.0 (answer_of result) put.2))
 
 -- the rows of a page
 pub page_none : (bytes : List ℕ) (old : List Row) → bytes ≡ [] → PutsPage bytes old old (Ok false)
-page_none bytes old e Bs = ([], sym (append-nil old), subst (λ (x : List ℕ). Goes addr_of part [] Bs (rows x) [] (Ok false)) (sym e) (run [] (Ok false), refl, (refl, refl)))
+page_none bytes old e Bs = ([], sym (append-nil old), subst (λ (x : List ℕ). Goes IsTold part [] Bs (rows x) [] (Ok false)) (sym e) (run [] (Ok false), refl, (refl, refl)))
 
 abbrev ended : Prog Want ℕ Row Bool
 ended = Emit End (Return true)
@@ -59,14 +59,14 @@ page_all [] old mid new some e f Bs = absurd (some refl)
 page_all (b ∷ bs) old mid new some e f Bs = (
   Bytes (b ∷ bs) ∷ (End ∷ []),
   f ∙ (ap (λ x. x ++ (End ∷ [])) e ∙ append_assoc old (Bytes (b ∷ bs) ∷ []) (End ∷ [])),
-  goes_step Bs addr_of part [] (Bytes (b ∷ bs)) ended (End ∷ []) (Ok true) (goes_step Bs addr_of part [] End (Return true) [] (Ok true) (run [] (Ok true), refl, (refl, refl))),
+  goes_step Bs IsTold part [] (Bytes (b ∷ bs)) ended (End ∷ []) (Ok true) (goes_step Bs IsTold part [] End (Return true) [] (Ok true) (run [] (Ok true), refl, (refl, refl))),
 )
 
 pub page_bytes : (bytes : List ℕ) (old mid new : List Row) → (bytes ≡ [] → ⊥) → mid ≡ old ++ (Bytes bytes ∷ []) → new ≡ mid → PutsPage bytes old new (Err Sink)
 page_bytes [] old mid new some e f Bs = absurd (some refl)
-page_bytes (b ∷ bs) old mid new some e f Bs = (Bytes (b ∷ bs) ∷ [], f ∙ e, goes_step Bs addr_of part [] (Bytes (b ∷ bs)) ended [] (Err Broke) (goes_nowhere Bs addr_of part [] 0 ended))
+page_bytes (b ∷ bs) old mid new some e f Bs = (Bytes (b ∷ bs) ∷ [], f ∙ e, goes_step Bs IsTold part [] (Bytes (b ∷ bs)) ended [] (Err Broke) (goes_nowhere Bs IsTold part [] 0 ended))
 
 pub page_part : (bytes : List ℕ) (old new : List Row) → (bytes ≡ [] → ⊥) → (new ≡ old) ⊎ ((n : ℕ) × (new ≡ old ++ (Bytes (take n bytes) ∷ []))) → PutsPage bytes old new (Err Sink)
-page_part bytes old new some (inl g) Bs = ([], g ∙ sym (append-nil old), goes_nowhere Bs addr_of part [] 0 (rows bytes))
+page_part bytes old new some (inl g) Bs = ([], g ∙ sym (append-nil old), goes_nowhere Bs IsTold part [] 0 (rows bytes))
 page_part [] old new some (inr g) Bs = absurd (some refl)
-page_part (b ∷ bs) old new some (inr g) Bs = (Bytes (take g.0 (b ∷ bs)) ∷ [], g.1, goes_broke Bs addr_of part [] 0 (Bytes (b ∷ bs)) (Bytes (take g.0 (b ∷ bs))) g.0 ended refl)
+page_part (b ∷ bs) old new some (inr g) Bs = (Bytes (take g.0 (b ∷ bs)) ∷ [], g.1, goes_broke Bs IsTold part [] 0 (Bytes (b ∷ bs)) (Bytes (take g.0 (b ∷ bs))) g.0 ended refl)

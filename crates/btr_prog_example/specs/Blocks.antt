@@ -24,10 +24,14 @@ abbrev pub addr_of : Want → ℕ
 addr_of (Catalogue a) = a
 addr_of (Page a) = a
 
+-- the want of which it is told that it could not be read
+abbrev pub IsTold : Want → Want → Type 0
+IsTold told w = told ≡ w
+
 -- why there are no bytes: they are lost, or the read failed, or memory ran out
 abbrev pub Misses : (ℕ → Want → Result (List ℕ) ℕ) → Want → Stop → Type 0
 Misses Bs w (Lost a) = (n : ℕ) × (Bs n w ≡ Err a)
-Misses Bs w (Unread a) = a ≡ addr_of w
+Misses Bs w (Unread told) = IsTold told w
 Misses Bs w Sink = ⊥
 Misses Bs w Memory = Unit {0}
 

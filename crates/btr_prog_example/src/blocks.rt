@@ -14,8 +14,8 @@ pub enum Want {
 pub enum Stop {
     /// No copy of the block at the address is there.
     Lost(u8),
-    /// A read failed, and no other copy of the block at the address passed.
-    Unread(u8),
+    /// A read failed, and no other copy of the block passed.
+    Unread(Want),
     /// The sink refused.
     Sink,
     /// Memory ran out.

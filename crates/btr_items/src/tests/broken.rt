@@ -2,8 +2,9 @@
 use super::bodies;
 use crate::{
     BlockGroup, DevExtent, DevItem, Entry, ExtRef, ExtentItem, FileExtent, InlineRef, Inode,
-    InodeRef, ItemFault, RootItem, RootRef, entries, inline_refs, item,
+    InodeRef, ItemFault, RootItem, RootRef, entries, inline_refs, item, item_fits,
 };
+use btr_base::{Key, SumKind};
 
 // A body with one byte changed.
 fn with<const N: usize>(body: &[u8; N], at: usize, byte: u8) -> [u8; N] {
@@ -31,6 +32,18 @@ fn sizes(rt: HostRuntime) {
     }
     for size in [97, 99] {
         assert_eq!(rt; DevItem::read(&zeros[..size]), Err(ItemFault), "{size}");
+    }
+    let chunk = Key {
+        objectid: 256,
+        kind: item::CHUNK_ITEM,
+        offset: 0,
+    };
+    for (size, fits) in [(47, false), (48, true), (49, false), (80, false)] {
+        assert_eq!(rt;
+            item_fits(SumKind::Crc32c, chunk, &zeros[..size]),
+            fits,
+            "{size}"
+        );
     }
     for size in [20, 52, 54] {
         assert_eq!(rt;

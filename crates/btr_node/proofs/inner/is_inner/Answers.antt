@@ -22,4 +22,4 @@ returns-then-count-eq0 c =
 pub returns : goal.returns
 returns c =
     c.keys_ascend.ensures
-    ∙ sym (inner_rules c.args.block.now c.entry_count-count.result c.entry_count-count.ensures (omega arith) c.if-block-gt-MAX_LEVEL.false (omega arith) (omega arith))
+    ∙ sym (inner_rules c.args.block.now c.entry_count-count.result c.entry_count-count.ensures.count (omega arith) c.if-block-gt-MAX_LEVEL.false (omega arith) (omega arith))

@@ -19,12 +19,12 @@ returns-then-is_packed c =
     let block = c.args.block.now in
     let n = c.entry_count-count.result in
     c.keys_ascend.ensures
-    ∙ sym (leaf_rules block n c.entry_count-count.ensures c.if-block-ne0.false
+    ∙ sym (leaf_rules block n c.entry_count-count.ensures.count c.if-block-ne0.false
     ∙ ap (λ packed. packed && ascends (map (entry_key 25 block) (range_with_len 0 n))) (sym c.is_packed.ensures ∙ c.if-is_packed.true))
 
 pub returns-else-is_packed : goal.returns-else-is_packed
 returns-else-is_packed c =
     let block = c.args.block.now in
     c.if-is_packed.false
-    ∙ sym (leaf_rules block c.entry_count-count.result c.entry_count-count.ensures c.if-block-ne0.false
+    ∙ sym (leaf_rules block c.entry_count-count.result c.entry_count-count.ensures.count c.if-block-ne0.false
     ∙ and_left _ _ (sym c.is_packed.ensures ∙ c.if-is_packed.false))
