@@ -5,8 +5,12 @@ pub mod Pieces
 pub mod Solutions
 pub mod Trials
 pub mod Keeping
+pub mod ReadsOn
+pub mod Serving
 pub mod Loans
 pub mod Fates
+pub mod Fetched
+pub mod Found
 pub mod Ones
 pub mod Standing
 pub mod Sums

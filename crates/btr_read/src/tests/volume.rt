@@ -2,7 +2,7 @@
 ghost use Rattle.std.specs.Prelude.{◌≡◌, ◌≤◌, IsTrue, IfOk, OnErr};
 ghost use Rattle.btr_rack.specs.Memory.{slots_of};
 ghost use Rattle.btr_read.specs.Layout.{AreOpen};
-ghost use Rattle.btr_read.specs.Store.{IsLentBy, free_count};
+ghost use Rattle.btr_read.specs.Store.{IsLentBy, SameLoans, free_count};
 
 use super::shape::{ELEMENT, MIB, START, Shape, contains, place_of, set_of, stripe_start};
 use crate::device::Member;
@@ -164,9 +164,10 @@ pub(super) fn fetched(
     store: &mut Store,
 ) -> Result<Loan, ReadFault>
     ensures lent { IfOk result (IsLentBy store.old store.new want.now) }
-    ensures refused { OnErr result (store.new ≡ store.old) }
+    ensures refused { OnErr result (SameLoans store.old store.new) }
 {
     if can_fetch(rack, store) {
+        store.forget_kept();
         fetch(want, rack, store)
     } else {
         panic!(rt; "a device isn't open, or there is no room");
