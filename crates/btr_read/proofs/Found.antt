@@ -65,7 +65,7 @@ module _ (chunks : List Chunk) (devices : List Member) (setting : Setting) (p0 :
     held_then : after.held ≡ old.held
     held_then = same_held reads ∙ ap (λ (s : Seen). s.held) begin
 
-    size_is : size_of t ≡ len_of setting want
+    pub size_is : size_of t ≡ len_of setting want
     size_is =
         let of = sought_of store.layout want t seeks in
         ap (λ s. len_of s t.want) (of.setting_is ∙ sym (ap (λ (s : Blocks). s.layout.setting) view)) ∙ ap (len_of setting) of.want_is
@@ -128,3 +128,10 @@ module _ (chunks : List Chunk) (devices : List Member) (setting : Setting) (p0 :
             let here : IsFetched store.layout want old new bytes = subst (λ n. IsFetched store.layout want old new (take n (bytes_at p2 k))) (sym long) of_size in
             let block : option_map (take len) (get_or (loans_of p2) k None) ≡ Some bytes = ap (option_map (take len)) (loan_taken p0 p2 k is.whole taken.free taken.writes) in
             (ap is_ok seeks, subst (λ o. IsSomeAnd o (IsFetched store.layout want old new)) (sym block) here)
+
+-- the same where the pool and the wants known are those before
+pub found_of : (t : Target) (w0 w1 w2 : List (Option Want)) (p0 p1 p2 : Slots) (mid after : Seen) (r : Result ℕ Missed) → p1 ≡ p0 → w1 ≡ w0 → FitsFinding t w1 w2 p1 p2 mid after r → FitsFinding t w0 w2 p0 p2 mid after r
+found_of t w0 w1 w2 p0 p1 p2 mid after r same known h = subst (λ p. FitsFinding t w0 w2 p p2 mid after r) same (subst (λ w. FitsFinding t w w2 p1 p2 mid after r) known h)
+
+pub taken_of : (p0 p1 p2 : Slots) (k : ℕ) → p1 ≡ p0 → TakesFound p1 p2 k → TakesFound p0 p2 k
+taken_of p0 p1 p2 k same h = subst (λ p. TakesFound p p2 k) same h

@@ -10,6 +10,8 @@ pub mod Serving
 pub mod Loans
 pub mod Fates
 pub mod Fetched
+pub mod Lent
+pub mod Devices
 pub mod Found
 pub mod Ones
 pub mod Standing

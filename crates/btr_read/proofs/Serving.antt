@@ -14,7 +14,7 @@ use Rattle.btr_read.specs.Want.{addr_of, passes, len_of}
 use Rattle.btr_read.specs.Layout.{Layout, AreOpen, HaveOwnSlots}
 use Rattle.btr_read.specs.Candidates.{Target, size_of}
 use Rattle.btr_read.specs.Fate.{Fault, passing, passing_for, or_lost, fate_of, fate, sought, Agree}
-use Rattle.btr_read.specs.Store.{Blocks, Kept, block_in, kept_in, kept_at, kept_want, none_kept, KeepsIn}
+use Rattle.btr_read.specs.Store.{Blocks, Kept, block_in, kept_in, kept_at, kept_want, none_kept, with_loan}
 use Rattle.btr_read.specs.Serves.{IsKept, IsServed, Serves}
 use Rattle.btr_read.specs.Writing.{StillKept}
 use Rattle.btr_read.proofs.Loans.{blocks}
@@ -173,6 +173,10 @@ serves_as old new store store' slots held layout kept serves =
       own_slots = subst (λ (l : Layout). HaveOwnSlots l.devices) (sym layout) was.own_slots;
       kept = λ k. subst (λ l. IfSome (kept_at store' k) (IsKept l new.held)) (sym layout) (subst (λ h. IfSome (kept_at store' k) (IsKept store.layout h)) (sym held) (subst (λ ks. IfSome (get_or ks k None) (IsKept store.layout old.held)) (sym kept) (was.kept k)));
     })
+
+-- a loan was given back
+pub serves_given : (rack : Seen) (store : Blocks) (slot : ℕ) → Serves rack store → Serves rack (with_loan store slot None)
+serves_given rack store slot serves = serves_as rack rack store (with_loan store slot None) refl refl refl refl serves
 
 module _ (chunks : List Chunk) (devices : List Member) (setting : Setting) (w w' : List (Option Want)) (p p' : Slots) (old new : Seen) (store : Blocks) (view : blocks chunks devices setting (loans_of p) (kept_in setting w p.bytes) ≡ store) where
   abbrev layout_is : Layout

@@ -1,5 +1,5 @@
 -- What reading into slots may do to a pool.
-use Rattle.std.specs.Prelude.{◌≡◌, ◌≢◌, ℕ, true, false, List, [], ◌∷◌, length, slice_index_or, Option, Some, None, IsSome, ◌≤◌}
+use Rattle.std.specs.Prelude.{◌≡◌, ◌≢◌, ℕ, true, false, List, [], ◌∷◌, length, slice_index_or, slice_set, Option, Some, None, IsSome, ◌≤◌, ◌+◌, ◌-◌, ◌^◌, min}
 use Rattle.btr_pool.specs.Slots.{Slots, IsLive, bytes_at}
 use Rattle.btr_read.specs.declared.want.Want.{Want}
 
@@ -39,3 +39,9 @@ StillKept old_wants new_wants old new = (j : ℕ) (want : Want) → slice_index_
 -- another. What stands in it is forgotten only if something stands in the other too, and was used no earlier
 abbrev pub ComesFirst : List (Option Want) → List ℕ → ℕ → ℕ → Type 0
 ComesFirst wants used slot other = IsSome (slice_index_or wants slot None) → IsSome (slice_index_or wants other None) × (slice_index_or used slot 0 ≤ slice_index_or used other 0)
+
+-- by the times of the slots' last use, and what the times have counted up to: a slot is used at a time of its own, behind all others
+-- until the count stands still at its type's last value
+pub record IsUsed (old_used : List ℕ) (old_clock slot : ℕ) (new_used : List ℕ) (new_clock : ℕ) : Type 0 where
+  pub clock : new_clock ≡ min (old_clock + 1) (2 ^ 64 - 1)
+  pub used : new_used ≡ slice_set old_used slot new_clock

@@ -118,11 +118,12 @@ pub fn fetch<R: Rack>(want: &Want, rack: &mut R, store: &mut Store) -> Result<Lo
     }
     let search = locate(want, store.setting, &store.chunks, &store.devices)?;
     let len = search.size();
-    match find(&search, rack, &mut store.pool, &mut store.kept) {
+    let slot = match find(&search, rack, &mut store.pool, &mut store.kept) {
         Ok(slot) => {
             rack.forget();
-            Ok(Loan { slot, len })
+            slot
         }
-        Err(missed) => Err(missed.fault(want.addr())),
-    }
+        Err(missed) => return Err(missed.fault(want.addr())),
+    };
+    Ok(Loan { slot, len })
 }

@@ -2,7 +2,7 @@
 ghost use Rattle.std.specs.Prelude.{◌≡◌, ◌≢◌, ◌<◌, ◌≤◌, ℕ, Some, None, IfSome, IfNone, IsSome, length, replicate, slice_index_or, slice_set, IsTrue, IsFalse};
 ghost use Rattle.btr_pool.specs.Slots.{IsFree, free_count, with_lent};
 ghost use Rattle.btr_read.specs.Store.{kept_want};
-ghost use Rattle.btr_read.specs.Writing.{ComesFirst};
+ghost use Rattle.btr_read.specs.Writing.{ComesFirst, IsUsed};
 
 use crate::Want;
 use btr_pool::{Loan, Pool};
@@ -38,6 +38,7 @@ impl Kept {
         requires { slot < 24 }
         ensures kept { self.new.wants ≡ slice_set self.old.wants slot (kept_want want.now) }
         ensures room { slot < length self.old.wants }
+        ensures used { IsUsed self.old.used self.old.clock slot self.new.used self.new.clock }
     {
         self.wants[slot] = match want {
             Want::Tree { .. } => Some(*want),
@@ -51,7 +52,9 @@ impl Kept {
     // Forgets what stands in a slot, before it is written.
     fn forget(&mut self, slot: usize)
         requires { slot < 24 }
-        ensures { self.new.wants ≡ slice_set self.old.wants slot None }
+        ensures wants { self.new.wants ≡ slice_set self.old.wants slot None }
+        ensures used { self.new.used ≡ self.old.used }
+        ensures clock { self.new.clock ≡ self.old.clock }
     {
         self.wants[slot] = None;
     }
@@ -59,7 +62,8 @@ impl Kept {
     // Notes that a slot was used.
     fn touch(&mut self, slot: usize)
         requires { slot < 24 }
-        ensures { self.new.wants ≡ self.old.wants }
+        ensures wants { self.new.wants ≡ self.old.wants }
+        ensures used { IsUsed self.old.used self.old.clock slot self.new.used self.new.clock }
     {
         self.clock = self.clock.saturating_add(1);
         self.used[slot] = self.clock;
@@ -134,6 +138,8 @@ pub(crate) fn take_least(pool: &mut Pool, kept: &mut Kept) -> Loan
     ensures lent { pool.new ≡ with_lent pool.old result }
     ensures least { (k : ℕ) → IsFree pool.old k → ComesFirst kept.old.wants kept.old.used result k }
     ensures forgotten { kept.new.wants ≡ slice_set kept.old.wants result None }
+    ensures used { kept.new.used ≡ kept.old.used }
+    ensures clock { kept.new.clock ≡ kept.old.clock }
 {
     let first = free_slot(pool);
     let slot = kept.least(pool, first);
@@ -151,6 +157,7 @@ pub(crate) fn lend_kept(want: &Want, pool: &mut Pool, kept: &mut Kept) -> Option
     ensures lent { IfSome result (λ slot. pool.new ≡ with_lent pool.old slot) }
     ensures kept { IfSome result (λ slot. slice_index_or kept.old.wants slot None ≡ Some want.now) }
     ensures wants { kept.new.wants ≡ kept.old.wants }
+    ensures used { IfSome result (λ slot. IsUsed kept.old.used kept.old.clock slot kept.new.used kept.new.clock) }
     ensures none { IfNone result (pool.new ≡ pool.old) }
     ensures missing { IfNone result ((k : ℕ) → IsFree pool.old k → slice_index_or kept.old.wants k None ≢ Some want.now) }
 {

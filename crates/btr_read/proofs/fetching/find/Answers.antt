@@ -1,6 +1,7 @@
 use Rattle.std.proofs.Common.{◌≡◌, ℕ, List, Option, length, get_or, set, None, refl, sym, ap, ◌∙◌, subst, inl, inr, arith}
 use Rattle.std.proofs.lemmas.List.{length-set}
 use Rattle.btr_pool.specs.Slots.{loans_of, with_lent}
+use Rattle.btr_read.specs.Candidates.{Target}
 use Rattle.btr_read.specs.Store.{kept_want}
 use Rattle.btr_read.specs.Writing.{OnlyWrites}
 use Rattle.btr_read.proofs.Loans.{loans_back}
@@ -19,7 +20,7 @@ returns-in-First-clause-found g c =
         then = c.try_all.new.kept.wants;
         room = omega (arith, c.keep.ensures.room, c.slot.ensures);
         still = still;
-        one = c.keep.ensures.kept ∙ ap (λ n. set c.try_all.new.kept.wants n (kept_want c.args.search.now.want)) c.slot.ensures;
+        one = c.keep.ensures.kept ∙ ap (λ n. set c.try_all.new.kept.wants n (kept_want c.search.inside.want.now)) c.slot.ensures ∙ ap (λ (t : Target). set c.try_all.new.kept.wants c.take_least-slot.result (kept_want t.want)) c.search.view_is;
       },
       e.outcome,
     )

@@ -5,7 +5,8 @@ use Rattle.btr_pool.specs.Slots.{bytes_at}
 use Rattle.btr_read.specs.Candidates.{size_of, slice_count, range_of, element}
 use Rattle.btr_read.specs.Gathering.{part_of, IsAdded, IsGathered}
 use Rattle.btr_read.proofs.Several.{writes_one, writes_more}
-use Rattle.btr_read.proofs.ReadsOn.{same_held, same_sure, reads_more, open_still}
+use Rattle.btr_rack.proofs.Reading.{reads_more}
+use Rattle.btr_read.proofs.ReadsOn.{same_held, same_sure, open_still}
 use Rattle.btr_read.proofs.Keeping.{none_more, one_after}
 use Rattle.btr_read.proofs.Trials.{told, telling}
 use Rattle.btr_read.proofs.Sums.{gathered_none, gathered_more, gathered_past, gathered_all}

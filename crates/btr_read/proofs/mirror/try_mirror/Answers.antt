@@ -9,6 +9,7 @@ use Rattle.btr_read.specs.Writing.{OnlyWrites}
 use Rattle.btr_read.specs.Mirror.{mirror_candidate, LendsTried}
 use Rattle.btr_read.proofs.Slots.{only_writes}
 use Rattle.btr_read.proofs.Loans.{blocks, loan_taken, loans_back}
+use Rattle.btr_read.proofs.ReadsOn.{same_slots, same_held}
 use Rattle.btr_read.proofs.Fates.{located, sought_of, len_fits, lent_by, tried_passes}
 use Rattle.btr_read.proofs.Serving.{still_more, still_same, still_written, still_taken, forgotten_at, serving, serves_still}
 use Rattle.btr_read.proofs.mirror.try_mirror.Goals as goal
@@ -29,8 +30,8 @@ try_part-requires-clause-open g c =
     let t = c.in-Ok.search in
     let seeks = located s.chunks s.devices.items c.deref.result.now s.setting (loans_of p0) (kept_in s.setting w0 p0.bytes) c.args.store.now want t c.store.view_is c.deref.ensures.value c.in-Ok.ensures in
     let is = sought_of layout want t seeks in
-    let are = serving g.R.Rack.slots g.R.Rack.held c.args.rack.now c.args.store.now c.requires.serves in
-    subst (AreOpen (g.R.Rack.slots c.args.rack.now)) (sym is.devices_is) are.are_open
+    let are = serving (g.R.Rack.seen c.args.rack.now) c.args.store.now c.requires.serves in
+    subst (AreOpen (g.R.Rack.seen c.args.rack.now).slots) (sym is.devices_is) are.are_open
 
 pub try_part-requires-clause-fits : goal.try_part-requires-clause-fits
 try_part-requires-clause-fits g c =
@@ -61,7 +62,7 @@ returns-in-Passed-clause-serves g c =
     let writes = subst (λ p. OnlyWrites k p p3) lent (only_writes p2 p3 k c.in-Passed.ensures.kept) in
     let forgotten = c.take_least-slot.ensures.forgotten in
     let still = still_taken w0 w0 w2 w2 p0 p0 p2 p3 k refl refl lent forgotten (still_written w2 k p2 p3 (ap (λ w. get_or w k None) forgotten ∙ forgotten_at w0 k) c.try_part.ensures.kept) in
-    serves_still g.R.Rack.slots g.R.Rack.held s.chunks s.devices.items s.setting w0 w2 p0 p3 c.args.rack.now c.try_part.new.rack c.args.store.now c.store.view_is c.try_part.ensures.reads.same_slots c.try_part.ensures.reads.same_held still c.requires.serves (loans_of p3)
+    serves_still s.chunks s.devices.items s.setting w0 w2 p0 p3 (g.R.Rack.seen c.args.rack.now) (g.R.Rack.seen c.try_part.new.rack) c.args.store.now c.store.view_is (same_slots c.try_part.ensures.reads) (same_held c.try_part.ensures.reads) still c.requires.serves (loans_of p3)
 
 pub returns-in-Passed-clause-lent : goal.returns-in-Passed-clause-lent
 returns-in-Passed-clause-lent g c =
@@ -103,7 +104,7 @@ returns-in-Passed-clause-answer g c =
     let there = ap (option_map (take c.size-len.result)) (loan_taken p0 p3 k c.store.invariant.whole free writes) in
     let block = there ∙ ap (λ n. Some (take n slot)) c.size-len.ensures.value in
     let store = blocks s.chunks s.devices.items s.setting (loans_of p3) (kept_in s.setting w2 p3.bytes) in
-    tried_passes _ t (mirror_candidate c.args.mirror) (g.R.Rack.held c.args.rack.now) store (record { slot = k; len = c.size-len.result }) slot seeks c.in-Passed.ensures.attempt block
+    tried_passes _ t (mirror_candidate c.args.mirror) (g.R.Rack.seen c.args.rack.now).held store (record { slot = k; len = c.size-len.result }) slot seeks c.in-Passed.ensures.attempt block
 
 pub returns-clause-lent : goal.returns-clause-lent
 returns-clause-lent g c =
@@ -145,4 +146,4 @@ returns-clause-serves g c =
     let still = still_taken w0 w0 w2 w2 p0 p0 p2 p3 k refl refl lent forgotten (still_written w2 k p2 p3 (ap (λ w. get_or w k None) forgotten ∙ forgotten_at w0 k) c.try_part.ensures.kept) in
     let p4 = c.give.new.self in
     let back = still_more w0 w2 w2 p0 p3 p4 still (still_same w2 p3 p4 (ap (λ p. p.bytes) c.give.ensures)) in
-    serves_still g.R.Rack.slots g.R.Rack.held s.chunks s.devices.items s.setting w0 w2 p0 p4 c.args.rack.now c.try_part.new.rack c.args.store.now c.store.view_is c.try_part.ensures.reads.same_slots c.try_part.ensures.reads.same_held back c.requires.serves (loans_of p4)
+    serves_still s.chunks s.devices.items s.setting w0 w2 p0 p4 (g.R.Rack.seen c.args.rack.now) (g.R.Rack.seen c.try_part.new.rack) c.args.store.now c.store.view_is (same_slots c.try_part.ensures.reads) (same_held c.try_part.ensures.reads) back c.requires.serves (loans_of p4)

@@ -4,7 +4,8 @@ use Rattle.btr_rack.specs.Rack.{Seen}
 use Rattle.btr_read.specs.Want.{passes}
 use Rattle.btr_read.specs.Attempt.{FitsOutcome}
 use Rattle.btr_read.specs.Candidates.{Target, size_of, candidates, value_of}
-use Rattle.btr_read.proofs.ReadsOn.{same_held, same_sure, reads_none, reads_more, open_still}
+use Rattle.btr_rack.proofs.Reading.{reads_none, reads_more}
+use Rattle.btr_read.proofs.ReadsOn.{same_held, same_sure, open_still}
 use Rattle.btr_read.proofs.Slots.{only_writes_none, only_writes_more, live_written}
 use Rattle.btr_read.proofs.Serving.{still_none, still_more, still_forgets}
 use Rattle.btr_read.proofs.Trials.{TriedSoFar, telling, tried_none, tried_calm, tried_failed, differs_alone, absent_alone, reading_stands, reading_absent, all_lost, all_unread, one_passes}

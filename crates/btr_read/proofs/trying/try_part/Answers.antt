@@ -1,6 +1,6 @@
 use Rattle.std.proofs.Common.{sym}
 use Rattle.btr_read.proofs.Slots.{with_own_bytes, readable}
-use Rattle.btr_read.proofs.ReadsOn.{reads_none}
+use Rattle.btr_rack.proofs.Reading.{reads_none}
 use Rattle.btr_read.proofs.trying.try_part.Goals as goal
 
 pub returns-in_default-clause-kept : goal.returns-in_default-clause-kept
