@@ -1,11 +1,11 @@
 // The fetching of a block from the image of a device, in a chunk of the profile single.
-ghost use Rattle.std.specs.Prelude.{◌≡◌, ◌<◌, ◌≤◌, length, IfOk, IsTrue};
+ghost use Rattle.std.specs.Prelude.{◌≡◌, ◌<◌, ◌≤◌, length, IfOk, IsTrue, Some};
 ghost use Rattle.std.specs.Result.{is_ok};
 ghost use Rattle.btr_rack.specs.Rack.{Steady};
 ghost use Rattle.btr_rack.specs.Memory.{slots_of, held_of};
 ghost use Rattle.btr_read.specs.Fate.{fate};
-ghost use Rattle.btr_read.specs.Layout.{AreOpen};
-ghost use Rattle.btr_read.specs.Store.{free_count};
+ghost use Rattle.btr_read.specs.Store.{SameLoans, free_count};
+ghost use Rattle.btr_read.specs.Serves.{Serves};
 ghost use Rattle.btr_bench.specs.Fetching.{takes, times_got};
 
 use crate::image::{image_of, sealed, sector, store_over};
@@ -40,12 +40,13 @@ impl Block {
 
 // Fetches a block and gives it back. It is false where there is none to be had.
 fn gets(want: &Want, rack: &mut MemRack, store: &mut Store) -> bool
-    requires open { AreOpen (slots_of rack.old) store.old.layout.devices }
+    requires serves { Serves slots_of (λ rack. Some (held_of rack)) rack.old store.old }
     requires room { 4 ≤ free_count store.old }
+    ensures serves { Serves slots_of (λ rack. Some (held_of rack)) rack.new store.new }
     ensures slots { slots_of rack.new ≡ slots_of rack.old }
     ensures held { held_of rack.new ≡ held_of rack.old }
     ensures later { rack.old.account.faults ≤ rack.new.account.faults }
-    ensures store { store.new ≡ store.old }
+    ensures store { SameLoans store.old store.new }
     ensures answer { Steady rack.old.account.faults rack.new.account.faults
         → result ≡ is_ok (fate (held_of rack.old) store.old.layout want.now) }
 {
@@ -60,7 +61,7 @@ fn gets(want: &Want, rack: &mut MemRack, store: &mut Store) -> bool
 
 // How many of `times` turns get the block: where no read fails, all of them or none.
 fn count(want: &Want, rack: &mut MemRack, store: &mut Store, times: u64) -> u64
-    requires open { AreOpen (slots_of rack.old) store.old.layout.devices }
+    requires serves { Serves slots_of (λ rack. Some (held_of rack)) rack.old store.old }
     requires room { 4 ≤ free_count store.old }
     ensures most { result ≤ times }
     ensures exact { Steady rack.old.account.faults rack.new.account.faults

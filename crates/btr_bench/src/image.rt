@@ -1,9 +1,9 @@
 // A filesystem of one block: a chunk of the profile single, and the device on which it lies. For want of memory it can't
 // be made; no other refusal of what it calls can come, at these numbers, and each is answered as that one.
-ghost use Rattle.std.specs.Prelude.{◌+◌, ◌<◌, ◌≤◌, length, IfOk};
-ghost use Rattle.btr_rack.specs.Memory.{slots_of};
-ghost use Rattle.btr_read.specs.Layout.{AreOpen};
+ghost use Rattle.std.specs.Prelude.{◌+◌, ◌<◌, ◌≤◌, length, IfOk, Some};
+ghost use Rattle.btr_rack.specs.Memory.{slots_of, held_of};
 ghost use Rattle.btr_read.specs.Store.{free_count};
+ghost use Rattle.btr_read.specs.Serves.{Serves};
 
 use btr_base::{SumKind, sum};
 use btr_chunk::{Chunk, ChunkTable};
@@ -97,15 +97,17 @@ pub fn store_over(alloc: Global, nodesize: u32, rack: &MemRack) -> Result<Store,
     requires large { 4096 ≤ nodesize }
     requires small { nodesize ≤ 65536 }
     requires open { SLOT < length (slots_of rack.now) }
-    ensures open { IfOk result (λ store. AreOpen (slots_of rack.now) store.layout.devices) }
+    ensures serves { IfOk result (Serves slots_of (λ rack. Some (held_of rack)) rack.now) }
     ensures room { IfOk result (λ store. 4 ≤ free_count store) }
 {
     let mut chunks = ChunkTable::new(alloc);
     let chunk = Chunk::read(alloc, START, item(alloc)?.as_slice()).map_err(|_| AllocError)?;
     chunks.add(chunk).map_err(|_| AllocError)?;
-    let mut store = Store::new(alloc, KIND, FSID, nodesize, chunks).map_err(|_| AllocError)?;
-    store
-        .add_device(DEVICE, SLOT, rack.len(SLOT))
-        .map_err(|_| AllocError)?;
+    let Ok(mut store) = Store::new(alloc, KIND, FSID, nodesize, chunks) else {
+        return Err(AllocError);
+    };
+    let Ok(()) = store.add_device(DEVICE, SLOT, rack.len(SLOT)) else {
+        return Err(AllocError);
+    };
     Ok(store)
 }

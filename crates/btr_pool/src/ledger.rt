@@ -61,6 +61,16 @@ impl Ledger {
         Some(slot as usize)
     }
 
+    /// Whether this slot is there and free.
+    pub(crate) fn is_free(&self, slot: usize) -> bool
+        ensures { IsTrue result ↔ (slice_index_or self.now slot true ≡ false) }
+    {
+        if slot >= 64 || self.free & (1 << slot) == 0 {
+            return false;
+        }
+        true
+    }
+
     /// Lends this slot, where it is there and free.
     pub(crate) fn lend_slot(&mut self, slot: usize) -> bool
         ensures was_free { IsTrue result ↔ (slice_index_or self.old slot true ≡ false) }

@@ -1,4 +1,4 @@
-ghost use Rattle.std.specs.Prelude.{◌≡◌, ℕ, ◌+◌, ◌*◌, ◌<◌, ◌≤◌, ◌↔◌, length, List, slice_range, IsErr, IsSome, IfOk, IfSome, IfNone, OnErr};
+ghost use Rattle.std.specs.Prelude.{◌≡◌, ℕ, ◌+◌, ◌*◌, ◌<◌, ◌≤◌, ◌↔◌, length, List, slice_range, IsErr, IsSome, IsTrue, IfOk, IfSome, IfNone, OnErr};
 ghost use Rattle.std.specs.Borrow.{sem};
 ghost use Rattle.btr_pool.specs.Slots.{IsLive, IsFree, free_count, bytes_at, zeroed, with_lent, with_free, with_bytes, poured};
 ghost use Rattle.btr_pool.specs.Lending.{LendsSlot};
@@ -66,6 +66,13 @@ impl Pool {
         ensures { result ≡ free_count self.now }
     {
         self.ledger.free()
+    }
+
+    /// Whether there is a slot of this number, and it is free, in constant time.
+    pub fn is_free(&self, slot: usize) -> bool
+        ensures { IsTrue result ↔ IsFree self.now slot }
+    {
+        self.ledger.is_free(slot)
     }
 
     /// Lends a free slot, with the bytes that were left in it, in constant time.

@@ -9,7 +9,6 @@ use Rattle.btr_chunk.specs.declared.mapping.MapFault.TheVariants as map_fault
 use Rattle.btr_chunk.specs.Mapping.{elements_of}
 use Rattle.btr_chunk.specs.Table.{chunk_at}
 use Rattle.btr_pool.specs.Slots.{Slots, IsFree, loans_of, bytes_at, with_lent}
-use Rattle.btr_rack.specs.Rack.{Account, Steady}
 use Rattle.btr_read.specs.declared.device.Member.{Member}
 use Rattle.btr_read.specs.declared.setting.Setting.{Setting}
 use Rattle.btr_read.specs.declared.want.Want.{Want}
@@ -21,9 +20,8 @@ use Rattle.btr_read.specs.declared.candidate.Candidate.{Candidate}
 use Rattle.btr_read.specs.declared.mirror.Tried.TheVariants as tried
 use Rattle.btr_read.specs.Candidates.{Target, size_of}
 use Rattle.btr_read.specs.Fate.{Fault, sought, sought_in, sought_at, passing, passing_for, or_lost, fate_of, fate, Agree}
-use Rattle.btr_read.specs.Store.{Blocks, Lent, IsStore, IsLentBy, block_of}
+use Rattle.btr_read.specs.Store.{Blocks, Kept, Lent, IsStore, IsLentBy, block_of}
 use Rattle.btr_read.specs.Attempt.{FitsAttempt}
-use Rattle.btr_read.specs.Fetch.{IsFetched}
 use Rattle.btr_read.specs.Mirror.{IsTried, FitsTried}
 use Rattle.btr_read.specs.Writing.{OnlyWrites}
 use Rattle.btr_read.proofs.Loans.{blocks, loan_taken, loans_taken, no_loan, length-loans, one_fewer}
@@ -50,8 +48,8 @@ pub sought_of : (layout : Layout) (want : Want) (t : Target) → sought layout w
 sought_of layout want t e = of_in layout want t (chunk_at layout.chunks (addr_of want)) e
 
 -- what is sought with the parts of a store
-pub located : (chunks : List Chunk) (devices given : List Member) (setting : Setting) (loans : List (Option (List ℕ))) (store : Blocks) (want : Want) (t : Target) → blocks chunks devices setting loans ≡ store → given ≡ devices → sought (record { chunks = chunks; devices = given; setting = setting }) want ≡ Ok t → sought store.layout want ≡ Ok t
-located chunks devices given setting loans store want t view same e =
+pub located : (chunks : List Chunk) (devices given : List Member) (setting : Setting) (loans : List (Option (List ℕ))) (kept : List (Option Kept)) (store : Blocks) (want : Want) (t : Target) → blocks chunks devices setting loans kept ≡ store → given ≡ devices → sought (record { chunks = chunks; devices = given; setting = setting }) want ≡ Ok t → sought store.layout want ≡ Ok t
+located chunks devices given setting loans kept store want t view same e =
     subst (λ layout. sought layout want ≡ Ok t) (ap (λ s. s.layout) view) (subst (λ devices. sought (record { chunks = chunks; devices = devices; setting = setting }) want ≡ Ok t) same e)
 
 -- a want is no longer than a node
@@ -72,12 +70,13 @@ some_is : (o : Option (List ℕ)) (bytes : List ℕ) → o ≡ Some bytes → Is
 some_is o bytes e = ap is_some e
 
 -- a slot was taken for a want, and written
-pub lent_by : (chunks : List Chunk) (devices : List Member) (setting : Setting) (p0 p2 : Slots) (k len : ℕ) (old : Blocks) (want : Want) → IsStore p0 setting → blocks chunks devices setting (loans_of p0) ≡ old → IsFree p0 k → OnlyWrites k (with_lent p0 k) p2 → len ≡ len_of setting want → IsLentBy old (blocks chunks devices setting (loans_of p2)) want (record { slot = k; len = len })
-lent_by chunks devices setting p0 p2 k len old want is view free writes e =
-    subst (λ old. IsLentBy old (blocks chunks devices setting (loans_of p2)) want (record { slot = k; len = len })) view (record {
+pub lent_by : (chunks : List Chunk) (devices : List Member) (setting : Setting) (p0 p2 : Slots) (kept kept' : List (Option Kept)) (k len : ℕ) (old : Blocks) (want : Want) → IsStore p0 setting → blocks chunks devices setting (loans_of p0) kept ≡ old → IsFree p0 k → OnlyWrites k (with_lent p0 k) p2 → len ≡ len_of setting want → IsLentBy old (blocks chunks devices setting (loans_of p2) kept') want (record { slot = k; len = len })
+lent_by chunks devices setting p0 p2 kept kept' k len old want is view free writes e =
+    subst (λ old. IsLentBy old (blocks chunks devices setting (loans_of p2) kept') want (record { slot = k; len = len })) view (record {
       there = omega (arith, free.there, is.whole, length-loans p0);
       free = no_loan p0 k free;
-      after = (bytes_at p2 k, ap (blocks chunks devices setting) (loans_taken p0 p2 k is.whole free writes));
+      layout = refl;
+      after = (bytes_at p2 k, loans_taken p0 p2 k is.whole free writes);
       len = e;
       large = omega (arith, e, len_large setting want is.large);
       small = omega (arith, e, len_fits setting want is.large, is.small);
@@ -87,29 +86,6 @@ lent_by chunks devices setting p0 p2 k len old want is view free writes e =
       };
       fewer = one_fewer p0 p2 k free writes;
     })
-
-first_there : (xs : List (List ℕ)) (bytes : List ℕ) → Contains xs bytes → (first : List ℕ) × (slice_get xs 0 ≡ Some first) × Contains xs first
-first_there [] bytes h = absurd (omega (arith, h.1))
-first_there (x ∷ xs) bytes h = (x, refl, (0, omega arith, refl))
-
--- what the first that passes says of the want's fate
-pub fetched : (layout : Layout) (want : Want) (t : Target) (held : Option (List (List ℕ))) (old mid after new : Account) (bytes : List ℕ) → sought layout want ≡ Ok t → mid.faults ≡ old.faults → new.faults ≡ after.faults → passes t.setting t.want bytes ≡ true → IfSome held (λ images. Contains (passing images t) bytes) → (Steady mid.faults after.faults → IfSome held (λ images. slice_get (passing images t) 0 ≡ Some bytes)) → IsFetched layout want held old new bytes
-fetched layout want t held old mid after new bytes e begin end test stands first =
-    let is = sought_of layout want t e in
-    record {
-      pass = subst (λ s. passes s want bytes ≡ true) is.setting_is (subst (λ w. passes t.setting w bytes ≡ true) is.want_is test);
-      stand = told held (λ images. Contains (passing_for images (sought layout want)) bytes) (λ images tells.
-          subst (λ s. Contains (passing_for images s) bytes) (sym e) (telling held (λ images. Contains (passing images t) bytes) stands images tells));
-      steady = λ calm. told held (λ images. fate images layout want ≡ Ok bytes) (λ images tells.
-          let calm_between : Steady mid.faults after.faults = (omega (arith, calm.0, begin, end), omega (arith, calm.1, end)) in
-          ap (fate_of images (addr_of want)) e ∙ ap (or_lost (addr_of want)) (telling held (λ images. slice_get (passing images t) 0 ≡ Some bytes) (first calm_between) images tells));
-      agreed = told held (λ images. Agree images layout want → fate images layout want ≡ Ok bytes) (λ images tells agree.
-          let there = telling held (λ images. Contains (passing images t) bytes) stands images tells in
-          let one = first_there (passing images t) bytes there in
-          let for : (xs : List ℕ) → Contains (passing images t) xs → Contains (passing_for images (sought layout want)) xs = λ xs h. subst (λ s. Contains (passing_for images s) xs) (sym e) h in
-          let same : one.0 ≡ bytes = agree one.0 bytes (for one.0 one.2) (for bytes there) in
-          ap (fate_of images (addr_of want)) e ∙ ap (or_lost (addr_of want)) (one.1 ∙ ap Some same));
-    }
 
 -- what a mirror that passes says of what is sought
 pub tried_passes : (s : Result Target Fault) (t : Target) (c : Candidate) (held : Option (List (List ℕ))) (store : Blocks) (loan : Lent) (slot : List ℕ) → s ≡ Ok t → FitsAttempt t c held slot attempt.Passed → block_of store loan ≡ Some (take (size_of t) slot) → IfOk s (λ t. FitsTried t c held store (Ok (tried.Passed loan)))

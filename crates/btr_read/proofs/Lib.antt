@@ -5,8 +5,14 @@ pub mod Pieces
 pub mod Solutions
 pub mod Trials
 pub mod Keeping
+pub mod ReadsOn
+pub mod Serving
 pub mod Loans
 pub mod Fates
+pub mod Fetched
+pub mod Lent
+pub mod Devices
+pub mod Found
 pub mod Ones
 pub mod Standing
 pub mod Sums

@@ -9,13 +9,13 @@ use Rattle.btr_pool.proofs.Loans.{live_when_lent, free_below, loans_of-with_free
 use Rattle.btr_chunk.specs.declared.chunk.Chunk.{Chunk}
 use Rattle.btr_read.specs.declared.device.Member.{Member}
 use Rattle.btr_read.specs.declared.setting.Setting.{Setting}
-use Rattle.btr_read.specs.Store.{Blocks}
+use Rattle.btr_read.specs.Store.{Blocks, Kept}
 use Rattle.btr_read.specs.Writing.{OnlyWrites}
 use Rattle.btr_read.proofs.Slots.{live_written}
 
 -- a store by its parts
-abbrev pub blocks : List Chunk → List Member → Setting → List (Option (List ℕ)) → Blocks
-blocks chunks devices setting loans = record { layout = record { chunks = chunks; devices = devices; setting = setting }; loans = loans }
+abbrev pub blocks : List Chunk → List Member → Setting → List (Option (List ℕ)) → List (Option Kept) → Blocks
+blocks chunks devices setting loans kept = record { layout = record { chunks = chunks; devices = devices; setting = setting }; loans = loans; kept = kept }
 
 -- the loan of a slot
 pub loan_there : (pool : Slots) (k : ℕ) → k < length pool.lent → get_or (loans_of pool) k None ≡ loan_at pool k

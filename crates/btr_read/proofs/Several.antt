@@ -1,11 +1,11 @@
 -- Several slots that are written.
-use Rattle.std.proofs.Common.{◌≡◌, ◌≢◌, ℕ, true, false, List, [], ◌∷◌, get_or, set, Option, refl, sym, ap, ◌∙◌, subst}
-use Rattle.std.proofs.lemmas.List.{length-set, get_or-set_other, set-get_or, set-set, get_or_default}
-use Rattle.std.proofs.lemmas.Bool.{false≢true}
-use Rattle.btr_pool.specs.Slots.{Slots, IsFree, with_bytes, with_lent, with_free}
-use Rattle.btr_pool.proofs.Loans.{free_below}
-use Rattle.btr_rack.specs.Rack.{Slot, Shelf}
-use Rattle.btr_read.specs.Writing.{OnlyWrites, OnlyWritesIn, IsNoneOf}
+use Rattle.std.proofs.Common.{◌≡◌, ◌≢◌, ℕ, zero, suc, Bool, true, false, List, [], ◌∷◌, get_or, set, Option, Some, None, refl, sym, ap, ◌∙◌, subst, arith, inl, inr, length}
+use Rattle.std.proofs.lemmas.List.{length-set, get_or-set_same, get_or-set_other, set-get_or, set-set, get_or_default}
+use Rattle.std.proofs.lemmas.Bool.{false≢true, cases_eq, cases_lt}
+use Rattle.btr_pool.specs.Slots.{Slots, IsLive, IsFree, bytes_at, with_bytes, with_lent, with_free}
+use Rattle.btr_pool.proofs.Loans.{free_below, live_below, apart, live_after_take, live_when_lent}
+use Rattle.btr_read.specs.declared.want.Want.{Want}
+use Rattle.btr_read.specs.Writing.{OnlyWrites, OnlyWritesIn, AreApart, StillKept, IsNoneOf}
 
 -- one of the slots was written
 pub writes_one : (old new : Slots) (k : ℕ) (ks : List ℕ) → ((j : ℕ) → IsNoneOf ks j → j ≢ k) → (written : List ℕ) × (new ≡ with_bytes old k written) → OnlyWritesIn ks old new
@@ -13,45 +13,96 @@ writes_one old new k ks among h = subst (OnlyWritesIn ks old) (sym h.1) (record 
   size = refl;
   lent = refl;
   count = length-set old.bytes k h.0;
-  others = λ j none live. get_or-set_other old.bytes k j h.0 [] (among j none);
+  others = λ j none. get_or-set_other old.bytes k j h.0 [] (among j none);
 })
+
+pub writes_none : (pool : Slots) (ks : List ℕ) → OnlyWritesIn ks pool pool
+writes_none pool ks = record { size = refl; lent = refl; count = refl; others = λ j none. refl }
 
 pub writes_more : (a b c : Slots) (ks : List ℕ) → OnlyWritesIn ks a b → OnlyWritesIn ks b c → OnlyWritesIn ks a c
 writes_more a b c ks h g = record {
   size = g.size ∙ h.size;
   lent = g.lent ∙ h.lent;
   count = g.count ∙ h.count;
-  others = λ j none live. g.others j none (ap (λ lent. get_or lent j false) h.lent ∙ live) ∙ h.others j none live;
+  others = λ j none. g.others j none ∙ h.others j none;
 }
 
--- where only one is written
-pub writes_alone : (old new : Slots) (k : ℕ) → OnlyWritesIn (k ∷ []) old new → OnlyWrites k old new
-writes_alone old new k h = record { size = h.size; lent = h.lent; count = h.count; others = λ j ne live. h.others j (ne, tt) live }
+-- more slots might have been
+pub writes_within : (a b : Slots) (k : ℕ) (ks : List ℕ) → OnlyWritesIn ks a b → OnlyWritesIn (k ∷ ks) a b
+writes_within a b k ks h = record { size = h.size; lent = h.lent; count = h.count; others = λ j none. h.others j none.1 }
 
--- a slot was taken, written beside others, and given back
-pub given_back : (p0 p2 : Slots) (s : ℕ) (ks : List ℕ) → IsFree p0 s → OnlyWritesIn (s ∷ ks) (with_lent p0 s) p2 → OnlyWritesIn ks p0 (with_free p2 s)
-given_back p0 p2 s ks free writes =
-    let not_lent : get_or p0.lent s false ≡ false = get_or_default p0.lent s false true (free_below p0.lent s free.free) ∙ free.free in
-    record {
-      size = writes.size;
-      lent = ap (λ lent. set lent s false) writes.lent ∙ set-set p0.lent s true false ∙ ap (set p0.lent s) (sym free.free) ∙ set-get_or p0.lent s true;
-      count = writes.count;
-      others = λ j none live.
-          let apart : j ≢ s = λ e. false≢true (sym not_lent ∙ ap (λ n. get_or p0.lent n false) (sym e) ∙ live) in
-          writes.others j (apart, none) (get_or-set_other p0.lent s j true false apart ∙ live);
+-- the loans stay live and apart
+pub live_still : (a b : Slots) (ks : List ℕ) (j : ℕ) → OnlyWritesIn ks a b → IsLive a j → IsLive b j
+live_still a b ks j h live = record { there = omega (arith, h.count, live.there); lent = ap (λ lent. get_or lent j false) h.lent ∙ live.lent }
+
+pub apart_still : (a b : Slots) (ks : List ℕ) (x y z : ℕ) → OnlyWritesIn ks a b → AreApart a x y z → AreApart b x y z
+apart_still a b ks x y z h are = record {
+  a_live = live_still a b ks x h are.a_live;
+  b_live = live_still a b ks y h are.b_live;
+  c_live = live_still a b ks z h are.c_live;
+  ab = are.ab;
+  ac = are.ac;
+  bc = are.bc;
+}
+
+-- a live loan, and two slots taken one after the other
+module _ (p0 : Slots) (k q s : ℕ) (live : IsLive p0 k) (free_q : IsFree p0 q) (free_s : IsFree (with_lent p0 q) s) where
+  abbrev taken : Slots
+  taken = with_lent (with_lent p0 q) s
+
+  pub taken_apart : AreApart taken k q s
+  taken_apart =
+      let live_k = live_after_take p0 k q live in
+      let live_q = live_when_lent p0 q free_q in
+      record {
+        a_live = live_after_take (with_lent p0 q) k s live_k;
+        b_live = live_after_take (with_lent p0 q) q s live_q;
+        c_live = live_when_lent (with_lent p0 q) s free_s;
+        ab = apart p0 k q live free_q;
+        ac = apart (with_lent p0 q) k s live_k free_s;
+        bc = apart (with_lent p0 q) q s live_q free_s;
+      }
+
+  -- what was lent and is given back
+  back : (xs : List Bool) (n : ℕ) → get_or xs n true ≡ false → set (set xs n true) n false ≡ xs
+  back xs n free = set-set xs n true false ∙ ap (set xs n) (sym free) ∙ set-get_or xs n true
+
+  -- all three were written, and the two given back
+  module _ (p3 : Slots) (h : OnlyWritesIn (q ∷ s ∷ k ∷ []) taken p3) where
+    abbrev returned : Slots
+    returned = with_free (with_free p3 s) q
+
+    pub both_back : OnlyWrites k p0 returned
+    both_back = record {
+      size = h.size;
+      lent = ap (λ l. set (set l s false) q false) h.lent ∙ ap (λ l. set l q false) (back (set p0.lent q true) s free_s.free) ∙ back p0.lent q free_q.free;
+      count = h.count;
+      others = λ j ne lent.
+          let live_j : get_or p0.lent j false ≡ true = lent in
+          let not_q : j ≢ q = λ e. false≢true (sym (get_or_default p0.lent q false true (free_below p0.lent q free_q.free) ∙ free_q.free) ∙ ap (λ n. get_or p0.lent n false) (sym e) ∙ live_j) in
+          let live_then : get_or (set p0.lent q true) j false ≡ true = get_or-set_other p0.lent q j true false not_q ∙ live_j in
+          let not_s : j ≢ s = λ e. false≢true (sym (get_or_default (set p0.lent q true) s false true (free_below (set p0.lent q true) s free_s.free) ∙ free_s.free) ∙ ap (λ n. get_or (set p0.lent q true) n false) (sym e) ∙ live_then) in
+          h.others j (not_q, (not_s, (ne, tt)));
     }
 
--- what each of several reads into slots keeps
-pub record KeepsIn (slots0 slots : List Slot) (held0 held : Option (List (List ℕ))) (shelf0 shelf : Option Shelf) (pool0 pool : Slots) (ks : List ℕ) : Type 0 where
-  pub same_slots : slots ≡ slots0
-  pub same_held : held ≡ held0
-  pub same_shelf : shelf ≡ shelf0
-  pub writes : OnlyWritesIn ks pool0 pool
+    -- what is known of the other slots still stands
+    pub both_forgotten : (wants wants' : List (Option Want)) → get_or wants k None ≡ None → wants' ≡ set (set wants q None) s None → StillKept wants wants' p0 returned
+    both_forgotten wants wants' forgotten e j want there =
+        let now : get_or (set (set wants q None) s None) j None ≡ Some want = ap (λ ws. get_or ws j None) (sym e) ∙ there in
+        let not_s : j ≢ s = λ same. some_is_set (set wants q None) s j want same now in
+        let then : get_or (set wants q None) j None ≡ Some want = sym (get_or-set_other (set wants q None) s j None None not_s) ∙ now in
+        let not_q : j ≢ q = λ same. some_is_set wants q j want same then in
+        let first : get_or wants j None ≡ Some want = sym (get_or-set_other wants q j None None not_q) ∙ then in
+        let not_k : j ≢ k = λ same. none_is_some want (sym forgotten ∙ ap (λ n. get_or wants n None) (sym same) ∙ first) in
+        (first, h.others j (not_q, (not_s, (not_k, tt))))
+      where
+        none_is_some : (want : Want) → None ≡ Some want → ⊥
+        none_is_some want e = cc
 
-pub keeps_in_more : {s0 s1 s2 : List Slot} {h0 h1 h2 : Option (List (List ℕ))} {f0 f1 f2 : Option Shelf} {p0 p1 p2 : Slots} {ks : List ℕ} → KeepsIn s0 s1 h0 h1 f0 f1 p0 p1 ks → s2 ≡ s1 → h2 ≡ h1 → f2 ≡ f1 → OnlyWritesIn ks p1 p2 → KeepsIn s0 s2 h0 h2 f0 f2 p0 p2 ks
-keeps_in_more {p0 = p0} {p1 = p1} {p2 = p2} {ks = ks} h slots held shelf writes = record {
-  same_slots = slots ∙ h.same_slots;
-  same_held = held ∙ h.same_held;
-  same_shelf = shelf ∙ h.same_shelf;
-  writes = writes_more p0 p1 p2 ks h.writes writes;
-}
+        set_none : (ws : List (Option Want)) (n : ℕ) → get_or (set ws n None) n None ≡ None
+        set_none [] n = refl
+        set_none (w ∷ ws) zero = refl
+        set_none (w ∷ ws) (suc n) = set_none ws n
+
+        some_is_set : (ws : List (Option Want)) (n j : ℕ) (want : Want) → j ≡ n → get_or (set ws n None) j None ≡ Some want → ⊥
+        some_is_set ws n j want same is = none_is_some want (sym (set_none ws n) ∙ ap (λ i. get_or (set ws n None) i None) (sym same) ∙ is)

@@ -1,18 +1,22 @@
 -- What a loop over the candidates keeps.
-use Rattle.std.proofs.Common.{◌≡◌, ℕ, ◌+◌, ◌^◌, ◌<◌, ◌≤◌, Bool, true, false, cond, List, [], ◌∷◌, ◌++◌, length, take, drop, get_or, slice_get, Option, Some, None, IfSome, IsSomeAnd, refl, sym, ap, ◌∙◌, subst, arith, inl, inr, length-take, length-append}
+use Rattle.std.proofs.Common.{◌≡◌, ℕ, ◌+◌, ◌^◌, ◌<◌, ◌≤◌, Bool, true, false, cond, List, [], ◌∷◌, ◌++◌, length, take, drop, get_or, slice_get, Option, Some, None, IfSome, IsSomeAnd, is_none, refl, sym, ap, ◌∙◌, subst, arith, inl, inr, length-take, length-append}
 use Rattle.std.proofs.lemmas.Bool.{cases_lt}
 use Rattle.std.proofs.lemmas.List.{take_more, take_all, take-append-drop, drop_more, get_or_append_left}
 use Rattle.std.proofs.lemmas.List.Elements.{filter-append, filter_map-append}
 use Rattle.std.proofs.Math.Seq.{get_or-append_seam}
 use Rattle.std.proofs.lemmas.Option.{get_or_from_slice_get}
 use Rattle.std.specs.List.{filter, filter_map, cons_option, Any, All, Contains}
-use Rattle.btr_rack.specs.Rack.{Account, NoneFailed, OneFailed, Rose, Steady}
+use Rattle.btr_rack.specs.Rack.{Seen, NoneFailed, OneFailed, Rose}
 use Rattle.btr_rack.specs.declared.place.Place.{Place as Range}
 use Rattle.btr_read.specs.declared.candidate.Candidate.{Candidate}
 use Rattle.btr_read.specs.Want.{passes}
-use Rattle.btr_read.specs.Candidates.{Target, candidates, stands, value_of, reading}
+use Rattle.btr_read.specs.Candidates.{Target, size_of, candidates, stands, value_of, reading}
 use Rattle.btr_read.specs.Fate.{passing}
+use Rattle.btr_read.specs.declared.attempt.Outcome.{Outcome}
+use Rattle.btr_read.specs.declared.attempt.Outcome.TheVariants as outcome
+use Rattle.btr_read.specs.Attempt.{FitsOutcome}
 use Rattle.btr_read.specs.Cause.{IsOf, IsMissed, Passes, IsUnread}
+use Rattle.btr_read.proofs.Keeping.{none_failed, none_more}
 
 -- a fact for the images that are told
 pub told : {X : Type 0} (o : Option X) (P : X → Type 0) → ((x : X) → o ≡ Some x → P x) → IfSome o P
@@ -101,22 +105,24 @@ module _ (images : List (List ℕ)) (t : Target) where
           cc
 
 -- what stands of the cause, after some candidates: no call failed, or the last one that did was of a candidate
-abbrev pub CauseSoFar : Target → ℕ → Account → Option ℕ → Type 0
-CauseSoFar t before now None = (now.fresh ≡ 0) × (now.missed ≡ [])
-CauseSoFar t before now (Some s) = Rose before now.faults × (now.last.slot ≡ s) × Any (λ c. (stands t c ≡ true) × IsOf t now.last c) (candidates t) × (1 ≤ now.fresh) × (now.opening ≡ None)
+abbrev pub CauseSoFar : Target → Seen → Seen → Option ℕ → Type 0
+CauseSoFar t before now None = NoneFailed before.account now.account
+CauseSoFar t before now (Some s) =
+    (before.sure ≡ false) × Rose before.account.faults now.account.faults × (now.account.last.slot ≡ s)
+    × Any (λ c. (stands t c ≡ true) × IsOf t now.account.last c) (candidates t) × (1 ≤ now.account.fresh) × (now.account.opening ≡ None)
 
 -- after the first k candidates, of which none that could be read passes
-pub record TriedSoFar (t : Target) (held : Option (List (List ℕ))) (before : ℕ) (now : Account) (failed : Option ℕ) (k : ℕ) : Type 0 where
-  pub later : before ≤ now.faults
+pub record TriedSoFar (t : Target) (before now : Seen) (failed : Option ℕ) (k : ℕ) : Type 0 where
+  pub later : before.account.faults ≤ now.account.faults
   pub cause : CauseSoFar t before now failed
-  pub only : All (λ missed. Any (IsOf t missed) (candidates t)) now.missed
-  pub enough : (images : List (List ℕ)) → held ≡ Some images → length (passing_of images t (take k (candidates t))) ≤ now.fresh
-  pub each : (images : List (List ℕ)) → held ≡ Some images → (j : ℕ) (d : Candidate) → j < k → Passes images t (get_or (candidates t) j d) → Any (λ missed. IsOf t missed (get_or (candidates t) j d)) now.missed
+  pub only : All (λ missed. Any (IsOf t missed) (candidates t)) now.account.missed
+  pub enough : (images : List (List ℕ)) → before.held ≡ Some images → length (passing_of images t (take k (candidates t))) ≤ now.account.fresh
+  pub each : (images : List (List ℕ)) → before.held ≡ Some images → (j : ℕ) (d : Candidate) → j < k → Passes images t (get_or (candidates t) j d) → Any (λ missed. IsOf t missed (get_or (candidates t) j d)) now.account.missed
 
-pub tried_none : (t : Target) (held : Option (List (List ℕ))) (account : Account) → account.fresh ≡ 0 → account.missed ≡ [] → TriedSoFar t held account.faults account None 0
-tried_none t held account fresh missed = record {
+pub tried_none : (t : Target) (rack : Seen) → rack.account.missed ≡ [] → TriedSoFar t rack rack None 0
+tried_none t rack missed = record {
   later = omega arith;
-  cause = (fresh, missed);
+  cause = none_failed rack.account;
   only = λ j d lt. absurd (omega (arith, lt, ap length missed));
   enough = λ images e. omega arith;
   each = λ images e j d lt p. absurd (omega (arith, lt));
@@ -134,19 +140,20 @@ take_one_more images t cs k c is lt =
     ∙ passing-append images t (take k cs) (get_or cs k c ∷ [])
     ∙ ap (λ x. passing_of images t (take k cs) ++ passing_of images t (x ∷ [])) (get_or_from_slice_get cs k c c is)
 
-cause_calm : (t : Target) (before : ℕ) (now after : Account) (failed : Option ℕ) → CauseSoFar t before now failed → NoneFailed now after → CauseSoFar t before after failed
-cause_calm t before now after None h calm = (calm.fresh ∙ h.0, calm.missed ∙ h.1)
+cause_calm : (t : Target) (before now after : Seen) (failed : Option ℕ) → CauseSoFar t before now failed → NoneFailed now.account after.account → CauseSoFar t before after failed
+cause_calm t before now after None h calm = none_more before.account now.account after.account h calm
 cause_calm t before now after (Some s) h calm = (
-  (omega (arith, h.0.0, calm.faults), omega (arith, h.0.1, calm.faults)),
-  ap (λ r. r.slot) calm.last ∙ h.1,
-  subst (λ r. Any (λ c. (stands t c ≡ true) × IsOf t r c) (candidates t)) (sym calm.last) h.2,
-  omega (arith, h.3, calm.fresh),
-  calm.opening ∙ h.4,
+  h.0,
+  (omega (arith, h.1.0, calm.faults), omega (arith, h.1.1, calm.faults)),
+  ap (λ r. r.slot) calm.last ∙ h.2,
+  subst (λ r. Any (λ c. (stands t c ≡ true) × IsOf t r c) (candidates t)) (sym calm.last) h.3,
+  omega (arith, h.4, calm.fresh),
+  calm.opening ∙ h.5,
 )
 
 -- one more candidate, which stands and doesn't pass, or doesn't stand
-pub tried_calm : (t : Target) (held : Option (List (List ℕ))) (before : ℕ) (now after : Account) (failed : Option ℕ) (k : ℕ) (c : Candidate) → TriedSoFar t held before now failed k → slice_get (candidates t) k ≡ Some c → k < length (candidates t) → NoneFailed now after → ((images : List (List ℕ)) → held ≡ Some images → passing_of images t (c ∷ []) ≡ []) → TriedSoFar t held before after failed (k + 1)
-tried_calm t held before now after failed k c h is lt calm none = record {
+pub tried_calm : (t : Target) (before now after : Seen) (failed : Option ℕ) (k : ℕ) (c : Candidate) → TriedSoFar t before now failed k → slice_get (candidates t) k ≡ Some c → k < length (candidates t) → NoneFailed now.account after.account → ((images : List (List ℕ)) → before.held ≡ Some images → passing_of images t (c ∷ []) ≡ []) → TriedSoFar t before after failed (k + 1)
+tried_calm t before now after failed k c h is lt calm none = record {
   later = omega (arith, h.later, calm.faults);
   cause = cause_calm t before now after failed h.cause calm;
   only = subst (All (λ missed. Any (IsOf t missed) (candidates t))) (sym calm.missed) h.only;
@@ -163,21 +170,22 @@ tried_calm t held before now after failed k c h is lt calm none = record {
 }
 
 -- one more candidate, of which a read failed
-pub tried_failed : (t : Target) (held : Option (List (List ℕ))) (before : ℕ) (now after : Account) (failed : Option ℕ) (k s : ℕ) (c : Candidate) → TriedSoFar t held before now failed k → slice_get (candidates t) k ≡ Some c → k < length (candidates t) → k + 1 < 2 ^ 64 → stands t c ≡ true → IsMissed t c s now after → TriedSoFar t held before after (Some s) (k + 1)
-tried_failed t held before now after failed k s c h is lt short standing fault =
+pub tried_failed : (t : Target) (before now after : Seen) (failed : Option ℕ) (k s : ℕ) (c : Candidate) → TriedSoFar t before now failed k → slice_get (candidates t) k ≡ Some c → k < length (candidates t) → k + 1 < 2 ^ 64 → now.sure ≡ before.sure → stands t c ≡ true → IsMissed t c s now after → TriedSoFar t before after (Some s) (k + 1)
+tried_failed t before now after failed k s c h is lt short sure standing fault =
     let m : Range = fault.0 in
-    let one : OneFailed m now after = fault.1.0 in
+    let one : OneFailed m now.account after.account = fault.1.one in
     let here : IsOf t m c = fault.3 in
     record {
       later = omega (arith, h.later, one.faults.0);
       cause = (
+        sym sure ∙ fault.1.unsure,
         (omega (arith, h.later, one.faults.0), omega (arith, h.later, one.faults.1)),
         ap (λ r. r.slot) one.last ∙ fault.2,
         (k, c, lt, get_or_from_slice_get (candidates t) k c c is, (standing, subst (λ r. IsOf t r c) (sym one.last) here)),
         omega (arith, one.fresh),
-        fault.1.1,
+        fault.1.read,
       );
-      only = subst (All (λ missed. Any (IsOf t missed) (candidates t))) (sym one.missed) (all_last (λ missed. Any (IsOf t missed) (candidates t)) now.missed m h.only (k, c, lt, get_or_from_slice_get (candidates t) k c c is, here));
+      only = subst (All (λ missed. Any (IsOf t missed) (candidates t))) (sym one.missed) (all_last (λ missed. Any (IsOf t missed) (candidates t)) now.account.missed m h.only (k, c, lt, get_or_from_slice_get (candidates t) k c c is, here));
       enough = λ images e.
           let more = ap length (take_one_more images t (candidates t) k c is lt) in
           let parts = length-append (passing_of images t (take k (candidates t))) (passing_of images t (c ∷ [])) in
@@ -187,20 +195,19 @@ tried_failed t held before now after failed k s c h is lt short standing fault =
           let so_far = h.enough images e in
           omega (arith, more, parts, single, all, taken, so_far, one.fresh, short);
       each = λ images e j d below p. subst (Any (λ missed. IsOf t missed (get_or (candidates t) j d))) (sym one.missed) (elim (cases_lt j k) [
-        | inl earlier ↦ any_before (λ missed. IsOf t missed (get_or (candidates t) j d)) now.missed (m ∷ []) (h.each images e j d earlier p)
-        | inr there ↦ any_last (λ missed. IsOf t missed (get_or (candidates t) j d)) now.missed m (subst (IsOf t m) (sym (at_place (candidates t) j k c d is there below)) here)
+        | inl earlier ↦ any_before (λ missed. IsOf t missed (get_or (candidates t) j d)) now.account.missed (m ∷ []) (h.each images e j d earlier p)
+        | inr there ↦ any_last (λ missed. IsOf t missed (get_or (candidates t) j d)) now.account.missed m (subst (IsOf t m) (sym (at_place (candidates t) j k c d is there below)) here)
       ]);
     }
 
 -- all were tried
-pub all_lost : (t : Target) (held : Option (List (List ℕ))) (before : ℕ) (now : Account) (k : ℕ) → length (candidates t) ≤ k → TriedSoFar t held before now None k → (now.fresh ≡ 0) × (now.missed ≡ []) × IfSome held (λ images. slice_get (passing images t) 0 ≡ None)
-all_lost t held before now k le h = (
-  h.cause.0,
-  h.cause.1,
-  told held (λ images. slice_get (passing images t) 0 ≡ None) (λ images e.
+pub all_lost : (t : Target) (before now : Seen) (k : ℕ) → before.account.fresh ≡ 0 → length (candidates t) ≤ k → TriedSoFar t before now None k → NoneFailed before.account now.account × IfSome before.held (λ images. slice_get (passing images t) 0 ≡ None)
+all_lost t before now k fresh le h = (
+  h.cause,
+  told before.held (λ images. slice_get (passing images t) 0 ≡ None) (λ images e.
       let whole : passing_of images t (take k (candidates t)) ≡ passing images t = ap (passing_of images t) (take_all k (candidates t) le) in
       let so_far = h.enough images e in
-      let len : length (passing images t) ≡ 0 = omega (arith, ap length whole, so_far, h.cause.0) in
+      let len : length (passing images t) ≡ 0 = omega (arith, ap length whole, so_far, h.cause.fresh, fresh) in
       none_first (passing images t) len),
 )
   where
@@ -208,23 +215,19 @@ all_lost t held before now k le h = (
     none_first [] e = refl
     none_first (x ∷ xs) e = absurd (omega (arith, e))
 
-pub all_unread : (t : Target) (held : Option (List (List ℕ))) (before : ℕ) (now : Account) (k s : ℕ) → length (candidates t) ≤ k → TriedSoFar t held before now (Some s) k → IsUnread t held before now s
-all_unread t held before now k s le h = record {
-  rose = h.cause.0;
-  on_slot = h.cause.1;
-  of_candidate = h.cause.2;
+pub all_unread : (t : Target) (before now : Seen) (k s : ℕ) → length (candidates t) ≤ k → TriedSoFar t before now (Some s) k → IsUnread t before now s
+all_unread t before now k s le h = record {
+  unsure = h.cause.0;
+  rose = h.cause.1;
+  on_slot = h.cause.2;
+  of_candidate = h.cause.3;
   only = h.only;
-  read = h.cause.4;
-  some = h.cause.3;
-  enough = told held (λ images. length (passing images t) ≤ now.fresh) (λ images e.
-      subst (λ cs. length (passing_of images t cs) ≤ now.fresh) (take_all k (candidates t) le) (h.enough images e));
-  each = told held (λ images. All (λ candidate. Passes images t candidate → Any (λ missed. IsOf t missed candidate) now.missed) (candidates t)) (λ images e j d lt p. h.each images e j d (omega (arith, lt, le)) p);
+  read = h.cause.5;
+  some = h.cause.4;
+  enough = told before.held (λ images. length (passing images t) ≤ now.account.fresh) (λ images e.
+      subst (λ cs. length (passing_of images t cs) ≤ now.account.fresh) (take_all k (candidates t) le) (h.enough images e));
+  each = told before.held (λ images. All (λ candidate. Passes images t candidate → Any (λ missed. IsOf t missed candidate) now.account.missed) (candidates t)) (λ images e j d lt p. h.each images e j d (omega (arith, lt, le)) p);
 }
-
--- what passes first
-pub record IsFirst (t : Target) (held : Option (List (List ℕ))) (before now : ℕ) (bytes : List ℕ) : Type 0 where
-  pub stands : IfSome held (λ images. Contains (passing images t) bytes)
-  pub first : Steady before now → IfSome held (λ images. slice_get (passing images t) 0 ≡ Some bytes)
 
 split_at : (images : List (List ℕ)) (t : Target) (k : ℕ) (c : Candidate) (bytes : List ℕ) → slice_get (candidates t) k ≡ Some c → k < length (candidates t) → reading images t c ≡ Some bytes → passes t.setting t.want bytes ≡ true → passing images t ≡ passing_of images t (take k (candidates t)) ++ bytes ∷ passing_of images t (drop (k + 1) (candidates t))
 split_at images t k c bytes is lt reads test =
@@ -238,24 +241,32 @@ first_of : (xs : List (List ℕ)) (bytes : List ℕ) (ys : List (List ℕ)) → 
 first_of [] bytes ys e = refl
 first_of (x ∷ xs) bytes ys e = absurd (omega (arith, e))
 
-no_failure : (t : Target) (before : ℕ) (now : Account) (after : ℕ) (failed : Option ℕ) → CauseSoFar t before now failed → now.faults ≤ after → Steady before after → now.fresh ≡ 0
-no_failure t before now after None h le steady = h.0
-no_failure t before now after (Some s) h le steady = absurd (omega (arith, h.0.1, le, steady.0, steady.1))
+-- what it is that one passes
+abbrev pub outcome_of : Option ℕ → Outcome
+outcome_of failed = cond (is_none failed) outcome.First outcome.Later
 
-pub one_passes : (t : Target) (held : Option (List (List ℕ))) (before : ℕ) (now after : Account) (failed : Option ℕ) (k : ℕ) (c : Candidate) (bytes : List ℕ) → TriedSoFar t held before now failed k → slice_get (candidates t) k ≡ Some c → k < length (candidates t) → NoneFailed now after → stands t c ≡ true → passes t.setting t.want bytes ≡ true → ((images : List (List ℕ)) → held ≡ Some images → value_of images t c ≡ bytes) → IsFirst t held before after.faults bytes
-one_passes t held before now after failed k c bytes h is lt calm standing test value =
-    let reads : (images : List (List ℕ)) → held ≡ Some images → reading images t c ≡ Some bytes = λ images e. reading_stands images t c standing ∙ ap Some (value images e) in
+pub one_passes : (t : Target) (before now after : Seen) (failed : Option ℕ) (k : ℕ) (c : Candidate) (slot : List ℕ) → before.account.fresh ≡ 0 → TriedSoFar t before now failed k → slice_get (candidates t) k ≡ Some c → k < length (candidates t) → NoneFailed now.account after.account → stands t c ≡ true → passes t.setting t.want (take (size_of t) slot) ≡ true → ((images : List (List ℕ)) → before.held ≡ Some images → value_of images t c ≡ take (size_of t) slot) → FitsOutcome t before after slot (outcome_of failed)
+one_passes t before now after None k c slot fresh h is lt calm standing test value =
+    let bytes : List ℕ = take (size_of t) slot in
     record {
-      stands = told held (λ images. Contains (passing images t) bytes) (λ images e.
-          let before_it = passing_of images t (take k (candidates t)) in
-          let behind = passing_of images t (drop (k + 1) (candidates t)) in
-          let split = split_at images t k c bytes is lt (reads images e) test in
-          subst (λ xs. Contains xs bytes) (sym split) (length before_it, omega (arith, length-append before_it (bytes ∷ behind)), get_or-append_seam before_it bytes behind bytes));
-      first = λ steady. told held (λ images. slice_get (passing images t) 0 ≡ Some bytes) (λ images e.
-          let before_it = passing_of images t (take k (candidates t)) in
-          let behind = passing_of images t (drop (k + 1) (candidates t)) in
-          let split = split_at images t k c bytes is lt (reads images e) test in
+      none = none_more before.account now.account after.account h.cause calm;
+      pass = test;
+      first = told before.held (λ images. slice_get (passing images t) 0 ≡ Some bytes) (λ images e.
+          let split = split_at images t k c bytes is lt (reading_stands images t c standing ∙ ap Some (value images e)) test in
           let so_far = h.enough images e in
-          let fresh = no_failure t before now after.faults failed h.cause calm.faults steady in
-          subst (λ xs. slice_get xs 0 ≡ Some bytes) (sym split) (first_of before_it bytes behind (omega (arith, so_far, fresh))));
+          subst (λ xs. slice_get xs 0 ≡ Some bytes) (sym split) (first_of (passing_of images t (take k (candidates t))) bytes (passing_of images t (drop (k + 1) (candidates t))) (omega (arith, so_far, h.cause.fresh, fresh))));
+    }
+one_passes t before now after (Some s) k c slot fresh h is lt calm standing test value =
+    let bytes : List ℕ = take (size_of t) slot in
+    let cause = cause_calm t before now after (Some s) h.cause calm in
+    record {
+      rose = cause.1;
+      read = cause.5;
+      of_candidate = cause.3;
+      pass = test;
+      stand = told before.held (λ images. Contains (passing images t) bytes) (λ images e.
+          let before_it = passing_of images t (take k (candidates t)) in
+          let behind = passing_of images t (drop (k + 1) (candidates t)) in
+          let split = split_at images t k c bytes is lt (reading_stands images t c standing ∙ ap Some (value images e)) test in
+          subst (λ xs. Contains xs bytes) (sym split) (length before_it, omega (arith, length-append before_it (bytes ∷ behind)), get_or-append_seam before_it bytes behind bytes));
     }

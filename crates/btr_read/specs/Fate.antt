@@ -1,5 +1,5 @@
 -- What becomes of a want, over the bytes of the images.
-use Rattle.std.specs.Prelude.{◌≡◌, ℕ, List, [], slice_get, Option, Some, None, Result, Ok, Err}
+use Rattle.std.specs.Prelude.{◌≡◌, ℕ, ◌%◌, List, [], slice_get, Bool, true, false, nat_lt, length, if◌then◌else◌, Option, Some, None, Result, Ok, Err, ⊤}
 use Rattle.std.specs.List.{filter, Contains}
 use Rattle.btr_chunk.specs.declared.chunk.Chunk.{Chunk}
 use Rattle.btr_chunk.specs.declared.position.Elements.{Elements}
@@ -8,6 +8,7 @@ use Rattle.btr_chunk.specs.declared.mapping.MapFault.TheVariants as map_fault
 use Rattle.btr_chunk.specs.Mapping.{elements_of}
 use Rattle.btr_chunk.specs.Table.{chunk_at}
 use Rattle.btr_read.specs.declared.want.Want.{Want}
+use Rattle.btr_read.specs.declared.want.Want.TheVariants.{Tree, Block, Sector, Plain}
 use Rattle.btr_read.specs.Want.{addr_of, len_of, passes}
 use Rattle.btr_read.specs.Layout.{Layout}
 use Rattle.btr_read.specs.Candidates.{Target, readings}
@@ -67,3 +68,34 @@ fate images layout want = fate_of images (addr_of want) (sought layout want)
 -- the candidates that stand and pass are equal
 abbrev pub Agree : List (List ℕ) → Layout → Want → Type 0
 Agree images layout want = (a b : List ℕ) → Contains (passing_for images (sought layout want)) a → Contains (passing_for images (sought layout want)) b → a ≡ b
+
+-- a want that makes no test
+abbrev pub is_plain : Want → Bool
+is_plain (Tree addr generation level) = false
+is_plain (Block addr) = false
+is_plain (Sector addr sum) = false
+is_plain (Plain addr) = true
+
+-- the candidate of a number, and the first where there aren't so many
+abbrev pub chosen : ℕ → List (List ℕ) → Option (List ℕ)
+chosen n xs = slice_get xs (if nat_lt n (length xs) then n else 0)
+
+-- of what is sought the candidate of a number where there is no test, else the first that stands and passes
+abbrev pub choice_of : List (List ℕ) → ℕ → Want → Result Target Fault → Result (List ℕ) Fault
+choice_of images n want (Err fault) = Err fault
+choice_of images n want (Ok t) = or_lost (addr_of want) (if is_plain want then chosen n (passing images t) else slice_get (passing images t) 0)
+
+-- what may become of a want, by choice: any candidate that stands where there is no test, else its fate
+abbrev pub choices : List (List ℕ) → ℕ → Layout → Want → Result (List ℕ) Fault
+choices images n layout want = choice_of images n want (sought layout want)
+
+-- a want of a tree block of a known generation and level, or of a sector with a checksum, at a sector's address
+abbrev pub IsTested : Want → Type 0
+IsTested (Tree addr generation level) = ⊤
+IsTested (Block addr) = ⊥
+IsTested (Sector addr sum) = addr % 4096 ≡ 0
+IsTested (Plain addr) = ⊥
+
+-- of each of those wants the candidates that stand and pass are equal
+abbrev pub Agreed : List (List ℕ) → Layout → Type 0
+Agreed images layout = (want : Want) → IsTested want → Agree images layout want

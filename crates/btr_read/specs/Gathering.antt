@@ -5,7 +5,7 @@ use Rattle.btr_chunk.specs.declared.place.Part.{Part}
 use Rattle.btr_chunk.specs.declared.place.Part.TheVariants.{Slice, P, Q}
 use Rattle.btr_parity.specs.Field.{power}
 use Rattle.btr_parity.specs.Slices.{IsSlice, zeros, plus, scaled, parity_p, parity_q}
-use Rattle.btr_rack.specs.Rack.{Account, NoneFailed}
+use Rattle.btr_rack.specs.Rack.{Seen, NoneFailed}
 use Rattle.btr_rack.specs.declared.place.Place.{Place as Range}
 use Rattle.btr_read.specs.declared.candidate.Candidate.{Candidate}
 use Rattle.btr_read.specs.declared.parity.Parity.{Parity}
@@ -44,11 +44,11 @@ pub record IsAdded (images : List (List ℕ)) (t : Target) (s : ℕ) (p : Parity
   pub sum : take (size_of t) new ≡ plus (take (size_of t) old) (weighed p s (element images t (Slice s)))
 
 -- reading a part fails by one call, which reads the part's range
-abbrev pub AccountsPart : Target → Part → Account → Account → Result (Unit {0}) ℕ → Type 0
-AccountsPart t part old new (Ok _) = NoneFailed old new
+abbrev pub AccountsPart : Target → Part → Seen → Seen → Result (Unit {0}) ℕ → Type 0
+AccountsPart t part old new (Ok _) = NoneFailed old.account new.account
 AccountsPart t part old new (Err s) = (m : Range) × ReadFailed m old new × (m.slot ≡ s) × (range_of t part ≡ Some m)
 
 -- reading for a candidate fails by one read, in a range that the candidate reads
-abbrev pub AccountsGather : Target → Candidate → Account → Account → Result (Unit {0}) ℕ → Type 0
-AccountsGather t c old new (Ok _) = NoneFailed old new
+abbrev pub AccountsGather : Target → Candidate → Seen → Seen → Result (Unit {0}) ℕ → Type 0
+AccountsGather t c old new (Ok _) = NoneFailed old.account new.account
 AccountsGather t c old new (Err s) = IsMissed t c s old new

@@ -25,3 +25,7 @@ pub record IsOpen (slots : List Slot) (device : Device) : Type 0 where
 -- each device is open
 abbrev pub AreOpen : List Slot → List Member → Type 0
 AreOpen slots members = (devid : ℕ) (device : Device) → device_in members devid ≡ Some device → IsOpen slots device
+
+-- no slot is that of two devices
+abbrev pub HaveOwnSlots : List Member → Type 0
+HaveOwnSlots members = (d e : ℕ) (a b : Device) → device_in members d ≡ Some a → device_in members e ≡ Some b → a.slot ≡ b.slot → d ≡ e

@@ -7,7 +7,10 @@ pub mod Fate
 pub mod Cause
 pub mod Attempt
 pub mod Writing
+pub mod Serves
 pub mod Store
+pub mod Reading
+pub mod Finding
 pub mod Fetch
 pub mod Mirror
 pub mod Gathering

@@ -1,6 +1,6 @@
 -- What a try of one mirror answers.
 use Rattle.std.specs.Prelude.{◌≡◌, ℕ, true, false, List, length, Option, IfSome, IsSomeAnd, Result, Ok, Err}
-use Rattle.btr_rack.specs.Rack.{Account, NoneFailed}
+use Rattle.btr_rack.specs.Rack.{Seen, NoneFailed}
 use Rattle.btr_chunk.specs.declared.place.Part.TheVariants.{Mirror}
 use Rattle.btr_chunk.specs.Mapping.{HasPart}
 use Rattle.btr_read.specs.declared.candidate.Candidate.{Candidate}
@@ -13,7 +13,7 @@ use Rattle.btr_read.specs.declared.want.Want.{Want}
 use Rattle.btr_read.specs.Want.{passes}
 use Rattle.btr_read.specs.Candidates.{Target, stands, value_of}
 use Rattle.btr_read.specs.Cause.{IsMissed}
-use Rattle.btr_read.specs.Store.{Blocks, IsLentBy, block_of}
+use Rattle.btr_read.specs.Store.{Blocks, IsLentBy, SameLoans, block_of}
 
 -- the chunk of what is sought has this mirror
 abbrev pub HasMirror : ℕ → Target → Type 0
@@ -36,13 +36,13 @@ FitsTried t c held store (Ok Absent) = stands t c ≡ false
 FitsTried t c held store (Err (Failed slot)) = stands t c ≡ true
 
 -- a try fails by one read, in the mirror's range
-abbrev pub AccountsTried : Target → Candidate → Account → Account → Result Tried TryFault → Type 0
-AccountsTried t c old new (Ok _) = NoneFailed old new
+abbrev pub AccountsTried : Target → Candidate → Seen → Seen → Result Tried TryFault → Type 0
+AccountsTried t c old new (Ok _) = NoneFailed old.account new.account
 AccountsTried t c old new (Err (Failed slot)) = IsMissed t c slot old new
 
 -- a slot is lent where the mirror passes, and none otherwise
 abbrev pub LendsTried : Want → Blocks → Blocks → Result Tried TryFault → Type 0
 LendsTried want old new (Ok (Passed loan)) = IsLentBy old new want loan
-LendsTried want old new (Ok Differs) = new ≡ old
-LendsTried want old new (Ok Absent) = new ≡ old
-LendsTried want old new (Err (Failed slot)) = new ≡ old
+LendsTried want old new (Ok Differs) = SameLoans old new
+LendsTried want old new (Ok Absent) = SameLoans old new
+LendsTried want old new (Err (Failed slot)) = SameLoans old new

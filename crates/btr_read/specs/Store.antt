@@ -1,11 +1,12 @@
 -- What a contract sees of a store and of its loans.
-use Rattle.std.specs.Prelude.{◌≡◌, ℕ, ◌+◌, ◌<◌, ◌≤◌, List, [], ◌∷◌, ◌++◌, length, take, Option, Some, None, IsSome, is_none, slice_index_or, slice_set, count_by}
+use Rattle.std.specs.Prelude.{◌≡◌, ℕ, ◌+◌, ◌<◌, ◌≤◌, List, [], ◌∷◌, ◌++◌, length, take, drop, replicate, Option, Some, None, IsSome, IsSomeAnd, is_none, slice_index_or, slice_set, count_by}
 use Rattle.std.specs.Option.{option_map}
 use Rattle.btr_chunk.specs.declared.chunk.Chunk.{Chunk}
 use Rattle.btr_pool.specs.Slots.{Slots}
 use Rattle.btr_read.specs.declared.device.Member.{Member}
 use Rattle.btr_read.specs.declared.setting.Setting.{Setting}
 use Rattle.btr_read.specs.declared.want.Want.{Want}
+use Rattle.btr_read.specs.declared.want.Want.TheVariants.{Tree, Block, Sector, Plain}
 use Rattle.btr_read.specs.Want.{len_of}
 use Rattle.btr_read.specs.Layout.{Layout}
 
@@ -14,10 +15,32 @@ pub record Lent : Type 0 where
   pub slot : ℕ
   pub len : ℕ
 
--- a store: how blocks are found and tested, and by slot the bytes of its loan, if one is live
+-- a block that is kept: its want and its bytes
+pub record Kept : Type 0 where
+  pub want : Want
+  pub bytes : List ℕ
+
+-- a store: how blocks are found and tested, and by slot the bytes of its loan, if one is live, and the block that is kept in it, if one is
 pub record Blocks : Type 0 where
   pub layout : Layout
   pub loans : List (Option (List ℕ))
+  pub kept : List (Option Kept)
+
+-- the block of a want in a slot with these bytes
+abbrev pub block_in : Setting → List ℕ → Want → Kept
+block_in setting bytes want = record { want = want; bytes = take (len_of setting want) bytes }
+
+-- the blocks that are kept by slot, where these are the wants whose blocks stand in the slots, and the slots' bytes
+abbrev pub kept_in : Setting → List (Option Want) → List (List ℕ) → List (Option Kept)
+kept_in setting [] slots = []
+kept_in setting (want ∷ wants) slots = option_map (block_in setting (slice_index_or slots 0 [])) want ∷ kept_in setting wants (drop 1 slots)
+
+-- only tree blocks are kept
+abbrev pub kept_want : Want → Option Want
+kept_want (Tree addr generation level) = Some (Tree addr generation level)
+kept_want (Block addr) = Some (Block addr)
+kept_want (Sector addr sum) = None
+kept_want (Plain addr) = None
 
 -- each slot is as long as a node
 pub record IsStore (pool : Slots) (setting : Setting) : Type 0 where
@@ -25,6 +48,7 @@ pub record IsStore (pool : Slots) (setting : Setting) : Type 0 where
   pub large : 4096 ≤ setting.nodesize
   pub small : setting.nodesize ≤ 65536
   pub whole : length pool.bytes ≡ length pool.lent
+  pub count : length pool.bytes ≡ 24
 
 -- the bytes of a slot's loan, if it is live
 abbrev pub loan_in : Blocks → ℕ → Option (List ℕ)
@@ -33,6 +57,25 @@ loan_in store slot = slice_index_or store.loans slot None
 -- the bytes of a loan, if it is live
 abbrev pub block_of : Blocks → Lent → Option (List ℕ)
 block_of store loan = option_map (take loan.len) (loan_in store loan.slot)
+
+-- the block that is kept in a slot, if one is
+abbrev pub kept_at : Blocks → ℕ → Option Kept
+kept_at store slot = slice_index_or store.kept slot None
+
+-- a slot keeps the block of a want
+abbrev pub KeepsIn : Blocks → ℕ → Want → Type 0
+KeepsIn store slot want = IsSomeAnd (kept_at store slot) (λ kept. kept.want ≡ want)
+
+-- a free slot keeps the block of a want
+pub record KeepsFree (store : Blocks) (want : Want) : Type 0 where
+  pub slot : ℕ
+  pub there : slot < length store.loans
+  pub free : loan_in store slot ≡ None
+  pub keeps : KeepsIn store slot want
+
+-- no block is kept in any slot
+abbrev pub none_kept : List (Option Kept)
+none_kept = replicate 24 None
 
 -- how many slots are free
 abbrev pub free_count : Blocks → ℕ
@@ -45,21 +88,31 @@ pub record IsLiveIn (store : Blocks) (loan : Lent) : Type 0 where
 
 -- the store with these bytes lent, or with nothing lent, in a slot
 abbrev pub with_loan : Blocks → ℕ → Option (List ℕ) → Blocks
-with_loan store slot loan = record { layout = store.layout; loans = slice_set store.loans slot loan }
+with_loan store slot loan = record { layout = store.layout; loans = slice_set store.loans slot loan; kept = store.kept }
 
--- the store with other chunks
+-- the store with other chunks, which keeps nothing
 abbrev pub with_chunks : Blocks → List Chunk → Blocks
-with_chunks store chunks = record { layout = record { chunks = chunks; devices = store.layout.devices; setting = store.layout.setting }; loans = store.loans }
+with_chunks store chunks = record { layout = record { chunks = chunks; devices = store.layout.devices; setting = store.layout.setting }; loans = store.loans; kept = none_kept }
 
--- the store with one more device
+-- the store with one more device, which keeps nothing
 abbrev pub with_member : Blocks → Member → Blocks
-with_member store member = record { layout = record { chunks = store.layout.chunks; devices = store.layout.devices ++ member ∷ []; setting = store.layout.setting }; loans = store.loans }
+with_member store member = record { layout = record { chunks = store.layout.chunks; devices = store.layout.devices ++ member ∷ []; setting = store.layout.setting }; loans = store.loans; kept = none_kept }
 
--- a loan of a want is new, and nothing else has changed
+-- the store that keeps nothing
+abbrev pub without_kept : Blocks → Blocks
+without_kept store = record { layout = store.layout; loans = store.loans; kept = none_kept }
+
+-- the layout and the loans are as before
+pub record SameLoans (old new : Blocks) : Type 0 where
+  pub layout : new.layout ≡ old.layout
+  pub loans : new.loans ≡ old.loans
+
+-- a loan of a want is new, and the layout and the other loans are as before
 pub record IsLentBy (old new : Blocks) (want : Want) (loan : Lent) : Type 0 where
   pub there : loan.slot < length old.loans
   pub free : loan_in old loan.slot ≡ None
-  pub after : (written : List ℕ) × (new ≡ with_loan old loan.slot (Some written))
+  pub layout : new.layout ≡ old.layout
+  pub after : (written : List ℕ) × (new.loans ≡ slice_set old.loans loan.slot (Some written))
   pub len : loan.len ≡ len_of old.layout.setting want
   pub large : 4096 ≤ loan.len
   pub small : loan.len ≤ 65536

@@ -1,3 +1,5 @@
+use crate::ReadFault;
+
 /// What came of one candidate.
 #[derive(Clone, Copy, Debug, PartialEq, Eq)]
 pub(crate) enum Attempt {
@@ -14,10 +16,36 @@ pub(crate) enum Attempt {
 /// What came of all candidates.
 #[derive(Clone, Copy, Debug, PartialEq, Eq)]
 pub(crate) enum Outcome {
-    /// One passes, and its bytes stand in the slot.
-    Passed,
+    /// One passes, no read failed, and its bytes stand in the slot.
+    First,
+    /// One passes after a read that failed, and its bytes stand in the slot.
+    Later,
     /// None passes, and no read failed.
     Lost,
     /// None that was read passes, and the last read that failed was of this slot.
     Unread(usize),
+}
+
+/// Why no candidate of a block was had.
+#[derive(Clone, Copy, Debug, PartialEq, Eq)]
+pub(crate) enum Missed {
+    /// None passes, and no read failed.
+    Lost,
+    /// None that was read passes, and the last read that failed was of this slot.
+    Unread(usize),
+}
+
+impl Missed {
+    ghost use Rattle.std.specs.Prelude.{◌≡◌};
+    ghost use Rattle.btr_read.specs.Finding.{fault_of};
+
+    // Why the block at an address can't be read.
+    pub(crate) fn fault(self, addr: u64) -> ReadFault
+        ensures { result ≡ fault_of addr self }
+    {
+        match self {
+            Missed::Lost => ReadFault::Lost(addr),
+            Missed::Unread(image) => ReadFault::Unread(addr, image),
+        }
+    }
 }

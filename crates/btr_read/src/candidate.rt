@@ -2,7 +2,7 @@ use btr_chunk::Part;
 
 /// One way to get the bytes at a position of a chunk.
 #[derive(Clone, Copy, Debug, PartialEq, Eq)]
-pub(crate) enum Candidate {
+pub enum Candidate {
     /// As they stand in a part.
     Stands(Part),
     /// The slice that P and all other slices leave.

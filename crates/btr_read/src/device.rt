@@ -13,9 +13,11 @@ pub struct Device {
 
 /// A device with its id.
 #[derive(Clone, Copy, Debug, PartialEq, Eq)]
-pub(crate) struct Member {
-    pub(crate) devid: u64,
-    pub(crate) device: Device,
+pub struct Member {
+    /// The id, which the chunks' stripes name.
+    pub devid: u64,
+    /// The device.
+    pub device: Device,
 }
 
 // The device of this id, if it is given.

@@ -1,16 +1,24 @@
-ghost use Rattle.std.specs.Prelude.{◌≡◌, ◌+◌, ◌≤◌, IfOk, OnErr};
+// A block, from its want to its bytes in a slot.
+ghost use Rattle.std.specs.Prelude.{◌≡◌, ◌≤◌, [], IfOk, OnErr, length};
+ghost use Rattle.btr_pool.specs.Slots.{loans_of, free_count as free_slots};
+ghost use Rattle.btr_rack.specs.Rack.{OnlyReads};
 ghost use Rattle.btr_read.specs.Layout.{AreOpen};
+ghost use Rattle.btr_read.specs.Candidates.{size_of};
 ghost use Rattle.btr_read.specs.Fate.{sought};
-ghost use Rattle.btr_read.specs.Store.{IsLentBy, free_count};
-ghost use Rattle.btr_read.specs.Fetch.{FitsFetch, AccountsFetch, IsLocated};
+ghost use Rattle.btr_read.specs.Store.{IsLentBy, SameLoans, free_count};
+ghost use Rattle.btr_read.specs.Fetch.{FitsFetch, AccountsFetch, CallsFetch, ComesAgain, KeepsLent, IsLocated};
+ghost use Rattle.btr_read.specs.Finding.{FitsFinding, SameShape, TakesFound};
+ghost use Rattle.btr_read.specs.Serves.{Serves};
 
-use crate::attempt::Outcome;
+use crate::attempt::{Missed, Outcome};
 use crate::device::Member;
+use crate::kept::{Kept, lend_kept, take_least};
 use crate::search::Search;
 use crate::setting::Setting;
 use crate::trying::try_all;
 use crate::{Loan, ReadFault, Store, Want};
 use btr_chunk::{ChunkTable, MapFault, elements};
+use btr_pool::{Loan as Slot, Pool};
 use btr_rack::Rack;
 
 // What is sought for a want, or `Unmapped` or `Crosses`.
@@ -41,46 +49,81 @@ pub(crate) fn locate<'a>(
     }
 }
 
+// Takes a slot and reads into it what is sought; a tree block that came by no failed read is kept in it.
+fn find<R: Rack>(
+    search: &Search<'_>,
+    rack: &mut R,
+    pool: &mut Pool,
+    kept: &mut Kept,
+) -> Result<Slot, Missed>
+    requires open { AreOpen (R.seen rack.old).slots search.now.devices }
+    requires room { 3 ≤ free_slots pool.old }
+    requires count { length pool.old.bytes ≡ 24 }
+    requires whole { length pool.old.bytes ≡ length pool.old.lent }
+    requires fits { size_of search.now ≤ pool.old.size }
+    requires fresh { (R.seen rack.old).account.fresh ≡ 0 }
+    requires missed { (R.seen rack.old).account.missed ≡ [] }
+    ensures reads { OnlyReads (R.seen rack.old) (R.seen rack.new) }
+    ensures shape { SameShape pool.old pool.new }
+    ensures taken { IfOk result (TakesFound pool.old pool.new) }
+    ensures refused { OnErr result (loans_of pool.new ≡ loans_of pool.old) }
+    ensures found { FitsFinding search.now kept.old.wants kept.new.wants pool.old pool.new (R.seen rack.old) (R.seen rack.new) result }
+{
+    let slot = take_least(pool, kept);
+    match try_all(search, rack, pool, kept, &slot) {
+        Outcome::First => {
+            kept.keep(slot.slot(), search.want);
+            Ok(slot)
+        }
+        Outcome::Later => Ok(slot),
+        Outcome::Lost => {
+            pool.give(slot);
+            Err(Missed::Lost)
+        }
+        Outcome::Unread(image) => {
+            pool.give(slot);
+            Err(Missed::Unread(image))
+        }
+    }
+}
+
 /// Fetches a block: lends a slot with the bytes of a candidate that stands and passes; of the first one, where no read
-/// failed. A read that fails ends its candidate alone. It takes no memory. After a refusal the loans are as before.
+/// failed. A tree block that came by no failed read is kept while its slot isn't taken for another: until then it is
+/// lent again without a read. It takes no memory. After a refusal the loans are as before.
 ///
-/// Each device's slot is open in the rack, with the device's length, and four slots are free. The rack is told to
-/// forget the calls that failed before; after each answer but `Unread` it counts none.
+/// Each device's slot is open in the rack, with the device's length, what the store keeps is what the images hold, and
+/// four slots are free. The rack is told to forget the calls that failed before; after each answer but `Unread` it
+/// counts none.
 ///
 /// `Unmapped`: no chunk holds the address. `Crosses`: the block passes the end of its chunk or, in a profile with rows,
 /// of an element. `Lost`: no candidate passes, and no read failed. `Unread`: a read failed, and each candidate that
-/// passes reads a range in which a read failed.
+/// passes reads a range in which a read failed; it doesn't come from a rack that is sure.
 pub fn fetch<R: Rack>(want: &Want, rack: &mut R, store: &mut Store) -> Result<Loan, ReadFault>
-    requires open { AreOpen (R.slots rack.old) store.old.layout.devices }
+    requires serves { Serves (R.seen rack.old) store.old }
     requires room { 4 ≤ free_count store.old }
-    ensures slots { R.slots rack.new ≡ R.slots rack.old }
-    ensures held { R.held rack.new ≡ R.held rack.old }
-    ensures shelf { R.shelf rack.new ≡ R.shelf rack.old }
-    ensures later { (R.account rack.old).faults ≤ (R.account rack.new).faults }
-    ensures shut { (R.account rack.new).shut ≡ (R.account rack.old).shut }
-    ensures account { AccountsFetch (R.account rack.old) (R.account rack.new) result }
+    ensures serves { Serves (R.seen rack.new) store.new }
+    ensures reads { OnlyReads (R.seen rack.old) (R.seen rack.new) }
+    ensures account { AccountsFetch store.old.layout want.now (R.seen rack.old).account (R.seen rack.new).account result }
     ensures lent { IfOk result (IsLentBy store.old store.new want.now) }
-    ensures refused { OnErr result (store.new ≡ store.old) }
-    ensures answer { FitsFetch store.old.layout want.now (R.held rack.old) (R.account rack.old) (R.account rack.new) store.new result }
+    ensures refused { OnErr result (SameLoans store.old store.new) }
+    ensures again { ComesAgain want.now store.old (R.seen rack.old).account (R.seen rack.new).account result }
+    ensures keeps { IfOk result (KeepsLent want.now store.new (R.seen rack.old).account (R.seen rack.new).account) }
+    ensures answer { FitsFetch store.old.layout want.now (R.seen rack.old) (R.seen rack.new) store.new result }
+    ensures calls { CallsFetch store.old.layout want.now (R.seen rack.old) (R.seen rack.new) store.new result }
 {
     rack.forget();
+    if let Some(slot) = lend_kept(want, &mut store.pool, &mut store.kept) {
+        let len = store.setting.len(want);
+        return Ok(Loan { slot, len });
+    }
     let search = locate(want, store.setting, &store.chunks, &store.devices)?;
     let len = search.size();
-    let Ok(slot) = store.pool.take() else {
-        unreachable!();
-    };
-    match try_all(&search, rack, &mut store.pool, &slot) {
-        Outcome::Passed => {
+    let slot = match find(&search, rack, &mut store.pool, &mut store.kept) {
+        Ok(slot) => {
             rack.forget();
-            Ok(Loan { slot, len })
+            slot
         }
-        Outcome::Lost => {
-            store.pool.give(slot);
-            Err(ReadFault::Lost(want.addr()))
-        }
-        Outcome::Unread(image) => {
-            store.pool.give(slot);
-            Err(ReadFault::Unread(want.addr(), image))
-        }
-    }
+        Err(missed) => return Err(missed.fault(want.addr())),
+    };
+    Ok(Loan { slot, len })
 }

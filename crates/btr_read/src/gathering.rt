@@ -11,6 +11,7 @@ ghost use Rattle.btr_read.specs.Candidates.{size_of, slice_count, range_of, elem
 ghost use Rattle.btr_read.specs.Sought.{IsRebuilt, Uses};
 ghost use Rattle.btr_read.specs.Writing.{OnlyWritesIn};
 ghost use Rattle.btr_read.specs.Gathering.{IsAdded, IsGathered, AccountsPart, AccountsGather};
+ghost use Rattle.btr_rack.specs.Rack.{OnlyReads};
 
 use crate::candidate::Candidate;
 use crate::folding::add_slot;
@@ -31,16 +32,14 @@ fn read_part<R: Rack>(
 ) -> Result<(), usize>
     requires part { HasPart search.now.chunk.profile (length search.now.chunk.stripes) part }
     requires stands { IsSome (range_of search.now part) }
-    requires open { AreOpen (R.slots rack.old) search.now.devices }
+    requires open { AreOpen (R.seen rack.old).slots search.now.devices }
     requires live { IsLive pool.old loan.now }
     requires fits { size_of search.now ≤ pool.old.size }
-    ensures slots { R.slots rack.new ≡ R.slots rack.old }
-    ensures held { R.held rack.new ≡ R.held rack.old }
-    ensures shelf { R.shelf rack.new ≡ R.shelf rack.old }
+    ensures reads { OnlyReads (R.seen rack.old) (R.seen rack.new) }
     ensures kept { (w : List ℕ) × (pool.new ≡ with_bytes pool.old loan.now w) }
-    ensures bytes { OnOk result (IfSome (R.held rack.old) (λ images. take (size_of search.now) (bytes_at pool.new loan.now) ≡ element images search.now part)) }
+    ensures bytes { OnOk result (IfSome (R.seen rack.old).held (λ images. take (size_of search.now) (bytes_at pool.new loan.now) ≡ element images search.now part)) }
     ensures slice { OnOk result (IsSlice (size_of search.now) (take (size_of search.now) (bytes_at pool.new loan.now))) }
-    ensures account { AccountsPart search.now part (R.account rack.old) (R.account rack.new) result }
+    ensures account { AccountsPart search.now part (R.seen rack.old) (R.seen rack.new) result }
 {
     let Some(range) = search.range(part) else {
         unreachable!();
@@ -65,17 +64,15 @@ fn add_slice<R: Rack>(
     requires part { HasPart search.now.chunk.profile (length search.now.chunk.stripes) (Part.Slice slice) }
     requires stands { IsSome (range_of search.now (Part.Slice slice)) }
     requires few { slice ≤ 62 }
-    requires open { AreOpen (R.slots rack.old) search.now.devices }
+    requires open { AreOpen (R.seen rack.old).slots search.now.devices }
     requires live { IsLive pool.old sum.now }
     requires spare_live { IsLive pool.old spare.now }
     requires apart { sum.now ≢ spare.now }
     requires fits { size_of search.now ≤ pool.old.size }
-    ensures slots { R.slots rack.new ≡ R.slots rack.old }
-    ensures held { R.held rack.new ≡ R.held rack.old }
-    ensures shelf { R.shelf rack.new ≡ R.shelf rack.old }
+    ensures reads { OnlyReads (R.seen rack.old) (R.seen rack.new) }
     ensures pool { OnlyWritesIn (spare.now ∷ sum.now ∷ []) pool.old pool.new }
-    ensures bytes { OnOk result (IfSome (R.held rack.old) (λ images. IsAdded images search.now slice parity (bytes_at pool.old sum.now) (bytes_at pool.new sum.now))) }
-    ensures account { AccountsPart search.now (Part.Slice slice) (R.account rack.old) (R.account rack.new) result }
+    ensures bytes { OnOk result (IfSome (R.seen rack.old).held (λ images. IsAdded images search.now slice parity (bytes_at pool.old sum.now) (bytes_at pool.new sum.now))) }
+    ensures account { AccountsPart search.now (Part.Slice slice) (R.seen rack.old) (R.seen rack.new) result }
 {
     read_part(search, Part::Slice(slice), rack, pool, spare)?;
     add_slot(parity, pool, sum, spare, search.size(), slice as u8);
@@ -96,7 +93,7 @@ fn add_slice_to_both<R: Rack>(
     requires part { HasPart search.now.chunk.profile (length search.now.chunk.stripes) (Part.Slice slice) }
     requires stands { IsSome (range_of search.now (Part.Slice slice)) }
     requires few { slice ≤ 62 }
-    requires open { AreOpen (R.slots rack.old) search.now.devices }
+    requires open { AreOpen (R.seen rack.old).slots search.now.devices }
     requires p_live { IsLive pool.old p.now }
     requires q_live { IsLive pool.old q.now }
     requires spare_live { IsLive pool.old spare.now }
@@ -104,13 +101,11 @@ fn add_slice_to_both<R: Rack>(
     requires p_apart { p.now ≢ spare.now }
     requires q_apart { q.now ≢ spare.now }
     requires fits { size_of search.now ≤ pool.old.size }
-    ensures slots { R.slots rack.new ≡ R.slots rack.old }
-    ensures held { R.held rack.new ≡ R.held rack.old }
-    ensures shelf { R.shelf rack.new ≡ R.shelf rack.old }
+    ensures reads { OnlyReads (R.seen rack.old) (R.seen rack.new) }
     ensures pool { OnlyWritesIn (q.now ∷ spare.now ∷ p.now ∷ []) pool.old pool.new }
-    ensures of_p { OnOk result (IfSome (R.held rack.old) (λ images. IsAdded images search.now slice Parity.P (bytes_at pool.old p.now) (bytes_at pool.new p.now))) }
-    ensures of_q { OnOk result (IfSome (R.held rack.old) (λ images. IsAdded images search.now slice Parity.Q (bytes_at pool.old q.now) (bytes_at pool.new q.now))) }
-    ensures account { AccountsPart search.now (Part.Slice slice) (R.account rack.old) (R.account rack.new) result }
+    ensures of_p { OnOk result (IfSome (R.seen rack.old).held (λ images. IsAdded images search.now slice Parity.P (bytes_at pool.old p.now) (bytes_at pool.new p.now))) }
+    ensures of_q { OnOk result (IfSome (R.seen rack.old).held (λ images. IsAdded images search.now slice Parity.Q (bytes_at pool.old q.now) (bytes_at pool.new q.now))) }
+    ensures account { AccountsPart search.now (Part.Slice slice) (R.seen rack.old) (R.seen rack.new) result }
 {
     read_part(search, Part::Slice(slice), rack, pool, spare)?;
     add_slot(Parity::P, pool, p, spare, search.size(), slice as u8);
@@ -132,17 +127,15 @@ pub(crate) fn gather<R: Rack>(
     requires rebuilt { IsRebuilt search.now candidate }
     requires stands { stands search.now candidate ≡ true }
     requires uses { Uses parity candidate }
-    requires open { AreOpen (R.slots rack.old) search.now.devices }
+    requires open { AreOpen (R.seen rack.old).slots search.now.devices }
     requires live { IsLive pool.old sum.now }
     requires spare_live { IsLive pool.old spare.now }
     requires apart { sum.now ≢ spare.now }
     requires fits { size_of search.now ≤ pool.old.size }
-    ensures slots { R.slots rack.new ≡ R.slots rack.old }
-    ensures held { R.held rack.new ≡ R.held rack.old }
-    ensures shelf { R.shelf rack.new ≡ R.shelf rack.old }
+    ensures reads { OnlyReads (R.seen rack.old) (R.seen rack.new) }
     ensures pool { OnlyWritesIn (spare.now ∷ sum.now ∷ []) pool.old pool.new }
-    ensures bytes { OnOk result (IfSome (R.held rack.old) (λ images. IsGathered images search.now candidate parity (take (size_of search.now) (bytes_at pool.new sum.now)))) }
-    ensures account { AccountsGather search.now candidate (R.account rack.old) (R.account rack.new) result }
+    ensures bytes { OnOk result (IfSome (R.seen rack.old).held (λ images. IsGathered images search.now candidate parity (take (size_of search.now) (bytes_at pool.new sum.now)))) }
+    ensures account { AccountsGather search.now candidate (R.seen rack.old) (R.seen rack.new) result }
     ensures sought { OnOk result ((search.now.at.index < slice_count search.now) × (slice_count search.now ≤ 63)) }
 {
     read_part(search, parity.part(), rack, pool, sum)?;
@@ -167,7 +160,7 @@ pub(crate) fn gather_both<R: Rack>(
 ) -> Result<(), usize>
     requires rebuilt { IsRebuilt search.now (Candidate.ByBoth other) }
     requires stands { stands search.now (Candidate.ByBoth other) ≡ true }
-    requires open { AreOpen (R.slots rack.old) search.now.devices }
+    requires open { AreOpen (R.seen rack.old).slots search.now.devices }
     requires p_live { IsLive pool.old p.now }
     requires q_live { IsLive pool.old q.now }
     requires spare_live { IsLive pool.old spare.now }
@@ -175,13 +168,11 @@ pub(crate) fn gather_both<R: Rack>(
     requires p_apart { p.now ≢ spare.now }
     requires q_apart { q.now ≢ spare.now }
     requires fits { size_of search.now ≤ pool.old.size }
-    ensures slots { R.slots rack.new ≡ R.slots rack.old }
-    ensures held { R.held rack.new ≡ R.held rack.old }
-    ensures shelf { R.shelf rack.new ≡ R.shelf rack.old }
+    ensures reads { OnlyReads (R.seen rack.old) (R.seen rack.new) }
     ensures pool { OnlyWritesIn (q.now ∷ spare.now ∷ p.now ∷ []) pool.old pool.new }
-    ensures of_p { OnOk result (IfSome (R.held rack.old) (λ images. IsGathered images search.now (Candidate.ByBoth other) Parity.P (take (size_of search.now) (bytes_at pool.new p.now)))) }
-    ensures of_q { OnOk result (IfSome (R.held rack.old) (λ images. IsGathered images search.now (Candidate.ByBoth other) Parity.Q (take (size_of search.now) (bytes_at pool.new q.now)))) }
-    ensures account { AccountsGather search.now (Candidate.ByBoth other) (R.account rack.old) (R.account rack.new) result }
+    ensures of_p { OnOk result (IfSome (R.seen rack.old).held (λ images. IsGathered images search.now (Candidate.ByBoth other) Parity.P (take (size_of search.now) (bytes_at pool.new p.now)))) }
+    ensures of_q { OnOk result (IfSome (R.seen rack.old).held (λ images. IsGathered images search.now (Candidate.ByBoth other) Parity.Q (take (size_of search.now) (bytes_at pool.new q.now)))) }
+    ensures account { AccountsGather search.now (Candidate.ByBoth other) (R.seen rack.old) (R.seen rack.new) result }
     ensures sought { OnOk result ((search.now.at.index < slice_count search.now) × (slice_count search.now ≤ 63)) }
 {
     read_part(search, Part::P, rack, pool, p)?;

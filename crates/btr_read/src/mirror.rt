@@ -1,11 +1,13 @@
 ghost use Rattle.std.specs.Prelude.{◌≡◌, ◌≤◌, IfOk, IsOkAnd};
-ghost use Rattle.btr_read.specs.Layout.{AreOpen};
 ghost use Rattle.btr_read.specs.Fate.{sought};
 ghost use Rattle.btr_read.specs.Store.{free_count};
 ghost use Rattle.btr_read.specs.Mirror.{HasMirror, mirror_candidate, FitsTried, AccountsTried, LendsTried};
+ghost use Rattle.btr_rack.specs.Rack.{OnlyReads};
+ghost use Rattle.btr_read.specs.Serves.{Serves};
 
 use crate::attempt::Attempt;
 use crate::fetching::locate;
+use crate::kept::take_least;
 use crate::trying::try_part;
 use crate::{Loan, Store, Want};
 use btr_chunk::Part;
@@ -33,8 +35,8 @@ pub enum TryFault {
 /// it fails, and it takes no memory. After each answer but `Passed` the loans are as before.
 ///
 /// The block lies in a chunk, crosses neither its end nor an element's, and the chunk has that mirror. Each device's slot
-/// is open in the rack, with the device's length, and a slot is free. The rack isn't told to forget the calls that failed
-/// before: whoever asks what failed since some moment calls `forget` then.
+/// is open in the rack, with the device's length, what the store keeps is what the images hold, and a slot is free. The
+/// rack isn't told to forget the calls that failed before: whoever asks what failed since some moment calls `forget` then.
 ///
 /// `Failed` where the read of the mirror failed.
 pub fn try_mirror<R: Rack>(
@@ -43,23 +45,20 @@ pub fn try_mirror<R: Rack>(
     rack: &mut R,
     store: &mut Store,
 ) -> Result<Tried, TryFault>
-    requires open { AreOpen (R.slots rack.old) store.old.layout.devices }
+    requires serves { Serves (R.seen rack.old) store.old }
     requires room { 1 ≤ free_count store.old }
     requires mirror { IsOkAnd (sought store.old.layout want.now) (HasMirror mirror) }
-    ensures slots { R.slots rack.new ≡ R.slots rack.old }
-    ensures held { R.held rack.new ≡ R.held rack.old }
-    ensures shelf { R.shelf rack.new ≡ R.shelf rack.old }
+    ensures serves { Serves (R.seen rack.new) store.new }
+    ensures reads { OnlyReads (R.seen rack.old) (R.seen rack.new) }
     ensures lent { LendsTried want.now store.old store.new result }
-    ensures answer { IfOk (sought store.old.layout want.now) (λ t. FitsTried t (mirror_candidate mirror) (R.held rack.old) store.new result) }
-    ensures account { IfOk (sought store.old.layout want.now) (λ t. AccountsTried t (mirror_candidate mirror) (R.account rack.old) (R.account rack.new) result) }
+    ensures answer { IfOk (sought store.old.layout want.now) (λ t. FitsTried t (mirror_candidate mirror) (R.seen rack.old).held store.new result) }
+    ensures account { IfOk (sought store.old.layout want.now) (λ t. AccountsTried t (mirror_candidate mirror) (R.seen rack.old) (R.seen rack.new) result) }
 {
     let Ok(search) = locate(want, store.setting, &store.chunks, &store.devices) else {
         unreachable!();
     };
     let len = search.size();
-    let Ok(slot) = store.pool.take() else {
-        unreachable!();
-    };
+    let slot = take_least(&mut store.pool, &mut store.kept);
     let result = match try_part(&search, Part::Mirror(mirror), rack, &mut store.pool, &slot) {
         Attempt::Passed => return Ok(Tried::Passed(Loan { slot, len })),
         Attempt::Differs => Ok(Tried::Differs),

@@ -1,7 +1,7 @@
 // Reads into slots.
 ghost use Rattle.std.specs.Prelude.{◌≡◌, ℕ, ◌+◌, ◌<◌, ◌≤◌, List, length, take, OnOk, IfSome, IsErrOf};
 ghost use Rattle.std.specs.List.{All};
-ghost use Rattle.btr_rack.specs.Rack.{len_of, bytes_of, Accounts};
+ghost use Rattle.btr_rack.specs.Rack.{OnlyReads, FailsUnsure, len_of, bytes_of, Accounts};
 ghost use Rattle.btr_pool.specs.Slots.{IsLive, bytes_at, with_bytes};
 
 use btr_pool::{Loan, Pool};
@@ -9,14 +9,13 @@ use btr_rack::{Place, Rack, RackError};
 
 // Reads a range of an image into the beginning of a buffer.
 fn read_front<R: Rack>(rack: &mut R, range: Place, buf: &mut [u8]) -> Result<(), RackError>
-    requires open { range.slot < length (R.slots rack.old) }
-    requires within { range.off + range.len ≤ len_of (R.slots rack.old) range.slot }
+    requires open { range.slot < length (R.seen rack.old).slots }
+    requires within { range.off + range.len ≤ len_of (R.seen rack.old).slots range.slot }
     requires fits { range.len ≤ length buf.old }
-    ensures slots { R.slots rack.new ≡ R.slots rack.old }
-    ensures held { R.held rack.new ≡ R.held rack.old }
-    ensures shelf { R.shelf rack.new ≡ R.shelf rack.old }
-    ensures bytes { OnOk result (IfSome (R.held rack.old) (λ images. take range.len buf.new ≡ bytes_of images range.slot range.off range.len)) }
-    ensures account { Accounts range (R.account rack.old) (R.account rack.new) result }
+    ensures reads { OnlyReads (R.seen rack.old) (R.seen rack.new) }
+    ensures bytes { OnOk result (IfSome (R.seen rack.old).held (λ images. take range.len buf.new ≡ bytes_of images range.slot range.off range.len)) }
+    ensures account { Accounts range (R.seen rack.old).account (R.seen rack.new).account result }
+    ensures sure { FailsUnsure (R.seen rack.old).sure result }
     ensures memory { IsErrOf result RackError.Memory → ⊥ }
     ensures small { All (λ b. b < 256) buf.new }
 {
@@ -30,16 +29,15 @@ pub(crate) fn read_into<R: Rack>(
     pool: &mut Pool,
     loan: &Loan,
 ) -> Result<(), RackError>
-    requires open { range.slot < length (R.slots rack.old) }
-    requires within { range.off + range.len ≤ len_of (R.slots rack.old) range.slot }
+    requires open { range.slot < length (R.seen rack.old).slots }
+    requires within { range.off + range.len ≤ len_of (R.seen rack.old).slots range.slot }
     requires live { IsLive pool.old loan.now }
     requires fits { range.len ≤ pool.old.size }
-    ensures slots { R.slots rack.new ≡ R.slots rack.old }
-    ensures held { R.held rack.new ≡ R.held rack.old }
-    ensures shelf { R.shelf rack.new ≡ R.shelf rack.old }
+    ensures reads { OnlyReads (R.seen rack.old) (R.seen rack.new) }
     ensures kept { (w : List ℕ) × (pool.new ≡ with_bytes pool.old loan.now w) }
-    ensures bytes { OnOk result (IfSome (R.held rack.old) (λ images. take range.len (bytes_at pool.new loan.now) ≡ bytes_of images range.slot range.off range.len)) }
-    ensures account { Accounts range (R.account rack.old) (R.account rack.new) result }
+    ensures bytes { OnOk result (IfSome (R.seen rack.old).held (λ images. take range.len (bytes_at pool.new loan.now) ≡ bytes_of images range.slot range.off range.len)) }
+    ensures account { Accounts range (R.seen rack.old).account (R.seen rack.new).account result }
+    ensures sure { FailsUnsure (R.seen rack.old).sure result }
     ensures memory { IsErrOf result RackError.Memory → ⊥ }
     ensures small { All (λ b. b < 256) (bytes_at pool.new loan.now) }
     ensures long { length (bytes_at pool.new loan.now) ≡ pool.old.size }

@@ -3,13 +3,13 @@ use btr_base::{Header, Sum, SumKind, is_summed, sum};
 
 /// What all blocks of a filesystem have in common.
 #[derive(Clone, Copy, Debug, PartialEq, Eq)]
-pub(crate) struct Setting {
+pub struct Setting {
     /// The kind of the checksums.
-    pub(crate) kind: SumKind,
+    pub kind: SumKind,
     /// The id in the header of each tree block.
-    pub(crate) fsid: [u8; 16],
+    pub fsid: [u8; 16],
     /// The length of a tree block in bytes.
-    pub(crate) nodesize: u32,
+    pub nodesize: u32,
 }
 
 impl Setting {

@@ -1,8 +1,9 @@
 ghost use Rattle.std.specs.Prelude.{◌≡◌, ◌≤◌, IfOk, OnErr, IsNone, Some, None, [], length, replicate};
 ghost use Rattle.btr_read.specs.Layout.{device_in};
-ghost use Rattle.btr_read.specs.Store.{IsLiveIn, block_of, free_count, with_chunks, with_loan, with_member};
+ghost use Rattle.btr_read.specs.Store.{IsLiveIn, block_of, free_count, none_kept, with_chunks, with_loan, with_member, without_kept};
 
 use crate::device::{Device, Member, find_device};
+use crate::kept::{Kept, SLOTS};
 use crate::loan::Loan;
 use crate::setting::Setting;
 use btr_base::{Memory, SumKind};
@@ -11,14 +12,13 @@ use btr_pool::Pool;
 use std::alloc::Global;
 use std::marker::Model;
 
-// How many slots a store has for blocks.
-const SLOTS: usize = 24;
-
 /// What is needed to read the blocks of a filesystem: its chunks, the devices that are given, how its blocks are
-/// tested, and 24 slots for blocks, as long as a node. After `new` no reading takes memory.
+/// tested, and 24 slots for blocks, as long as a node, in which tree blocks are kept from one loan to the next. After
+/// `new` no reading takes memory.
 #[derive(Drop)]
 pub struct Store {
     pub(crate) pool: Pool,
+    pub(crate) kept: Kept,
     pub(crate) chunks: ChunkTable,
     pub(crate) devices: Vec<Member>,
     pub(crate) setting: Setting,
@@ -26,11 +26,11 @@ pub struct Store {
 
 impl Model for Store {
     ghost use Rattle.btr_pool.specs.Slots.{loans_of};
-    ghost use Rattle.btr_read.specs.Store.{Blocks, IsStore};
+    ghost use Rattle.btr_read.specs.Store.{Blocks, IsStore, kept_in};
 
     ghost Value = { Blocks };
 
-    ghost view = { λ s. record { layout = record { chunks = s.chunks; devices = s.devices.items; setting = s.setting }; loans = loans_of s.pool } };
+    ghost view = { λ s. record { layout = record { chunks = s.chunks; devices = s.devices.items; setting = s.setting }; loans = loans_of s.pool; kept = kept_in s.setting s.kept.wants s.pool.bytes } };
 
     ghost invariant = { λ s. IsStore s.pool s.setting };
 }
@@ -50,11 +50,12 @@ impl Store {
     ) -> Result<Store, Memory>
         requires large { 4096 ≤ nodesize }
         requires small { nodesize ≤ 65536 }
-        ensures { IfOk result (λ store. store ≡ record { layout = record { chunks = chunks; devices = []; setting = record { kind = kind; fsid = fsid; nodesize = nodesize } }; loans = replicate 24 None }) }
+        ensures { IfOk result (λ store. store ≡ record { layout = record { chunks = chunks; devices = []; setting = record { kind = kind; fsid = fsid; nodesize = nodesize } }; loans = replicate 24 None; kept = none_kept }) }
     {
         let pool = Pool::new(alloc, nodesize as usize, SLOTS)?;
         Ok(Store {
             pool,
+            kept: Kept::new(),
             chunks,
             devices: Vec::new(alloc),
             setting: Setting {
@@ -65,7 +66,8 @@ impl Store {
         })
     }
 
-    /// Gives one more device: the image of `len` bytes in a slot of the rack. The store has no device of that id.
+    /// Gives one more device: the image of `len` bytes in a slot of the rack. The store has no device of that id, and
+    /// forgets the blocks that it kept.
     ///
     /// `Memory`: the store is as before.
     pub fn add_device(&mut self, devid: u64, slot: usize, len: u64) -> Result<(), Memory>
@@ -78,16 +80,27 @@ impl Store {
             device: Device { slot, len },
         };
         match self.devices.push(member) {
-            Ok(()) => Ok(()),
+            Ok(()) => {
+                self.kept = Kept::new();
+                Ok(())
+            }
             Err(_) => Err(Memory),
         }
     }
 
-    /// Puts other chunks in the place of those that the store has.
+    /// Puts other chunks in the place of those that the store has, and forgets the blocks that it kept.
     pub fn replace_chunks(&mut self, chunks: ChunkTable)
         ensures { self.new ≡ with_chunks self.old chunks }
     {
         self.chunks = chunks;
+        self.kept = Kept::new();
+    }
+
+    /// Forgets the blocks that are kept, as before bytes of an image are written.
+    pub fn forget_kept(&mut self)
+        ensures { self.new ≡ without_kept self.old }
+    {
+        self.kept = Kept::new();
     }
 
     /// The chunks.

@@ -1,16 +1,19 @@
 // The candidates of a search, tried in their order.
-ghost use Rattle.std.specs.Prelude.{◌≡◌, ℕ, ◌<◌, ◌≤◌, [], List, length, slice_get, Some};
+ghost use Rattle.std.specs.Prelude.{◌≡◌, ℕ, ◌<◌, ◌≤◌, [], List, length, slice_index_or, None, is_none, if◌then◌else◌};
 ghost use Rattle.btr_chunk.specs.Mapping.{HasPart};
 ghost use Rattle.btr_pool.specs.Slots.{IsLive, bytes_at, with_bytes, free_count};
 ghost use Rattle.btr_read.specs.Layout.{AreOpen};
-ghost use Rattle.btr_read.specs.Candidates.{size_of, candidates};
-ghost use Rattle.btr_read.specs.Sought.{CanTry};
+ghost use Rattle.btr_read.specs.Candidates.{size_of};
+ghost use Rattle.btr_read.specs.Sought.{CanTry, IsRebuilt};
 ghost use Rattle.btr_read.specs.Attempt.{FitsAttempt, AccountsAttempt, FitsOutcome};
 ghost use Rattle.btr_read.specs.declared.candidate.Candidate.{Candidate};
-ghost use Rattle.btr_read.specs.Writing.{OnlyWrites};
+ghost use Rattle.btr_read.specs.Writing.{OnlyWrites, StillKept};
+ghost use Rattle.btr_read.specs.declared.attempt.Outcome.TheVariants as outcome;
+ghost use Rattle.btr_rack.specs.Rack.{OnlyReads};
 
 use crate::attempt::{Attempt, Outcome};
 use crate::candidate::Candidate;
+use crate::kept::{Kept, take_least};
 use crate::reading::read_into;
 use crate::rebuilding::try_rebuilt;
 use crate::search::Search;
@@ -27,15 +30,13 @@ pub(crate) fn try_part<R: Rack>(
     loan: &Loan,
 ) -> Attempt
     requires part { HasPart search.now.chunk.profile (length search.now.chunk.stripes) part }
-    requires open { AreOpen (R.slots rack.old) search.now.devices }
+    requires open { AreOpen (R.seen rack.old).slots search.now.devices }
     requires live { IsLive pool.old loan.now }
     requires fits { size_of search.now ≤ pool.old.size }
-    ensures slots { R.slots rack.new ≡ R.slots rack.old }
-    ensures held { R.held rack.new ≡ R.held rack.old }
-    ensures shelf { R.shelf rack.new ≡ R.shelf rack.old }
+    ensures reads { OnlyReads (R.seen rack.old) (R.seen rack.new) }
     ensures kept { (w : List ℕ) × (pool.new ≡ with_bytes pool.old loan.now w) }
-    ensures attempt { FitsAttempt search.now (Candidate.Stands part) (R.held rack.old) (bytes_at pool.new loan.now) result }
-    ensures account { AccountsAttempt search.now (Candidate.Stands part) (R.account rack.old) (R.account rack.new) result }
+    ensures attempt { FitsAttempt search.now (Candidate.Stands part) (R.seen rack.old).held (bytes_at pool.new loan.now) result }
+    ensures account { AccountsAttempt search.now (Candidate.Stands part) (R.seen rack.old) (R.seen rack.new) result }
 {
     let Some(range) = search.range(part) else {
         return Attempt::Absent;
@@ -58,28 +59,60 @@ fn try_candidate<R: Rack>(
     candidate: Candidate,
     rack: &mut R,
     pool: &mut Pool,
+    kept: &mut Kept,
     loan: &Loan,
 ) -> Attempt
     requires can { CanTry search.now candidate }
-    requires open { AreOpen (R.slots rack.old) search.now.devices }
+    requires open { AreOpen (R.seen rack.old).slots search.now.devices }
     requires live { IsLive pool.old loan.now }
     requires room { 2 ≤ free_count pool.old }
+    requires count { length pool.old.bytes ≡ 24 }
     requires fits { size_of search.now ≤ pool.old.size }
-    ensures slots { R.slots rack.new ≡ R.slots rack.old }
-    ensures held { R.held rack.new ≡ R.held rack.old }
-    ensures shelf { R.shelf rack.new ≡ R.shelf rack.old }
+    requires forgotten { slice_index_or kept.old.wants loan.now None ≡ None }
+    ensures reads { OnlyReads (R.seen rack.old) (R.seen rack.new) }
     ensures pool { OnlyWrites loan.now pool.old pool.new }
-    ensures attempt { FitsAttempt search.now candidate (R.held rack.old) (bytes_at pool.new loan.now) result }
-    ensures account { AccountsAttempt search.now candidate (R.account rack.old) (R.account rack.new) result }
+    ensures kept { StillKept kept.old.wants kept.new.wants pool.old pool.new }
+    ensures attempt { FitsAttempt search.now candidate (R.seen rack.old).held (bytes_at pool.new loan.now) result }
+    ensures account { AccountsAttempt search.now candidate (R.seen rack.old) (R.seen rack.new) result }
 {
     match candidate {
         Candidate::Stands(part) => try_part(search, part, rack, pool, loan),
-        Candidate::ByP => try_rebuilt(search, Candidate::ByP, rack, pool, loan),
-        Candidate::ByQ => try_rebuilt(search, Candidate::ByQ, rack, pool, loan),
+        Candidate::ByP => try_with_spares(search, Candidate::ByP, rack, pool, kept, loan),
+        Candidate::ByQ => try_with_spares(search, Candidate::ByQ, rack, pool, kept, loan),
         Candidate::ByBoth(other) => {
-            try_rebuilt(search, Candidate::ByBoth(other), rack, pool, loan)
+            try_with_spares(search, Candidate::ByBoth(other), rack, pool, kept, loan)
         }
     }
+}
+
+// Tries a candidate by parities, by way of two slots that are given back.
+fn try_with_spares<R: Rack>(
+    search: &Search<'_>,
+    candidate: Candidate,
+    rack: &mut R,
+    pool: &mut Pool,
+    kept: &mut Kept,
+    loan: &Loan,
+) -> Attempt
+    requires rebuilt { IsRebuilt search.now candidate }
+    requires open { AreOpen (R.seen rack.old).slots search.now.devices }
+    requires live { IsLive pool.old loan.now }
+    requires room { 2 ≤ free_count pool.old }
+    requires count { length pool.old.bytes ≡ 24 }
+    requires fits { size_of search.now ≤ pool.old.size }
+    requires forgotten { slice_index_or kept.old.wants loan.now None ≡ None }
+    ensures reads { OnlyReads (R.seen rack.old) (R.seen rack.new) }
+    ensures pool { OnlyWrites loan.now pool.old pool.new }
+    ensures kept { StillKept kept.old.wants kept.new.wants pool.old pool.new }
+    ensures attempt { FitsAttempt search.now candidate (R.seen rack.old).held (bytes_at pool.new loan.now) result }
+    ensures account { AccountsAttempt search.now candidate (R.seen rack.old) (R.seen rack.new) result }
+{
+    let q = take_least(pool, kept);
+    let spare = take_least(pool, kept);
+    let attempt = try_rebuilt(search, candidate, rack, pool, loan, &q, &spare);
+    pool.give(spare);
+    pool.give(q);
+    attempt
 }
 
 // Tries the candidates in their order, up to the first that passes. A read that fails ends its candidate alone.
@@ -87,26 +120,26 @@ pub(crate) fn try_all<R: Rack>(
     search: &Search<'_>,
     rack: &mut R,
     pool: &mut Pool,
+    kept: &mut Kept,
     loan: &Loan,
 ) -> Outcome
-    requires open { AreOpen (R.slots rack.old) search.now.devices }
+    requires open { AreOpen (R.seen rack.old).slots search.now.devices }
     requires live { IsLive pool.old loan.now }
     requires room { 2 ≤ free_count pool.old }
+    requires count { length pool.old.bytes ≡ 24 }
     requires fits { size_of search.now ≤ pool.old.size }
-    requires fresh { (R.account rack.old).fresh ≡ 0 }
-    requires missed { (R.account rack.old).missed ≡ [] }
-    ensures slots { R.slots rack.new ≡ R.slots rack.old }
-    ensures held { R.held rack.new ≡ R.held rack.old }
-    ensures shelf { R.shelf rack.new ≡ R.shelf rack.old }
-    ensures later { (R.account rack.old).faults ≤ (R.account rack.new).faults }
-    ensures shut { (R.account rack.new).shut ≡ (R.account rack.old).shut }
+    requires forgotten { slice_index_or kept.old.wants loan.now None ≡ None }
+    requires fresh { (R.seen rack.old).account.fresh ≡ 0 }
+    requires missed { (R.seen rack.old).account.missed ≡ [] }
+    ensures reads { OnlyReads (R.seen rack.old) (R.seen rack.new) }
     ensures pool { OnlyWrites loan.now pool.old pool.new }
-    ensures outcome { FitsOutcome search.now (R.held rack.old) (R.account rack.old) (R.account rack.new) (bytes_at pool.new loan.now) result }
+    ensures kept { StillKept kept.old.wants kept.new.wants pool.old pool.new }
+    ensures outcome { FitsOutcome search.now (R.seen rack.old) (R.seen rack.new) (bytes_at pool.new loan.now) result }
 {
     let mut failed = None;
     for k in 0..search.candidate_count() {
-        match try_candidate(search, search.candidate(k), rack, pool, loan) {
-            Attempt::Passed => return Outcome::Passed,
+        match try_candidate(search, search.candidate(k), rack, pool, kept, loan) {
+            Attempt::Passed => return passed_after(failed),
             Attempt::Differs => {}
             Attempt::Absent => {}
             Attempt::Failed(slot) => failed = Some(slot),
@@ -115,5 +148,15 @@ pub(crate) fn try_all<R: Rack>(
     match failed {
         None => Outcome::Lost,
         Some(slot) => Outcome::Unread(slot),
+    }
+}
+
+// What it is that one passes, after the reads that failed.
+fn passed_after(failed: Option<usize>) -> Outcome
+    ensures { result ≡ (if is_none failed then outcome.First else outcome.Later) }
+{
+    match failed {
+        None => Outcome::First,
+        Some(_) => Outcome::Later,
     }
 }

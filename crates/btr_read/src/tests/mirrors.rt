@@ -46,6 +46,7 @@ fn tried(
     ensures { LendsTried want.now store.old store.new result }
 {
     if can_fetch(rack, store) && has_mirror(want, mirror, store) {
+        store.forget_kept();
         try_mirror(want, mirror, rack, store)
     } else {
         panic!(rt; "a device isn't open, or there is no such mirror");

@@ -1,8 +1,10 @@
 // Volumes in memory, and what is fetched from them.
-ghost use Rattle.std.specs.Prelude.{◌≡◌, ◌≤◌, IsTrue, IfOk, OnErr};
-ghost use Rattle.btr_rack.specs.Memory.{slots_of};
-ghost use Rattle.btr_read.specs.Layout.{AreOpen};
-ghost use Rattle.btr_read.specs.Store.{IsLentBy, free_count};
+ghost use Rattle.std.specs.Prelude.{◌≡◌, ◌==◌, ◌≤◌, not, IsTrue, IfOk, OnErr};
+ghost use Rattle.std.specs.List.{list_any};
+ghost use Rattle.btr_rack.specs.Memory.{seen_of, slots_of};
+ghost use Rattle.btr_read.specs.Layout.{AreOpen, HaveOwnSlots};
+ghost use Rattle.btr_read.specs.Serves.{Serves};
+ghost use Rattle.btr_read.specs.Store.{IsLiveIn, IsLentBy, SameLoans, free_count};
 
 use super::shape::{ELEMENT, MIB, START, Shape, contains, place_of, set_of, stripe_start};
 use crate::device::Member;
@@ -148,12 +150,45 @@ fn are_open(rack: &MemRack, members: &[Member]) -> bool
     true
 }
 
-// Whether each device is open, and a fetch has room.
+fn lacks_slot(members: &[Member], slot: usize) -> bool
+    ensures { result ≡ not (list_any (λ member. member.device.slot == slot) members.now) }
+{
+    !members.iter().any(|member| member.device.slot == slot)
+}
+
+fn have_own_slots(members: &[Member]) -> bool
+    ensures { IsTrue result → HaveOwnSlots members.now }
+{
+    let Some((first, others)) = members.split_first() else {
+        return true;
+    };
+    lacks_slot(others, first.device.slot) && have_own_slots(others)
+}
+
+// Whether each device is open in a slot of its own, and a fetch has room.
 pub(super) fn can_fetch(rack: &MemRack, store: &Store) -> bool
     ensures open { IsTrue result → AreOpen (slots_of rack.now) store.now.layout.devices }
+    ensures own { IsTrue result → HaveOwnSlots store.now.layout.devices }
     ensures room { IsTrue result → 4 ≤ free_count store.now }
 {
-    are_open(rack, store.devices.as_slice()) && store.free() >= 4
+    let devices = store.devices.as_slice();
+    are_open(rack, devices) && have_own_slots(devices) && store.free() >= 4
+}
+
+/// Fetches a block twice, without forgetting in between what the store keeps. The first loan is given back.
+pub(super) fn fetched_twice(
+    rt: &impl Abort,
+    want: &Want,
+    rack: &mut MemRack,
+    store: &mut Store,
+) -> Result<Loan, ReadFault>
+    ensures { IfOk result (IsLiveIn store.new) }
+{
+    assert!(rt; can_fetch(rack, store));
+    store.forget_kept();
+    let loan = fetch(want, rack, store)?;
+    store.give(loan);
+    fetch(want, rack, store)
 }
 
 /// Fetches a block, where a fetch may.
@@ -164,9 +199,10 @@ pub(super) fn fetched(
     store: &mut Store,
 ) -> Result<Loan, ReadFault>
     ensures lent { IfOk result (IsLentBy store.old store.new want.now) }
-    ensures refused { OnErr result (store.new ≡ store.old) }
+    ensures refused { OnErr result (SameLoans store.old store.new) }
 {
     if can_fetch(rack, store) {
+        store.forget_kept();
         fetch(want, rack, store)
     } else {
         panic!(rt; "a device isn't open, or there is no room");

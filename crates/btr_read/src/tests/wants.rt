@@ -4,7 +4,8 @@ use super::shape::{
     ELEMENT, RAID1, RAID6_ON_FOUR, SINGLE, START, doubled, noise, stripe_start, survives,
 };
 use super::volume::{
-    HEADER_ID, NODE, add_device, devid_of, fetches, images, name_of, open, store_without, table,
+    HEADER_ID, NODE, add_device, devid_of, fetched_twice, fetches, images, name_of, open,
+    store_without, table,
 };
 use crate::{ReadFault, Store, Want};
 use Taken::{First, Second};
@@ -289,5 +290,26 @@ fn a_block_is_rebuilt(rt: HostRuntime) -> Result<(), Fail> {
         let fetched = fetches(&rt, &want, &mut rack, &mut store, &first);
         assert_eq!(rt; fetched, answer, "{missing:b}");
     }
+    Ok(())
+}
+
+// The first call opens the image, the second one reads the block, and all behind it fail.
+#[test]
+fn a_kept_block_is_read_once(rt: HostRuntime) -> Result<(), Fail> {
+    let mut rack = images(rt.alloc(), &SINGLE)?;
+    let block = summed(&GOOD, 1);
+    put(&mut rack, 0, &block)?;
+    open(&mut rack, &SINGLE)?;
+    for n in 3..5 {
+        rack.fail_call(n)?;
+    }
+    let mut store = store_of(&rt, rt.alloc(), &rack, SumKind::Crc32c)?;
+    let Ok(loan) = fetched_twice(&rt, &tree(9, 1), &mut rack, &mut store) else {
+        panic!(rt; "it isn't kept");
+    };
+    assert_eq!(rt; store.bytes(&loan), block.as_slice());
+    store.give(loan);
+    let again = fetches(&rt, &tree(9, 1), &mut rack, &mut store, &block);
+    assert_eq!(rt; again, Err(ReadFault::Unread(BLOCK, 0)));
     Ok(())
 }

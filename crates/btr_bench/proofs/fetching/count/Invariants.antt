@@ -1,16 +1,18 @@
-use Rattle.std.proofs.Common.{◌≡◌, ◌≤◌}
+use Rattle.std.proofs.Common.{◌≡◌, ◌≤◌, Some}
 use Rattle.btr_rack.specs.Rack.{Steady}
 use Rattle.btr_rack.specs.Memory.{slots_of, held_of}
 use Rattle.btr_read.specs.Fate.{fate}
+use Rattle.btr_read.specs.Store.{SameLoans}
+use Rattle.btr_read.specs.Serves.{Serves}
 use Rattle.btr_bench.specs.Fetching.{times_got}
 use Rattle.btr_bench.proofs.fetching.count.Given as goal
 
--- the rack and the store are as they were, and the turns so far are counted
+-- the rack serves the store, the images and the loans are as they were, and the turns so far are counted
 abbrev pub invariant-loop-turn : goal.invariant-loop-turn
 invariant-loop-turn l = record {
-  slots : slots_of l.rack ≡ slots_of l.fn.rack;
+  serves : Serves slots_of (λ rack. Some (held_of rack)) l.rack l.store;
   held : held_of l.rack ≡ held_of l.fn.rack;
-  store : l.store ≡ l.fn.store;
+  store : SameLoans l.fn.store l.store;
   later : l.fn.rack.account.faults ≤ l.rack.account.faults;
   most : l.got ≤ l._turn;
   exact : Steady l.fn.rack.account.faults l.rack.account.faults → l.got ≡ times_got l._turn (fate (held_of l.fn.rack) l.fn.store.layout l.fn.want);

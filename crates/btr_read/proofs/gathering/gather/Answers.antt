@@ -1,11 +1,12 @@
 use Rattle.std.proofs.Common.{◌≡◌, ℕ, ◌<◌, [], ◌∷◌, take, subst, sym, ap, ◌∙◌, arith}
 use Rattle.std.proofs.lemmas.Result.{err_from_is_err_and}
 use Rattle.btr_chunk.specs.declared.place.Part.TheVariants.{Slice}
-use Rattle.btr_read.specs.Layout.{IsOpen}
 use Rattle.btr_pool.specs.Slots.{bytes_at}
 use Rattle.btr_read.specs.Candidates.{size_of, slice_count, range_of, element}
 use Rattle.btr_read.specs.Gathering.{part_of, IsAdded, IsGathered}
-use Rattle.btr_read.proofs.Several.{writes_one, keeps_in_more}
+use Rattle.btr_read.proofs.Several.{writes_one, writes_more}
+use Rattle.btr_rack.proofs.Reading.{reads_more}
+use Rattle.btr_read.proofs.ReadsOn.{same_held, same_sure, open_still}
 use Rattle.btr_read.proofs.Keeping.{none_more, one_after}
 use Rattle.btr_read.proofs.Trials.{told, telling}
 use Rattle.btr_read.proofs.Sums.{gathered_none, gathered_more, gathered_past, gathered_all}
@@ -28,7 +29,7 @@ add_slice-requires-clause-stands g c =
     part_stands t c.args.candidate (Slice c.loop-slice.slice) c.requires.stands (slice_in (slice_count t) t.at.index c.args.candidate c.loop-slice.slice lt (sym c.reads.ensures ∙ c.if-reads.true))
 
 pub add_slice-requires-clause-open : goal.add_slice-requires-clause-open
-add_slice-requires-clause-open g c = λ devid device is. subst (λ slots. IsOpen slots device) (sym c.loop-slice.invariant.keeps.same_slots) (c.requires.open devid device is)
+add_slice-requires-clause-open g c = open_still c.args.search.now.devices c.loop-slice.invariant.reads c.requires.open
 
 pub loop-slice-init : goal.loop-slice-init
 loop-slice-init g c =
@@ -37,9 +38,10 @@ loop-slice-init g c =
     let e = c.in_ok-read_part.ensures in
     let new = c.read_part.new.pool in
     let sum = c.args.sum.now in
-    let held = g.R.Rack.held c.args.rack.now in
+    let held = (g.R.Rack.seen c.args.rack.now).held in
     record {
-      keeps = record { same_slots = e.slots; same_held = e.held; same_shelf = e.shelf; writes = writes_one c.args.pool.now new sum (c.args.spare.now ∷ sum ∷ []) (λ j none. none.1.0) e.kept };
+      reads = e.reads;
+      writes = writes_one c.args.pool.now new sum (c.args.spare.now ∷ sum ∷ []) (λ j none. none.1.0) e.kept;
       calm = e.account;
       sum = λ images is. gathered_none images t c.args.candidate c.args.parity (take n (bytes_at new sum)) (telling held (λ images. take n (bytes_at new sum) ≡ element images t c.part.result) e.bytes images is ∙ ap (element images t) c.part.ensures) e.slice;
     }
@@ -54,17 +56,19 @@ loop-slice-preserved g c =
       | then-reads+in_ok-add_slice w ↦
           let e = w.in_ok-add_slice.ensures in
           rw w.rack-is (rw w.pool-is (record {
-            keeps = keeps_in_more inv.keeps e.slots e.held e.shelf e.pool;
-            calm = none_more (g.R.Rack.account c.args.rack.now) (g.R.Rack.account c.loop-slice.rack) (g.R.Rack.account w.add_slice.new.rack) inv.calm e.account;
+            reads = reads_more inv.reads e.reads;
+            writes = writes_more c.args.pool.now c.loop-slice.pool w.add_slice.new.pool _ inv.writes e.pool;
+            calm = none_more (g.R.Rack.seen c.args.rack.now).account (g.R.Rack.seen c.loop-slice.rack).account (g.R.Rack.seen w.add_slice.new.rack).account inv.calm e.account;
             sum = λ images is.
                 let old = bytes_at c.loop-slice.pool c.args.sum.now in
                 let new = bytes_at w.add_slice.new.pool c.args.sum.now in
-                let added = telling (g.R.Rack.held c.loop-slice.rack) (λ images. IsAdded images t k c.args.parity old new) e.bytes images (inv.keeps.same_held ∙ is) in
+                let added = telling (g.R.Rack.seen c.loop-slice.rack).held (λ images. IsAdded images t k c.args.parity old new) e.bytes images (same_held inv.reads ∙ is) in
                 gathered_more images t c.args.candidate c.args.parity k (take n old) (take n new) (inv.sum images is) (sym c.reads.ensures ∙ w.if-reads.true) added.slice added.sum;
           }))
       | else-reads w ↦
           rw w.rack-is (rw w.pool-is (record {
-            keeps = inv.keeps;
+            reads = inv.reads;
+            writes = inv.writes;
             calm = inv.calm;
             sum = λ images is. gathered_past images t c.args.candidate c.args.parity k (take n (bytes_at c.loop-slice.pool c.args.sum.now)) (inv.sum images is) (sym c.reads.ensures ∙ w.if-reads.false);
           }))
@@ -76,7 +80,7 @@ returns-in_err-add_slice-clause-account g c =
     let k = c.loop-slice.slice in
     let e = c.in_err-add_slice.ensures.account in
     let lt : k < slice_count t = omega (arith, c.loop-slice-test.true, c.slice_count-slice-end.ensures.value) in
-    let one = one_after e.0 (g.R.Rack.account c.args.rack.now) (g.R.Rack.account c.loop-slice.rack) (g.R.Rack.account c.add_slice.new.rack) c.loop-slice.invariant.calm e.1 in
+    let one = one_after e.0 (g.R.Rack.seen c.args.rack.now) (g.R.Rack.seen c.loop-slice.rack) (g.R.Rack.seen c.add_slice.new.rack) (same_sure c.loop-slice.invariant.reads) c.loop-slice.invariant.calm e.1 in
     let part = range_in_candidate t c.args.candidate (Slice k) e.0 (slice_in (slice_count t) t.at.index c.args.candidate k lt (sym c.reads.ensures ∙ c.if-reads.true)) e.3 in
     let p = err_from_is_err_and c.from_residual-in_err-add_slice.result c.from_residual-in_err-add_slice.ensures.1 in
     rw (p.1, p.2) (e.0, one, e.2, part)
@@ -85,4 +89,4 @@ pub returns-clause-bytes : goal.returns-clause-bytes
 returns-clause-bytes g c =
     let t = c.args.search.now in
     let bytes = take (size_of t) (bytes_at c.loop-slice.pool c.args.sum.now) in
-    told (g.R.Rack.held c.args.rack.now) (λ images. IsGathered images t c.args.candidate c.args.parity bytes) (λ images is. gathered_all images t c.args.candidate c.args.parity c.loop-slice.slice bytes (omega (arith, c.loop-slice-test.false, c.loop-slice.auto.slice-end, c.slice_count-slice-end.ensures.value)) (c.loop-slice.invariant.sum images is))
+    told (g.R.Rack.seen c.args.rack.now).held (λ images. IsGathered images t c.args.candidate c.args.parity bytes) (λ images is. gathered_all images t c.args.candidate c.args.parity c.loop-slice.slice bytes (omega (arith, c.loop-slice-test.false, c.loop-slice.auto.slice-end, c.slice_count-slice-end.ensures.value)) (c.loop-slice.invariant.sum images is))

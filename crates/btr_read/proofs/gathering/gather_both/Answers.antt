@@ -6,10 +6,11 @@ use Rattle.btr_pool.proofs.Loans.{bytes_at-with_bytes_other}
 use Rattle.btr_read.specs.declared.candidate.Candidate.{Candidate}
 use Rattle.btr_read.specs.declared.candidate.Candidate.TheVariants.{ByBoth}
 use Rattle.btr_read.specs.declared.parity.Parity.TheVariants as parity
-use Rattle.btr_read.specs.Layout.{IsOpen}
 use Rattle.btr_read.specs.Candidates.{size_of, slice_count, element}
 use Rattle.btr_read.specs.Gathering.{IsAdded, IsGathered}
-use Rattle.btr_read.proofs.Several.{writes_one, writes_more, keeps_in_more}
+use Rattle.btr_read.proofs.Several.{writes_one, writes_more}
+use Rattle.btr_rack.proofs.Reading.{reads_more}
+use Rattle.btr_read.proofs.ReadsOn.{same_held, same_sure, open_still}
 use Rattle.btr_read.proofs.Keeping.{none_more, one_after}
 use Rattle.btr_read.proofs.Trials.{told, telling}
 use Rattle.btr_read.proofs.Sums.{GatheredSoFar, gathered_none, gathered_more, gathered_past, gathered_all}
@@ -18,13 +19,13 @@ use Rattle.btr_read.proofs.gathering.gather_both.Goals as goal
 use Rattle.btr_read.proofs.gathering.gather_both.Goals.{then-reads+in_ok-add_slice_to_both, else-reads}
 
 pub read_part-requires-2-clause-open : goal.read_part-requires-2-clause-open
-read_part-requires-2-clause-open g c = λ devid device is. subst (λ slots. IsOpen slots device) (sym c.in_ok-read_part.ensures.slots) (c.requires.open devid device is)
+read_part-requires-2-clause-open g c = open_still c.args.search.now.devices c.in_ok-read_part.ensures.reads c.requires.open
 
 pub returns-in_err-read_part-2-clause-account : goal.returns-in_err-read_part-2-clause-account
 returns-in_err-read_part-2-clause-account g c =
     let t = c.args.search.now in
     let e = c.in_err-read_part-2.ensures.account in
-    let one = one_after e.0 (g.R.Rack.account c.args.rack.now) (g.R.Rack.account c.read_part.new.rack) (g.R.Rack.account c.read_part-2.new.rack) c.in_ok-read_part.ensures.account e.1 in
+    let one = one_after e.0 (g.R.Rack.seen c.args.rack.now) (g.R.Rack.seen c.read_part.new.rack) (g.R.Rack.seen c.read_part-2.new.rack) (same_sure c.in_ok-read_part.ensures.reads) c.in_ok-read_part.ensures.account e.1 in
     let part = range_in_candidate t (ByBoth c.args.other) Q e.0 (inr (inl refl)) e.3 in
     let p = err_from_is_err_and c.from_residual-in_err-read_part-2.result c.from_residual-in_err-read_part-2.ensures.1 in
     rw (p.1, p.2) (e.0, one, e.2, part)
@@ -36,7 +37,7 @@ add_slice_to_both-requires-clause-stands g c =
     part_stands t (ByBoth c.args.other) (Slice c.loop-slice.slice) c.requires.stands (slice_in (slice_count t) t.at.index (ByBoth c.args.other) c.loop-slice.slice lt (sym c.reads.ensures ∙ c.if-reads.true))
 
 pub add_slice_to_both-requires-clause-open : goal.add_slice_to_both-requires-clause-open
-add_slice_to_both-requires-clause-open g c = λ devid device is. subst (λ slots. IsOpen slots device) (sym c.loop-slice.invariant.keeps.same_slots) (c.requires.open devid device is)
+add_slice_to_both-requires-clause-open g c = open_still c.args.search.now.devices c.loop-slice.invariant.reads c.requires.open
 
 pub loop-slice-init : goal.loop-slice-init
 loop-slice-init g c =
@@ -53,13 +54,14 @@ loop-slice-init g c =
     let writes = writes_more c.args.pool.now pool new three (writes_one c.args.pool.now pool p three (λ j none. none.1.1.0) first.kept) (writes_one pool new q three (λ j none. none.0) second.kept) in
     let same : bytes_at new p ≡ bytes_at pool p = ap (λ pool. bytes_at pool p) second.kept.1 ∙ bytes_at-with_bytes_other pool p q second.kept.0 c.requires.sums_apart in
     record {
-      keeps = record { same_slots = second.slots ∙ first.slots; same_held = second.held ∙ first.held; same_shelf = second.shelf ∙ first.shelf; writes = writes };
-      calm = none_more (g.R.Rack.account c.args.rack.now) (g.R.Rack.account c.read_part.new.rack) (g.R.Rack.account c.read_part-2.new.rack) first.account second.account;
+      reads = reads_more first.reads second.reads;
+      writes = writes;
+      calm = none_more (g.R.Rack.seen c.args.rack.now).account (g.R.Rack.seen c.read_part.new.rack).account (g.R.Rack.seen c.read_part-2.new.rack).account first.account second.account;
       of_p = λ images is.
-          let read = telling (g.R.Rack.held c.args.rack.now) (λ images. take n (bytes_at pool p) ≡ element images t P) first.bytes images is in
+          let read = telling (g.R.Rack.seen c.args.rack.now).held (λ images. take n (bytes_at pool p) ≡ element images t P) first.bytes images is in
           subst (λ bytes. GatheredSoFar images t both parity.P 0 (take n bytes)) (sym same) (gathered_none images t both parity.P (take n (bytes_at pool p)) read first.slice);
       of_q = λ images is.
-          let read = telling (g.R.Rack.held c.read_part.new.rack) (λ images. take n (bytes_at new q) ≡ element images t Q) second.bytes images (first.held ∙ is) in
+          let read = telling (g.R.Rack.seen c.read_part.new.rack).held (λ images. take n (bytes_at new q) ≡ element images t Q) second.bytes images (same_held first.reads ∙ is) in
           gathered_none images t both parity.Q (take n (bytes_at new q)) read second.slice;
     }
 
@@ -70,7 +72,7 @@ loop-slice-preserved g c =
     let inv = c.loop-slice.invariant in
     let n : ℕ = size_of t in
     let both : Candidate = ByBoth c.args.other in
-    let held = g.R.Rack.held c.loop-slice.rack in
+    let held = (g.R.Rack.seen c.loop-slice.rack).held in
     let p_old = bytes_at c.loop-slice.pool c.args.p.now in
     let q_old = bytes_at c.loop-slice.pool c.args.q.now in
     elim c.if-reads.branch [
@@ -78,21 +80,23 @@ loop-slice-preserved g c =
           let e = w.in_ok-add_slice_to_both.ensures in
           let reads = sym c.reads.ensures ∙ w.if-reads.true in
           rw w.rack-is (rw w.pool-is (record {
-            keeps = keeps_in_more inv.keeps e.slots e.held e.shelf e.pool;
-            calm = none_more (g.R.Rack.account c.args.rack.now) (g.R.Rack.account c.loop-slice.rack) (g.R.Rack.account w.add_slice_to_both.new.rack) inv.calm e.account;
+            reads = reads_more inv.reads e.reads;
+            writes = writes_more c.args.pool.now c.loop-slice.pool w.add_slice_to_both.new.pool _ inv.writes e.pool;
+            calm = none_more (g.R.Rack.seen c.args.rack.now).account (g.R.Rack.seen c.loop-slice.rack).account (g.R.Rack.seen w.add_slice_to_both.new.rack).account inv.calm e.account;
             of_p = λ images is.
                 let new = bytes_at w.add_slice_to_both.new.pool c.args.p.now in
-                let added = telling held (λ images. IsAdded images t k parity.P p_old new) e.of_p images (inv.keeps.same_held ∙ is) in
+                let added = telling held (λ images. IsAdded images t k parity.P p_old new) e.of_p images (same_held inv.reads ∙ is) in
                 gathered_more images t both parity.P k (take n p_old) (take n new) (inv.of_p images is) reads added.slice added.sum;
             of_q = λ images is.
                 let new = bytes_at w.add_slice_to_both.new.pool c.args.q.now in
-                let added = telling held (λ images. IsAdded images t k parity.Q q_old new) e.of_q images (inv.keeps.same_held ∙ is) in
+                let added = telling held (λ images. IsAdded images t k parity.Q q_old new) e.of_q images (same_held inv.reads ∙ is) in
                 gathered_more images t both parity.Q k (take n q_old) (take n new) (inv.of_q images is) reads added.slice added.sum;
           }))
       | else-reads w ↦
           let passes = sym c.reads.ensures ∙ w.if-reads.false in
           rw w.rack-is (rw w.pool-is (record {
-            keeps = inv.keeps;
+            reads = inv.reads;
+            writes = inv.writes;
             calm = inv.calm;
             of_p = λ images is. gathered_past images t both parity.P k (take n p_old) (inv.of_p images is) passes;
             of_q = λ images is. gathered_past images t both parity.Q k (take n q_old) (inv.of_q images is) passes;
@@ -105,7 +109,7 @@ returns-in_err-add_slice_to_both-clause-account g c =
     let k = c.loop-slice.slice in
     let e = c.in_err-add_slice_to_both.ensures.account in
     let lt : k < slice_count t = omega (arith, c.loop-slice-test.true, c.slice_count-slice-end.ensures.value) in
-    let one = one_after e.0 (g.R.Rack.account c.args.rack.now) (g.R.Rack.account c.loop-slice.rack) (g.R.Rack.account c.add_slice_to_both.new.rack) c.loop-slice.invariant.calm e.1 in
+    let one = one_after e.0 (g.R.Rack.seen c.args.rack.now) (g.R.Rack.seen c.loop-slice.rack) (g.R.Rack.seen c.add_slice_to_both.new.rack) (same_sure c.loop-slice.invariant.reads) c.loop-slice.invariant.calm e.1 in
     let part = range_in_candidate t (ByBoth c.args.other) (Slice k) e.0 (slice_in (slice_count t) t.at.index (ByBoth c.args.other) k lt (sym c.reads.ensures ∙ c.if-reads.true)) e.3 in
     let p = err_from_is_err_and c.from_residual-in_err-add_slice_to_both.result c.from_residual-in_err-add_slice_to_both.ensures.1 in
     rw (p.1, p.2) (e.0, one, e.2, part)
@@ -115,11 +119,11 @@ returns-clause-of_p g c =
     let t = c.args.search.now in
     let both : Candidate = ByBoth c.args.other in
     let bytes : List ℕ = take (size_of t) (bytes_at c.loop-slice.pool c.args.p.now) in
-    told (g.R.Rack.held c.args.rack.now) (λ images. IsGathered images t both parity.P bytes) (λ images is. gathered_all images t both parity.P c.loop-slice.slice bytes (omega (arith, c.loop-slice-test.false, c.loop-slice.auto.slice-end, c.slice_count-slice-end.ensures.value)) (c.loop-slice.invariant.of_p images is))
+    told (g.R.Rack.seen c.args.rack.now).held (λ images. IsGathered images t both parity.P bytes) (λ images is. gathered_all images t both parity.P c.loop-slice.slice bytes (omega (arith, c.loop-slice-test.false, c.loop-slice.auto.slice-end, c.slice_count-slice-end.ensures.value)) (c.loop-slice.invariant.of_p images is))
 
 pub returns-clause-of_q : goal.returns-clause-of_q
 returns-clause-of_q g c =
     let t = c.args.search.now in
     let both : Candidate = ByBoth c.args.other in
     let bytes : List ℕ = take (size_of t) (bytes_at c.loop-slice.pool c.args.q.now) in
-    told (g.R.Rack.held c.args.rack.now) (λ images. IsGathered images t both parity.Q bytes) (λ images is. gathered_all images t both parity.Q c.loop-slice.slice bytes (omega (arith, c.loop-slice-test.false, c.loop-slice.auto.slice-end, c.slice_count-slice-end.ensures.value)) (c.loop-slice.invariant.of_q images is))
+    told (g.R.Rack.seen c.args.rack.now).held (λ images. IsGathered images t both parity.Q bytes) (λ images is. gathered_all images t both parity.Q c.loop-slice.slice bytes (omega (arith, c.loop-slice-test.false, c.loop-slice.auto.slice-end, c.slice_count-slice-end.ensures.value)) (c.loop-slice.invariant.of_q images is))

@@ -1,17 +1,18 @@
 use Rattle.std.proofs.Common.{◌≡◌, ℕ, List, [], ◌∷◌, take, Some}
-use Rattle.btr_rack.specs.Rack.{NoneFailed}
+use Rattle.btr_rack.specs.Rack.{NoneFailed, OnlyReads}
 use Rattle.btr_pool.specs.Slots.{bytes_at}
 use Rattle.btr_read.specs.declared.candidate.Candidate.TheVariants.{ByBoth}
 use Rattle.btr_read.specs.declared.parity.Parity.TheVariants as parity
 use Rattle.btr_read.specs.Candidates.{size_of}
-use Rattle.btr_read.proofs.Several.{KeepsIn}
+use Rattle.btr_read.specs.Writing.{OnlyWritesIn}
 use Rattle.btr_read.proofs.Sums.{GatheredSoFar}
 use Rattle.btr_read.proofs.gathering.gather_both.Given as goal
 
 abbrev pub invariant-loop-slice : goal.invariant-loop-slice
 invariant-loop-slice g l = record {
-  keeps : KeepsIn (g.R.Rack.slots l.fn.rack) (g.R.Rack.slots l.rack) (g.R.Rack.held l.fn.rack) (g.R.Rack.held l.rack) (g.R.Rack.shelf l.fn.rack) (g.R.Rack.shelf l.rack) l.fn.pool l.pool (l.q ∷ l.spare ∷ l.p ∷ []);
-  calm : NoneFailed (g.R.Rack.account l.fn.rack) (g.R.Rack.account l.rack);
-  of_p : (images : List (List ℕ)) → g.R.Rack.held l.fn.rack ≡ Some images → GatheredSoFar images l.search (ByBoth l.other) parity.P l.slice (take (size_of l.search) (bytes_at l.pool l.p));
-  of_q : (images : List (List ℕ)) → g.R.Rack.held l.fn.rack ≡ Some images → GatheredSoFar images l.search (ByBoth l.other) parity.Q l.slice (take (size_of l.search) (bytes_at l.pool l.q));
+  reads : OnlyReads (g.R.Rack.seen l.fn.rack) (g.R.Rack.seen l.rack);
+  writes : OnlyWritesIn (l.q ∷ l.spare ∷ l.p ∷ []) l.fn.pool l.pool;
+  calm : NoneFailed (g.R.Rack.seen l.fn.rack).account (g.R.Rack.seen l.rack).account;
+  of_p : (images : List (List ℕ)) → (g.R.Rack.seen l.fn.rack).held ≡ Some images → GatheredSoFar images l.search (ByBoth l.other) parity.P l.slice (take (size_of l.search) (bytes_at l.pool l.p));
+  of_q : (images : List (List ℕ)) → (g.R.Rack.seen l.fn.rack).held ≡ Some images → GatheredSoFar images l.search (ByBoth l.other) parity.Q l.slice (take (size_of l.search) (bytes_at l.pool l.q));
 }

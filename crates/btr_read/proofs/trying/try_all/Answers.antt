@@ -1,80 +1,107 @@
-use Rattle.std.proofs.Common.{◌≡◌, ℕ, ◌<◌, ◌≤◌, List, length, false, take, subst, sym, ◌∙◌, arith}
+use Rattle.std.proofs.Common.{◌≡◌, ℕ, ◌<◌, ◌≤◌, List, length, false, take, not, count_by, None, refl, subst, sym, ap, ◌∙◌, arith}
 use Rattle.btr_pool.specs.Slots.{bytes_at}
+use Rattle.btr_rack.specs.Rack.{Seen}
 use Rattle.btr_read.specs.Want.{passes}
-use Rattle.btr_read.specs.Layout.{IsOpen}
-use Rattle.btr_read.specs.Candidates.{size_of, candidates, value_of}
-use Rattle.btr_read.proofs.Keeping.{keeps_more}
-use Rattle.btr_read.proofs.Trials.{TriedSoFar, telling, tried_calm, tried_failed, differs_alone, absent_alone, reading_stands, reading_absent, all_lost, all_unread, one_passes}
+use Rattle.btr_read.specs.Attempt.{FitsOutcome}
+use Rattle.btr_read.specs.Candidates.{Target, size_of, candidates, value_of}
+use Rattle.btr_rack.proofs.Reading.{reads_none, reads_more}
+use Rattle.btr_read.proofs.ReadsOn.{same_held, same_sure, open_still}
+use Rattle.btr_read.proofs.Slots.{only_writes_none, only_writes_more, live_written}
+use Rattle.btr_read.proofs.Serving.{still_none, still_more, still_forgets}
+use Rattle.btr_read.proofs.Trials.{TriedSoFar, telling, tried_none, tried_calm, tried_failed, differs_alone, absent_alone, reading_stands, reading_absent, all_lost, all_unread, one_passes}
 use Rattle.btr_read.proofs.trying.try_all.Goals as goal
 use Rattle.btr_read.proofs.trying.try_all.Goals.{in-Differs, in-Absent, in-Failed}
 
 pub try_candidate-requires-clause-open : goal.try_candidate-requires-clause-open
-try_candidate-requires-clause-open g c = λ devid device is. subst (λ slots. IsOpen slots device) (sym c.loop-k.invariant.keeps.same_slots) (c.requires.open devid device is)
+try_candidate-requires-clause-open g c = open_still c.args.search.now.devices c.loop-k.invariant.reads c.requires.open
+
+pub try_candidate-requires-clause-live : goal.try_candidate-requires-clause-live
+try_candidate-requires-clause-live g c = live_written c.args.pool.now c.loop-k.pool c.args.loan.now c.args.loan.now c.loop-k.invariant.writes c.requires.live
+
+pub try_candidate-requires-clause-room : goal.try_candidate-requires-clause-room
+try_candidate-requires-clause-room g c = omega (arith, c.requires.room, ap (count_by not) c.loop-k.invariant.writes.lent)
+
+pub try_candidate-requires-clause-forgotten : goal.try_candidate-requires-clause-forgotten
+try_candidate-requires-clause-forgotten g c = still_forgets c.args.kept.now.wants c.loop-k.kept.wants c.args.pool.now c.loop-k.pool c.args.loan.now c.loop-k.invariant.still c.requires.forgotten
+
+pub loop-k-init : goal.loop-k-init
+loop-k-init g c = record {
+  reads = reads_none (g.R.Rack.seen c.args.rack.now);
+  writes = only_writes_none c.args.pool.now c.args.loan.now;
+  still = still_none c.args.kept.now.wants c.args.pool.now;
+  tried = tried_none c.args.search.now (g.R.Rack.seen c.args.rack.now) c.requires.missed;
+}
+
+pub returns-in-Passed-clause-pool : goal.returns-in-Passed-clause-pool
+returns-in-Passed-clause-pool g c = only_writes_more c.args.pool.now c.loop-k.pool c.try_candidate.new.pool c.args.loan.now c.loop-k.invariant.writes c.in-Passed.ensures.pool
+
+pub returns-in-Passed-clause-reads : goal.returns-in-Passed-clause-reads
+returns-in-Passed-clause-reads g c = reads_more c.loop-k.invariant.reads c.in-Passed.ensures.reads
+
+pub returns-in-Passed-clause-kept : goal.returns-in-Passed-clause-kept
+returns-in-Passed-clause-kept g c = still_more c.args.kept.now.wants c.loop-k.kept.wants c.try_candidate.new.kept.wants c.args.pool.now c.loop-k.pool c.try_candidate.new.pool c.loop-k.invariant.still c.in-Passed.ensures.kept
 
 pub returns-in-Passed-clause-outcome : goal.returns-in-Passed-clause-outcome
 returns-in-Passed-clause-outcome g c =
     let t = c.args.search.now in
+    let before = g.R.Rack.seen c.args.rack.now in
+    let after = g.R.Rack.seen c.try_candidate.new.rack in
     let e = c.in-Passed.ensures in
     let lt : c.loop-k.k < length (candidates t) = omega (arith, c.loop-k-test.true, c.candidate_count-k-end.ensures) in
-    let bytes : List ℕ = take (size_of t) (bytes_at c.try_candidate.new.pool c.args.loan.now) in
-    let first = one_passes t (g.R.Rack.held c.args.rack.now) (g.R.Rack.account c.args.rack.now).faults (g.R.Rack.account c.loop-k.rack) (g.R.Rack.account c.try_candidate.new.rack) c.loop-k.failed c.loop-k.k c.candidate.result bytes c.loop-k.invariant.tried c.candidate.ensures.value lt e.account e.attempt.0 e.attempt.1 (λ images is. telling (g.R.Rack.held c.loop-k.rack) (λ images. value_of images t c.candidate.result ≡ bytes) e.attempt.2 images (c.loop-k.invariant.keeps.same_held ∙ is)) in
-    (e.attempt.1, first.stands, first.first)
+    let slot = bytes_at c.try_candidate.new.pool c.args.loan.now in
+    let bytes : List ℕ = take (size_of t) slot in
+    subst (FitsOutcome t before after slot) (sym c.passed_after.ensures)
+    (one_passes t before (g.R.Rack.seen c.loop-k.rack) after c.loop-k.failed c.loop-k.k c.candidate.result slot c.requires.fresh c.loop-k.invariant.tried c.candidate.ensures.value lt e.account e.attempt.0 e.attempt.1
+    (λ images is. telling (g.R.Rack.seen c.loop-k.rack).held (λ images. value_of images t c.candidate.result ≡ bytes) e.attempt.2 images (same_held c.loop-k.invariant.reads ∙ is)))
 
 pub loop-k-preserved : goal.loop-k-preserved
 loop-k-preserved g c =
     let t = c.args.search.now in
     let cand = c.candidate.result in
-    let held = g.R.Rack.held c.args.rack.now in
-    let before = (g.R.Rack.account c.args.rack.now).faults in
-    let now = g.R.Rack.account c.loop-k.rack in
-    let after = g.R.Rack.account c.try_candidate.new.rack in
+    let before = g.R.Rack.seen c.args.rack.now in
+    let now = g.R.Rack.seen c.loop-k.rack in
+    let after = g.R.Rack.seen c.try_candidate.new.rack in
+    let inv = c.loop-k.invariant in
     let lt : c.loop-k.k < length (candidates t) = omega (arith, c.loop-k-test.true, c.candidate_count-k-end.ensures) in
     elim c.match-try_candidate.branch [
       | in-Differs w ↦
           let e = w.in-Differs.ensures in
           record {
-            keeps = keeps_more c.loop-k.invariant.keeps e.slots e.held e.shelf e.pool;
-            tried = rw w.failed-is (tried_calm t held before now after c.loop-k.failed c.loop-k.k cand c.loop-k.invariant.tried c.candidate.ensures.value lt e.account (λ images is. differs_alone images t cand (value_of images t cand) (reading_stands images t cand e.attempt.0) (telling (g.R.Rack.held c.loop-k.rack) (λ images. passes t.setting t.want (value_of images t cand) ≡ false) e.attempt.1 images (c.loop-k.invariant.keeps.same_held ∙ is))));
-            calm = λ none. let so_far = c.loop-k.invariant.calm (sym w.failed-is ∙ none) in (e.account.last ∙ so_far.0, e.account.opening ∙ so_far.1);
-            shut = e.account.shut ∙ c.loop-k.invariant.shut;
+            reads = reads_more inv.reads e.reads;
+            writes = only_writes_more c.args.pool.now c.loop-k.pool c.try_candidate.new.pool c.args.loan.now inv.writes e.pool;
+            still = still_more c.args.kept.now.wants c.loop-k.kept.wants c.try_candidate.new.kept.wants c.args.pool.now c.loop-k.pool c.try_candidate.new.pool inv.still e.kept;
+            tried = rw w.failed-is (tried_calm t before now after c.loop-k.failed c.loop-k.k cand inv.tried c.candidate.ensures.value lt e.account (λ images is. differs_alone images t cand (value_of images t cand) (reading_stands images t cand e.attempt.0) (telling now.held (λ images. passes t.setting t.want (value_of images t cand) ≡ false) e.attempt.1 images (same_held inv.reads ∙ is))));
           }
       | in-Absent w ↦
           let e = w.in-Absent.ensures in
           record {
-            keeps = keeps_more c.loop-k.invariant.keeps e.slots e.held e.shelf e.pool;
-            tried = rw w.failed-is (tried_calm t held before now after c.loop-k.failed c.loop-k.k cand c.loop-k.invariant.tried c.candidate.ensures.value lt e.account (λ images is. absent_alone images t cand (reading_absent images t cand e.attempt)));
-            calm = λ none. let so_far = c.loop-k.invariant.calm (sym w.failed-is ∙ none) in (e.account.last ∙ so_far.0, e.account.opening ∙ so_far.1);
-            shut = e.account.shut ∙ c.loop-k.invariant.shut;
+            reads = reads_more inv.reads e.reads;
+            writes = only_writes_more c.args.pool.now c.loop-k.pool c.try_candidate.new.pool c.args.loan.now inv.writes e.pool;
+            still = still_more c.args.kept.now.wants c.loop-k.kept.wants c.try_candidate.new.kept.wants c.args.pool.now c.loop-k.pool c.try_candidate.new.pool inv.still e.kept;
+            tried = rw w.failed-is (tried_calm t before now after c.loop-k.failed c.loop-k.k cand inv.tried c.candidate.ensures.value lt e.account (λ images is. absent_alone images t cand (reading_absent images t cand e.attempt)));
           }
       | in-Failed w ↦
           let e = w.in-Failed.ensures in
           record {
-            keeps = keeps_more c.loop-k.invariant.keeps e.slots e.held e.shelf e.pool;
-            tried = rw w.failed-is (tried_failed t held before now after c.loop-k.failed c.loop-k.k _ cand c.loop-k.invariant.tried c.candidate.ensures.value lt (omega (arith, c.loop-k-test.true, c.candidate_count-k-end.type_inv)) e.attempt e.account);
-            calm = λ none. cc;
-            shut = e.account.1.2 ∙ c.loop-k.invariant.shut;
+            reads = reads_more inv.reads e.reads;
+            writes = only_writes_more c.args.pool.now c.loop-k.pool c.try_candidate.new.pool c.args.loan.now inv.writes e.pool;
+            still = still_more c.args.kept.now.wants c.loop-k.kept.wants c.try_candidate.new.kept.wants c.args.pool.now c.loop-k.pool c.try_candidate.new.pool inv.still e.kept;
+            tried = rw w.failed-is (tried_failed t before now after c.loop-k.failed c.loop-k.k _ cand inv.tried c.candidate.ensures.value lt (omega (arith, c.loop-k-test.true, c.candidate_count-k-end.type_inv)) (same_sure inv.reads) e.attempt e.account);
           }
     ]
 
 pub returns-in-None-clause-outcome : goal.returns-in-None-clause-outcome
 returns-in-None-clause-outcome g c =
     let t = c.args.search.now in
+    let before = g.R.Rack.seen c.args.rack.now in
+    let now = g.R.Rack.seen c.loop-k.rack in
     let le : length (candidates t) ≤ c.loop-k.k = omega (arith, c.loop-k-test.false, c.candidate_count-k-end.ensures) in
-    let lost = all_lost t (g.R.Rack.held c.args.rack.now) (g.R.Rack.account c.args.rack.now).faults (g.R.Rack.account c.loop-k.rack) c.loop-k.k le (subst (λ f. TriedSoFar t (g.R.Rack.held c.args.rack.now) (g.R.Rack.account c.args.rack.now).faults (g.R.Rack.account c.loop-k.rack) f c.loop-k.k) c.in-None.is c.loop-k.invariant.tried) in
-    let calm = c.loop-k.invariant.calm c.in-None.is in (
-      record {
-        faults = c.loop-k.invariant.tried.later;
-        fresh = lost.0 ∙ sym c.requires.fresh;
-        missed = lost.1 ∙ sym c.requires.missed;
-        last = calm.0;
-        opening = calm.1;
-        shut = c.loop-k.invariant.shut;
-      },
-      lost.2,
-    )
+    all_lost t before now c.loop-k.k c.requires.fresh le (subst (λ f. TriedSoFar t before now f c.loop-k.k) c.in-None.is c.loop-k.invariant.tried)
 
 pub returns-in-Some-clause-outcome : goal.returns-in-Some-clause-outcome
 returns-in-Some-clause-outcome g c =
     let t = c.args.search.now in
+    let before = g.R.Rack.seen c.args.rack.now in
+    let now = g.R.Rack.seen c.loop-k.rack in
     let le : length (candidates t) ≤ c.loop-k.k = omega (arith, c.loop-k-test.false, c.candidate_count-k-end.ensures) in
-    all_unread t (g.R.Rack.held c.args.rack.now) (g.R.Rack.account c.args.rack.now).faults (g.R.Rack.account c.loop-k.rack) c.loop-k.k c.in-Some.slot le (subst (λ f. TriedSoFar t (g.R.Rack.held c.args.rack.now) (g.R.Rack.account c.args.rack.now).faults (g.R.Rack.account c.loop-k.rack) f c.loop-k.k) c.in-Some.is c.loop-k.invariant.tried)
+    all_unread t before now c.loop-k.k c.in-Some.slot le (subst (λ f. TriedSoFar t before now f c.loop-k.k) c.in-Some.is c.loop-k.invariant.tried)

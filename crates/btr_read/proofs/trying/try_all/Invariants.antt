@@ -1,12 +1,13 @@
-use Rattle.std.proofs.Common.{◌≡◌, None}
-use Rattle.btr_read.proofs.Keeping.{Keeps}
+use Rattle.std.proofs.Common.{◌≡◌}
+use Rattle.btr_rack.specs.Rack.{OnlyReads}
+use Rattle.btr_read.specs.Writing.{OnlyWrites, StillKept}
 use Rattle.btr_read.proofs.Trials.{TriedSoFar}
 use Rattle.btr_read.proofs.trying.try_all.Given as goal
 
 abbrev pub invariant-loop-k : goal.invariant-loop-k
 invariant-loop-k g l = record {
-  keeps : Keeps (g.R.Rack.slots l.initial.rack) (g.R.Rack.slots l.rack) (g.R.Rack.held l.initial.rack) (g.R.Rack.held l.rack) (g.R.Rack.shelf l.initial.rack) (g.R.Rack.shelf l.rack) l.initial.pool l.pool l.loan;
-  tried : TriedSoFar l.search (g.R.Rack.held l.initial.rack) (g.R.Rack.account l.initial.rack).faults (g.R.Rack.account l.rack) l.failed l.k;
-  calm : l.failed ≡ None → ((g.R.Rack.account l.rack).last ≡ (g.R.Rack.account l.initial.rack).last) × ((g.R.Rack.account l.rack).opening ≡ (g.R.Rack.account l.initial.rack).opening);
-  shut : (g.R.Rack.account l.rack).shut ≡ (g.R.Rack.account l.initial.rack).shut;
+  reads : OnlyReads (g.R.Rack.seen l.initial.rack) (g.R.Rack.seen l.rack);
+  writes : OnlyWrites l.loan l.initial.pool l.pool;
+  still : StillKept l.initial.kept.wants l.kept.wants l.initial.pool l.pool;
+  tried : TriedSoFar l.search (g.R.Rack.seen l.initial.rack) (g.R.Rack.seen l.rack) l.failed l.k;
 }

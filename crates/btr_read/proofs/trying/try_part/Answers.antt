@@ -1,5 +1,6 @@
 use Rattle.std.proofs.Common.{sym}
 use Rattle.btr_read.proofs.Slots.{with_own_bytes, readable}
+use Rattle.btr_rack.proofs.Reading.{reads_none}
 use Rattle.btr_read.proofs.trying.try_part.Goals as goal
 
 pub returns-in_default-clause-kept : goal.returns-in_default-clause-kept
@@ -10,3 +11,6 @@ read_into-requires-clause-open g c = let r = readable _ c.args.search.now c.args
 
 pub read_into-requires-clause-within : goal.read_into-requires-clause-within
 read_into-requires-clause-within g c = let r = readable _ c.args.search.now c.args.part c.in-Some.range c.requires.open (sym c.in-Some.ensures) in r.within
+
+pub returns-in_default-clause-reads : goal.returns-in_default-clause-reads
+returns-in_default-clause-reads g c = reads_none (g.R.Rack.seen c.args.rack.now)
