@@ -1,8 +1,8 @@
 // A rack of files. It tells no content.
-ghost use Rattle.std.specs.Prelude.{◌≡◌, ◌<◌, ◌^◌, [], None, IfSome, length, map};
+ghost use Rattle.std.specs.Prelude.{◌≡◌, []};
 
 use crate::account::Ledger;
-use crate::opened::{OpenedFile, length_of};
+use crate::opened::OpenedFile;
 use crate::opening::Opening;
 use crate::place::Place;
 use crate::place_list::PlaceList;
@@ -39,24 +39,25 @@ impl<R: Files<File = File> + Drop> FileRack<R> {
 impl<R: Files<File = File> + Drop> Rack for FileRack<R> {
     ghost use Rattle.std.specs.Prelude.{None, false};
     ghost use Rattle.btr_rack.specs.FileRack.{sound_files};
+    ghost use Rattle.btr_rack.specs.Opened.{slots_of};
 
-    ghost seen = { λ rack. record { slots = rack.files.items; held = None; shelf = None; unsynced = rack.unsynced.places; sure = false; account = rack.ledger } };
+    ghost seen = { λ rack. record { slots = slots_of rack.files.items; held = None; shelf = None; unsynced = rack.unsynced.places; sure = false; account = rack.ledger } };
 
-    ghost sound = { λ rack. sound_files rack.files.items rack.unsynced.places rack.ledger };
+    ghost sound = { λ rack. sound_files (slots_of rack.files.items) rack.unsynced.places rack.ledger };
 
     fn open(&mut self, name: &str, write: bool) -> Result<usize, RackError> {
         let slot = self.files.len();
         let Ok(opening) = Opening::new(self.alloc, name, write) else {
             return Err(RackError::Memory);
         };
-        match open_file(&self.rt, name, write) {
-            Some((file, len)) => {
-                let Ok(()) = self.files.push(OpenedFile::new(file, opening, len)) else {
+        match OpenedFile::open(&self.rt, opening) {
+            Ok(file) => {
+                let Ok(()) = self.files.push(file) else {
                     return Err(RackError::Memory);
                 };
                 Ok(slot)
             }
-            None => {
+            Err(opening) => {
                 self.ledger.fail_open(opening, Place::of_slot(slot));
                 Err(RackError::Failed)
             }
@@ -73,7 +74,7 @@ impl<R: Files<File = File> + Drop> Rack for FileRack<R> {
 
     fn read_at(&mut self, slot: usize, off: u64, buf: &mut [u8]) -> Result<(), RackError> {
         let len = buf.len() as u64;
-        let file = &self.files[slot];
+        let file = &mut self.files[slot];
         let _end = file.len();
         if file.fill(off, buf) {
             return Ok(());
@@ -86,7 +87,7 @@ impl<R: Files<File = File> + Drop> Rack for FileRack<R> {
         let len = bytes.len() as u64;
         let place = Place { slot, off, len };
         self.unsynced = PlaceList::with(&self.unsynced, &place);
-        let file = &self.files[slot];
+        let file = &mut self.files[slot];
         let _end = file.len();
         if file.store(off, bytes) {
             return Ok(());
@@ -107,16 +108,5 @@ impl<R: Files<File = File> + Drop> Rack for FileRack<R> {
 
     fn forget(&mut self) {
         self.ledger.forget();
-    }
-}
-
-// The file of a path and its length, where it can be opened and is no folder.
-fn open_file<R: Files<File = File>>(rt: &R, path: &str, write: bool) -> Option<(File, u64)>
-    ensures { IfSome result (λ opened. opened.1 < 2 ^ 63) }
-{
-    let mut file = File::options().read(true).write(write).open(rt, path).ok()?;
-    match length_of(&mut file) {
-        Ok(Some(len)) if len < 1 << 63 => Some((file, len)),
-        _ => None,
     }
 }

@@ -9,13 +9,18 @@
 #![tactic(auto)]
 
 mod account;
+mod buffer;
 mod bytes;
 mod calls;
 mod destination;
+mod entry;
 mod error;
 mod failing;
 mod file;
+mod file_id;
 mod folder_tree;
+mod folders;
+mod history;
 mod image;
 mod images;
 mod mem_out;
@@ -29,12 +34,18 @@ mod part;
 mod place;
 mod place_list;
 mod rack;
+mod raw_call;
+mod raw_file;
+mod room;
 mod row;
 mod std_out;
+mod step;
 mod strike;
 #[cfg(test)]
 mod tests;
 mod text;
+mod trail;
+mod transfer;
 mod tree_sink;
 
 pub use bytes::Bytes;
