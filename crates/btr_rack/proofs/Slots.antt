@@ -1,8 +1,9 @@
 -- The slots of the files that are open.
-use Rattle.std.proofs.Common.{◌≡◌, ℕ, ◌+◌, ◌<◌, ◌^◌, Bool, List, [], ◌∷◌, ◌++◌, length, get_or, slice_set, ap, ◌∙◌}
+use Rattle.std.proofs.Common.{◌≡◌, ℕ, ◌+◌, ◌<◌, ◌^◌, Bool, false, None, List, [], ◌∷◌, ◌++◌, length, get_or, slice_set, ap, ◌∙◌}
 use Rattle.std.proofs.Math.Seq.{map-set_same}
 use Rattle.std.proofs.lemmas.List.{map_push, length-map}
-use Rattle.btr_rack.specs.Rack.{Slot, Opening, opening_of}
+use Rattle.btr_rack.specs.declared.place.Place.{Place}
+use Rattle.btr_rack.specs.Rack.{Slot, Account, Seen, Opening, opening_of}
 use Rattle.btr_rack.specs.Opened.{OpenImage, slots_of, IsOpenedAs}
 
 -- a file whose slot is as it was is put in its place
@@ -18,5 +19,12 @@ slots_push opening name write images images' image is short asked all =
     let named : image.slot.name ≡ name = is.name ∙ ap (λ (o : Opening). o.name) asked in
     let mode : image.slot.write ≡ write = is.write ∙ ap (λ (o : Opening). o.write) asked in
     let slot : image.slot ≡ record { name = name; len = image.slot.len; write = write } =
-        ap (λ n. record { name = n; len = image.slot.len; write = image.slot.write }) named ∙ ap (λ w. record { name = name; len = image.slot.len; write = w }) mode in
+    ap (λ n. record { name = n; len = image.slot.len; write = image.slot.write }) named ∙ ap (λ w. record { name = name; len = image.slot.len; write = w }) mode in
     (image.slot.len, short, ap slots_of all ∙ map_push (λ (im : OpenImage). im.slot) images image ∙ ap (λ (s : Slot). slots_of images ++ s ∷ []) slot)
+
+-- what is seen of a rack of files
+abbrev pub seen_files : List Slot → List Place → Account → Seen
+seen_files slots unsynced account = record { slots = slots; held = None; shelf = None; unsynced = unsynced; sure = false; account = account }
+
+pub same_seen : (slots slots' : List Slot) (unsynced unsynced' : List Place) (account : Account) → slots' ≡ slots → unsynced' ≡ unsynced → seen_files slots' unsynced' account ≡ seen_files slots unsynced account
+same_seen slots slots' unsynced unsynced' account e u = ap (λ (s : List Slot). seen_files s unsynced' account) e ∙ ap (λ (p : List Place). seen_files slots p account) u

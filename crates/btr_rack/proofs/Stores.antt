@@ -30,7 +30,7 @@ pub overwritten_end : (off : ℕ) (bytes file : List ℕ) → length file ≤ of
 overwritten_end off bytes file h = grind (arith, common_steps)
 
 grown_first : (off : ℕ) (bytes file file' piece : List ℕ) → length file ≤ off → bytes ≡ [] → file' ≡ file → overwritten (off + length bytes) piece file' ≡ resized off file ++ (bytes ++ piece)
-grown_first off bytes file file' piece h e f = 
+grown_first off bytes file file' piece h e f =
     let at : off + length bytes ≡ off = omega (arith, ap length e) in
     ap (λ n. overwritten n piece file') at ∙ ap (λ g. overwritten off piece g) f ∙ overwritten_end off piece file h ∙ ap (λ b. resized off file ++ (b ++ piece)) (sym e)
 

@@ -23,7 +23,7 @@ unfoldable pub at_sink : Destination → Sink
 at_sink at = record {
   stage = started_stage (is_some at.file);
   depth = at.depth;
-  tree = Some (record { rows = at.trail.told.rows; part = option_map (part_of at.trail.told.name at.buffer) at.file })
+  tree = Some (record { rows = at.trail.told.rows; part = option_map (part_of at.trail.told.name at.buffer) at.file });
 }
 
 abbrev pub folder_sink : Option Destination → Sink
@@ -48,5 +48,5 @@ folder_sound None = record { part = refl; rows = λ e. refl; depth = λ e. refl 
 folder_sound (Some at) = record {
   part = told_part at.trail.told.name at.buffer at.file;
   rows = started_rows at.trail.told.rows (is_some at.file);
-  depth = started_depth at (is_some at.file)
+  depth = started_depth at (is_some at.file);
 }

@@ -78,7 +78,11 @@ impl RawFile {
         ensures { self.new.history.events ≡ (if result then event (Cut len) [] else refused) ∷ self.old.history.events }
     {
         let done = self.file.set_len(len).is_ok();
-        let call = if done { RawCall::Cut(len) } else { RawCall::Refused };
+        let call = if done {
+            RawCall::Cut(len)
+        } else {
+            RawCall::Refused
+        };
         self.history = History::with(&self.history, &call, &[]);
         done
     }
@@ -88,7 +92,11 @@ impl RawFile {
         ensures { self.new.history.events ≡ (if result then event Synced [] else refused) ∷ self.old.history.events }
     {
         let done = self.file.sync_all().is_ok();
-        let call = if done { RawCall::Synced } else { RawCall::Refused };
+        let call = if done {
+            RawCall::Synced
+        } else {
+            RawCall::Refused
+        };
         self.history = History::with(&self.history, &call, &[]);
         done
     }
