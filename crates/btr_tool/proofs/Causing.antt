@@ -44,7 +44,7 @@ opening_failed names slots old mid new slot name named before none one opening s
   opening = opening;
   before = before;
   last = one.last;
-  faults = rose_behind old.faults mid.faults new.faults none.faults one.faults;
+  faults = rose_behind old.faults mid.faults new.faults (omega (arith, none.faults)) one.faults;
   fresh = some_fresh mid.fresh new.fresh one.fresh;
   shut = shut ∙ ap next_count none.shut;
 }

@@ -73,7 +73,7 @@ read_failed old mid new slot none failed = record {
   place = failed.0;
   of_super = failed.1;
   last = failed.2.last;
-  faults = rose_behind old.faults mid.faults new.faults none.faults failed.2.faults;
+  faults = rose_behind old.faults mid.faults new.faults (omega (arith, none.faults)) failed.2.faults;
   fresh = some_fresh mid.fresh new.fresh failed.2.fresh;
   shut = failed.3 ∙ none.shut;
 }

@@ -13,12 +13,12 @@ use std::alloc::Global;
 ///
 /// `ImageFault` names the first image that can't be opened; `Memory` comes for want of it.
 pub(crate) fn open_images<R: Rack>(names: &[String], rack: &mut R) -> Result<(), Answer>
-    requires empty { R.slots rack.old ≡ [] }
+    requires empty { (R.seen rack.old).slots ≡ [] }
     requires some { 0 < length names.now }
-    ensures images { OpensAll (map string_bytes names.now) (R.shelf rack.old) (R.held rack.new) result }
-    ensures cause { OpeningCause (map string_bytes names.now) (R.slots rack.new) (R.account rack.old) (R.account rack.new) result }
-    ensures unchanged { AreUnchanged (R.shelf rack.old) (R.slots rack.new) (R.held rack.new) }
-    ensures count { OnOk result (length (R.slots rack.new) ≡ length names.now) }
+    ensures images { OpensAll (map string_bytes names.now) (R.seen rack.old).shelf (R.seen rack.new).held result }
+    ensures cause { OpeningCause (map string_bytes names.now) (R.seen rack.new).slots (R.seen rack.old).account (R.seen rack.new).account result }
+    ensures unchanged { AreUnchanged (R.seen rack.old).shelf (R.seen rack.new).slots (R.seen rack.new).held }
+    ensures count { OnOk result (length (R.seen rack.new).slots ≡ length names.now) }
 {
     for (slot, name) in names.iter().enumerate() {
         match rack.open(name.as_str(), false) {
@@ -35,11 +35,11 @@ pub(crate) fn open_images<R: Rack>(names: &[String], rack: &mut R) -> Result<(),
 /// `NoSuper` and `SumKind` speak of the first image without a valid copy, `ImageFault` names the first
 /// image of which a read failed, and `Memory` comes for want of it.
 pub(crate) fn read_supers<R: Rack>(alloc: Global, rack: &mut R) -> Result<Vec<Super>, Answer>
-    ensures supers { IfSome (R.held rack.old) (λ images. Reads images result) }
-    ensures cause { ReadingCause (R.account rack.old) (R.account rack.new) result }
-    ensures slots { R.slots rack.new ≡ R.slots rack.old }
-    ensures held { R.held rack.new ≡ R.held rack.old }
-    ensures count { IfOk result (λ supers. length supers.items ≡ length (R.slots rack.old)) }
+    ensures supers { IfSome (R.seen rack.old).held (λ images. Reads images result) }
+    ensures cause { ReadingCause (R.seen rack.old).account (R.seen rack.new).account result }
+    ensures slots { (R.seen rack.new).slots ≡ (R.seen rack.old).slots }
+    ensures held { (R.seen rack.new).held ≡ (R.seen rack.old).held }
+    ensures count { IfOk result (λ supers. length supers.items ≡ length (R.seen rack.old).slots) }
 {
     let mut supers = Vec::new(alloc);
     for slot in 0..rack.count() {

@@ -24,28 +24,28 @@ const MOST_IMAGES: usize = 64;
 /// last thing put for a refusal is its error line, unless the output refuses that. Where memory is
 /// wanted for the text itself, a first part of the text may stand before the line that says so.
 pub fn run<R: Rack, O: Out>(alloc: Global, words: &[String], rack: &mut R, out: &mut O) -> Answer
-    requires { R.slots rack.old ≡ [] }
+    requires { (R.seen rack.old).slots ≡ [] }
 
     // Where no call failed and memory sufficed, the answer and the text are those of the words and the images.
-    ensures effect { IfSome (R.shelf rack.old) (λ shelf. Steady (R.account rack.old).faults (R.account rack.new).faults → Steady (O.faults out.old) (O.faults out.new)
+    ensures effect { IfSome (R.seen rack.old).shelf (λ shelf. Steady (R.seen rack.old).account.faults (R.seen rack.new).account.faults → Steady (O.account out.old).faults (O.account out.new).faults
         → result ≢ Answer.Memory → HasEffect (map string_bytes words.now) shelf (O.text out.old) (O.text out.new) result) }
 
     // Where no call on an image failed, a first part of that text is put, and behind it one of the line for want of
     // memory, whatever the answer.
-    ensures part { IfSome (R.shelf rack.old) (λ shelf. Steady (R.account rack.old).faults (R.account rack.new).faults → HasPart (map string_bytes words.now) shelf (O.text out.old) (O.text out.new)) }
+    ensures part { IfSome (R.seen rack.old).shelf (λ shelf. Steady (R.seen rack.old).account.faults (R.seen rack.new).account.faults → HasPart (map string_bytes words.now) shelf (O.text out.old) (O.text out.new)) }
 
     // What the words alone decide is answered before any call on the rack, and only then.
     ensures decided { (answer : Answer) → IsDecided (map string_bytes words.now) answer → (rack.new ≡ rack.old) × ((result ≡ answer) ⊎ (result ≡ Answer.OutFault) ⊎ (result ≡ Answer.Memory)) }
     ensures stated { FollowsWords (map string_bytes words.now) result }
 
     // A fault of an image or of the output is answered only where a call on it failed.
-    ensures image { (slot : ℕ) → result ≡ Answer.ImageFault slot → ImageCause (map string_bytes words.now) (R.slots rack.new) (R.account rack.old) (R.account rack.new) slot }
-    ensures shut { (R.account rack.old).shut < (R.account rack.new).shut
-        → ((slot : ℕ) × (result ≡ Answer.ImageFault slot) × IsUnopened (map string_bytes words.now) (R.slots rack.new) (R.account rack.old) (R.account rack.new) slot) ⊎ (result ≡ Answer.OutFault) ⊎ (result ≡ Answer.Memory) }
-    ensures out { result ≡ Answer.OutFault → Rose (O.faults out.old) (O.faults out.new) }
+    ensures image { (slot : ℕ) → result ≡ Answer.ImageFault slot → ImageCause (map string_bytes words.now) (R.seen rack.new).slots (R.seen rack.old).account (R.seen rack.new).account slot }
+    ensures shut { (R.seen rack.old).account.shut < (R.seen rack.new).account.shut
+        → ((slot : ℕ) × (result ≡ Answer.ImageFault slot) × IsUnopened (map string_bytes words.now) (R.seen rack.new).slots (R.seen rack.old).account (R.seen rack.new).account slot) ⊎ (result ≡ Answer.OutFault) ⊎ (result ≡ Answer.Memory) }
+    ensures out { result ≡ Answer.OutFault → Rose (O.account out.old).faults (O.account out.new).faults }
 
     // The images were opened only to be read, and hold what the shelf held, where the rack tells it.
-    ensures unchanged { AreUnchanged (R.shelf rack.old) (R.slots rack.new) (R.held rack.new) }
+    ensures unchanged { AreUnchanged (R.seen rack.old).shelf (R.seen rack.new).slots (R.seen rack.new).held }
 
     // What stands in the output after each answer.
     ensures told { IsTold (O.text out.old) (O.text out.new) result }
@@ -66,13 +66,13 @@ fn superblock_text<R: Rack>(
     names: &[String],
     rack: &mut R,
 ) -> Result<Vec<u8>, Answer>
-    requires empty { R.slots rack.old ≡ [] }
+    requires empty { (R.seen rack.old).slots ≡ [] }
     requires some { 0 < length names.now }
-    ensures effect { IfSome (R.shelf rack.old) (λ shelf. IsSuperEffect (map string_bytes names.now) shelf result) }
-    ensures cause { SuperCause (map string_bytes names.now) (R.slots rack.new) (R.account rack.old) (R.account rack.new) result }
+    ensures effect { IfSome (R.seen rack.old).shelf (λ shelf. IsSuperEffect (map string_bytes names.now) shelf result) }
+    ensures cause { SuperCause (map string_bytes names.now) (R.seen rack.new).slots (R.seen rack.old).account (R.seen rack.new).account result }
     ensures shown { IfOk result (λ text. IsSuperText text.items) }
     ensures limit { HasTooMany (map string_bytes names.now) result }
-    ensures unchanged { AreUnchanged (R.shelf rack.old) (R.slots rack.new) (R.held rack.new) }
+    ensures unchanged { AreUnchanged (R.seen rack.old).shelf (R.seen rack.new).slots (R.seen rack.new).held }
     ensures early { most_images < length names.now → rack.new ≡ rack.old }
 {
     if names.len() > MOST_IMAGES {
@@ -89,7 +89,7 @@ fn superblock_text<R: Rack>(
 
 // Puts the text of a command that was done. Where memory is wanted for it, the line that says so comes last.
 fn show<O: Out>(text: &[u8], out: &mut O) -> Answer
-    ensures { IsShown (O.text out.old) (O.text out.new) (O.faults out.old) (O.faults out.new) text.now result }
+    ensures { IsShown (O.text out.old) (O.text out.new) (O.account out.old).faults (O.account out.new).faults text.now result }
 {
     match put(text, Answer::Done { skipped: 0 }, out) {
         Answer::Memory => put(NO_MEMORY, Answer::Memory, out),
@@ -99,7 +99,7 @@ fn show<O: Out>(text: &[u8], out: &mut O) -> Answer
 
 // Puts the line of a refusal, and answers it.
 fn refuse<O: Out>(alloc: Global, answer: Answer, out: &mut O) -> Answer
-    ensures { IsRefused (O.text out.old) (O.text out.new) (O.faults out.old) (O.faults out.new) answer result }
+    ensures { IsRefused (O.text out.old) (O.text out.new) (O.account out.old).faults (O.account out.new).faults answer result }
 {
     match refusal(alloc, answer) {
         Ok(line) => put(&line, answer, out),
@@ -109,7 +109,7 @@ fn refuse<O: Out>(alloc: Global, answer: Answer, out: &mut O) -> Answer
 
 // Puts a text, and gives the answer that is due then.
 fn put<O: Out>(text: &[u8], answer: Answer, out: &mut O) -> Answer
-    ensures { IsPut (O.text out.old) (O.text out.new) (O.faults out.old) (O.faults out.new) text.now answer result }
+    ensures { IsPut (O.text out.old) (O.text out.new) (O.account out.old).faults (O.account out.new).faults text.now answer result }
 {
     match out.put(text) {
         Ok(()) => answer,

@@ -14,10 +14,10 @@ omega_within xs i lt = omega (arith, length-map xs string_bytes)
 pub loop-slot-preserved : goal.loop-slot-preserved
 loop-slot-preserved g c =
     let names = map string_bytes c.args.names.now in
-    let slots = g.R.Rack.slots c.loop-slot.rack in
+    let slots = (g.R.Rack.seen c.loop-slot.rack).slots in
     let name = name_at c.args.names.now c.loop-slot.slot c.index-names-slot.result c.as_str.result.now (omega arith) c.as_str.ensures.value c.index-names-slot.is in
     let within = omega_within c.args.names.now c.loop-slot.slot c.loop-slot-test.true in
-    let new = g.R.Rack.slots c.open.new.self in
+    let new = (g.R.Rack.seen c.open.new.self).slots in
     let opened : Slot = record { name = c.as_str.result.now; len = c.in-Ok.ensures.slots.1.0; write = false } in
     let more = slot_names slots new opened c.in-Ok.ensures.slots.1.2 in
     record {
@@ -25,18 +25,18 @@ loop-slot-preserved g c =
       before = names_before names slots new opened c.loop-slot.slot c.in-Ok.ensures.slots.1.2 within name c.loop-slot.invariant.before;
       account = none_failed_twice _ _ _ c.loop-slot.invariant.account c.in-Ok.ensures.account;
       closed = closed_more slots new opened c.in-Ok.ensures.slots.1.2 refl c.loop-slot.invariant.closed;
-      images = open_more (g.R.Rack.shelf c.args.rack.now) (map (λ s. s.name) slots) (map (λ s. s.name) new) c.as_str.result.now _ _ _ _ slots c.in-Ok.field-0 more
-          c.loop-slot.invariant.images c.in-Ok.ensures.images (g.met.R.Rack.sized c.loop-slot.rack) (sym (length-map slots (λ s. s.name)));
+      images = open_more (g.R.Rack.seen c.args.rack.now).shelf (map (λ s. s.name) slots) (map (λ s. s.name) new) c.as_str.result.now _ _ _ _ slots c.in-Ok.field-0 more
+          c.loop-slot.invariant.images c.in-Ok.ensures.images (g.met.R.Rack.sound c.loop-slot.rack).sized (sym (length-map slots (λ s. s.name)));
     }
 
 pub returns-in-Err-Failed-clause-unchanged : goal.returns-in-Err-Failed-clause-unchanged
 returns-in-Err-Failed-clause-unchanged g c =
-    refused_unchanged c.as_str.result.now (g.R.Rack.shelf c.args.rack.now) _ _ _ _ (g.R.Rack.slots c.loop-slot.rack) _ Failed c.loop-slot.invariant.closed (g.met.R.Rack.sized c.loop-slot.rack)
+    refused_unchanged c.as_str.result.now (g.R.Rack.seen c.args.rack.now).shelf _ _ _ _ (g.R.Rack.seen c.loop-slot.rack).slots _ Failed c.loop-slot.invariant.closed (g.met.R.Rack.sound c.loop-slot.rack).sized
     c.loop-slot.invariant.images c.in-Err-Failed.ensures.images c.in-Err-Failed.ensures.slots
 
 pub returns-in-Err-Memory-clause-unchanged : goal.returns-in-Err-Memory-clause-unchanged
 returns-in-Err-Memory-clause-unchanged g c =
-    refused_unchanged c.as_str.result.now (g.R.Rack.shelf c.args.rack.now) _ _ _ _ (g.R.Rack.slots c.loop-slot.rack) _ Memory c.loop-slot.invariant.closed (g.met.R.Rack.sized c.loop-slot.rack)
+    refused_unchanged c.as_str.result.now (g.R.Rack.seen c.args.rack.now).shelf _ _ _ _ (g.R.Rack.seen c.loop-slot.rack).slots _ Memory c.loop-slot.invariant.closed (g.met.R.Rack.sound c.loop-slot.rack).sized
     c.loop-slot.invariant.images c.in-Err-Memory.ensures.images c.in-Err-Memory.ensures.slots
 
 all_within : (xs : List (String Global)) (i : ℕ) → length xs ≤ i → length (map string_bytes xs) ≤ i
@@ -47,9 +47,9 @@ some_named xs lt = omega (arith, length-map xs string_bytes)
 
 pub returns-clause-images : goal.returns-clause-images
 returns-clause-images g c =
-    all_open (map string_bytes c.args.names.now) (map (λ s. s.name) (g.R.Rack.slots c.loop-slot.rack)) c.loop-slot.slot (g.R.Rack.shelf c.args.rack.now) (g.R.Rack.shelf c.loop-slot.rack) (g.R.Rack.held c.loop-slot.rack)
+    all_open (map string_bytes c.args.names.now) (map (λ s. s.name) (g.R.Rack.seen c.loop-slot.rack).slots) c.loop-slot.slot (g.R.Rack.seen c.args.rack.now).shelf (g.R.Rack.seen c.loop-slot.rack).shelf (g.R.Rack.seen c.loop-slot.rack).held
     (some_named c.args.names.now c.requires.some) c.loop-slot.invariant.before (all_within c.args.names.now c.loop-slot.slot c.loop-slot-test.false) c.loop-slot.invariant.images
 
 pub returns-clause-unchanged : goal.returns-clause-unchanged
 returns-clause-unchanged g c =
-    so_far_unchanged (g.R.Rack.shelf c.args.rack.now) (g.R.Rack.shelf c.loop-slot.rack) (g.R.Rack.held c.loop-slot.rack) (g.R.Rack.slots c.loop-slot.rack) c.loop-slot.invariant.closed (g.met.R.Rack.sized c.loop-slot.rack) c.loop-slot.invariant.images
+    so_far_unchanged (g.R.Rack.seen c.args.rack.now).shelf (g.R.Rack.seen c.loop-slot.rack).shelf (g.R.Rack.seen c.loop-slot.rack).held (g.R.Rack.seen c.loop-slot.rack).slots c.loop-slot.invariant.closed (g.met.R.Rack.sound c.loop-slot.rack).sized c.loop-slot.invariant.images

@@ -7,9 +7,9 @@ use Rattle.btr_tool.proofs.images.open_images.Given as goal
 
 abbrev pub invariant-loop-slot : goal.invariant-loop-slot
 invariant-loop-slot g l = record {
-  count : length (g.R.Rack.slots l.rack) ≡ l.slot;
-  before : map (λ s. s.name) (g.R.Rack.slots l.rack) ≡ take l.slot (map string_bytes l.names);
-  account : NoneFailed (g.R.Rack.account l.fn.rack) (g.R.Rack.account l.rack);
-  closed : All (λ s. s.write ≡ false) (g.R.Rack.slots l.rack);
-  images : OpenSoFar (map (λ s. s.name) (g.R.Rack.slots l.rack)) (g.R.Rack.shelf l.fn.rack) (g.R.Rack.shelf l.rack) (g.R.Rack.held l.rack);
+  count : length (g.R.Rack.seen l.rack).slots ≡ l.slot;
+  before : map (λ s. s.name) (g.R.Rack.seen l.rack).slots ≡ take l.slot (map string_bytes l.names);
+  account : NoneFailed (g.R.Rack.seen l.fn.rack).account (g.R.Rack.seen l.rack).account;
+  closed : All (λ s. s.write ≡ false) (g.R.Rack.seen l.rack).slots;
+  images : OpenSoFar (map (λ s. s.name) (g.R.Rack.seen l.rack).slots) (g.R.Rack.seen l.fn.rack).shelf (g.R.Rack.seen l.rack).shelf (g.R.Rack.seen l.rack).held;
 }

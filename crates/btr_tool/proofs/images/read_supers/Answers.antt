@@ -9,14 +9,14 @@ pub loop-slot-init : goal.loop-slot-init
 loop-slot-init g c = record {
   slots = refl;
   held = refl;
-  account = none_failed_yet (g.R.Rack.account c.args.rack.now);
+  account = none_failed_yet (g.R.Rack.seen c.args.rack.now).account;
   count = ap length c.new-supers.ensures.items;
-  supers = subst (λ l. ReadSoFar (g.R.Rack.held c.args.rack.now) l 0) (sym c.new-supers.ensures.items) (none_read (g.R.Rack.held c.args.rack.now));
+  supers = subst (λ l. ReadSoFar (g.R.Rack.seen c.args.rack.now).held l 0) (sym c.new-supers.ensures.items) (none_read (g.R.Rack.seen c.args.rack.now).held);
 }
 
 pub returns-in-Err-clause-supers : goal.returns-in-Err-clause-supers
 returns-in-Err-clause-supers g c =
-    let held = g.R.Rack.held c.args.rack.now in
+    let held = (g.R.Rack.seen c.args.rack.now).held in
     subst (λ a. IfSome held (λ images. Reads images (Err a))) (sym c.slot_refusal.ensures)
-    (read_fault (g.R.Rack.slots c.args.rack.now) c.loop-slot.supers.items c.loop-slot.slot (omega (arith, c.count-slot-end.ensures)) held c.in-Err.fault (g.met.R.Rack.sized c.args.rack.now)
+    (read_fault (g.R.Rack.seen c.args.rack.now).slots c.loop-slot.supers.items c.loop-slot.slot (omega (arith, c.count-slot-end.ensures)) held c.in-Err.fault (g.met.R.Rack.sound c.args.rack.now).sized
     c.loop-slot.invariant.supers (subst (λ h. Found h c.loop-slot.slot (Err c.in-Err.fault)) c.loop-slot.invariant.held c.in-Err.ensures.answer))

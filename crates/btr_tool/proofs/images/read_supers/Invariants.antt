@@ -5,9 +5,9 @@ use Rattle.btr_tool.proofs.images.read_supers.Given as goal
 
 abbrev pub invariant-loop-slot : goal.invariant-loop-slot
 invariant-loop-slot g l = record {
-  slots : g.R.Rack.slots l.rack ≡ g.R.Rack.slots l.fn.rack;
-  held : g.R.Rack.held l.rack ≡ g.R.Rack.held l.fn.rack;
-  account : NoneFailed (g.R.Rack.account l.fn.rack) (g.R.Rack.account l.rack);
+  slots : (g.R.Rack.seen l.rack).slots ≡ (g.R.Rack.seen l.fn.rack).slots;
+  held : (g.R.Rack.seen l.rack).held ≡ (g.R.Rack.seen l.fn.rack).held;
+  account : NoneFailed (g.R.Rack.seen l.fn.rack).account (g.R.Rack.seen l.rack).account;
   count : length l.supers.items ≡ l.slot;
-  supers : ReadSoFar (g.R.Rack.held l.fn.rack) l.supers.items l.slot;
+  supers : ReadSoFar (g.R.Rack.seen l.fn.rack).held l.supers.items l.slot;
 }

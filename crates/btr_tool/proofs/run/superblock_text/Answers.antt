@@ -12,7 +12,7 @@ as_many xs n le = omega (arith, length-map xs string_bytes)
 
 pub returns-in-Ok-clause-effect : goal.returns-in-Ok-clause-effect
 returns-in-Ok-clause-effect g c =
-    shown_is (map string_bytes c.args.names.now) (g.R.Rack.shelf c.args.rack.now) (g.R.Rack.held c.open_images.new.rack) c.in_ok-open_images.ensures.images (as_many c.args.names.now 64 c.if-names-gt-MOST_IMAGES.false)
+    shown_is (map string_bytes c.args.names.now) (g.R.Rack.seen c.args.rack.now).shelf (g.R.Rack.seen c.open_images.new.rack).held c.in_ok-open_images.ensures.images (as_many c.args.names.now 64 c.if-names-gt-MOST_IMAGES.false)
     c.in_ok-supers.supers.items c.choose-slot.result c.index.result.now c.in-Ok.text c.in_ok-supers.ensures.supers
     (ap newest_index (sym c.deref.ensures.value) ∙ c.choose-slot.ensures.newest) (omega (arith, c.choose-slot.ensures.bound, ap length c.deref.ensures.value)) c.index.ensures c.in-Ok.ensures
 
@@ -21,4 +21,4 @@ returns-in-Ok-clause-shown g c = (c.choose-slot.result, c.index.result.now, c.in
 
 pub returns-then-names-gt-MOST_IMAGES-clause-unchanged : goal.returns-then-names-gt-MOST_IMAGES-clause-unchanged
 returns-then-names-gt-MOST_IMAGES-clause-unchanged g c =
-    unopened (g.R.Rack.shelf c.args.rack.now) (g.R.Rack.held c.args.rack.now) (g.R.Rack.slots c.args.rack.now) (g.met.R.Rack.sized c.args.rack.now) c.requires.empty
+    unopened (g.R.Rack.seen c.args.rack.now).shelf (g.R.Rack.seen c.args.rack.now).held (g.R.Rack.seen c.args.rack.now).slots (g.met.R.Rack.sound c.args.rack.now).sized c.requires.empty
