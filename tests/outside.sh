@@ -37,11 +37,11 @@ expect 'an image, with all closed' 4
 if command -v strace >/dev/null 2>&1; then
     strace -o "$folder/calls" "$top/crates/btr_tool/out/btr_tool" super "$image" <&- >&- 2>&-
     expect 'an image, traced' 4
-    if grep -F "\"$image\"" "$folder/calls" | grep -q ' = [0-2]$'; then
-        echo 'the image has a standard descriptor' >&2
+    opened=$(grep -F "\"$image\"" "$folder/calls" | sed -n 's/^open.* = \([0-9]*\)$/\1/p')
+    if [ "${opened:-0}" -le 2 ]; then
+        echo "the image has descriptor ${opened:-none}" >&2
         wrong=1
     fi
-    grep -F "\"$image\"" "$folder/calls" | grep -q 'open.* = [3-9]$' || { echo 'the image was not opened' >&2; wrong=1; }
 fi
 
 mkfifo "$folder/pipe"

@@ -1,5 +1,9 @@
 // A rack of files. It tells no content.
-ghost use Rattle.std.specs.Prelude.{◌≡◌, []};
+ghost use Rattle.std.specs.Prelude.{◌≡◌, ◌+◌, ◌<◌, ◌≤◌, [], ◌∷◌, length, OnOk, IsErrOf, IsTrue};
+ghost use Rattle.btr_rack.specs.declared.raw_call.RawCall.TheVariants.{Synced};
+ghost use Rattle.btr_rack.specs.Rack.{OnlyCounts, Accounts, Unsyncs, Syncs, range_in, len_of, opened_to_write};
+ghost use Rattle.btr_rack.specs.History.{event, Reads, Stores};
+ghost use Rattle.btr_rack.specs.Opened.{slots_of, history_in, seen_files};
 
 use crate::account::Ledger;
 use crate::opened::OpenedFile;
@@ -37,11 +41,9 @@ impl<R: Files<File = File> + Drop> FileRack<R> {
 }
 
 impl<R: Files<File = File> + Drop> Rack for FileRack<R> {
-    ghost use Rattle.std.specs.Prelude.{None, false};
     ghost use Rattle.btr_rack.specs.FileRack.{sound_files};
-    ghost use Rattle.btr_rack.specs.Opened.{slots_of};
 
-    ghost seen = { λ rack. record { slots = slots_of rack.files.items; held = None; shelf = None; unsynced = rack.unsynced.places; sure = false; account = rack.ledger } };
+    ghost seen = { λ rack. seen_files rack.files.items rack.unsynced.places rack.ledger };
 
     ghost sound = { λ rack. sound_files (slots_of rack.files.items) rack.unsynced.places rack.ledger };
 
@@ -72,7 +74,14 @@ impl<R: Files<File = File> + Drop> Rack for FileRack<R> {
         self.files[slot].len()
     }
 
-    fn read_at(&mut self, slot: usize, off: u64, buf: &mut [u8]) -> Result<(), RackError> {
+    fn read_at(&mut self, slot: usize, off: u64, buf: &mut [u8]) -> Result<(), RackError>
+        requires open { slot < length (slots_of self.old.files.items) }
+        requires range { off + length buf.old ≤ len_of (slots_of self.old.files.items) slot }
+        ensures same { OnlyCounts (seen_files self.old.files.items self.old.unsynced.places self.old.ledger) (seen_files self.new.files.items self.new.unsynced.places self.new.ledger) }
+        ensures account { Accounts (range_in slot off (length buf.old)) self.old.ledger self.new.ledger result }
+        ensures memory { IsErrOf result RackError.Memory → ⊥ }
+        ensures read { OnOk result (Reads off (history_in self.old.files.items slot) (history_in self.new.files.items slot) buf.new) }
+    {
         let len = buf.len() as u64;
         let file = &mut self.files[slot];
         let _end = file.len();
@@ -83,7 +92,14 @@ impl<R: Files<File = File> + Drop> Rack for FileRack<R> {
         Err(RackError::Failed)
     }
 
-    fn write_at(&mut self, slot: usize, off: u64, bytes: &[u8]) -> Result<(), RackError> {
+    fn write_at(&mut self, slot: usize, off: u64, bytes: &[u8]) -> Result<(), RackError>
+        requires open { slot < length (slots_of self.old.files.items) }
+        requires write { IsTrue (opened_to_write (slots_of self.old.files.items) slot) }
+        requires range { off + length bytes.now ≤ len_of (slots_of self.old.files.items) slot }
+        ensures rest { Unsyncs (range_in slot off (length bytes.now)) (seen_files self.old.files.items self.old.unsynced.places self.old.ledger) (seen_files self.new.files.items self.new.unsynced.places self.new.ledger) }
+        ensures account { Accounts (range_in slot off (length bytes.now)) self.old.ledger self.new.ledger result }
+        ensures stored { OnOk result (Stores off (history_in self.old.files.items slot) (history_in self.new.files.items slot) bytes.now) }
+    {
         let len = bytes.len() as u64;
         let place = Place { slot, off, len };
         self.unsynced = PlaceList::with(&self.unsynced, &place);
@@ -96,7 +112,13 @@ impl<R: Files<File = File> + Drop> Rack for FileRack<R> {
         Err(RackError::Failed)
     }
 
-    fn sync(&mut self, slot: usize) -> Result<(), RackError> {
+    fn sync(&mut self, slot: usize) -> Result<(), RackError>
+        requires { slot < length (slots_of self.old.files.items) }
+        ensures synced { Syncs slot (seen_files self.old.files.items self.old.unsynced.places self.old.ledger) (seen_files self.new.files.items self.new.unsynced.places self.new.ledger) result }
+        ensures account { Accounts (range_in slot 0 0) self.old.ledger self.new.ledger result }
+        ensures memory { IsErrOf result RackError.Memory → ⊥ }
+        ensures asked { OnOk result (history_in self.new.files.items slot ≡ event Synced [] ∷ history_in self.old.files.items slot) }
+    {
         let place = Place::of_slot(slot);
         if self.files[slot].sync() {
             self.unsynced = PlaceList::without(&self.unsynced, &place);
