@@ -4,8 +4,8 @@
 //! The engine is generic over `Rack`, `TreeSink` and `Out`. A call that answers a fault of the outside has
 //! counted it, so a caller can say which fault stands behind an answer: `specs/Rack.antt`, `specs/Sink.antt`
 //! and `specs/Out.antt` have the words. `MemRack`, `MemTree` and `MemOut` are in memory, tell their content,
-//! and fail exactly where they are made to. `FileRack`, `FolderTree` and `StdOut` are the real ones, and tell
-//! none.
+//! and fail exactly where they are made to. `FileRack`, `FolderTree` and `StdOut` are the real ones. What was
+//! asked of a real file is in its history (`specs/History.antt`), and `FolderTree` tells what that came to.
 #![tactic(auto)]
 
 mod account;

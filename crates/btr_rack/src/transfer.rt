@@ -30,7 +30,7 @@ pub(crate) fn store(raw: &mut RawFile, off: u64, bytes: &[u8]) -> usize
     let mut done = 0;
     while done < bytes.len() {
         match raw.store(off + done as u64, &bytes[done..]) {
-            Some(count) => done += count,
+            Some(stored) => done += stored,
             None => return done,
         }
     }
