@@ -1,5 +1,9 @@
+pub mod Unstarted
 pub mod Patches
 pub mod Racks
 pub mod Reading
+pub mod Slots
+pub mod Stores
+pub mod Transfers
 pub mod Shelves
 pub mod Sures

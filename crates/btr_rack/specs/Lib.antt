@@ -11,4 +11,9 @@ pub mod MemOut
 pub mod MemTree
 pub mod MemTreeLaws
 pub mod FileRack
+pub mod History
+pub mod Opened
+pub mod Growing
+pub mod Entry
+pub mod Told
 pub mod FolderTree

@@ -1,9 +1,154 @@
-use crate::new_file::NewFile;
+// Where a folder that is a sink stands.
+ghost use Rattle.std.specs.Prelude.{◌≡◌, ◌+◌, ◌<◌, ◌^◌, ℕ, [], ◌∷◌, take, replicate, true, false, IsTrue};
+ghost use Rattle.btr_rack.specs.Sink.{InFile, started, entered, left, begun, grown, finished};
+ghost use Rattle.btr_rack.specs.History.{opened};
+ghost use Rattle.btr_rack.specs.Told.{path_of};
+ghost use Rattle.btr_rack.specs.FolderTree.{at_sink, unstarted};
 
-/// Where a sink that is a folder stands, once it is started.
-#[derive(Drop)]
+use crate::buffer::Buffer;
+use crate::file_id::FileId;
+use crate::folders::Folders;
+use crate::history::History;
+use crate::new_file::NewFile;
+use crate::room::Room;
+use crate::step::Step;
+use crate::trail::Trail;
+
+/// Where a folder that is a sink stands, once it is started. A file that isn't finished is written out when the value
+/// is dropped, too.
 pub(crate) struct Destination {
-    /// How many folders were entered below the destination.
-    pub(crate) depth: u64,
-    pub(crate) file: Option<NewFile>,
+    // How many folders were entered below the destination.
+    depth: u64,
+    folders: Folders,
+    file: Option<NewFile>,
+    // The bytes of the file that wait to be stored.
+    buffer: Buffer,
+    // What was done.
+    trail: Trail,
+}
+
+impl Destination {
+    /// The destination was entered by these calls.
+    #[tactic(auto, unfolding(crate::specs::FolderTree::at_sink))]
+    pub(crate) fn new(folder: FileId, calls: &History, room: Room) -> Destination
+        ensures { at_sink result ≡ started (path_of calls.now.events) unstarted }
+    {
+        let Room {
+            buffer,
+            mut folders,
+        } = room;
+        folders.enter(folder);
+        Destination {
+            depth: 0,
+            folders,
+            file: None,
+            buffer,
+            trail: Trail::with(&Trail::new(), &Step::Started, calls),
+        }
+    }
+
+    /// Whether no further folder can be entered.
+    #[tactic(auto, unfolding(crate::specs::FolderTree::at_sink))]
+    pub(crate) fn is_full(&self) -> bool
+        ensures { result ≡ false → (at_sink self.now).depth + 1 < 2 ^ 64 }
+    {
+        self.folders.is_full() || self.depth == u64::MAX
+    }
+
+    /// The folder above the one that is entered.
+    pub(crate) fn above(&self) -> Option<FileId> {
+        self.folders.above()
+    }
+
+    /// A folder was entered by these calls.
+    #[tactic(auto, unfolding(crate::specs::FolderTree::at_sink))]
+    pub(crate) fn enter(&mut self, folder: FileId, calls: &History)
+        requires { (at_sink self.old).depth + 1 < 2 ^ 64 }
+        ensures { at_sink self.new ≡ entered (path_of calls.now.events) (at_sink self.old) }
+    {
+        self.folders.enter(folder);
+        self.depth += 1;
+        self.trail = Trail::with(&self.trail, &Step::Entered, calls);
+    }
+
+    /// A folder was left by these calls.
+    #[tactic(auto, unfolding(crate::specs::FolderTree::at_sink))]
+    pub(crate) fn leave(&mut self, calls: &History)
+        requires { 0 < (at_sink self.old).depth }
+        ensures { at_sink self.new ≡ left (at_sink self.old) }
+    {
+        self.folders.leave();
+        self.depth -= 1;
+        self.trail = Trail::with(&self.trail, &Step::Left, calls);
+    }
+
+    /// An empty file was made.
+    #[tactic(auto, unfolding(crate::specs::FolderTree::at_sink))]
+    pub(crate) fn begin(&mut self, file: NewFile)
+        requires { file.position ≡ 0 }
+        ensures { at_sink self.new ≡ begun (path_of file.history) (at_sink self.old) }
+    {
+        self.buffer.clear();
+        self.trail = Trail::with(&self.trail, &Step::Begun, file.history());
+        self.file = Some(file);
+    }
+
+    /// Appends bytes to the file, or says that it could not: then a first part of them may stand there.
+    #[tactic(auto, unfolding(crate::specs::FolderTree::at_sink))]
+    pub(crate) fn put(&mut self, bytes: &[u8]) -> bool
+        requires { (at_sink self.old).stage ≡ InFile }
+        ensures all { IsTrue result → at_sink self.new ≡ grown bytes.now (at_sink self.old) }
+        ensures some { result ≡ false → (n : ℕ) × (at_sink self.new ≡ grown (take n bytes.now) (at_sink self.old)) }
+    {
+        let Some(file) = &mut self.file else {
+            unreachable!()
+        };
+        file.put(&mut self.buffer, bytes)
+    }
+
+    /// Appends zeros to the file, or says that it could not: then none of them stand there.
+    #[tactic(auto, unfolding(crate::specs::FolderTree::at_sink))]
+    pub(crate) fn gap(&mut self, count: u64) -> bool
+        requires { (at_sink self.old).stage ≡ InFile }
+        ensures all { IsTrue result → at_sink self.new ≡ grown (replicate count 0) (at_sink self.old) }
+        ensures none { result ≡ false → at_sink self.new ≡ at_sink self.old }
+    {
+        let Some(file) = &mut self.file else {
+            unreachable!()
+        };
+        file.gap(&mut self.buffer, count)
+    }
+
+    /// Stores the file's last bytes and closes it, or says that it could not: then it can be tried again.
+    #[tactic(auto, unfolding(crate::specs::FolderTree::at_sink))]
+    pub(crate) fn finish(&mut self) -> bool
+        requires { (at_sink self.old).stage ≡ InFile }
+        ensures closed { IsTrue result → at_sink self.new ≡ finished (at_sink self.old) }
+        ensures same { result ≡ false → at_sink self.new ≡ at_sink self.old }
+    {
+        let Some(file) = &mut self.file else {
+            unreachable!()
+        };
+        if !file.finish(&mut self.buffer) {
+            return false;
+        }
+        self.trail = Trail::with(&self.trail, &Step::Closed, file.history());
+        self.file = None;
+        true
+    }
+}
+
+impl Drop for Destination {
+    fn drop(mut self) {
+        if let Some(file) = &mut self.file {
+            let _ = file.finish(&mut self.buffer);
+        }
+        let Destination {
+            depth: _,
+            folders: _,
+            file: _,
+            buffer: _,
+            trail: _,
+        } = self;
+    }
 }

@@ -1,8 +1,12 @@
 // A rack of files. It tells no content.
-ghost use Rattle.std.specs.Prelude.{◌≡◌, ◌<◌, ◌^◌, [], None, IfSome, length, map};
+ghost use Rattle.std.specs.Prelude.{◌≡◌, ◌+◌, ◌<◌, ◌≤◌, [], ◌∷◌, length, OnOk, IsErrOf, IsTrue};
+ghost use Rattle.btr_rack.specs.declared.raw_call.RawCall.TheVariants.{Synced};
+ghost use Rattle.btr_rack.specs.Rack.{OnlyCounts, Accounts, Unsyncs, Syncs, range_in, len_of, opened_to_write};
+ghost use Rattle.btr_rack.specs.History.{event, Reads, Stores};
+ghost use Rattle.btr_rack.specs.Opened.{slots_of, history_in, seen_files};
 
 use crate::account::Ledger;
-use crate::opened::{OpenedFile, length_of};
+use crate::opened::OpenedFile;
 use crate::opening::Opening;
 use crate::place::Place;
 use crate::place_list::PlaceList;
@@ -37,26 +41,25 @@ impl<R: Files<File = File> + Drop> FileRack<R> {
 }
 
 impl<R: Files<File = File> + Drop> Rack for FileRack<R> {
-    ghost use Rattle.std.specs.Prelude.{None, false};
     ghost use Rattle.btr_rack.specs.FileRack.{sound_files};
 
-    ghost seen = { λ rack. record { slots = rack.files.items; held = None; shelf = None; unsynced = rack.unsynced.places; sure = false; account = rack.ledger } };
+    ghost seen = { λ rack. seen_files rack.files.items rack.unsynced.places rack.ledger };
 
-    ghost sound = { λ rack. sound_files rack.files.items rack.unsynced.places rack.ledger };
+    ghost sound = { λ rack. sound_files (slots_of rack.files.items) rack.unsynced.places rack.ledger };
 
     fn open(&mut self, name: &str, write: bool) -> Result<usize, RackError> {
         let slot = self.files.len();
         let Ok(opening) = Opening::new(self.alloc, name, write) else {
             return Err(RackError::Memory);
         };
-        match open_file(&self.rt, name, write) {
-            Some((file, len)) => {
-                let Ok(()) = self.files.push(OpenedFile::new(file, opening, len)) else {
+        match OpenedFile::open(&self.rt, opening) {
+            Ok(file) => {
+                let Ok(()) = self.files.push(file) else {
                     return Err(RackError::Memory);
                 };
                 Ok(slot)
             }
-            None => {
+            Err(opening) => {
                 self.ledger.fail_open(opening, Place::of_slot(slot));
                 Err(RackError::Failed)
             }
@@ -71,9 +74,16 @@ impl<R: Files<File = File> + Drop> Rack for FileRack<R> {
         self.files[slot].len()
     }
 
-    fn read_at(&mut self, slot: usize, off: u64, buf: &mut [u8]) -> Result<(), RackError> {
+    fn read_at(&mut self, slot: usize, off: u64, buf: &mut [u8]) -> Result<(), RackError>
+        requires open { slot < length (slots_of self.old.files.items) }
+        requires range { off + length buf.old ≤ len_of (slots_of self.old.files.items) slot }
+        ensures same { OnlyCounts (seen_files self.old.files.items self.old.unsynced.places self.old.ledger) (seen_files self.new.files.items self.new.unsynced.places self.new.ledger) }
+        ensures account { Accounts (range_in slot off (length buf.old)) self.old.ledger self.new.ledger result }
+        ensures memory { IsErrOf result RackError.Memory → ⊥ }
+        ensures read { OnOk result (Reads off (history_in self.old.files.items slot) (history_in self.new.files.items slot) buf.new) }
+    {
         let len = buf.len() as u64;
-        let file = &self.files[slot];
+        let file = &mut self.files[slot];
         let _end = file.len();
         if file.fill(off, buf) {
             return Ok(());
@@ -82,11 +92,18 @@ impl<R: Files<File = File> + Drop> Rack for FileRack<R> {
         Err(RackError::Failed)
     }
 
-    fn write_at(&mut self, slot: usize, off: u64, bytes: &[u8]) -> Result<(), RackError> {
+    fn write_at(&mut self, slot: usize, off: u64, bytes: &[u8]) -> Result<(), RackError>
+        requires open { slot < length (slots_of self.old.files.items) }
+        requires write { IsTrue (opened_to_write (slots_of self.old.files.items) slot) }
+        requires range { off + length bytes.now ≤ len_of (slots_of self.old.files.items) slot }
+        ensures rest { Unsyncs (range_in slot off (length bytes.now)) (seen_files self.old.files.items self.old.unsynced.places self.old.ledger) (seen_files self.new.files.items self.new.unsynced.places self.new.ledger) }
+        ensures account { Accounts (range_in slot off (length bytes.now)) self.old.ledger self.new.ledger result }
+        ensures stored { OnOk result (Stores off (history_in self.old.files.items slot) (history_in self.new.files.items slot) bytes.now) }
+    {
         let len = bytes.len() as u64;
         let place = Place { slot, off, len };
         self.unsynced = PlaceList::with(&self.unsynced, &place);
-        let file = &self.files[slot];
+        let file = &mut self.files[slot];
         let _end = file.len();
         if file.store(off, bytes) {
             return Ok(());
@@ -95,7 +112,13 @@ impl<R: Files<File = File> + Drop> Rack for FileRack<R> {
         Err(RackError::Failed)
     }
 
-    fn sync(&mut self, slot: usize) -> Result<(), RackError> {
+    fn sync(&mut self, slot: usize) -> Result<(), RackError>
+        requires { slot < length (slots_of self.old.files.items) }
+        ensures synced { Syncs slot (seen_files self.old.files.items self.old.unsynced.places self.old.ledger) (seen_files self.new.files.items self.new.unsynced.places self.new.ledger) result }
+        ensures account { Accounts (range_in slot 0 0) self.old.ledger self.new.ledger result }
+        ensures memory { IsErrOf result RackError.Memory → ⊥ }
+        ensures asked { OnOk result (history_in self.new.files.items slot ≡ event Synced [] ∷ history_in self.old.files.items slot) }
+    {
         let place = Place::of_slot(slot);
         if self.files[slot].sync() {
             self.unsynced = PlaceList::without(&self.unsynced, &place);
@@ -107,16 +130,5 @@ impl<R: Files<File = File> + Drop> Rack for FileRack<R> {
 
     fn forget(&mut self) {
         self.ledger.forget();
-    }
-}
-
-// The file of a path and its length, where it can be opened and is no folder.
-fn open_file<R: Files<File = File>>(rt: &R, path: &str, write: bool) -> Option<(File, u64)>
-    ensures { IfSome result (λ opened. opened.1 < 2 ^ 63) }
-{
-    let mut file = File::options().read(true).write(write).open(rt, path).ok()?;
-    match length_of(&mut file) {
-        Ok(Some(len)) if len < 1 << 63 => Some((file, len)),
-        _ => None,
     }
 }

@@ -1,26 +1,34 @@
-// A sink that is a real folder. It tells no content.
-ghost use Rattle.std.specs.Prelude.{◌≡◌, None, Err, true, false};
+// A sink that is a real folder.
+ghost use Rattle.std.specs.Prelude.{◌≡◌, None, Err, false, is_some, ◌||◌};
 ghost use Rattle.btr_rack.specs.CallsLaws.{unsure_calm};
-ghost use Rattle.std.specs.Option.{option_map};
 ghost use Rattle.btr_rack.specs.Rack.{Rose};
-ghost use Rattle.btr_rack.specs.FolderTree.{folder_sink, folder_sound, without_file};
+ghost use Rattle.btr_rack.specs.FolderTree.{folder_sink, folder_sound};
 
 use crate::destination::Destination;
+use crate::entry::{Entry, enter, leave};
 use crate::new_file::NewFile;
+use crate::room::Room;
 use crate::{SinkError, TreeSink};
 use std::alloc::Global;
 use std::fs::File;
 use std::rt::{Env, Files};
-use std::{env, fs};
 
 /// A sink that is a real folder. Folders are made, or entered where they are there, one by one: the process's
 /// working directory moves along, so that no path is longer than a name. A symbolic link is never followed by
-/// the last part of a name, and a file that is there is a fault.
+/// the last part of a name, a file that is there is a fault, and at most 512 folders lie in one another below the
+/// destination. After each change of folder the working directory is the folder that was looked at before;
+/// otherwise that call and all later ones that use a folder are faults.
+///
+/// What it tells is what the calls of the system were given, where one that failed is taken to change nothing. Its
+/// memory is taken by `new`; where that failed, `start` says so, and otherwise no call wants memory.
 #[derive(Drop)]
 pub struct FolderTree<R: Files<File = File> + Env + Drop> {
     rt: R,
-    alloc: Global,
+    // What a destination needs, until it is started.
+    room: Option<Room>,
     at: Option<Destination>,
+    // The working directory isn't the folder that it should be.
+    astray: bool,
     faults: u64,
 }
 
@@ -31,8 +39,9 @@ impl<R: Files<File = File> + Env + Drop> FolderTree<R> {
     {
         FolderTree {
             rt,
-            alloc,
+            room: Room::new(alloc).ok(),
             at: None,
+            astray: false,
             faults: 0,
         }
     }
@@ -53,56 +62,56 @@ fn is_plain(name: &str) -> bool {
     !special && name.as_bytes().iter().all(|b| *b != b'/' && *b != 0)
 }
 
-// Makes a folder, or finds one that is there and is no symbolic link, and enters it.
-fn enter(rt: &(impl Files + Env), path: &str) -> bool {
-    if fs::create_dir(rt, path).is_err() {
-        match fs::symlink_metadata(rt, path) {
-            Ok(found) if found.is_dir() => {}
-            _ => return false,
-        }
-    }
-    env::set_current_dir(rt, path).is_ok()
-}
-
-// Closes the file.
-fn close(at: &mut Option<Destination>)
-    ensures { at.new ≡ option_map without_file at.old }
-{
-    if let Some(at) = at {
-        at.file = None;
-    }
-}
-
 impl<R: Files<File = File> + Env + Drop> TreeSink for FolderTree<R> {
     ghost sink = { λ t. folder_sink t.at };
 
-    ghost account = { λ t. record { faults = t.faults; sure = false; ample = true } };
+    ghost account = { λ t. record { faults = t.faults; sure = false; ample = is_some t.room || is_some t.at } };
 
-    ghost calm = { λ t. unsure_calm t.faults true };
+    ghost calm = { λ t. unsure_calm t.faults (is_some t.room || is_some t.at) };
 
     ghost sound = { λ t. folder_sound t.at };
 
     fn start(&mut self, name: &str) -> Result<(), SinkError> {
-        if !enter(&self.rt, name) {
+        if self.astray {
             return fault(&mut self.faults);
         }
-        self.at = Some(Destination {
-            depth: 0,
-            file: None,
-        });
-        Ok(())
+        let Some(room) = self.room.take() else {
+            return Err(SinkError::Memory);
+        };
+        match enter(&self.rt, name) {
+            Entry::Entered(folder, calls) => {
+                self.at = Some(Destination::new(folder, &calls, room));
+                Ok(())
+            }
+            Entry::Astray => {
+                self.room = Some(room);
+                self.astray = true;
+                fault(&mut self.faults)
+            }
+            Entry::Refused => {
+                self.room = Some(room);
+                fault(&mut self.faults)
+            }
+        }
     }
 
     fn dir(&mut self, name: &str) -> Result<(), SinkError> {
         let Some(at) = &mut self.at else {
             unreachable!()
         };
-        match at.depth.checked_add(1) {
-            Some(depth) if is_plain(name) && enter(&self.rt, name) => {
-                at.depth = depth;
+        if self.astray || at.is_full() || !is_plain(name) {
+            return fault(&mut self.faults);
+        }
+        match enter(&self.rt, name) {
+            Entry::Entered(folder, calls) => {
+                at.enter(folder, &calls);
                 Ok(())
             }
-            _ => fault(&mut self.faults),
+            Entry::Astray => {
+                self.astray = true;
+                fault(&mut self.faults)
+            }
+            Entry::Refused => fault(&mut self.faults),
         }
     }
 
@@ -110,76 +119,67 @@ impl<R: Files<File = File> + Env + Drop> TreeSink for FolderTree<R> {
         let Some(at) = &mut self.at else {
             unreachable!()
         };
-        if env::set_current_dir(&self.rt, "..").is_err() {
+        let Some(above) = at.above() else {
+            return fault(&mut self.faults);
+        };
+        if self.astray {
             return fault(&mut self.faults);
         }
-        at.depth -= 1;
-        Ok(())
+        match leave(&self.rt, above) {
+            Entry::Entered(_, calls) => {
+                at.leave(&calls);
+                Ok(())
+            }
+            Entry::Astray => {
+                self.astray = true;
+                fault(&mut self.faults)
+            }
+            Entry::Refused => fault(&mut self.faults),
+        }
     }
 
     fn file(&mut self, name: &str) -> Result<(), SinkError> {
         let Some(at) = &mut self.at else {
             unreachable!()
         };
-        if !is_plain(name) {
+        if self.astray || !is_plain(name) {
             return fault(&mut self.faults);
         }
-        match File::create_new(&self.rt, name) {
-            Ok(file) => {
-                at.file = Some(NewFile::new(self.alloc, file));
-                Ok(())
-            }
-            Err(_) => fault(&mut self.faults),
-        }
+        let Some(file) = NewFile::make(&self.rt, name) else {
+            return fault(&mut self.faults);
+        };
+        at.begin(file);
+        Ok(())
     }
 
     fn put(&mut self, bytes: &[u8]) -> Result<(), SinkError> {
-        let Some(
-            Destination {
-                file: Some(file),
-                ..
-            },
-        ) = &mut self.at
-        else {
+        let Some(at) = &mut self.at else {
             unreachable!()
         };
-        if !file.put(bytes) {
+        if !at.put(bytes) {
             return fault(&mut self.faults);
         }
         Ok(())
     }
 
     fn gap(&mut self, count: u64) -> Result<(), SinkError> {
-        let Some(
-            Destination {
-                file: Some(file),
-                ..
-            },
-        ) = &mut self.at
-        else {
+        let Some(at) = &mut self.at else {
             unreachable!()
         };
-        if !file.gap(count) {
+        if !at.gap(count) {
             return fault(&mut self.faults);
         }
         Ok(())
     }
 
-    // A file whose last bytes can't be written stays unfinished.
+    // A file whose last bytes can't be stored stays unfinished, and can be tried again.
     fn done(&mut self) -> Result<(), SinkError> {
-        let Some(
-            Destination {
-                file: Some(file),
-                ..
-            },
-        ) = &mut self.at
-        else {
+        let Some(at) = &mut self.at else {
             unreachable!()
         };
-        if !file.flush() {
+        if !at.finish() {
             return fault(&mut self.faults);
         }
-        close(&mut self.at);
         Ok(())
     }
 }

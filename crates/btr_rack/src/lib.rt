@@ -4,18 +4,23 @@
 //! The engine is generic over `Rack`, `TreeSink` and `Out`. A call that answers a fault of the outside has
 //! counted it, so a caller can say which fault stands behind an answer: `specs/Rack.antt`, `specs/Sink.antt`
 //! and `specs/Out.antt` have the words. `MemRack`, `MemTree` and `MemOut` are in memory, tell their content,
-//! and fail exactly where they are made to. `FileRack`, `FolderTree` and `StdOut` are the real ones, and tell
-//! none.
+//! and fail exactly where they are made to. `FileRack`, `FolderTree` and `StdOut` are the real ones. What was
+//! asked of a real file is in its history (`specs/History.antt`), and `FolderTree` tells what that came to.
 #![tactic(auto)]
 
 mod account;
+mod buffer;
 mod bytes;
 mod calls;
 mod destination;
+mod entry;
 mod error;
 mod failing;
 mod file;
+mod file_id;
 mod folder_tree;
+mod folders;
+mod history;
 mod image;
 mod images;
 mod mem_out;
@@ -29,12 +34,18 @@ mod part;
 mod place;
 mod place_list;
 mod rack;
+mod raw_call;
+mod raw_file;
+mod room;
 mod row;
 mod std_out;
+mod step;
 mod strike;
 #[cfg(test)]
 mod tests;
 mod text;
+mod trail;
+mod transfer;
 mod tree_sink;
 
 pub use bytes::Bytes;

@@ -1,90 +1,133 @@
 // A file that is being written.
-ghost use Rattle.std.specs.Prelude.{◌+◌, ◌<◌, ◌^◌, length};
+ghost use Rattle.std.specs.Prelude.{◌≡◌, ◌≤◌, ◌++◌, ℕ, [], ◌∷◌, length, take, replicate, false, true, IfSome, IsTrue};
+ghost use Rattle.btr_rack.specs.History.{opened, replay};
+ghost use Rattle.btr_rack.specs.Growing.{written, contents};
 
-use btr_base::Memory;
-use std::alloc::Global;
+use crate::buffer::Buffer;
+use crate::history::History;
+use crate::raw_file::RawFile;
+use crate::transfer;
 use std::fs::File;
-use std::os::unix::fs::FileExt;
+use std::marker::Model;
+use std::rt::Files;
 
-const BUFFER_SIZE: usize = 65536;
-
-/// A file that is being written from its beginning on. Bytes are kept in a buffer until it is full; they are
-/// written out when the value is dropped, too.
+/// A file that is being written from its beginning on. Clauses see what was asked of it, and where the next byte
+/// is to be stored: the bytes of the buffer that goes with it stand there.
+#[derive(Drop)]
 pub(crate) struct NewFile {
-    file: File,
-    // How many bytes of the file stand before those of the buffer.
-    written: u64,
-    buffer: Vec<u8>,
+    raw: RawFile,
+    // The length, and where the next byte is to be stored: behind the length where zeros stand between.
+    len: u64,
+    position: u64,
+}
+
+impl Model for NewFile {
+    ghost use Rattle.std.specs.Prelude.{◌≡◌, ◌≤◌, length};
+    ghost use Rattle.btr_rack.specs.History.{replay};
+    ghost use Rattle.btr_rack.specs.Growing.{Growing};
+
+    ghost Value = { Growing };
+
+    ghost view = { λ f. record { history = f.raw.history.events; position = f.position } };
+
+    ghost invariant = { λ f. (length (replay f.raw.history.events) ≡ f.len) × (f.len ≤ f.position) };
 }
 
 impl NewFile {
-    pub(crate) fn new(alloc: Global, file: File) -> NewFile {
-        NewFile {
-            file,
-            written: 0,
-            buffer: Vec::new(alloc),
-        }
+    /// Makes an empty file, where none of the name is there.
+    pub(crate) fn make<R: Files<File = File>>(rt: &R, name: &str) -> Option<NewFile>
+        ensures { IfSome result (λ f. f ≡ record { history = opened name.now true true ∷ []; position = 0 }) }
+    {
+        let mut how = File::options();
+        how.write(true).create_new(true);
+        let raw = RawFile::open(rt, name, &how)?;
+        Some(NewFile {
+            raw,
+            len: 0,
+            position: 0,
+        })
     }
 
-    /// Appends bytes, or says that it could not.
-    pub(crate) fn put(&mut self, bytes: &[u8]) -> bool {
-        if bytes.len() > BUFFER_SIZE || self.buffer.len() > BUFFER_SIZE - bytes.len() {
-            if !self.flush() {
+    /// What was asked of the file.
+    pub(crate) fn history(&self) -> &History
+        ensures { result.now.events ≡ self.now.history }
+    {
+        &self.raw.history
+    }
+
+    /// Appends bytes, or says that it could not: then a first part of them may stand there.
+    pub(crate) fn put(&mut self, buffer: &mut Buffer, bytes: &[u8]) -> bool
+        ensures all { IsTrue result → contents self.new buffer.new ≡ contents self.old buffer.old ++ bytes.now }
+        ensures some { result ≡ false → (n : ℕ) × (contents self.new buffer.new ≡ contents self.old buffer.old ++ take n bytes.now) }
+    {
+        if buffer.push(bytes) {
+            return true;
+        }
+        if !self.flush(buffer) {
+            return false;
+        }
+        if buffer.push(bytes) {
+            return true;
+        }
+        self.store(bytes) == bytes.len()
+    }
+
+    /// Appends zeros, or says that it could not: then none of them stand there. They take no place in the file.
+    pub(crate) fn gap(&mut self, buffer: &mut Buffer, count: u64) -> bool
+        ensures all { IsTrue result → contents self.new buffer.new ≡ contents self.old buffer.old ++ replicate count 0 }
+        ensures none { result ≡ false → contents self.new buffer.new ≡ contents self.old buffer.old }
+    {
+        if !self.flush(buffer) {
+            return false;
+        }
+        let Some(position) = self.position.checked_add(count) else {
+            return false;
+        };
+        self.position = position;
+        true
+    }
+
+    /// Stores all that was put, and sets the length, or says that it could not: then all stays as it was, and it
+    /// can be tried again.
+    pub(crate) fn finish(&mut self, buffer: &mut Buffer) -> bool
+        ensures same { contents self.new buffer.new ≡ contents self.old buffer.old }
+        ensures stored { IsTrue result → replay self.new.history ≡ contents self.old buffer.old }
+    {
+        if !self.flush(buffer) {
+            return false;
+        }
+        if self.len < self.position {
+            if !self.raw.cut(self.position) {
                 return false;
             }
-        }
-        if bytes.len() > BUFFER_SIZE || self.buffer.extend_from_slice(bytes).is_err() {
-            return store(&self.file, &mut self.written, bytes);
+            self.len = self.position;
         }
         true
     }
 
-    /// Moves the end of the file, or says that it could not.
-    pub(crate) fn gap(&mut self, count: u64) -> bool {
-        if !self.flush() {
-            return false;
-        }
-        match self.written.checked_add(count) {
-            Some(end) if self.file.set_len(end).is_ok() => {
-                self.written = end;
-                true
-            }
-            _ => false,
-        }
+    // Stores what is in the buffer, or says that it could not: then the rest stays there.
+    fn flush(&mut self, buffer: &mut Buffer) -> bool
+        ensures same { contents self.new buffer.new ≡ contents self.old buffer.old }
+        ensures empty { IsTrue result → buffer.new ≡ [] }
+    {
+        let stored = self.store(buffer.as_slice());
+        buffer.forget(stored);
+        buffer.is_empty()
     }
 
-    /// Writes out what is in the buffer, or says that it could not.
-    pub(crate) fn flush(&mut self) -> bool {
-        let stored = store(&self.file, &mut self.written, &self.buffer);
-        self.buffer.clear();
+    // Stores a first part of the bytes, and answers how many: fewer than all where that failed.
+    fn store(&mut self, bytes: &[u8]) -> usize
+        ensures count { result ≤ length bytes.now }
+        ensures stored { written self.new ≡ written self.old ++ take result bytes.now }
+    {
+        let Some(_end) = self.position.checked_add(bytes.len() as u64) else {
+            return 0;
+        };
+        let stored = transfer::store(&mut self.raw, self.position, bytes);
+        if stored > 0 {
+            self.position += stored as u64;
+            self.len = self.position;
+        }
         stored
     }
-}
-
-impl Drop for NewFile {
-    fn drop(mut self) {
-        let _ = self.flush();
-        let NewFile {
-            file: _,
-            written: _,
-            buffer: _,
-        } = self;
-    }
-}
-
-// Writes bytes at the end of what is written, and moves that end.
-fn store(file: &File, written: &mut u64, bytes: &[u8]) -> bool {
-    let mut done = 0;
-    while done < bytes.len() {
-        let Some(at) = written.checked_add(done as u64) else {
-            return false;
-        };
-        match file.write_at(&bytes[done..], at) {
-            Ok(0) => return false,
-            Ok(count) => done += count,
-            Err(_) => return false,
-        }
-    }
-    *written = written.saturating_add(done as u64);
-    true
 }

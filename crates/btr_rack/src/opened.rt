@@ -1,87 +1,103 @@
 // An opened file.
-ghost use Rattle.std.specs.Prelude.{◌≡◌, ◌+◌, ◌<◌, ◌^◌, length};
+ghost use Rattle.std.specs.Prelude.{◌≡◌, ◌+◌, ◌<◌, ◌^◌, [], ◌∷◌, length, false, IfSome, IfOk, IfErr, IsTrue};
+ghost use Rattle.btr_rack.specs.declared.raw_call.RawCall.TheVariants.{Synced};
+ghost use Rattle.btr_rack.specs.History.{event, opened, Reads, Stores, LastRefused};
+ghost use Rattle.btr_rack.specs.Opened.{IsOpenedAs};
 
+use crate::file_id::FileId;
 use crate::opening::Opening;
+use crate::raw_file::RawFile;
+use crate::transfer;
+use std::fs;
 use std::fs::File;
-use std::io;
-use std::io::{Seek, SeekFrom};
 use std::marker::Model;
-use std::os::unix::fs::FileExt;
+use std::rt::Files;
 
-/// A file that was opened, with its length. Clauses see it as a `Slot`.
+/// A file or a block device that was opened, with its length. Clauses see its slot, and what was asked of it.
 #[derive(Drop)]
 pub(crate) struct OpenedFile {
-    file: File,
+    raw: RawFile,
     opening: Opening,
     len: u64,
 }
 
 impl Model for OpenedFile {
     ghost use Rattle.std.specs.Prelude.{◌<◌, ◌^◌};
-    ghost use Rattle.btr_rack.specs.Rack.{Slot};
+    ghost use Rattle.btr_rack.specs.Opened.{OpenImage};
 
-    ghost Value = { Slot };
+    ghost Value = { OpenImage };
 
-    ghost view = { λ f. record { name = f.opening.name; len = f.len; write = f.opening.write } };
+    ghost view = { λ f. record { slot = record { name = f.opening.name; len = f.len; write = f.opening.write }; history = f.raw.history.events } };
 
     ghost invariant = { λ f. f.len < 2 ^ 63 };
 }
 
 impl OpenedFile {
-    pub(crate) fn new(file: File, opening: Opening, len: u64) -> OpenedFile
-        requires { len < 2 ^ 63 }
-        ensures { result ≡ record { name = opening.name; len = len; write = opening.write } }
+    /// Opens a file or a block device, or gives back what was to be opened.
+    pub(crate) fn open<R: Files<File = File>>(
+        rt: &R,
+        opening: Opening,
+    ) -> Result<OpenedFile, Opening>
+        ensures opened { IfOk result (λ f. IsOpenedAs opening f × (f.slot.len < 2 ^ 63)) }
+        ensures refused { IfErr result (λ o. o ≡ opening) }
     {
-        OpenedFile { file, opening, len }
+        match open_image(rt, opening.name(), opening.write()) {
+            Some((raw, len)) => Ok(OpenedFile { raw, opening, len }),
+            None => Err(opening),
+        }
     }
 
     pub(crate) fn len(&self) -> u64
-        ensures len { result ≡ self.now.len }
+        ensures len { result ≡ self.now.slot.len }
         ensures bound { result < 2 ^ 63 }
     {
         self.len
     }
 
     /// Fills the buffer with the bytes from `off` on, or says that it could not.
-    pub(crate) fn fill(&self, off: u64, buf: &mut [u8]) -> bool
+    pub(crate) fn fill(&mut self, off: u64, buf: &mut [u8]) -> bool
         requires { off + length buf.old < 2 ^ 63 }
+        ensures slot { self.new.slot ≡ self.old.slot }
+        ensures read { IsTrue result → Reads off self.old.history self.new.history buf.new }
+        ensures cause { result ≡ false → LastRefused self.new.history }
     {
-        let mut done = 0;
-        while done < buf.len() {
-            match self.file.read_at(&mut buf[done..], off + done as u64) {
-                Ok(0) => return false,
-                Ok(count) => done += count,
-                Err(_) => return false,
-            }
-        }
-        true
+        transfer::fill(&mut self.raw, off, buf)
     }
 
-    /// Writes the bytes from `off` on, or says that it could not.
-    pub(crate) fn store(&self, off: u64, bytes: &[u8]) -> bool
+    /// Stores the bytes from `off` on, or says that it could not.
+    pub(crate) fn store(&mut self, off: u64, bytes: &[u8]) -> bool
         requires { off + length bytes.now < 2 ^ 63 }
+        ensures slot { self.new.slot ≡ self.old.slot }
+        ensures stored { IsTrue result → Stores off self.old.history self.new.history bytes.now }
+        ensures cause { result ≡ false → LastRefused self.new.history }
     {
-        let mut done = 0;
-        while done < bytes.len() {
-            match self.file.write_at(&bytes[done..], off + done as u64) {
-                Ok(0) => return false,
-                Ok(count) => done += count,
-                Err(_) => return false,
-            }
-        }
-        true
+        transfer::store(&mut self.raw, off, bytes) == bytes.len()
     }
 
-    /// Waits until the bytes are stored, or says that it could not.
-    pub(crate) fn sync(&self) -> bool {
-        self.file.sync_all().is_ok()
+    /// Waits until what was written is stored, or says that it could not.
+    pub(crate) fn sync(&mut self) -> bool
+        ensures slot { self.new.slot ≡ self.old.slot }
+        ensures synced { IsTrue result → self.new.history ≡ event Synced [] ∷ self.old.history }
+        ensures cause { result ≡ false → LastRefused self.new.history }
+    {
+        self.raw.sync()
     }
 }
 
-/// The length of a file or of a block device: where a seek to its end stands. A folder has none.
-pub(crate) fn length_of(file: &mut File) -> io::Result<Option<u64>> {
-    if file.metadata()?.is_dir() {
-        return Ok(None);
+// The file or block device of a path, and its length. It is looked at first, so that a pipe isn't waited for, and has to be
+// the same when it is open.
+fn open_image<R: Files<File = File>>(rt: &R, path: &str, write: bool) -> Option<(RawFile, u64)>
+    ensures { IfSome result (λ image. (image.1 < 2 ^ 63) × (image.0.history.events ≡ opened path.now write false ∷ [])) }
+{
+    let seen = FileId::of_image(&fs::metadata(rt, path).ok()?)?;
+    let mut how = File::options();
+    how.read(true).write(write);
+    let mut raw = RawFile::open(rt, path, &how)?;
+    if FileId::of_image(&raw.metadata().ok()?)? != seen {
+        return None;
     }
-    Ok(Some(file.seek(SeekFrom::End(0))?))
+    match raw.end() {
+        Ok(len) if len < 1 << 63 => Some((raw, len)),
+        _ => None,
+    }
 }

@@ -30,4 +30,16 @@ impl Opening {
             Err(_) => Err(Memory),
         }
     }
+
+    pub(crate) fn name(&self) -> &str
+        ensures { result.now ≡ self.now.name }
+    {
+        self.name.as_str()
+    }
+
+    pub(crate) fn write(&self) -> bool
+        ensures { result ≡ self.now.write }
+    {
+        self.write
+    }
 }

@@ -11,6 +11,7 @@ mod plan;
 mod progress;
 mod refusal;
 mod run;
+mod standard;
 #[cfg(test)]
 mod tests;
 mod text;
@@ -21,6 +22,9 @@ use btr_rack::{FileRack, Out, StdOut};
 use std::process::ExitCode;
 
 fn main(rt: HostRuntime) -> ExitCode {
+    let Ok(_held) = standard::hold(&rt) else {
+        return ExitCode::from(Answer::OutFault.code());
+    };
     let alloc = rt.alloc();
     let mut out = StdOut::new(&rt);
     let answer = match words::words(&rt, alloc) {

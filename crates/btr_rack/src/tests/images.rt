@@ -214,6 +214,7 @@ fn files_are_opened(rt: HostRuntime) -> Result<(), Fail> {
         (path.as_str(), Ok(0)),
         (path.as_str(), Ok(1)),
         ("/", Err(RackError::Failed)),
+        ("/dev/null", Err(RackError::Failed)),
         ("", Err(RackError::Failed)),
         ("no such file", Err(RackError::Failed)),
     ] {

@@ -47,6 +47,45 @@ fn a_file_is_sparse(rt: HostRuntime) -> Result<(), Fail> {
 }
 
 #[test]
+fn bytes_pass_the_buffer_in_order(rt: HostRuntime) -> Result<(), Fail> {
+    let out = destination(&rt, "large")?;
+    let mut tree = FolderTree::new(&rt, rt.alloc());
+    tree.start(out.as_str())?;
+    tree.file("f")?;
+    tree.put(&[b'a'; 40000])?;
+    tree.put(&[b'b'; 40000])?;
+    tree.put(&[b'c'; 70000])?;
+    tree.gap(3)?;
+    tree.done()?;
+    let bytes = fs::read(&rt, "f")?;
+    assert_eq!(rt; bytes.len(), 150003);
+    for (i, byte) in bytes.iter().enumerate() {
+        let put = match i {
+            0..40000 => b'a',
+            40000..80000 => b'b',
+            80000..150000 => b'c',
+            _ => 0,
+        };
+        assert_eq!(rt; *byte, put, "byte {i}");
+    }
+    env::set_current_dir(&rt, "..")?;
+    fs::remove_dir_all(&rt, out.as_str())?;
+    Ok(())
+}
+
+#[test]
+fn a_link_is_no_destination(rt: HostRuntime) -> Result<(), Fail> {
+    let link = destination(&rt, "link")?;
+    symlink(&rt, "/", link.as_str())?;
+    let slash = format!(in rt.alloc(); "{link}/")?;
+    let mut tree = FolderTree::new(&rt, rt.alloc());
+    assert_eq!(rt; tree.start(link.as_str()), Err(SinkError::Failed));
+    assert_eq!(rt; tree.start(slash.as_str()), Err(SinkError::Failed));
+    fs::remove_file(&rt, link.as_str())?;
+    Ok(())
+}
+
+#[test]
 fn names_that_are_not_plain_are_faults(rt: HostRuntime) -> Result<(), Fail> {
     let out = destination(&rt, "names")?;
     let mut tree = FolderTree::new(&rt, rt.alloc());
