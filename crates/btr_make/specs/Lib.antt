@@ -1,4 +1,3 @@
 pub mod Copy
 pub mod Shelf
 pub mod Seal
-pub mod Spoil

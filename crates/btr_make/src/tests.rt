@@ -1,6 +1,1 @@
-mod made;
-mod parities;
-mod reader;
-mod rows;
-mod spoiled;
 mod supers;
