@@ -1,0 +1,4 @@
+pub mod Ready
+pub mod Registers
+pub mod Seals
+pub mod Standings

@@ -1,0 +1,24 @@
+use btr_make::RowVolume;
+
+/// The small volume of a name.
+pub fn row_of(name: &str) -> Option<RowVolume> {
+    match name {
+        "V1" => Some(RowVolume::V1),
+        "V1d" => Some(RowVolume::V1d),
+        "V2" => Some(RowVolume::V2),
+        "W5" => Some(RowVolume::W5),
+        "W6" => Some(RowVolume::W6),
+        "S" => Some(RowVolume::S),
+        "X2" => Some(RowVolume::X2),
+        "X3" => Some(RowVolume::X3),
+        "M1" => Some(RowVolume::M1),
+        "N" => Some(RowVolume::N),
+        "P" => Some(RowVolume::P),
+        "Q" => Some(RowVolume::Q),
+        "L" => Some(RowVolume::L),
+        "M3" => Some(RowVolume::M3),
+        "Rows5" => Some(RowVolume::Rows5),
+        "Rows6" => Some(RowVolume::Rows6),
+        _ => None,
+    }
+}
