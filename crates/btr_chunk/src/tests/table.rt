@@ -200,7 +200,12 @@ fn laws_hold(rt: HostRuntime) -> Result<(), Fail> {
     stripes_apart();
     parts_apart();
     copies_apart();
-    place_inside(&chunk, Part::P, &crate::elements(&chunk, chunk.start, 1)?, 1);
+    place_inside(
+        &chunk,
+        Part::P,
+        &crate::elements(&chunk, chunk.start, 1)?,
+        1,
+    );
     assert_eq!(rt; chunk.stripes.at(3).devid, 14);
     let mut table = ChunkTable::new(rt.alloc());
     table.add(chunk)?;
