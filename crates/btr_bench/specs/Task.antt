@@ -2,7 +2,7 @@
 use Rattle.std.specs.Prelude.{ℕ, Bool, ◌≤◌, List, codes, Option, Some, if◌then◌else◌}
 use Rattle.std.specs.Option.{option_map}
 use Rattle.std.specs.Str.{bytes_eq}
-use Rattle.btr_bench.specs.declared.fetching.Block.TheVariants.{Tree, Sector}
+use Rattle.btr_bench.specs.declared.fetching.Block.TheVariants.{Tree, Kept, Sector}
 use Rattle.btr_bench.specs.declared.task.Task.{Task}
 use Rattle.btr_bench.specs.declared.task.Task.TheVariants.{Over, Fetching}
 use Rattle.btr_bench.specs.Kernel.{kernel_of, takes as kernel_takes, digits_of as digits_of_result}
@@ -13,6 +13,7 @@ use Rattle.btr_bench.specs.Turns.{first_piece, first_kept, TurnsGive}
 abbrev pub task_of : List ℕ → Option Task
 task_of name =
     if bytes_eq name (codes "tree-block") then Some (Fetching Tree)
+    else if bytes_eq name (codes "kept-block") then Some (Fetching Kept)
     else if bytes_eq name (codes "sector") then Some (Fetching Sector)
     else option_map Over (kernel_of name)
 

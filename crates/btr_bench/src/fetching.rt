@@ -1,8 +1,8 @@
 // The fetching of a block from the image of a device, in a chunk of the profile single.
-ghost use Rattle.std.specs.Prelude.{◌≡◌, ◌<◌, ◌≤◌, length, IfOk, IsTrue, Some};
+ghost use Rattle.std.specs.Prelude.{◌≡◌, ◌<◌, ◌≤◌, length, IfOk, IsTrue};
 ghost use Rattle.std.specs.Result.{is_ok};
-ghost use Rattle.btr_rack.specs.Rack.{Steady};
-ghost use Rattle.btr_rack.specs.Memory.{slots_of, held_of};
+ghost use Rattle.btr_rack.specs.Rack.{Seen, Steady, OnlyReads};
+ghost use Rattle.btr_rack.specs.Memory.{seen_of, held_of};
 ghost use Rattle.btr_read.specs.Fate.{fate};
 ghost use Rattle.btr_read.specs.Store.{SameLoans, free_count};
 ghost use Rattle.btr_read.specs.Serves.{Serves};
@@ -17,8 +17,10 @@ use std::alloc::{AllocError, Global};
 /// What is fetched.
 #[derive(Clone, Copy, Debug, PartialEq, Eq)]
 pub enum Block {
-    /// A tree block, which is as long as a node.
+    /// A tree block, which is as long as a node, read in each turn.
     Tree,
+    /// A tree block that the store keeps from the first turn on.
+    Kept,
     /// A sector of data.
     Sector,
 }
@@ -32,20 +34,29 @@ impl Block {
         ensures { result ≡ takes self size }
     {
         match self {
-            Block::Tree => 4096 <= size && size <= 65536,
+            Block::Tree | Block::Kept => 4096 <= size && size <= 65536,
             Block::Sector => size == 4096,
         }
     }
 }
 
+// Lets the store forget what it keeps, but for a block that is to be kept.
+fn begin_turn(block: Block, store: &mut Store)
+    ensures same { SameLoans store.old store.new }
+    ensures serves { (rack : Seen) → Serves rack store.old → Serves rack store.new }
+{
+    if block == Block::Kept {
+        return;
+    }
+    store.forget_kept();
+}
+
 // Fetches a block and gives it back. It is false where there is none to be had.
 fn gets(want: &Want, rack: &mut MemRack, store: &mut Store) -> bool
-    requires serves { Serves slots_of (λ rack. Some (held_of rack)) rack.old store.old }
+    requires serves { Serves (seen_of rack.old) store.old }
     requires room { 4 ≤ free_count store.old }
-    ensures serves { Serves slots_of (λ rack. Some (held_of rack)) rack.new store.new }
-    ensures slots { slots_of rack.new ≡ slots_of rack.old }
-    ensures held { held_of rack.new ≡ held_of rack.old }
-    ensures later { rack.old.account.faults ≤ rack.new.account.faults }
+    ensures serves { Serves (seen_of rack.new) store.new }
+    ensures reads { OnlyReads (seen_of rack.old) (seen_of rack.new) }
     ensures store { SameLoans store.old store.new }
     ensures answer { Steady rack.old.account.faults rack.new.account.faults
         → result ≡ is_ok (fate (held_of rack.old) store.old.layout want.now) }
@@ -60,8 +71,8 @@ fn gets(want: &Want, rack: &mut MemRack, store: &mut Store) -> bool
 }
 
 // How many of `times` turns get the block: where no read fails, all of them or none.
-fn count(want: &Want, rack: &mut MemRack, store: &mut Store, times: u64) -> u64
-    requires serves { Serves slots_of (λ rack. Some (held_of rack)) rack.old store.old }
+fn count(block: Block, want: &Want, rack: &mut MemRack, store: &mut Store, times: u64) -> u64
+    requires serves { Serves (seen_of rack.old) store.old }
     requires room { 4 ≤ free_count store.old }
     ensures most { result ≤ times }
     ensures exact { Steady rack.old.account.faults rack.new.account.faults
@@ -69,6 +80,7 @@ fn count(want: &Want, rack: &mut MemRack, store: &mut Store, times: u64) -> u64
 {
     let mut got = 0;
     for _turn in 0..times {
+        begin_turn(block, store);
         if gets(want, rack, store) {
             got += 1;
         }
@@ -84,10 +96,10 @@ pub fn run(alloc: Global, block: Block, size: usize, times: u64) -> Result<u64, 
 {
     let mut bytes = pattern(alloc, size)?;
     let want = match block {
-        Block::Tree => sealed(bytes.as_mut_slice()),
+        Block::Tree | Block::Kept => sealed(bytes.as_mut_slice()),
         Block::Sector => sector(bytes.as_slice()),
     };
     let mut rack = image_of(alloc, bytes.as_slice())?;
     let mut store = store_over(alloc, size as u32, &rack)?;
-    Ok(count(&want, &mut rack, &mut store, times))
+    Ok(count(block, &want, &mut rack, &mut store, times))
 }

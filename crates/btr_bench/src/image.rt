@@ -1,7 +1,7 @@
 // A filesystem of one block: a chunk of the profile single, and the device on which it lies. For want of memory it can't
 // be made; no other refusal of what it calls can come, at these numbers, and each is answered as that one.
-ghost use Rattle.std.specs.Prelude.{◌+◌, ◌<◌, ◌≤◌, length, IfOk, Some};
-ghost use Rattle.btr_rack.specs.Memory.{slots_of, held_of};
+ghost use Rattle.std.specs.Prelude.{◌+◌, ◌<◌, ◌≤◌, length, IfOk};
+ghost use Rattle.btr_rack.specs.Memory.{seen_of, slots_of};
 ghost use Rattle.btr_read.specs.Store.{free_count};
 ghost use Rattle.btr_read.specs.Serves.{Serves};
 
@@ -97,7 +97,7 @@ pub fn store_over(alloc: Global, nodesize: u32, rack: &MemRack) -> Result<Store,
     requires large { 4096 ≤ nodesize }
     requires small { nodesize ≤ 65536 }
     requires open { SLOT < length (slots_of rack.now) }
-    ensures serves { IfOk result (Serves slots_of (λ rack. Some (held_of rack)) rack.now) }
+    ensures serves { IfOk result (Serves (seen_of rack.now)) }
     ensures room { IfOk result (λ store. 4 ≤ free_count store) }
 {
     let mut chunks = ChunkTable::new(alloc);

@@ -6,7 +6,7 @@
 //! digits as a result has. `Kernel` has these kernels, and one module more for each family of them; `Turns` in `specs/`
 //! says what is computed.
 //!
-//! `tree-block` and `sector` fetch a block of SIZE bytes from an image in memory and give it back, in each turn. How
+//! `tree-block`, `kept-block` and `sector` fetch a block of SIZE bytes from an image in memory and give it back, in each turn. How
 //! many turns got it is printed in 16 hexadecimal digits.
 #![tactic(auto)]
 

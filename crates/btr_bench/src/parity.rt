@@ -11,7 +11,7 @@ pub use btr_parity::{double_and_add, fold_p as add};
 // The index of the lost slice, or of the first of two.
 fn index(turn: u64) -> u8
     ensures value { result ≡ index_of turn }
-    ensures inside { result + 1 ≤ LAST_INDEX }
+    ensures inside { result + 1 ≤ 62 }
 {
     (turn % u64::from(LAST_INDEX)) as u8
 }

@@ -20,6 +20,7 @@ impl Task {
     {
         match name {
             "tree-block" => Some(Task::Fetching(Block::Tree)),
+            "kept-block" => Some(Task::Fetching(Block::Kept)),
             "sector" => Some(Task::Fetching(Block::Sector)),
             _ => Kernel::from_name(name).map(|kernel| Task::Over(kernel)),
         }

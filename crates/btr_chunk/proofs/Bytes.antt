@@ -67,12 +67,12 @@ placed_part chunk part at is has position =
     let found = at-below chunk.stripes (stripe_of chunk.profile n part at) (stripe_of-below chunk.profile n part at (facts chunk is).count has position.index) in
     record { stripe = found.0; there = found.1; place = rw found.1 refl }
 
--- a place lies in its stripe
-pub place-inside : (chunk : Chunk) (part : Part) (at : Elements) → IsChunk chunk → HasPart chunk.profile (length chunk.stripes) part → IsPosition chunk at
-    → IsSomeAnd (slice_get chunk.stripes (stripe_of chunk.profile (length chunk.stripes) part at)) (λ stripe. IsInStripe (stripe_length chunk) stripe (place_at chunk part at))
-place-inside chunk part at is has position =
+-- the bytes from a place on lie in its stripe
+pub place-inside : (chunk : Chunk) (part : Part) (at : Elements) (size : ℕ) → IsChunk chunk → HasPart chunk.profile (length chunk.stripes) part → IsPosition chunk at
+    → at.row * 65536 + at.rest + size ≤ stripe_length chunk
+    → IsSomeAnd (slice_get chunk.stripes (stripe_of chunk.profile (length chunk.stripes) part at)) (λ stripe. IsInStripe (stripe_length chunk) stripe (place_at chunk part at) size)
+place-inside chunk part at size is has position inside =
     let found = placed_part chunk part at is has position in
-    let inside = position.inside in
     rw (found.place, found.there) (record { device = refl; begin = omega arith; end = omega arith })
 
 -- bytes of one row on one stripe are of one element

@@ -9,3 +9,4 @@ pub mod Rule
 pub mod Searches
 pub mod Tables
 pub mod Values
+pub mod Apart

@@ -1,5 +1,5 @@
 -- What the rule of chunks says, fact by fact.
-use Rattle.std.proofs.Common.{List, [], ◌∷◌, zero, suc, ◌≡◌, ℕ, ◌+◌, ◌*◌, ◌/◌, ◌%◌, ◌^◌, ◌<◌, Bool, true, false, ◌&&◌, not, eqb, nat_lt, length, Some, slice_get, sym, ap, ◌∙◌, refl, arith}
+use Rattle.std.proofs.Common.{List, [], ◌∷◌, zero, suc, ◌≡◌, ℕ, ◌+◌, ◌*◌, ◌/◌, ◌%◌, ◌^◌, ◌<◌, ◌≤◌, Bool, true, false, ◌&&◌, not, eqb, nat_lt, length, Some, slice_get, sym, ap, ◌∙◌, refl, arith}
 use Rattle.std.proofs.lemmas.Bool.{and_parts, ltb-true, eqb-true, eqb-false, leb-true, not-true, true≢false}
 use Rattle.std.proofs.lemmas.Nat.{mod_below, div-add-mod', div-mul-add, div_below}
 use Rattle.std.specs.List.{list_all}
@@ -8,7 +8,7 @@ use Rattle.btr_chunk.specs.declared.chunk.Chunk.{Chunk}
 use Rattle.btr_chunk.specs.declared.profile.Profile.{Profile}
 use Rattle.btr_chunk.specs.declared.profile.Profile.TheVariants.{Single, Dup, Raid0, Raid1, Raid1c3, Raid1c4, Raid10, Raid5, Raid6}
 use Rattle.btr_chunk.specs.Chunk.{IsChunk, has_count, is_striped, data_count, unit_of, stripe_length, is_stripe}
-use Rattle.btr_chunk.specs.Mapping.{IsPosition}
+use Rattle.btr_chunk.specs.Mapping.{IsPosition, Reaches}
 
 -- what each chunk keeps
 pub record Facts (chunk : Chunk) : Type 0 where
@@ -79,6 +79,17 @@ inside_rows o d len some whole below =
     let row : o / 65536 / d < m = div_below (o / 65536) d m some element in
     omega arith
 
+-- and so does its whole element
+pub element_inside : (o d len : ℕ) → 0 < d → len % (d * 65536) ≡ 0 → o < len → o / 65536 / d * 65536 + 65536 ≤ len / d
+element_inside o d len some whole below =
+    let m = len / (d * 65536) in
+    let split = div-add-mod' len (d * 65536) in
+    let rows : len ≡ m * 65536 * d + 0 = omega arith in
+    let stripe = ap (λ n. n / d) rows ∙ div-mul-add (m * 65536) d 0 some in
+    let element : o / 65536 < m * d = div_below o 65536 (m * d) (omega arith) (omega arith) in
+    let row : o / 65536 / d < m = div_below (o / 65536) d m some element in
+    omega arith
+
 -- what a test of all elements says of one
 pub at-list_all : {X : Type 0} (p : X → Bool) (xs : List X) (i : ℕ) (x : X) → list_all p xs ≡ true → slice_get xs i ≡ Some x → p x ≡ true
 at-list_all p [] i x all found = cc
@@ -100,6 +111,15 @@ position-rows chunk o is striped below =
       index = mod_below (o / 65536) (data_count chunk.profile (length chunk.stripes)) some;
       inside = inside_rows o (data_count chunk.profile (length chunk.stripes)) chunk.length some (rw striped at f.whole) below;
     }
+
+-- bytes within an element lie inside its stripe
+pub reaches-rows : (chunk : Chunk) (o size : ℕ) → IsChunk chunk → is_striped chunk.profile ≡ true → o < chunk.length → o % 65536 + size ≤ 65536
+    → Reaches chunk (record { row = o / 65536 / data_count chunk.profile (length chunk.stripes); index = o / 65536 % data_count chunk.profile (length chunk.stripes); rest = o % 65536 }) size
+reaches-rows chunk o size is striped below within =
+    let f = facts chunk is in
+    let some = data_count-some chunk.profile (length chunk.stripes) f.count in
+    let whole = element_inside o (data_count chunk.profile (length chunk.stripes)) chunk.length some (rw striped at f.whole) below in
+    record { inside = omega (arith, whole, within); element = λ _. within }
 
 -- a chunk of whole units holds its stripes' length as many times as a row has elements of data
 pub quotient-stripe_length : (len d unit : ℕ) → 0 < d → 0 < unit → 0 < len → len % (d * unit) ≡ 0 → len / (len / d) ≡ d

@@ -1,5 +1,5 @@
 -- Tests of the elements of a list, by their places.
-use Rattle.std.proofs.Common.{◌≡◌, ℕ, zero, suc, Bool, true, false, cond, List, [], ◌∷◌, Option, Some, None, find, IsSome, slice_get, inl, inr, sym, ap, ◌∙◌, refl}
+use Rattle.std.proofs.Common.{◌≡◌, ℕ, zero, suc, ◌<◌, Bool, true, false, cond, List, [], ◌∷◌, Option, Some, None, find, IsSome, slice_get, inl, inr, sym, ap, ◌∙◌, refl, arith}
 use Rattle.std.proofs.lemmas.Bool.{or_cases, or_parts, or_from, or_left, or_right, false≢true}
 use Rattle.std.specs.List.{list_any}
 
@@ -49,6 +49,14 @@ find-only p (y ∷ ys) zero x there passes only = let same : y ≡ x = cc in rw 
 find-only p (y ∷ ys) (suc i) x there passes only =
     find-step p y (find p ys) (Some x) (p y) refl (λ here. ap (λ z. Some z) (sym (only 0 y refl here)))
     (λ no. find-only p ys i x there passes (λ j z at. only (suc j) z at))
+
+-- the first element that passes is found
+pub find-first : {X : Type 0} (p : X → Bool) (xs : List X) (i : ℕ) (x : X) → slice_get xs i ≡ Some x → p x ≡ true
+    → ((j : ℕ) (y : X) → j < i → slice_get xs j ≡ Some y → p y ≡ false) → find p xs ≡ Some x
+find-first p [] i x there passes before = cc
+find-first p (y ∷ ys) zero x there passes before = let same : y ≡ x = cc in rw (ap p same ∙ passes) there
+find-first p (y ∷ ys) (suc i) x there passes before =
+    rw (before 0 y (omega arith) refl) (find-first p ys i x there passes (λ j z lt at. before (suc j) z (omega (arith, lt)) at))
 
 pub find-none : {X : Type 0} (p : X → Bool) (xs : List X) → ((j : ℕ) (y : X) → slice_get xs j ≡ Some y → p y ≡ false) → find p xs ≡ None
 find-none p [] none = refl

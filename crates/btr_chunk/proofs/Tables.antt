@@ -13,10 +13,10 @@ use Rattle.btr_chunk.specs.declared.chunk.Chunk.{Chunk}
 use Rattle.btr_chunk.specs.Chunk.{stripe_length}
 use Rattle.btr_chunk.specs.Mapping.{holds}
 use Rattle.btr_chunk.specs.Extents.{ranges_meet, meets_range, IsSpaced}
-use Rattle.btr_chunk.specs.Table.{stripes_meet, chunks_meet, some_meet, same_stripe, same_chunk, overlaps, chunk_at, IsTable}
-use Rattle.btr_chunk.specs.Index.{start_of, AreChunks, AreStripes, IsLast, SharesAddress, SharesNone, SharesRange, SharesNoRange}
+use Rattle.btr_chunk.specs.Table.{stripes_meet, chunks_meet, some_meet, same_stripe, same_chunk, overlaps, chunk_at, next_at, IsTable}
+use Rattle.btr_chunk.specs.Index.{start_of, AreChunks, AreStripes, IsFirst, IsLast, SharesAddress, SharesNone, SharesRange, SharesNoRange}
 use Rattle.btr_chunk.proofs.Rule.{facts}
-use Rattle.btr_chunk.proofs.Searches.{list_any-true, list_any-false, find-only, find-none}
+use Rattle.btr_chunk.proofs.Searches.{list_any-true, list_any-false, find-only, find-first, find-none}
 use Rattle.btr_chunk.proofs.Values.{entry-values_of, start_of-values, values-start_of, keys-below}
 use Rattle.btr_chunk.proofs.Overlaps.{apart-chunks_meet, chunks_meet-stripes, chunks_meet-apart, some_meet-apart, stripes_meet-turned}
 
@@ -277,3 +277,30 @@ IsTable-values m index ordered few = record {
       let away = index.apart one.0 two.0 a b a_there b_there (λ e. omega arith) in
       (ends-before a b away (omega arith), away);
 }
+
+-- the first chunk at or behind an address
+pub next_at-first : (m : BTreeMap ℕ Chunk) (addr : ℕ) (c : Chunk) → AreChunks (start_of m) → IsOrdered nat_cmp m → length m.entries ≤ 65536
+    → IsFirst (start_of m) addr c → next_at (values m) addr ≡ Some c
+next_at-first m addr c index ordered few first =
+    let table = IsTable-values m index ordered few in
+    let start = index.keyed first.start c first.there in
+    let at = values-start_of m first.start c first.there in
+    let behind = first.behind in
+    find-first (λ chunk. nat_le addr chunk.start) (values m) at.0 c at.1 (le-leb _ _ (omega (arith, start, behind))) (λ j y lt there. false_from_ne_true (nat_le addr y.start) (λ passes.
+    let key = start_of-values m ordered j y there in
+    let y_start = index.keyed key.0 y key.1 in
+    let before = (table.apart j at.0 y c lt there at.1).0 in
+    let some = (facts y (table.sound j y there).0).some in
+    let from = leb-true addr y.start passes in
+    let gone = first.first key.0 (omega (arith, from, y_start)) (omega (arith, before, some, y_start, start)) in
+    cc))
+
+pub next_at-none : (m : BTreeMap ℕ Chunk) (addr : ℕ) → AreChunks (start_of m) → IsOrdered nat_cmp m
+    → ((k : ℕ) → addr ≤ k → start_of m k ≡ None) → next_at (values m) addr ≡ None
+next_at-none m addr index ordered none =
+    find-none (λ chunk. nat_le addr chunk.start) (values m) (λ j y there. false_from_ne_true (nat_le addr y.start) (λ passes.
+    let key = start_of-values m ordered j y there in
+    let start = index.keyed key.0 y key.1 in
+    let from = leb-true addr y.start passes in
+    let gone = none key.0 (omega (arith, from, start)) in
+    cc))

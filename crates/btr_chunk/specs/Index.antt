@@ -50,6 +50,13 @@ pub record IsLast (f : ℕ → Option Chunk) (addr : ℕ) (chunk : Chunk) : Type
   pub before : start ≤ addr
   pub last : (k : ℕ) → start < k → k ≤ addr → f k ≡ None
 
+-- the first chunk that starts at or behind an address
+pub record IsFirst (f : ℕ → Option Chunk) (addr : ℕ) (chunk : Chunk) : Type 0 where
+  pub start : ℕ
+  pub there : f start ≡ Some chunk
+  pub behind : addr ≤ start
+  pub first : (k : ℕ) → addr ≤ k → k < start → f k ≡ None
+
 -- a chunk shares a logical address with one of the chunks
 pub record SharesAddress (f : ℕ → Option Chunk) (chunk : Chunk) : Type 0 where
   pub start : ℕ

@@ -1,3 +1,4 @@
+pub mod Apart
 pub mod Array
 pub mod Chunk
 pub mod Extents

@@ -1,5 +1,5 @@
 -- Where the bytes of a chunk lie: an element has 65536 bytes, and a row one element of each stripe.
-use Rattle.std.specs.Prelude.{◌≡◌, ℕ, ◌+◌, ◌-◌, ◌*◌, ◌/◌, ◌%◌, ◌<◌, ◌≤◌, Bool, length, Result, Ok, Err, IsSomeAnd, IsNone, if◌then◌else◌, ◌&&◌, ◌||◌, nat_lt, nat_le, slice_get}
+use Rattle.std.specs.Prelude.{◌≡◌, ℕ, ◌+◌, ◌-◌, ◌*◌, ◌/◌, ◌%◌, ◌<◌, ◌≤◌, Bool, true, length, Result, Ok, Err, IsSomeAnd, IsNone, if◌then◌else◌, ◌&&◌, ◌||◌, nat_lt, nat_le, slice_get}
 use Rattle.std.specs.Option.{option_map_or}
 use Rattle.btr_chunk.specs.declared.stripe.Stripe.{Stripe}
 use Rattle.btr_chunk.specs.declared.chunk.Chunk.{Chunk}
@@ -41,6 +41,11 @@ pub record IsPosition (chunk : Chunk) (at : Elements) : Type 0 where
   pub index : at.index < data_count chunk.profile (length chunk.stripes)
   pub inside : at.row * 65536 + at.rest < stripe_length chunk
 
+-- some bytes from a position on lie in one piece on a stripe: in an element where the profile has rows, and in the stripe
+pub record Reaches (chunk : Chunk) (at : Elements) (size : ℕ) : Type 0 where
+  pub inside : at.row * 65536 + at.rest + size ≤ stripe_length chunk
+  pub element : is_striped chunk.profile ≡ true → at.rest + size ≤ 65536
+
 -- the parts that a profile of n stripes has: copies, or data slices and parities
 abbrev pub HasPart : Profile → ℕ → Part → Type 0
 HasPart profile n (Mirror i) = IsSomeAnd (mirror_count profile n) (λ copies. i < copies)
@@ -76,11 +81,11 @@ abbrev pub place_at : Chunk → Part → Elements → Place
 place_at chunk part at =
     option_map_or (λ stripe. place_on stripe at) (slice_get chunk.stripes (stripe_of chunk.profile (length chunk.stripes) part at)) (record { devid = 0; offset = 0 })
 
--- a place is one of a stripe of this length
-pub record IsInStripe (len : ℕ) (stripe : Stripe) (place : Place) : Type 0 where
+-- some bytes from a place on lie in a stripe of this length
+pub record IsInStripe (len : ℕ) (stripe : Stripe) (place : Place) (size : ℕ) : Type 0 where
   pub device : place.devid ≡ stripe.devid
   pub begin : stripe.offset ≤ place.offset
-  pub end : place.offset < stripe.offset + len
+  pub end : place.offset + size ≤ stripe.offset + len
 
 -- the part that holds a position's own byte: a copy, or the slice of the row where there are no copies
 abbrev pub data_part : Profile → ℕ → Elements → Part

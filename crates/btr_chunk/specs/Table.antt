@@ -61,6 +61,10 @@ IsAdding old chunk (Err Memory) new = new ≡ old
 abbrev pub chunk_at : List Chunk → ℕ → Option Chunk
 chunk_at chunks addr = find (λ chunk. holds chunk addr) chunks
 
+-- the first chunk that starts at or behind an address
+abbrev pub next_at : List Chunk → ℕ → Option Chunk
+next_at chunks addr = find (λ chunk. nat_le addr chunk.start) chunks
+
 -- what each table keeps: at most 65536 chunks in ascending order, no two of which share an address or a byte of a device
 pub record IsTable (chunks : List Chunk) : Type 0 where
   pub few : length chunks ≤ 65536

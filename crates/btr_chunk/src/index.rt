@@ -6,7 +6,7 @@ ghost use Rattle.std.specs.BTreeMap.{values, btree_map_len, IsOrdered};
 ghost use Rattle.btr_chunk.specs.Chunk.{IsChunk};
 ghost use Rattle.btr_chunk.specs.Table.{overlaps, placed, same_chunk};
 ghost use Rattle.btr_chunk.specs.Extents.{extent_of, IsSpaced};
-ghost use Rattle.btr_chunk.specs.Index.{start_of, AreChunks, IsIndexed, IsLast, SharesAddress, SharesNone, SharesRange, SharesNoRange};
+ghost use Rattle.btr_chunk.specs.Index.{start_of, AreChunks, IsFirst, IsIndexed, IsLast, SharesAddress, SharesNone, SharesRange, SharesNoRange};
 
 use crate::extents::{enter, meets};
 use crate::{Chunk, Place};
@@ -18,6 +18,16 @@ pub(crate) fn last_at(chunks: &BTreeMap<u64, Chunk>, addr: u64) -> Option<&Chunk
     ensures { MatchOption result ((k : ℕ) → k ≤ addr → start_of chunks.now k ≡ None) (λ chunk. IsLast (start_of chunks.now) addr chunk.now) }
 {
     match chunks.range(..=addr).next_back() {
+        Some((_, chunk)) => Some(chunk),
+        None => None,
+    }
+}
+
+// The first chunk that starts at or behind an address.
+pub(crate) fn first_at(chunks: &BTreeMap<u64, Chunk>, addr: u64) -> Option<&Chunk>
+    ensures { MatchOption result ((k : ℕ) → addr ≤ k → start_of chunks.now k ≡ None) (λ chunk. IsFirst (start_of chunks.now) addr chunk.now) }
+{
+    match chunks.range(addr..).next() {
         Some((_, chunk)) => Some(chunk),
         None => None,
     }

@@ -1,8 +1,9 @@
 // Laws of chunks and places: each holds for all chunks, and its body does nothing.
 ghost use Rattle.std.specs.Prelude.{◌≡◌, ◌/◌, ◌<◌, length, slice_get, None, IfSome, IsSomeAnd, true, false};
 ghost use Rattle.btr_chunk.specs.Chunk.{IsChunk, stripe_length, data_count, mirrors};
-ghost use Rattle.btr_chunk.specs.Mapping.{HasPart, PartOn, IsPosition, IsInStripe, holds, stripe_of, place_at, data_place};
+ghost use Rattle.btr_chunk.specs.Mapping.{HasPart, PartOn, IsPosition, IsInStripe, Reaches, holds, stripe_of, place_at, data_place};
 ghost use Rattle.btr_chunk.specs.Table.{some_meet};
+ghost use Rattle.btr_chunk.specs.Apart.{StripesApart, PartsApart, CopiesApart};
 
 use crate::{Chunk, Elements, Part};
 
@@ -32,14 +33,15 @@ pub fn parts_cover(chunk: &Chunk, row: &Elements, stripe: usize)
     ensures { PartOn chunk.now.profile (length chunk.now.stripes) row.now stripe }
 {}
 
-/// Each place lies in its stripe.
-pub fn place_inside(chunk: &Chunk, part: Part, at: &Elements)
+/// The bytes of a part from a position on, as far as the position reaches, lie in the part's stripe.
+pub fn place_inside(chunk: &Chunk, part: Part, at: &Elements, len: u64)
     requires chunk { IsChunk chunk.now }
     requires part { HasPart chunk.now.profile (length chunk.now.stripes) part }
     requires at { IsPosition chunk.now at.now }
+    requires reach { Reaches chunk.now at.now len }
     ensures { IsSomeAnd
         (slice_get chunk.now.stripes (stripe_of chunk.now.profile (length chunk.now.stripes) part at.now))
-        (λ stripe. IsInStripe (stripe_length chunk.now) stripe (place_at chunk.now part at.now)) }
+        (λ stripe. IsInStripe (stripe_length chunk.now) stripe (place_at chunk.now part at.now) len) }
 {}
 
 /// Two addresses of a chunk whose own stripes are apart, as those of each chunk of a table are, never share a place in
@@ -51,4 +53,19 @@ pub fn places_differ(chunk: &Chunk, copy: u32, one: u64, other: u64)
     requires one { holds chunk.now one ≡ true }
     requires other { holds chunk.now other ≡ true }
     ensures { data_place chunk.now copy one ≡ data_place chunk.now copy other → one ≡ other }
+{}
+
+/// Each byte of a device lies in one stripe of one chunk of a table at most.
+pub fn stripes_apart()
+    ensures { StripesApart }
+{}
+
+/// Each byte of a device is, at one offset, of one part of one row of one chunk of RAID5 or RAID6 at most.
+pub fn parts_apart()
+    ensures { PartsApart }
+{}
+
+/// Each byte of a device is that of one address in one copy of one chunk at most.
+pub fn copies_apart()
+    ensures { CopiesApart }
 {}

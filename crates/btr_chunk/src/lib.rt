@@ -29,7 +29,10 @@ pub use add::AddFault;
 pub use array::{ArrayFault, read_array};
 pub use chunk::Chunk;
 pub use fault::ChunkFault;
-pub use laws::{parts_cover, parts_differ, place_inside, places_differ, slices_divide};
+pub use laws::{
+    copies_apart, parts_apart, parts_cover, parts_differ, place_inside, places_differ,
+    slices_divide, stripes_apart,
+};
 pub use mapping::{MapFault, elements, place_of};
 pub use place::{Part, Place};
 pub use position::Elements;

@@ -1,4 +1,4 @@
-use crate::index::{chunk_at, has_same, last_at, overlaps, put};
+use crate::index::{chunk_at, first_at, has_same, last_at, overlaps, put};
 use crate::{AddFault, Chunk, Place};
 use std::alloc::Global;
 use std::collections::BTreeMap;
@@ -33,7 +33,7 @@ impl ChunkTable {
     ghost use Rattle.std.specs.Prelude.{◌≡◌, ◌<◌, [], length, slice_get, Some, IfSome, false};
     ghost use Rattle.std.specs.Option.{option_copied};
     ghost use Rattle.btr_chunk.specs.Chunk.{IsChunk, stripe_length};
-    ghost use Rattle.btr_chunk.specs.Table.{IsTable, some_meet, IsAdding, chunk_at};
+    ghost use Rattle.btr_chunk.specs.Table.{IsTable, some_meet, IsAdding, chunk_at, next_at};
 
     /// A table of no chunks.
     pub fn new(alloc: Global) -> ChunkTable
@@ -76,6 +76,17 @@ impl ChunkTable {
         } else {
             None
         }
+    }
+
+    /// The first chunk that starts at or behind an address. From the end of one chunk on it is the next one.
+    pub fn next(&self, addr: u64) -> Option<&Chunk>
+        ensures chunk { option_copied result ≡ next_at self.now addr }
+        ensures sound { IfSome result (λ chunk. IsChunk chunk.now) }
+        ensures spread { IfSome result
+            (λ chunk. some_meet (stripe_length chunk.now) chunk.now.stripes ≡ false) }
+    {
+        let chunk = first_at(&self.chunks, addr)?;
+        Some(chunk)
     }
 
     /// Adds a chunk. One that is equal in all fields to a chunk of the table changes nothing.

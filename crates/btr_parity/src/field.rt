@@ -32,7 +32,7 @@ pub(crate) fn product(a: u8, b: u8) -> u8
 
 // `2^index`.
 pub(crate) fn power(index: u8) -> u8
-    requires { index ≤ LAST_INDEX }
+    requires { index ≤ 62 }
     ensures { result ≡ power index }
 {
     POWERS[index as usize]
@@ -49,7 +49,7 @@ pub(crate) fn inverse(b: u8) -> u8
 /// `2^index * b`: what the byte `b` of slice `index` adds to the same byte of Q. The index is at most
 /// [`LAST_INDEX`].
 pub fn times(index: u8, b: u8) -> u8
-    requires { index ≤ LAST_INDEX }
+    requires { index ≤ 62 }
     ensures { result ≡ product (power index) b }
 {
     product(power(index), b)

@@ -21,7 +21,7 @@ pub fn fold_p(acc: &mut [u8], piece: &[u8])
 /// index is at most [`LAST_INDEX`]. Adding a slice again takes it away.
 pub fn fold_q(acc: &mut [u8], piece: &[u8], index: u8)
     requires same_length { length acc.old ≡ length piece.now }
-    requires is_index { index ≤ LAST_INDEX }
+    requires is_index { index ≤ 62 }
     ensures { acc.new ≡ plus acc.old (scaled (power index) piece.now) }
 {
     Multiples::of(power(index)).add_scaled(acc, piece);

@@ -8,7 +8,7 @@ use crate::multiples::Multiples;
 /// Divides by `2^index`: `acc`, which is Q less all slices but slice `index`, becomes that slice. The
 /// index is at most [`LAST_INDEX`]. (P less all slices but one is that slice, with no division.)
 pub fn rebuild_q(acc: &mut [u8], index: u8)
-    requires { index ≤ LAST_INDEX }
+    requires { index ≤ 62 }
     ensures { IsTheOne (length acc.old) (Weighs index acc.old) acc.new }
 {
     Multiples::of(inverse(power(index))).scale(acc);
@@ -19,8 +19,8 @@ pub fn rebuild_q(acc: &mut [u8], index: u8)
 /// differ and are at most [`LAST_INDEX`].
 pub fn rebuild_pq(p: &mut [u8], q: &[u8], x: u8, y: u8)
     requires same_length { length p.old ≡ length q.now }
-    requires is_index { x ≤ LAST_INDEX }
-    requires is_other_index { y ≤ LAST_INDEX }
+    requires is_index { x ≤ 62 }
+    requires is_other_index { y ≤ 62 }
     requires differ { x ≢ y }
     ensures { IsTheOne (length p.old) (WeighsWith p.old q.now x y) p.new }
 {

@@ -10,7 +10,7 @@ const SIZE: usize = 17;
 
 // Slice `index` of a table.
 fn row(table: &[u8; 1071], index: u8) -> [u8; SIZE]
-    requires { index ≤ LAST_INDEX }
+    requires { index ≤ 62 }
 {
     let mut row = [0; SIZE];
     for j in 0..SIZE {
@@ -20,13 +20,13 @@ fn row(table: &[u8; 1071], index: u8) -> [u8; SIZE]
 }
 
 fn slice(index: u8) -> [u8; SIZE]
-    requires { index ≤ LAST_INDEX }
+    requires { index ≤ 62 }
 {
     row(&SLICES, index)
 }
 
 fn weighted(index: u8) -> [u8; SIZE]
-    requires { index ≤ LAST_INDEX }
+    requires { index ≤ 62 }
 {
     row(&WEIGHTED, index)
 }
@@ -82,7 +82,7 @@ fn rebuilt_by_p(lost: u8) -> [u8; SIZE] {
 }
 
 fn rebuilt_by_q(lost: u8) -> [u8; SIZE]
-    requires { lost ≤ LAST_INDEX }
+    requires { lost ≤ 62 }
 {
     let mut q = Q;
     for i in 0..=LAST_INDEX {
@@ -112,8 +112,8 @@ fn one_slice_lost(rt: HostRuntime) {
 }
 
 fn rebuilt_with(x: u8, y: u8) -> [u8; SIZE]
-    requires is_index { x ≤ LAST_INDEX }
-    requires is_other_index { y ≤ LAST_INDEX }
+    requires is_index { x ≤ 62 }
+    requires is_other_index { y ≤ 62 }
     requires differ { x ≢ y }
 {
     let mut p = slice(x);

@@ -111,10 +111,10 @@ module _ (chunks : List Chunk) (devices : List Member) (setting : Setting) (p0 :
         pub found_keeps : KeepsLent want then_store old.account new.account loan
         found_keeps tree calm = elim found [
           | inl h ↦ keeps_in setting w2 p2.bytes k want (
-            ap (λ ws. get_or ws k None) h.0.one
-            ∙ get_or-set_same h.0.then k (kept_want t.want) None h.0.room
-            ∙ ap kept_want (sought_of store.layout want t seeks).want_is
-            ∙ tree_is want tree)
+              ap (λ ws. get_or ws k None) h.0.one
+              ∙ get_or-set_same h.0.then k (kept_want t.want) None h.0.room
+              ∙ ap kept_want (sought_of store.layout want t seeks).want_is
+              ∙ tree_is want tree)
           | inr h ↦ absurd (not_calm store.layout want t old mid after new seeks begin end (take (size_of t) (bytes_at p2 k)) h.1 calm)
         ]
 

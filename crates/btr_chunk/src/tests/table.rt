@@ -3,8 +3,8 @@ ghost use Rattle.btr_chunk.specs.Chunk.{IsChunk};
 
 use super::{ELEMENT, Form, START, chunk, item};
 use crate::{
-    AddFault, ArrayFault, Chunk, ChunkFault, ChunkTable, Elements, Part, parts_cover, parts_differ,
-    place_inside, places_differ, read_array,
+    AddFault, ArrayFault, Chunk, ChunkFault, ChunkTable, Elements, Part, copies_apart, parts_apart,
+    parts_cover, parts_differ, place_inside, places_differ, read_array, stripes_apart,
 };
 use std::alloc::{AllocError, Global};
 use std::test::Fail;
@@ -57,6 +57,14 @@ fn keeps_chunks_apart(rt: HostRuntime) -> Result<(), Fail> {
     for i in 0..4 {
         assert_eq!(rt; table.at(i).start, starts[i]);
     }
+    // One after the other, each from the end of the one before.
+    let mut behind = 0;
+    for start in starts {
+        let next = table.next(behind).map(|chunk| chunk.start);
+        assert_eq!(rt; next, Some(start), "behind {behind}");
+        behind = start + MIB;
+    }
+    assert!(rt; table.next(behind).is_none());
     let found = [
         (2 * MIB - 1, None),
         (2 * MIB, Some(2 * MIB)),
@@ -189,7 +197,15 @@ fn laws_hold(rt: HostRuntime) -> Result<(), Fail> {
     };
     parts_differ(&chunk, &row, Part::P, Part::P);
     parts_cover(&chunk, &row, 3);
-    place_inside(&chunk, Part::P, &crate::elements(&chunk, chunk.start, 1)?);
+    stripes_apart();
+    parts_apart();
+    copies_apart();
+    place_inside(
+        &chunk,
+        Part::P,
+        &crate::elements(&chunk, chunk.start, 1)?,
+        1,
+    );
     assert_eq!(rt; chunk.stripes.at(3).devid, 14);
     let mut table = ChunkTable::new(rt.alloc());
     table.add(chunk)?;

@@ -7,7 +7,7 @@ use crate::{LAST_INDEX, times};
 
 pub(super) fn fold_q(acc: &mut [u8], piece: &[u8], index: u8)
     requires same_length { length acc.old ≡ length piece.now }
-    requires is_index { index ≤ LAST_INDEX }
+    requires is_index { index ≤ 62 }
     ensures { acc.new ≡ plus acc.old (scaled (power index) piece.now) }
 {
     for (i, x) in acc.iter_mut().enumerate() {
@@ -16,7 +16,7 @@ pub(super) fn fold_q(acc: &mut [u8], piece: &[u8], index: u8)
 }
 
 pub(super) fn scale(slice: &mut [u8], index: u8)
-    requires { index ≤ LAST_INDEX }
+    requires { index ≤ 62 }
     ensures { slice.new ≡ scaled (power index) slice.old }
 {
     for x in slice.iter_mut() {

@@ -1,5 +1,5 @@
 // Volumes in memory, and what is fetched from them.
-ghost use Rattle.std.specs.Prelude.{◌≡◌, ◌==◌, ◌≤◌, not, IsTrue, IfOk, OnErr};
+ghost use Rattle.std.specs.Prelude.{◌≡◌, ◌==◌, ◌≤◌, IsTrue, IfOk, OnErr};
 ghost use Rattle.std.specs.List.{list_any};
 ghost use Rattle.btr_rack.specs.Memory.{seen_of, slots_of};
 ghost use Rattle.btr_read.specs.Layout.{AreOpen, HaveOwnSlots};
@@ -150,10 +150,10 @@ fn are_open(rack: &MemRack, members: &[Member]) -> bool
     true
 }
 
-fn lacks_slot(members: &[Member], slot: usize) -> bool
-    ensures { result ≡ not (list_any (λ member. member.device.slot == slot) members.now) }
+fn has_slot(members: &[Member], slot: usize) -> bool
+    ensures { result ≡ list_any (λ member. member.device.slot == slot) members.now }
 {
-    !members.iter().any(|member| member.device.slot == slot)
+    members.iter().any(|member| member.device.slot == slot)
 }
 
 fn have_own_slots(members: &[Member]) -> bool
@@ -162,7 +162,7 @@ fn have_own_slots(members: &[Member]) -> bool
     let Some((first, others)) = members.split_first() else {
         return true;
     };
-    lacks_slot(others, first.device.slot) && have_own_slots(others)
+    !has_slot(others, first.device.slot) && have_own_slots(others)
 }
 
 // Whether each device is open in a slot of its own, and a fetch has room.

@@ -1,6 +1,6 @@
-use Rattle.std.proofs.Common.{◌≡◌, ◌≤◌, Some}
-use Rattle.btr_rack.specs.Rack.{Steady}
-use Rattle.btr_rack.specs.Memory.{slots_of, held_of}
+use Rattle.std.proofs.Common.{◌≡◌, ◌≤◌}
+use Rattle.btr_rack.specs.Rack.{Steady, OnlyReads}
+use Rattle.btr_rack.specs.Memory.{seen_of, held_of}
 use Rattle.btr_read.specs.Fate.{fate}
 use Rattle.btr_read.specs.Store.{SameLoans}
 use Rattle.btr_read.specs.Serves.{Serves}
@@ -10,7 +10,7 @@ use Rattle.btr_bench.proofs.fetching.count.Given as goal
 -- the rack serves the store, the images and the loans are as they were, and the turns so far are counted
 abbrev pub invariant-loop-turn : goal.invariant-loop-turn
 invariant-loop-turn l = record {
-  serves : Serves slots_of (λ rack. Some (held_of rack)) l.rack l.store;
+  serves : Serves (seen_of l.rack) l.store;
   held : held_of l.rack ≡ held_of l.fn.rack;
   store : SameLoans l.fn.store l.store;
   later : l.fn.rack.account.faults ≤ l.rack.account.faults;
