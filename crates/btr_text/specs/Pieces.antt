@@ -1,9 +1,8 @@
 -- The text of pieces.
-use Rattle.std.specs.Prelude.{ℕ, ◌==◌, if◌then◌else◌, List, [], ◌∷◌, ◌++◌, codes}
+use Rattle.std.specs.Prelude.{ℕ, false, ◌==◌, if◌then◌else◌, List, [], ◌∷◌, ◌++◌, codes}
 use Rattle.std.specs.List.{flat_map}
 use Rattle.std.specs.Fmt.{decimal, digits}
 use Rattle.std.specs.Int.{w64, to_be_bytes}
-use Rattle.std.specs.Prelude.{false}
 use Rattle.hex.specs.Hex.{encode_lower}
 use Rattle.uuid.specs.Text.{hyphenated_text, lower}
 use Rattle.btr_base.specs.Shown.{shown}
@@ -18,6 +17,10 @@ hex_text n = encode_lower (to_be_bytes w64 n)
 -- octal digits, without a prefix
 abbrev pub octal_text : ℕ → List ℕ
 octal_text n = digits 8 false n
+
+-- a UUID, in lower case with hyphens
+abbrev pub id_text : List ℕ → List ℕ
+id_text id = hyphenated_text lower id
 
 -- a name, byte by byte
 abbrev pub name_text : List ℕ → List ℕ
@@ -62,7 +65,7 @@ piece_text (Hexadecimal n) = hex_text n
 piece_text (Octal n) = octal_text n
 piece_text (Name name) = name_text name.now
 piece_text (key_piece key) = key_text key
-piece_text (Id id) = hyphenated_text lower id
+piece_text (Id id) = id_text id
 
 -- a text with pieces behind it, one after another
 abbrev pub pieces_onto : List ℕ → List Piece → List ℕ
