@@ -1,18 +1,22 @@
 -- How a run ends, by what its command came to and what was put.
-use Rattle.std.proofs.Common.{◌≡◌, ◌≢◌, ◌⊎◌, inl, inr, ⊎_elim, ℕ, ◌<◌, ◌≤◌, List, [], ◌++◌, length, map, take, drop, String, ◌-◌, Option, Some, None, Err, refl, sym, ap, ◌∙◌, subst, arith}
+use Rattle.std.proofs.Common.{◌≡◌, ◌≢◌, ◌⊎◌, inl, inr, ⊎_elim, Bool, true, false, Result, Ok, ℕ, ◌<◌, ◌≤◌, List, [], ◌++◌, length, map, take, drop, String, ◌-◌, Option, Some, None, Err, refl, sym, ap, ◌∙◌, subst, arith}
 use Rattle.std.specs.Option.{IfSome}
 use Rattle.std.specs.declared.alloc.Global.{Global}
 use Rattle.std.specs.String.{string_bytes}
 use Rattle.std.proofs.lemmas.List.{append_assoc, append-nil, drop-map, take_all, take_rest}
 use Rattle.std.proofs.lemmas.Bool.{cases_lt}
-use Rattle.btr_rack.specs.Rack.{Slot, Account, Rose, Steady, NoneFailed, Shelf}
-use Rattle.btr_rack.specs.Out.{Adds}
+use Rattle.btr_rack.specs.Rack.{Slot, Seen, Account, Rose, Steady, NoneFailed, Shelf}
+use Rattle.btr_rack.specs.Out.{Adds, Puts, CallAccount, Counts}
+use Rattle.btr_rack.specs.declared.error.SinkError.{SinkError}
+use Rattle.btr_rack.specs.declared.error.SinkError.TheVariants.{Failed, Memory as memory_fault}
+use Rattle.btr_super.specs.declared.superblock.Super.{Super}
+use Rattle.btr_tool.specs.Text.{super_text}
+use Rattle.btr_text.proofs.Writing.{adds_twice}
 use Rattle.btr_tool.specs.Words.{Words, IsSentence, IsUsageAt, images_of}
 use Rattle.btr_tool.specs.Answers.{error_line}
-use Rattle.btr_tool.specs.Causes.{OpeningFailed, ReadFailed, SuperCause, ImageCause, IsUnopened}
-use Rattle.btr_tool.specs.Puts.{IsPut, IsShown, AddsPart, IsRefused, IsTold, IsMessage, IsSuperText}
-use Rattle.btr_tool.specs.Effects.{Effect, refused, IsEffect, HasEffect, HasPart, IsDecided, FollowsWords, IsSuperEffect, HasTooMany, images_effect, most_images}
-use Rattle.btr_tool.proofs.Causing.{rose_behind}
+use Rattle.btr_tool.specs.Causes.{OpeningFailed, ReadFailed, SuperCause, ImageCause, IsUnopened, HidesNone, FailsMissing, IsMissing, IsMissingImage}
+use Rattle.btr_tool.specs.Puts.{IsPut, IsShown, OutFailed, due_after, AddsPart, IsTold, IsMessage, IsSuperText}
+use Rattle.btr_tool.specs.Effects.{Effect, refused, shown, IsEffect, HasEffect, HasPart, IsDecided, FollowsWords, IsSuperEffect, HasTooMany, images_effect, most_images}
 use Rattle.btr_tool.specs.declared.plan.Command.TheVariants.{Super as super_command}
 use Rattle.btr_tool.specs.declared.plan.Plan.{Plan}
 use Rattle.btr_tool.specs.declared.answer.Answer.{Answer}
@@ -30,8 +34,14 @@ IsRefusal OutFault = ⊥
 IsRefusal Memory = Unit {0}
 
 -- how a put ended: with this answer, by a fault, or for want of memory
-abbrev pub Ends : ℕ → ℕ → Answer → Answer → Type 0
-Ends faults faults' answer result = (result ≡ answer) ⊎ ((result ≡ OutFault) × Rose faults faults') ⊎ (result ≡ Memory)
+abbrev pub Ends : CallAccount → CallAccount → Answer → Answer → Type 0
+Ends before after answer result = (result ≡ answer) ⊎ ((result ≡ OutFault) × OutFailed before after) ⊎ (result ≡ Memory)
+
+-- what is due after a put
+pub put_is : (old new : Option (List ℕ)) (before after : CallAccount) (text : List ℕ) (answer : Answer) (r : Result Unit SinkError) → Puts old new text r → Counts before after r → IsPut old new before after text answer (due_after r answer)
+put_is old new before after text answer (Ok x) puts counts = inl (refl, puts)
+put_is old new before after text answer (Err Failed) puts counts = inr (inl (refl, (counts.0, counts.1), puts))
+put_is old new before after text answer (Err memory_fault) puts counts = inr (inr (refl, counts.0, counts.1, puts))
 
 steady_not_rose : (before now : ℕ) → Steady before now → Rose before now → ⊥
 steady_not_rose before now steady rose = omega (arith, steady.0, steady.1, rose.0, rose.1)
@@ -43,17 +53,12 @@ first_part old new text n adds = (n, 0, subst (Adds old new) (sym (append-nil (t
 whole_part : (old new : Option (List ℕ)) (text : List ℕ) → Adds old new text → AddsPart old new text
 whole_part old new text adds = first_part old new text (length text) (subst (Adds old new) (sym (take_all (length text) text (omega arith))) adds)
 
--- one text behind another
-adds_twice : (old mid new : Option (List ℕ)) (first second : List ℕ) → Adds old mid first → Adds mid new second → Adds old new (first ++ second)
-adds_twice None mid new first second a b = subst (λ o. Adds o new second) a b
-adds_twice (Some text) mid new first second a b = subst (λ o. Adds o new second) a b ∙ ap (λ l. Some l) (append_assoc text first second)
-
 -- the line for want of memory, or a first part of it, behind a first part of a text
-pub memory_behind : (old mid new : Option (List ℕ)) (faults faults' faults'' : ℕ) (text : List ℕ) (result result' : Answer) → IsPut old mid faults faults' text (Done 0) result → result ≡ Memory
-    → IsPut mid new faults' faults'' (error_line Memory) Memory result' → IsShown old new faults faults'' text result'
-memory_behind old mid new faults faults' faults'' text result result' put is again =
+pub memory_behind : (old mid new : Option (List ℕ)) (before between after : CallAccount) (text : List ℕ) (result result' : Answer) → IsPut old mid before between text (Done 0) result → result ≡ Memory
+    → IsPut mid new between after (error_line Memory) Memory result' → IsShown old new before after text result'
+memory_behind old mid new before between after text result result' put is again =
     ⊎_elim (λ done. absurd (cc (sym done.0 ∙ is)))
-    (λ rest. ⊎_elim (λ fault. absurd (cc (sym fault.0 ∙ is))) (λ memory. behind memory.1 memory.2.0 memory.2.1) rest) put
+    (λ rest. ⊎_elim (λ fault. absurd (cc (sym fault.0 ∙ is))) (λ memory. behind memory.1 memory.2 memory.3.0 memory.3.1) rest) put
   where
     line : List ℕ
     line = error_line Memory
@@ -61,57 +66,53 @@ memory_behind old mid new faults faults' faults'' text result result' put is aga
     part : (n m : ℕ) → Adds old mid (take n text) → Adds mid new (take m line) → AddsPart old new text
     part n m a b = (n, m, adds_twice old mid new (take n text) (take m line) a b)
 
-    behind : faults ≤ faults' → (n : ℕ) → Adds old mid (take n text) → IsShown old new faults faults'' text result'
-    behind le n a =
-        ⊎_elim (λ done. inr (inr (done.0, part n (length line) a (subst (Adds mid new) (sym (take_all (length line) line (omega arith))) done.1))))
-        (λ rest. ⊎_elim (λ fault. inr (inl (fault.0, rose_behind faults faults' faults'' le fault.1, part n fault.2.0 a fault.2.1))) (λ memory. inr (inr (memory.0, part n memory.2.0 a memory.2.1))) rest) again
+    behind : before.ample ≡ false → between ≡ before → (n : ℕ) → Adds old mid (take n text) → IsShown old new before after text result'
+    behind scarce same n a =
+        ⊎_elim (λ done. inr (inr (done.0, scarce, part n (length line) a (subst (Adds mid new) (sym (take_all (length line) line (omega arith))) done.1))))
+        (λ rest.
+        ⊎_elim (λ fault. inr (inl (fault.0, subst (λ c. OutFailed c after) same fault.1, part n fault.2.0 a fault.2.1))) (λ memory. inr (inr (memory.0, scarce, part n memory.3.0 a memory.3.1))) rest) again
 
 -- a text that was put, or not for a fault
-pub shown_at_once : (old new : Option (List ℕ)) (faults faults' : ℕ) (text : List ℕ) (result : Answer) → IsPut old new faults faults' text (Done 0) result → IsShown old new faults faults' text result
-shown_at_once old new faults faults' text result put =
+pub shown_at_once : (old new : Option (List ℕ)) (before after : CallAccount) (text : List ℕ) (result : Answer) → IsPut old new before after text (Done 0) result → IsShown old new before after text result
+shown_at_once old new before after text result put =
     ⊎_elim (λ done. inl done)
-    (λ rest. ⊎_elim (λ fault. inr (inl (fault.0, fault.1, first_part old new text fault.2.0 fault.2.1))) (λ memory. inr (inr (memory.0, first_part old new text memory.2.0 memory.2.1))) rest) put
+    (λ rest. ⊎_elim (λ fault. inr (inl (fault.0, fault.1, first_part old new text fault.2.0 fault.2.1))) (λ memory. inr (inr (memory.0, memory.1, first_part old new text memory.3.0 memory.3.1))) rest) put
 
-module _ (old new : Option (List ℕ)) (faults faults' : ℕ) where
-  pub put_ends : (text : List ℕ) (answer result : Answer) → IsPut old new faults faults' text answer result → Ends faults faults' answer result
+module _ (old new : Option (List ℕ)) (before after : CallAccount) where
+  pub put_ends : (text : List ℕ) (answer result : Answer) → IsPut old new before after text answer result → Ends before after answer result
   put_ends text answer result put = ⊎_elim (λ done. inl done.0) (λ rest. ⊎_elim (λ fault. inr (inl (fault.0, fault.1))) (λ memory. inr (inr memory.0)) rest) put
 
-  pub shown_ends : (text : List ℕ) (result : Answer) → IsShown old new faults faults' text result → Ends faults faults' (Done 0) result
+  pub shown_ends : (text : List ℕ) (result : Answer) → IsShown old new before after text result → Ends before after (Done 0) result
   shown_ends text result put = ⊎_elim (λ done. inl done.0) (λ rest. ⊎_elim (λ fault. inr (inl (fault.0, fault.1))) (λ memory. inr (inr memory.0)) rest) put
 
-  pub refused_ends : (answer result : Answer) → IsRefused old new faults faults' answer result → Ends faults faults' answer result
-  refused_ends answer result refusal =
-      ⊎_elim (put_ends (error_line answer) answer result) (λ put. ⊎_elim (λ done. inr (inr done)) (λ rest. inr rest) (put_ends (error_line Memory) Memory result put)) refusal
-
-  put_part : (text : List ℕ) (answer result : Answer) → IsPut old new faults faults' text answer result → AddsPart old new text
+  put_part : (text : List ℕ) (answer result : Answer) → IsPut old new before after text answer result → AddsPart old new text
   put_part text answer result put =
-      ⊎_elim (λ done. whole_part old new text done.1) (λ rest. ⊎_elim (λ fault. first_part old new text fault.2.0 fault.2.1) (λ memory. first_part old new text memory.2.0 memory.2.1) rest) put
+      ⊎_elim (λ done. whole_part old new text done.1) (λ rest. ⊎_elim (λ fault. first_part old new text fault.2.0 fault.2.1) (λ memory. first_part old new text memory.3.0 memory.3.1) rest) put
 
-  shown_adds : (text : List ℕ) (result : Answer) → IsShown old new faults faults' text result → AddsPart old new text
-  shown_adds text result put = ⊎_elim (λ done. whole_part old new text done.1) (λ rest. ⊎_elim (λ fault. fault.2) (λ memory. memory.1) rest) put
+  shown_adds : (text : List ℕ) (result : Answer) → IsShown old new before after text result → AddsPart old new text
+  shown_adds text result put = ⊎_elim (λ done. whole_part old new text done.1) (λ rest. ⊎_elim (λ fault. fault.2) (λ memory. memory.2) rest) put
 
   -- the line for want of memory, or a first part of it
-  memory_part : (result : Answer) → IsPut old new faults faults' (error_line Memory) Memory result → AddsPart old new []
+  memory_part : (result : Answer) → IsPut old new before after (error_line Memory) Memory result → AddsPart old new []
   memory_part result put =
       ⊎_elim (λ done. (0, length (error_line Memory), subst (Adds old new) (sym (take_all (length (error_line Memory)) (error_line Memory) (omega arith))) done.1))
-      (λ rest. ⊎_elim (λ fault. (0, fault.2.0, fault.2.1)) (λ memory. (0, memory.2.0, memory.2.1)) rest) put
+      (λ rest. ⊎_elim (λ fault. (0, fault.2.0, fault.2.1)) (λ memory. (0, memory.3.0, memory.3.1)) rest) put
 
   -- a first part of what the words come to
-  pub shown_part : (words : Words) (shelf : Shelf) (text : List ℕ) (result : Answer) → IsEffect words shelf (record { answer = Done 0; text = text }) → IsShown old new faults faults' text result → HasPart words shelf old new
+  pub shown_part : (words : Words) (shelf : Shelf) (text : List ℕ) (result : Answer) → IsEffect words shelf (record { answer = Done 0; text = text }) → IsShown old new before after text result → HasPart words shelf old new
   shown_part words shelf text result is put = inr (record { answer = Done 0; text = text }, is, shown_adds text result put)
 
-  pub refused_part : (words : Words) (shelf : Shelf) (answer result : Answer) → IsEffect words shelf (refused answer) → IsRefused old new faults faults' answer result → HasPart words shelf old new
-  refused_part words shelf answer result is refusal = ⊎_elim (λ put. inr (refused answer, is, put_part (error_line answer) answer result put)) (λ put. inl (memory_part result put)) refusal
+  pub refused_part : (words : Words) (shelf : Shelf) (answer result : Answer) → IsEffect words shelf (refused answer) → IsPut old new before after (error_line answer) answer result → HasPart words shelf old new
+  refused_part words shelf answer result is put = inr (refused answer, is, put_part (error_line answer) answer result put)
 
-  pub exhausted_part : (words : Words) (shelf : Shelf) (result : Answer) → IsRefused old new faults faults' Memory result → HasPart words shelf old new
-  exhausted_part words shelf result refusal = inl (⊎_elim (memory_part result) (memory_part result) refusal)
+  pub exhausted_part : (words : Words) (shelf : Shelf) (result : Answer) → IsPut old new before after (error_line Memory) Memory result → HasPart words shelf old new
+  exhausted_part words shelf result put = inl (memory_part result put)
 
-  put_told : (text : List ℕ) (answer result : Answer) → IsMessage text → (Adds old new text → IsTold old new answer) → IsPut old new faults faults' text answer result → IsTold old new result
-  put_told text answer result message told put =
-      ⊎_elim (λ done. subst (IsTold old new) (sym done.0) (told done.1))
-      (λ rest. ⊎_elim (λ fault. subst (IsTold old new) (sym fault.0) (text, message, first_part old new text fault.2.0 fault.2.1)) (λ memory. subst (IsTold old new) (sym memory.0) (text, message, first_part old new text memory.2.0 memory.2.1)) rest) put
+  -- an output that wants memory is not ample
+  memory_told : (text : List ℕ) → IsMessage text → before.ample ≡ false → AddsPart old new text → IsTold before.ample old new Memory
+  memory_told text message scarce part = (λ ample. absurd (cc (sym ample ∙ scarce)), (text, message, part))
 
-  line_told : (answer : Answer) → IsRefusal answer → Adds old new (error_line answer) → IsTold old new answer
+  line_told : (answer : Answer) → IsRefusal answer → Adds old new (error_line answer) → IsTold before.ample old new answer
   line_told (Done skipped) is adds = absurd is
   line_told (Usage at) is adds = adds
   line_told (Limit which n) is adds = adds
@@ -119,53 +120,51 @@ module _ (old new : Option (List ℕ)) (faults faults' : ℕ) where
   line_told (SumKind kind) is adds = adds
   line_told (ImageFault slot) is adds = adds
   line_told OutFault is adds = absurd is
-  line_told Memory is adds = (error_line Memory, inr (Memory, refl), whole_part old new (error_line Memory) adds)
+  line_told Memory is adds = (λ ample. adds, (error_line Memory, inr (Memory, refl), whole_part old new (error_line Memory) adds))
 
   -- the superblock's text is told
-  pub shown_told : (text : List ℕ) (result : Answer) → IsSuperText text → IsShown old new faults faults' text result → IsTold old new result
+  pub shown_told : (text : List ℕ) (result : Answer) → IsSuperText text → IsShown old new before after text result → IsTold before.ample old new result
   shown_told text result is put =
-      ⊎_elim (λ done. subst (IsTold old new) (sym done.0) (is.0, is.1, subst (Adds old new) is.2 done.1))
-      (λ rest. ⊎_elim (λ fault. subst (IsTold old new) (sym fault.0) (text, inl is, fault.2)) (λ memory. subst (IsTold old new) (sym memory.0) (text, inl is, memory.1)) rest) put
+      ⊎_elim (λ done. subst (IsTold before.ample old new) (sym done.0) (refl, (is.0, is.1, subst (Adds old new) is.2 done.1)))
+      (λ rest.
+      ⊎_elim (λ fault. subst (IsTold before.ample old new) (sym fault.0) (text, inl is, fault.2)) (λ memory. subst (IsTold before.ample old new) (sym memory.0) (memory_told text (inl is) memory.1 memory.2)) rest) put
 
   -- the line of a refusal is told
-  pub refused_told : (answer result : Answer) → IsRefusal answer → IsRefused old new faults faults' answer result → IsTold old new result
-  refused_told answer result is refusal =
-      ⊎_elim (put_told (error_line answer) answer result (inr (answer, refl)) (line_told answer is)) (put_told (error_line Memory) Memory result (inr (Memory, refl)) (line_told Memory tt)) refusal
+  pub refused_told : (answer result : Answer) → IsRefusal answer → IsPut old new before after (error_line answer) answer result → IsTold before.ample old new result
+  refused_told answer result is put =
+      ⊎_elim (λ done. subst (IsTold before.ample old new) (sym done.0) (line_told answer is done.1))
+      (λ rest.
+      ⊎_elim (λ fault. subst (IsTold before.ample old new) (sym fault.0) (error_line answer, inr (answer, refl), first_part old new (error_line answer) fault.2.0 fault.2.1))
+      (λ memory. subst (IsTold before.ample old new) (sym memory.0) (memory_told (error_line answer) (inr (answer, refl)) memory.1 (first_part old new (error_line answer) memory.3.0 memory.3.1))) rest) put
 
-  module _ (steady : Steady faults faults') where
-    put_effect : (words : Words) (shelf : Shelf) (text : List ℕ) (answer result : Answer) → result ≢ Memory → IsEffect words shelf (record { answer = answer; text = text }) → IsPut old new faults faults' text answer result
-        → HasEffect words shelf old new result
-    put_effect words shelf text answer result enough is put =
-        ⊎_elim (λ done. record { effect = record { answer = answer; text = text }; is = is; answered = done.0; put = done.1 })
-        (λ rest. ⊎_elim (λ fault. absurd (steady_not_rose faults faults' steady fault.1)) (λ memory. absurd (enough memory.0)) rest) put
-
-    pub shown_effect : (words : Words) (shelf : Shelf) (text : List ℕ) (result : Answer) → result ≢ Memory → IsEffect words shelf (record { answer = Done 0; text = text }) → IsShown old new faults faults' text result
+  module _ (steady : Steady before.faults after.faults) where
+    pub shown_effect : (words : Words) (shelf : Shelf) (text : List ℕ) (result : Answer) → result ≢ Memory → IsEffect words shelf (record { answer = Done 0; text = text }) → IsShown old new before after text result
         → HasEffect words shelf old new result
     shown_effect words shelf text result enough is put =
         ⊎_elim (λ done. record { effect = record { answer = Done 0; text = text }; is = is; answered = done.0; put = done.1 })
-        (λ rest. ⊎_elim (λ fault. absurd (steady_not_rose faults faults' steady fault.1)) (λ memory. absurd (enough memory.0)) rest) put
+        (λ rest. ⊎_elim (λ fault. absurd (steady_not_rose before.faults after.faults steady fault.1.1)) (λ memory. absurd (enough memory.0)) rest) put
+
+    pub refused_effect : (words : Words) (shelf : Shelf) (answer result : Answer) → result ≢ Memory → IsEffect words shelf (refused answer) → IsPut old new before after (error_line answer) answer result
+        → HasEffect words shelf old new result
+    refused_effect words shelf answer result enough is put =
+        ⊎_elim (λ done. record { effect = refused answer; is = is; answered = done.0; put = done.1 })
+        (λ rest. ⊎_elim (λ fault. absurd (steady_not_rose before.faults after.faults steady fault.1.1)) (λ memory. absurd (enough memory.0)) rest) put
 
     -- want of memory ends otherwise
-    no_memory : (result : Answer) → result ≢ Memory → IsPut old new faults faults' (error_line Memory) Memory result → ⊥
-    no_memory result enough put = ⊎_elim (λ done. enough done.0) (λ rest. ⊎_elim (λ fault. steady_not_rose faults faults' steady fault.1) (λ memory. enough memory.0) rest) put
-
-    pub refused_effect : (words : Words) (shelf : Shelf) (answer result : Answer) → result ≢ Memory → IsEffect words shelf (refused answer) → IsRefused old new faults faults' answer result → HasEffect words shelf old new result
-    refused_effect words shelf answer result enough is refusal =
-        ⊎_elim (put_effect words shelf (error_line answer) answer result enough is) (λ put. absurd (no_memory result enough put)) refusal
-
-    pub memory_ends : (result : Answer) → result ≢ Memory → IsRefused old new faults faults' Memory result → ⊥
-    memory_ends result enough refusal = ⊎_elim (no_memory result enough) (no_memory result enough) refusal
+    pub memory_ends : (result : Answer) → result ≢ Memory → IsPut old new before after (error_line Memory) Memory result → ⊥
+    memory_ends result enough put =
+        ⊎_elim (λ done. enough done.0) (λ rest. ⊎_elim (λ fault. steady_not_rose before.faults after.faults steady fault.1.1) (λ memory. enough memory.0) rest) put
 
 -- a fault of the output comes with its cause
-pub out_cause : (faults faults' : ℕ) (answer result : Answer) → answer ≢ OutFault → Ends faults faults' answer result → result ≡ OutFault → Rose faults faults'
-out_cause faults faults' answer result other ends is =
+pub out_cause : (before after : CallAccount) (answer result : Answer) → answer ≢ OutFault → Ends before after answer result → result ≡ OutFault → OutFailed before after
+out_cause before after answer result other ends is =
     ⊎_elim (λ done. absurd (other (sym done ∙ is))) (λ rest. ⊎_elim (λ fault. fault.1) (λ memory. absurd (cc (sym memory ∙ is))) rest) ends
 
 pub refusal_not_out : (answer : Answer) → IsRefusal answer → answer ≢ OutFault
 refusal_not_out answer is e = subst IsRefusal e is
 
-pub one_of : (faults faults' : ℕ) (answer result : Answer) → Ends faults faults' answer result → (result ≡ answer) ⊎ (result ≡ OutFault) ⊎ (result ≡ Memory)
-one_of faults faults' answer result ends = ⊎_elim (λ done. inl done) (λ rest. ⊎_elim (λ fault. inr (inl fault.0)) (λ memory. inr (inr memory)) rest) ends
+pub one_of : (before after : CallAccount) (answer result : Answer) → Ends before after answer result → (result ≡ answer) ⊎ (result ≡ OutFault) ⊎ (result ≡ Memory)
+one_of before after answer result ends = ⊎_elim (λ done. inl done) (λ rest. ⊎_elim (λ fault. inr (inl fault.0)) (λ memory. inr (inr memory)) rest) ends
 
 -- words go wrong at one place only
 pub usage_once : (words : Words) (at other : ℕ) → IsUsageAt words at → IsUsageAt words other → at ≡ other
@@ -257,6 +256,22 @@ module _ (words names : Words) (plan : Plan) (sentence : IsSentence plan words) 
   pub refusal_follows : (T : Type 0) (refusal result : Answer) → HasTooMany {T = T} names (Err refusal) → (result ≡ refusal) ⊎ (result ≡ OutFault) ⊎ (result ≡ Memory) → FollowsWords words result
   refusal_follows T refusal result many ends = follows words refusal result (limit_follows T refusal many) ends
 
+-- an answer that hides no failed call, or a put that failed or wanted memory
+pub hides : (old new : Account) (answer result : Answer) → HidesNone old new answer → (result ≡ answer) ⊎ (result ≡ OutFault) ⊎ (result ≡ Memory) → HidesNone old new result
+hides old new answer result of ends =
+    ⊎_elim (λ is. subst (HidesNone old new) (sym is) of) (λ rest. ⊎_elim (λ out. subst (HidesNone old new) (sym out) tt) (λ memory. subst (HidesNone old new) (sym memory) tt) rest) ends
+
+-- over a sure rack an image at fault isn't on the shelf
+pub missing_image : (T : Type 0) (words names : Words) (plan : Plan) (old : Seen) (answer result : Answer) (slot : ℕ) → IsSentence plan words → images_of plan words ≡ names → FailsMissing {T = T} names old (Err answer)
+    → (result ≡ answer) ⊎ (result ≡ OutFault) ⊎ (result ≡ Memory) → result ≡ ImageFault slot → old.sure ≡ true → IsMissingImage words old.shelf slot
+missing_image T words names plan old answer result slot sentence named fails ends is sure =
+    ⊎_elim (λ done. record {
+      plan = plan;
+      sentence = sentence;
+      missing = subst (λ l. IsMissing l old.shelf slot) (sym named) (subst (λ a. FailsMissing {T = T} names old (Err a)) (sym done ∙ is) fails sure);
+    })
+    (λ rest. absurd (⊎_elim (λ out. cc (sym out ∙ is)) (λ memory. cc (sym memory ∙ is)) rest)) ends
+
 -- what `super` did to the account
 module _ (T : Type 0) (names : Words) (slots : List Slot) (old new : Account) where
   pub cause_refusal : (answer : Answer) → SuperCause {T = T} names slots old new (Err answer) → IsRefusal answer
@@ -279,6 +294,20 @@ module _ (T : Type 0) (names : Words) (slots : List Slot) (old new : Account) wh
         failed = subst (λ l. OpeningFailed l slots old new slot ⊎ ReadFailed old new slot) (sym named) (subst (λ a. SuperCause {T = T} names slots old new (Err a)) (sym done ∙ is) cause);
       })
       (λ rest. absurd (⊎_elim (λ out. cc (sym out ∙ is)) (λ memory. cc (sym memory ∙ is)) rest)) ends
+
+  -- what is answered hides no failed call
+  cause_hides : (answer : Answer) → SuperCause {T = T} names slots old new (Err answer) → HidesNone old new answer
+  cause_hides (Limit which n) cause = cause
+  cause_hides (NoSuper slot) cause = cause
+  cause_hides (SumKind kind) cause = cause
+  cause_hides (ImageFault slot) cause = tt
+  cause_hides Memory cause = tt
+  cause_hides (Done skipped) cause = absurd cause
+  cause_hides (Usage at) cause = absurd cause
+  cause_hides OutFault cause = absurd cause
+
+  pub refusal_hides : (answer result : Answer) → SuperCause {T = T} names slots old new (Err answer) → (result ≡ answer) ⊎ (result ≡ OutFault) ⊎ (result ≡ Memory) → HidesNone old new result
+  refusal_hides answer result cause ends = hides old new answer result (cause_hides answer cause) ends
 
   shut_same : NoneFailed old new → old.shut < new.shut → ⊥
   shut_same none more = omega (arith, none.shut)
@@ -303,37 +332,37 @@ module _ (T : Type 0) (names : Words) (slots : List Slot) (old new : Account) wh
       (shut_opening answer result cause ends more)
 
   -- what `super` comes to, where nothing failed and memory sufficed
-  pub refusal_effect : (words : Words) (plan : Plan) (shelf : Shelf) (texts texts' : Option (List ℕ)) (faults faults' : ℕ) (answer result : Answer) → IsSentence plan words → images_of plan words ≡ names
-      → SuperCause {T = T} names slots old new (Err answer) → Steady old.faults new.faults → Steady faults faults' → result ≢ Memory → IsSuperEffect names shelf (Err answer)
-      → IsRefused texts texts' faults faults' answer result → HasEffect words shelf texts texts' result
-  refusal_effect words plan shelf texts texts' faults faults' (Limit which n) result sentence named cause still steady enough effect put =
-      refused_effect texts texts' faults faults' steady words shelf (Limit which n) result enough (effect_is words names plan sentence named shelf (refused (Limit which n)) effect) put
-  refusal_effect words plan shelf texts texts' faults faults' (NoSuper slot) result sentence named cause still steady enough effect put =
-      refused_effect texts texts' faults faults' steady words shelf (NoSuper slot) result enough (effect_is words names plan sentence named shelf (refused (NoSuper slot)) effect) put
-  refusal_effect words plan shelf texts texts' faults faults' (SumKind kind) result sentence named cause still steady enough effect put =
-      refused_effect texts texts' faults faults' steady words shelf (SumKind kind) result enough (effect_is words names plan sentence named shelf (refused (SumKind kind)) effect) put
-  refusal_effect words plan shelf texts texts' faults faults' (ImageFault slot) result sentence named cause still steady enough effect put =
+  pub refusal_effect : (words : Words) (plan : Plan) (shelf : Shelf) (texts texts' : Option (List ℕ)) (before after : CallAccount) (answer result : Answer) → IsSentence plan words → images_of plan words ≡ names
+      → SuperCause {T = T} names slots old new (Err answer) → Steady old.faults new.faults → Steady before.faults after.faults → result ≢ Memory → IsSuperEffect names shelf (Err answer)
+      → IsPut texts texts' before after (error_line answer) answer result → HasEffect words shelf texts texts' result
+  refusal_effect words plan shelf texts texts' before after (Limit which n) result sentence named cause still steady enough effect put =
+      refused_effect texts texts' before after steady words shelf (Limit which n) result enough (effect_is words names plan sentence named shelf (refused (Limit which n)) effect) put
+  refusal_effect words plan shelf texts texts' before after (NoSuper slot) result sentence named cause still steady enough effect put =
+      refused_effect texts texts' before after steady words shelf (NoSuper slot) result enough (effect_is words names plan sentence named shelf (refused (NoSuper slot)) effect) put
+  refusal_effect words plan shelf texts texts' before after (SumKind kind) result sentence named cause still steady enough effect put =
+      refused_effect texts texts' before after steady words shelf (SumKind kind) result enough (effect_is words names plan sentence named shelf (refused (SumKind kind)) effect) put
+  refusal_effect words plan shelf texts texts' before after (ImageFault slot) result sentence named cause still steady enough effect put =
       absurd (⊎_elim (λ opening. steady_not_rose old.faults new.faults still opening.faults) (λ read. steady_not_rose old.faults new.faults still read.faults) cause)
-  refusal_effect words plan shelf texts texts' faults faults' Memory result sentence named cause still steady enough effect put = absurd (memory_ends texts texts' faults faults' steady result enough put)
-  refusal_effect words plan shelf texts texts' faults faults' (Done skipped) result sentence named cause still steady enough effect put = absurd effect
-  refusal_effect words plan shelf texts texts' faults faults' (Usage at) result sentence named cause still steady enough effect put = absurd effect
-  refusal_effect words plan shelf texts texts' faults faults' OutFault result sentence named cause still steady enough effect put = absurd effect
+  refusal_effect words plan shelf texts texts' before after Memory result sentence named cause still steady enough effect put = absurd (memory_ends texts texts' before after steady result enough put)
+  refusal_effect words plan shelf texts texts' before after (Done skipped) result sentence named cause still steady enough effect put = absurd effect
+  refusal_effect words plan shelf texts texts' before after (Usage at) result sentence named cause still steady enough effect put = absurd effect
+  refusal_effect words plan shelf texts texts' before after OutFault result sentence named cause still steady enough effect put = absurd effect
 
   -- what `super` puts, where nothing failed
-  pub refusal_part : (words : Words) (plan : Plan) (shelf : Shelf) (texts texts' : Option (List ℕ)) (faults faults' : ℕ) (answer result : Answer) → IsSentence plan words → images_of plan words ≡ names
-      → SuperCause {T = T} names slots old new (Err answer) → Steady old.faults new.faults → IsSuperEffect names shelf (Err answer) → IsRefused texts texts' faults faults' answer result → HasPart words shelf texts texts'
-  refusal_part words plan shelf texts texts' faults faults' (Limit which n) result sentence named cause still effect put =
-      refused_part texts texts' faults faults' words shelf (Limit which n) result (effect_is words names plan sentence named shelf (refused (Limit which n)) effect) put
-  refusal_part words plan shelf texts texts' faults faults' (NoSuper slot) result sentence named cause still effect put =
-      refused_part texts texts' faults faults' words shelf (NoSuper slot) result (effect_is words names plan sentence named shelf (refused (NoSuper slot)) effect) put
-  refusal_part words plan shelf texts texts' faults faults' (SumKind kind) result sentence named cause still effect put =
-      refused_part texts texts' faults faults' words shelf (SumKind kind) result (effect_is words names plan sentence named shelf (refused (SumKind kind)) effect) put
-  refusal_part words plan shelf texts texts' faults faults' (ImageFault slot) result sentence named cause still effect put =
+  pub refusal_part : (words : Words) (plan : Plan) (shelf : Shelf) (texts texts' : Option (List ℕ)) (before after : CallAccount) (answer result : Answer) → IsSentence plan words → images_of plan words ≡ names
+      → SuperCause {T = T} names slots old new (Err answer) → Steady old.faults new.faults → IsSuperEffect names shelf (Err answer) → IsPut texts texts' before after (error_line answer) answer result → HasPart words shelf texts texts'
+  refusal_part words plan shelf texts texts' before after (Limit which n) result sentence named cause still effect put =
+      refused_part texts texts' before after words shelf (Limit which n) result (effect_is words names plan sentence named shelf (refused (Limit which n)) effect) put
+  refusal_part words plan shelf texts texts' before after (NoSuper slot) result sentence named cause still effect put =
+      refused_part texts texts' before after words shelf (NoSuper slot) result (effect_is words names plan sentence named shelf (refused (NoSuper slot)) effect) put
+  refusal_part words plan shelf texts texts' before after (SumKind kind) result sentence named cause still effect put =
+      refused_part texts texts' before after words shelf (SumKind kind) result (effect_is words names plan sentence named shelf (refused (SumKind kind)) effect) put
+  refusal_part words plan shelf texts texts' before after (ImageFault slot) result sentence named cause still effect put =
       absurd (⊎_elim (λ opening. steady_not_rose old.faults new.faults still opening.faults) (λ read. steady_not_rose old.faults new.faults still read.faults) cause)
-  refusal_part words plan shelf texts texts' faults faults' Memory result sentence named cause still effect put = exhausted_part texts texts' faults faults' words shelf result put
-  refusal_part words plan shelf texts texts' faults faults' (Done skipped) result sentence named cause still effect put = absurd effect
-  refusal_part words plan shelf texts texts' faults faults' (Usage at) result sentence named cause still effect put = absurd effect
-  refusal_part words plan shelf texts texts' faults faults' OutFault result sentence named cause still effect put = absurd effect
+  refusal_part words plan shelf texts texts' before after Memory result sentence named cause still effect put = exhausted_part texts texts' before after words shelf result put
+  refusal_part words plan shelf texts texts' before after (Done skipped) result sentence named cause still effect put = absurd effect
+  refusal_part words plan shelf texts texts' before after (Usage at) result sentence named cause still effect put = absurd effect
+  refusal_part words plan shelf texts texts' before after OutFault result sentence named cause still effect put = absurd effect
 
 -- a clause on what may not be told
 pub when_told : {X : Type 0} (o : Option X) (P Q : X → Type 0) → IfSome o P → ((x : X) → P x → Q x) → IfSome o Q

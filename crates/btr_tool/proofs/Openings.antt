@@ -175,3 +175,21 @@ slot_names old new s is = ap (map (λ t. t.name)) is ∙ map-append (λ t. t.nam
 pub names_before : (names : Words) (old new : List Slot) (s : Slot) (i : ℕ) → new ≡ old ++ s ∷ [] → i < length names → get_or names i [] ≡ s.name → map (λ t. t.name) old ≡ take i names → map (λ t. t.name) new ≡ take (i + 1) names
 names_before names old new s i is lt name before =
     slot_names old new s is ∙ ap (λ l. l ++ s.name ∷ []) before ∙ ap (λ n. take i names ++ n ∷ []) (sym name) ∙ sym (take_more names i [] lt)
+
+-- a name that isn't on what is left of the shelf
+none_left : (name : List ℕ) (at : Shelf) → at name ≡ None → taken (name ∷ []) at ≡ None
+none_left name at gone = ap (option_and_then (λ bytes. option_map (λ more. bytes ∷ more) (taken [] (without name at)))) gone
+
+left_alone : (name : List ℕ) (shelf : Option Shelf) (at : Shelf) → shelf ≡ Some at → IfSome shelf (λ s. s name ≡ None) → at name ≡ None
+left_alone name shelf at is gone = subst (λ o. IfSome o (λ s. s name ≡ None)) is gone
+
+-- the names up to one that isn't on what is left of the shelf can't be taken
+pub missing_name : (at shelf : Option Shelf) (before : Words) (name : List ℕ) (names : Words) (slot : ℕ) (held : Option Images) → OpenSoFar before at shelf held → before ≡ take slot names → slot < length names
+    → get_or names slot [] ≡ name → IfSome shelf (λ s. s name ≡ None) → IfSome at (λ s. taken (take (slot + 1) names) s ≡ None)
+missing_name None shelf before name names slot held so are lt is gone = tt
+missing_name (Some at) shelf before name names slot held so are lt is gone =
+    ap (λ l. taken l at) cut ∙ ⊎_elim (λ first. ap (λ l. taken (l ++ name ∷ []) at) first.0 ∙ none_left name at (left_alone name shelf at first.1 gone))
+    (λ later. later.4 (name ∷ []) ∙ ap (option_map (λ more. later.1 ++ more)) (none_left name later.0 (left_alone name shelf later.0 later.2 gone))) so
+  where
+    cut : take (slot + 1) names ≡ before ++ name ∷ []
+    cut = take_more names slot [] lt ∙ ap (λ n. take slot names ++ n ∷ []) is ∙ ap (λ l. l ++ name ∷ []) (sym are)

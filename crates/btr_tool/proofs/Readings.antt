@@ -1,15 +1,17 @@
 -- The superblocks of the images, read one after another.
-use Rattle.std.proofs.Common.{◌≡◌, ◌≢◌, ℕ, ◌+◌, ◌<◌, ◌≤◌, List, [], ◌∷◌, ◌++◌, length, map, drop, get_or, Option, Some, None, Result, Ok, Err, refl, sym, ap, ◌∙◌, arith, add-one}
+use Rattle.std.proofs.Common.{◌≡◌, ◌≢◌, ℕ, ◌+◌, ◌<◌, ◌≤◌, Bool, true, false, List, [], ◌∷◌, ◌++◌, length, map, drop, get_or, Option, Some, None, Result, Ok, Err, refl, sym, ap, ◌∙◌, arith, add-one}
 use Rattle.std.specs.Option.{IfSome}
 use Rattle.std.proofs.lemmas.List.{append_assoc, append-nil, length-map, drop_all}
 use Rattle.std.proofs.Math.Seq.{drop-cons}
-use Rattle.btr_rack.specs.Rack.{Slot, Account, NoneFailed, image_of}
+use Rattle.btr_rack.specs.Rack.{Slot, Seen, Account, NoneFailed, image_of}
 use Rattle.btr_super.specs.Slot.{image_super, FailedAtPlace}
 use Rattle.btr_super.specs.declared.superblock.Super.{Super}
 use Rattle.btr_super.specs.declared.fault.SlotFault.{SlotFault}
 use Rattle.btr_super.specs.declared.fault.SlotFault.TheVariants.{Failed, SumKind as kind_fault, NoSuper as no_super}
 use Rattle.btr_tool.specs.Images.{supers_of, supers_then, refusal_of, Reads}
-use Rattle.btr_tool.specs.Causes.{ReadFailed, ReadingCause}
+use Rattle.btr_tool.specs.Words.{Words}
+use Rattle.btr_tool.specs.Causes.{ReadFailed, ReadingCause, FailsMissing}
+use Rattle.btr_tool.specs.declared.answer.Answer.TheVariants.{Done, Usage, Limit, NoSuper, SumKind, ImageFault, OutFault, Memory}
 use Rattle.btr_tool.proofs.Openings.{Images, Sized}
 use Rattle.btr_tool.proofs.Causing.{none_failed_twice, rose_behind, some_fresh}
 use Rattle.btr_tool.specs.declared.answer.Answer.{Answer}
@@ -82,3 +84,20 @@ pub read_cause : (T : Type 0) (old mid new : Account) (slot : ℕ) (fault : Slot
 read_cause T old mid new slot Failed none failed = read_failed old mid new slot none failed
 read_cause T old mid new slot no_super none failed = none_failed_twice old mid new none failed
 read_cause T old mid new slot (kind_fault n) none failed = none_failed_twice old mid new none failed
+
+-- only a read that failed is answered as one
+pub refusal_failed : (slot other : ℕ) (fault : SlotFault) → refusal_of slot fault ≡ ImageFault other → fault ≡ Failed
+refusal_failed slot other Failed is = refl
+refusal_failed slot other no_super is = absurd (cc is)
+refusal_failed slot other (kind_fault n) is = absurd (cc is)
+
+-- a sure rack reads all superblocks
+pub read_surely : (T : Type 0) (names : Words) (old : Seen) (sure : Bool) (answer : Answer) → sure ≡ old.sure → ((slot : ℕ) → answer ≡ ImageFault slot → sure ≡ false) → FailsMissing {T = T} names old (Err answer)
+read_surely T names old sure (ImageFault slot) same reads = λ is. absurd (cc (sym is ∙ sym same ∙ reads slot refl))
+read_surely T names old sure (NoSuper slot) same reads = tt
+read_surely T names old sure (SumKind n) same reads = tt
+read_surely T names old sure Memory same reads = tt
+read_surely T names old sure (Done skipped) same reads = tt
+read_surely T names old sure (Usage at) same reads = tt
+read_surely T names old sure (Limit which n) same reads = tt
+read_surely T names old sure OutFault same reads = tt

@@ -1,8 +1,7 @@
 -- What `super` comes to, by what opening its images and reading their superblocks found.
-use Rattle.std.proofs.Common.{◌≡◌, ℕ, ◌<◌, ◌≤◌, true, false, ltb, cond, List, length, get_or, Option, Some, None, Result, Ok, Err, Vec, sym, ap, ◌∙◌, arith}
+use Rattle.std.proofs.Common.{◌≡◌, ℕ, ◌<◌, ◌≤◌, true, false, ltb, cond, List, length, get_or, Option, Some, None, Result, Ok, Err, sym, ap, ◌∙◌, arith}
 use Rattle.std.specs.Option.{IfSome, IsSomeAnd, option_and_then, option_map}
 use Rattle.std.specs.List.{slice_get}
-use Rattle.std.specs.declared.alloc.Global.{Global}
 use Rattle.std.proofs.lemmas.Bool.Decides.{nat_tests}
 use Rattle.std.proofs.lemmas.List.Folds.{find_at}
 use Rattle.std.proofs.lemmas.Option.{slice_get-get_or}
@@ -10,7 +9,6 @@ use Rattle.btr_rack.specs.Rack.{Shelf}
 use Rattle.btr_super.specs.Newest.{newest, newest_index, is_newest}
 use Rattle.btr_super.specs.declared.superblock.Super.{Super}
 use Rattle.btr_tool.specs.Words.{Words}
-use Rattle.btr_tool.specs.Text.{super_text}
 use Rattle.btr_tool.specs.Images.{taken, supers_of, Reads}
 use Rattle.btr_tool.specs.Effects.{refused, shown, newest_shown, command_effect, images_effect, most_images, IsSuperEffect}
 use Rattle.btr_tool.specs.declared.plan.Command.TheVariants.{Super as super_command}
@@ -41,14 +39,13 @@ newest_at supers slot s index lt is =
 abbrev Opened : Words → Option Shelf → Option Images → Type 0
 Opened names shelf held = IfSome shelf (λ at. IsSomeAnd held (λ l. taken names at ≡ Some l))
 
-pub shown_is : (names : Words) (shelf : Option Shelf) (held : Option Images) → Opened names shelf held → length names ≤ most_images → (supers : List Super) (slot : ℕ) (s : Super) (text : Vec ℕ Global)
-    → IfSome held (λ l. supers_of 0 l ≡ Ok supers) → newest_index supers ≡ slot → slot < length supers → s ≡ get_or supers slot s → text.items ≡ super_text slot s → IfSome shelf (λ at. IsSuperEffect names at (Ok text))
-shown_is names None held opened le supers slot s text read index lt is put = tt
-shown_is names (Some at) held opened le supers slot s text read index lt is put =
+pub shown_is : (names : Words) (shelf : Option Shelf) (held : Option Images) → Opened names shelf held → length names ≤ most_images → (supers : List Super) (slot : ℕ) (s : Super)
+    → IfSome held (λ l. supers_of 0 l ≡ Ok supers) → newest_index supers ≡ slot → slot < length supers → s ≡ get_or supers slot s → IfSome shelf (λ at. IsSuperEffect names at (Ok (record { slot = slot; superblock = s })))
+shown_is names None held opened le supers slot s read index lt is = tt
+shown_is names (Some at) held opened le supers slot s read index lt is =
     taken_effect names at held (Ok supers) le opened read
     ∙ ap (option_map (shown (newest_index supers))) (newest_at supers slot s index lt is)
     ∙ ap (λ k. Some (shown k s)) index
-    ∙ ap (λ t. Some (record { answer = Done 0; text = t })) (sym put)
 
 pub refusal_is : (names : Words) (shelf : Option Shelf) (held : Option Images) → Opened names shelf held → length names ≤ most_images → (answer : Answer) → IfSome held (λ l. Reads l (Err answer))
     → IfSome shelf (λ at. IsSuperEffect names at (Err answer))

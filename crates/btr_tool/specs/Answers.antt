@@ -1,7 +1,6 @@
 -- The answers: their exit statuses and their lines.
 use Rattle.std.specs.Prelude.{ℕ, ◌==◌, if◌then◌else◌, List, [], ◌++◌, codes}
 use Rattle.std.specs.Fmt.{decimal}
-use Rattle.btr_tool.specs.declared.refusal.Line.{Line}
 use Rattle.btr_tool.specs.declared.answer.Which.{Which}
 use Rattle.btr_tool.specs.declared.answer.Which.TheVariants.{Images}
 use Rattle.btr_tool.specs.declared.answer.Answer.{Answer}
@@ -21,10 +20,6 @@ code_of Memory = 5
 -- what there is too much of
 abbrev pub which_text : Which → List ℕ
 which_text Images = codes "images"
-
--- a line: some words, a number, and the rest
-abbrev pub line_text : Line → List ℕ
-line_text line = line.words.now ++ decimal line.number ++ line.rest.now
 
 -- the line that is put last; none where the command was done or the output failed
 abbrev pub error_line : Answer → List ℕ

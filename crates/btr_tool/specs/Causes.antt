@@ -1,7 +1,8 @@
 -- What lies behind an answer that a call on an image failed.
-use Rattle.std.specs.Prelude.{◌≡◌, ◌⊎◌, ℕ, ◌≤◌, false, List, map, take, slice_get, Contains, Some, Result, Ok, Err}
-use Rattle.btr_rack.specs.Rack.{Slot, Account, Rose, NoneFailed, next_count, range_in, opening_of}
+use Rattle.std.specs.Prelude.{◌≡◌, ◌⊎◌, ℕ, ◌+◌, ◌≤◌, true, false, List, map, take, slice_get, Contains, Option, Some, None, IfSome, Result, Ok, Err}
+use Rattle.btr_rack.specs.Rack.{Slot, Account, Seen, Shelf, Rose, NoneFailed, next_count, range_in, opening_of}
 use Rattle.btr_super.specs.Slot.{places}
+use Rattle.btr_tool.specs.Images.{taken}
 use Rattle.btr_tool.specs.Words.{Words, IsSentence, images_of}
 use Rattle.btr_tool.specs.declared.plan.Plan.{Plan}
 use Rattle.btr_tool.specs.declared.answer.Answer.{Answer}
@@ -74,3 +75,36 @@ pub record ImageCause (words : Words) (slots : List Slot) (old new : Account) (s
   pub plan : Plan
   pub sentence : IsSentence plan words
   pub failed : OpeningFailed (images_of plan words) slots old new slot ⊎ ReadFailed old new slot
+
+-- nothing is answered in place of a failed call on an image: where it would be hidden, none failed, also if the count of faults rose elsewhere before
+abbrev pub HidesNone : Account → Account → Answer → Type 0
+HidesNone old new (Done skipped) = NoneFailed old new
+HidesNone old new (Usage at) = NoneFailed old new
+HidesNone old new (Limit which n) = NoneFailed old new
+HidesNone old new (NoSuper slot) = NoneFailed old new
+HidesNone old new (SumKind kind) = NoneFailed old new
+HidesNone old new (ImageFault slot) = Unit {0}
+HidesNone old new OutFault = Unit {0}
+HidesNone old new Memory = Unit {0}
+
+-- an image isn't on the shelf, or is named before, where the shelf is told: the names up to its own can't be taken from it
+abbrev pub IsMissing : Words → Option Shelf → ℕ → Type 0
+IsMissing names shelf slot = IfSome shelf (λ at. taken (take (slot + 1) names) at ≡ None)
+
+-- over a sure rack an image is at fault only where it isn't on the shelf
+abbrev pub FailsMissing : {T : Type 0} → Words → Seen → Result T Answer → Type 0
+FailsMissing names old (Ok _) = Unit {0}
+FailsMissing names old (Err (ImageFault slot)) = old.sure ≡ true → IsMissing names old.shelf slot
+FailsMissing names old (Err Memory) = Unit {0}
+FailsMissing names old (Err (Done skipped)) = Unit {0}
+FailsMissing names old (Err (Usage at)) = Unit {0}
+FailsMissing names old (Err (Limit which n)) = Unit {0}
+FailsMissing names old (Err (NoSuper slot)) = Unit {0}
+FailsMissing names old (Err (SumKind n)) = Unit {0}
+FailsMissing names old (Err OutFault) = Unit {0}
+
+-- the words are a sentence, and one of its images isn't on the shelf
+pub record IsMissingImage (words : Words) (shelf : Option Shelf) (slot : ℕ) : Type 0 where
+  pub plan : Plan
+  pub sentence : IsSentence plan words
+  pub missing : IsMissing (images_of plan words) shelf slot

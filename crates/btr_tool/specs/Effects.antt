@@ -1,6 +1,5 @@
 -- What the words and the images come to: the answer, and the text that is put.
-use Rattle.std.specs.Prelude.{◌≡◌, ◌⊎◌, ℕ, ◌<◌, ◌≤◌, nat_lt, if◌then◌else◌, List, [], length, Option, Some, Result, Ok, Err, Vec}
-use Rattle.std.specs.declared.alloc.Global.{Global}
+use Rattle.std.specs.Prelude.{◌≡◌, ◌⊎◌, ℕ, ◌<◌, ◌≤◌, nat_lt, if◌then◌else◌, List, [], length, Option, Some, Result, Ok, Err}
 use Rattle.std.specs.Option.{option_and_then, option_map}
 use Rattle.btr_rack.specs.Rack.{Shelf}
 use Rattle.btr_rack.specs.Out.{Adds}
@@ -14,6 +13,7 @@ use Rattle.btr_tool.specs.Words.{Words, IsSentence, IsUsageAt, images_of}
 use Rattle.btr_tool.specs.declared.plan.Command.{Command}
 use Rattle.btr_tool.specs.declared.plan.Command.TheVariants.{Super as super_command}
 use Rattle.btr_tool.specs.declared.plan.Plan.{Plan}
+use Rattle.btr_tool.specs.declared.images.Newest.{Newest}
 use Rattle.btr_tool.specs.declared.answer.Which.TheVariants.{Images}
 use Rattle.btr_tool.specs.declared.answer.Answer.{Answer}
 use Rattle.btr_tool.specs.declared.answer.Answer.TheVariants.{Done, Usage, Limit, NoSuper, SumKind, ImageFault, OutFault, Memory}
@@ -86,9 +86,9 @@ FollowsWords words (ImageFault slot) = Unit {0}
 FollowsWords words OutFault = Unit {0}
 FollowsWords words Memory = Unit {0}
 
--- a text or a refusal is what `super` over named images of a shelf comes to, where no call on them failed
-abbrev pub IsSuperEffect : Words → Shelf → Result (Vec ℕ Global) Answer → Type 0
-IsSuperEffect names shelf (Ok text) = images_effect super_command names shelf ≡ Some (record { answer = Done 0; text = text.items })
+-- a superblock or a refusal is what `super` over named images of a shelf comes to, where no call on them failed
+abbrev pub IsSuperEffect : Words → Shelf → Result Newest Answer → Type 0
+IsSuperEffect names shelf (Ok newest) = images_effect super_command names shelf ≡ Some (shown newest.slot newest.superblock)
 IsSuperEffect names shelf (Err (Limit which n)) = images_effect super_command names shelf ≡ Some (refused (Limit which n))
 IsSuperEffect names shelf (Err (NoSuper slot)) = images_effect super_command names shelf ≡ Some (refused (NoSuper slot))
 IsSuperEffect names shelf (Err (SumKind n)) = images_effect super_command names shelf ≡ Some (refused (SumKind n))

@@ -1,6 +1,8 @@
 // The worked rows of `super`, over images and outputs in memory.
 ghost use Rattle.std.specs.Prelude.{◌≡◌, [], ◌<◌, ◌^◌, IfOk};
 
+mod wanting;
+
 use crate::answer::Answer;
 use crate::run::run;
 use btr_base::{SumKind, sum};

@@ -1,10 +1,10 @@
-use Rattle.std.proofs.Common.{◌<◌, ◌≤◌, ℕ, List, String, length, map, false, refl, sym, arith}
+use Rattle.std.proofs.Common.{◌∙◌, ◌<◌, ◌≤◌, ℕ, List, String, length, map, false, refl, sym, arith}
 use Rattle.std.specs.declared.alloc.Global.{Global}
 use Rattle.std.specs.String.{string_bytes}
 use Rattle.std.proofs.lemmas.List.{length-map}
 use Rattle.btr_rack.specs.Rack.{Slot}
 use Rattle.btr_rack.specs.declared.error.RackError.TheVariants.{Failed, Memory}
-use Rattle.btr_tool.proofs.Openings.{open_more, slot_count, slot_names, names_before, closed_more, all_open, so_far_unchanged, refused_unchanged}
+use Rattle.btr_tool.proofs.Openings.{open_more, slot_count, slot_names, names_before, closed_more, all_open, so_far_unchanged, refused_unchanged, missing_name}
 use Rattle.btr_tool.proofs.Causing.{none_failed_twice, name_at}
 use Rattle.btr_tool.proofs.images.open_images.Goals as goal
 
@@ -23,6 +23,7 @@ loop-slot-preserved g c =
     record {
       count = slot_count slots new opened c.loop-slot.slot c.in-Ok.ensures.slots.1.2 c.loop-slot.invariant.count;
       before = names_before names slots new opened c.loop-slot.slot c.in-Ok.ensures.slots.1.2 within name c.loop-slot.invariant.before;
+      sure = c.in-Ok.ensures.sure ∙ c.loop-slot.invariant.sure;
       account = none_failed_twice _ _ _ c.loop-slot.invariant.account c.in-Ok.ensures.account;
       closed = closed_more slots new opened c.in-Ok.ensures.slots.1.2 refl c.loop-slot.invariant.closed;
       images = open_more (g.R.Rack.seen c.args.rack.now).shelf (map (λ s. s.name) slots) (map (λ s. s.name) new) c.as_str.result.now _ _ _ _ slots c.in-Ok.field-0 more
@@ -53,3 +54,13 @@ returns-clause-images g c =
 pub returns-clause-unchanged : goal.returns-clause-unchanged
 returns-clause-unchanged g c =
     so_far_unchanged (g.R.Rack.seen c.args.rack.now).shelf (g.R.Rack.seen c.loop-slot.rack).shelf (g.R.Rack.seen c.loop-slot.rack).held (g.R.Rack.seen c.loop-slot.rack).slots c.loop-slot.invariant.closed (g.met.R.Rack.sound c.loop-slot.rack).sized c.loop-slot.invariant.images
+
+pub returns-in-Err-Failed-clause-sure : goal.returns-in-Err-Failed-clause-sure
+returns-in-Err-Failed-clause-sure g c =
+    let names = map string_bytes c.args.names.now in
+    let name = name_at c.args.names.now c.loop-slot.slot c.index-names-slot.result c.as_str.result.now (omega arith) c.as_str.ensures.value c.index-names-slot.is in
+    let fails = rw c.in-Err-Failed.field-0-is at c.in-Err-Failed.ensures.sure in
+    λ sure.
+    missing_name (g.R.Rack.seen c.args.rack.now).shelf (g.R.Rack.seen c.loop-slot.rack).shelf (map (λ s. s.name) (g.R.Rack.seen c.loop-slot.rack).slots) c.as_str.result.now names c.loop-slot.slot
+    (g.R.Rack.seen c.loop-slot.rack).held c.loop-slot.invariant.images c.loop-slot.invariant.before (omega_within c.args.names.now c.loop-slot.slot c.loop-slot-test.true) name
+    (fails (c.loop-slot.invariant.sure ∙ sure))

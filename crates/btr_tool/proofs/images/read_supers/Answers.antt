@@ -1,14 +1,15 @@
-use Rattle.std.proofs.Common.{length, Err, refl, sym, ap, subst, arith}
+use Rattle.std.proofs.Common.{◌∙◌, length, Err, refl, sym, ap, subst, arith}
 use Rattle.std.specs.Option.{IfSome}
 use Rattle.btr_tool.specs.Images.{Reads}
 use Rattle.btr_tool.proofs.Causing.{none_failed_yet}
-use Rattle.btr_tool.proofs.Readings.{Found, ReadSoFar, none_read, read_fault}
+use Rattle.btr_tool.proofs.Readings.{Found, ReadSoFar, none_read, read_fault, refusal_failed}
 use Rattle.btr_tool.proofs.images.read_supers.Goals as goal
 
 pub loop-slot-init : goal.loop-slot-init
 loop-slot-init g c = record {
   slots = refl;
   held = refl;
+  sure = refl;
   account = none_failed_yet (g.R.Rack.seen c.args.rack.now).account;
   count = ap length c.new-supers.ensures.items;
   supers = subst (λ l. ReadSoFar (g.R.Rack.seen c.args.rack.now).held l 0) (sym c.new-supers.ensures.items) (none_read (g.R.Rack.seen c.args.rack.now).held);
@@ -20,3 +21,8 @@ returns-in-Err-clause-supers g c =
     subst (λ a. IfSome held (λ images. Reads images (Err a))) (sym c.slot_refusal.ensures)
     (read_fault (g.R.Rack.seen c.args.rack.now).slots c.loop-slot.supers.items c.loop-slot.slot (omega (arith, c.count-slot-end.ensures)) held c.in-Err.fault (g.met.R.Rack.sound c.args.rack.now).sized
     c.loop-slot.invariant.supers (subst (λ h. Found h c.loop-slot.slot (Err c.in-Err.fault)) c.loop-slot.invariant.held c.in-Err.ensures.answer))
+
+pub returns-in-Err-clause-sure : goal.returns-in-Err-clause-sure
+returns-in-Err-clause-sure g c = λ slot is.
+    let failed = refusal_failed c.loop-slot.slot slot c.in-Err.fault (sym c.slot_refusal.ensures ∙ is) in
+    sym c.loop-slot.invariant.sure ∙ c.in-Err.ensures.sure (ap (λ e. Err e) failed)

@@ -1,0 +1,77 @@
+-- The text of pieces.
+use Rattle.std.specs.Prelude.{ℕ, false, ◌==◌, if◌then◌else◌, List, [], ◌∷◌, ◌++◌, codes}
+use Rattle.std.specs.List.{flat_map}
+use Rattle.std.specs.Fmt.{decimal, digits}
+use Rattle.std.specs.Int.{w64, to_be_bytes}
+use Rattle.hex.specs.Hex.{encode_lower}
+use Rattle.uuid.specs.Text.{hyphenated_text, lower}
+use Rattle.btr_base.specs.Shown.{shown}
+use Rattle.btr_base.specs.declared.key.Key.{Key}
+use Rattle.btr_text.specs.declared.piece.Piece.{Piece}
+use Rattle.btr_text.specs.declared.piece.Piece.TheVariants.{Plain, Decimal, Hexadecimal, Octal, Name, Key as key_piece, Id}
+
+-- 16 lower-case hexadecimal digits
+abbrev pub hex_text : ℕ → List ℕ
+hex_text n = encode_lower (to_be_bytes w64 n)
+
+-- octal digits, without a prefix
+abbrev pub octal_text : ℕ → List ℕ
+octal_text n = digits 8 false n
+
+-- a UUID, in lower case with hyphens
+abbrev pub id_text : List ℕ → List ℕ
+id_text id = hyphenated_text lower id
+
+-- a name, byte by byte
+abbrev pub name_text : List ℕ → List ℕ
+name_text name = flat_map shown name
+
+-- the names of the item types; another type has its number
+abbrev pub kind_text : ℕ → List ℕ
+kind_text kind =
+    if kind == 1 then codes "INODE_ITEM"
+    else if kind == 12 then codes "INODE_REF"
+    else if kind == 13 then codes "INODE_EXTREF"
+    else if kind == 24 then codes "XATTR_ITEM"
+    else if kind == 48 then codes "ORPHAN_ITEM"
+    else if kind == 84 then codes "DIR_ITEM"
+    else if kind == 96 then codes "DIR_INDEX"
+    else if kind == 108 then codes "EXTENT_DATA"
+    else if kind == 128 then codes "EXTENT_CSUM"
+    else if kind == 132 then codes "ROOT_ITEM"
+    else if kind == 144 then codes "ROOT_BACKREF"
+    else if kind == 156 then codes "ROOT_REF"
+    else if kind == 168 then codes "EXTENT_ITEM"
+    else if kind == 169 then codes "METADATA_ITEM"
+    else if kind == 176 then codes "TREE_BLOCK_REF"
+    else if kind == 178 then codes "EXTENT_DATA_REF"
+    else if kind == 182 then codes "SHARED_BLOCK_REF"
+    else if kind == 184 then codes "SHARED_DATA_REF"
+    else if kind == 192 then codes "BLOCK_GROUP_ITEM"
+    else if kind == 204 then codes "DEV_EXTENT"
+    else if kind == 216 then codes "DEV_ITEM"
+    else if kind == 228 then codes "CHUNK_ITEM"
+    else codes "UNKNOWN." ++ decimal kind
+
+-- a key, with the name of its item type
+abbrev pub key_text : Key → List ℕ
+key_text key = codes "(" ++ decimal key.objectid ++ codes " " ++ kind_text key.kind ++ codes " " ++ decimal key.offset ++ codes ")"
+
+-- a piece
+abbrev pub piece_text : Piece → List ℕ
+piece_text (Plain bytes) = bytes.now
+piece_text (Decimal n) = decimal n
+piece_text (Hexadecimal n) = hex_text n
+piece_text (Octal n) = octal_text n
+piece_text (Name name) = name_text name.now
+piece_text (key_piece key) = key_text key
+piece_text (Id id) = id_text id
+
+-- a text with pieces behind it, one after another
+abbrev pub pieces_onto : List ℕ → List Piece → List ℕ
+pieces_onto text [] = text
+pieces_onto text (piece ∷ pieces) = pieces_onto (text ++ piece_text piece) pieces
+
+-- the text of pieces, one after another
+abbrev pub text_of : List Piece → List ℕ
+text_of pieces = pieces_onto [] pieces
