@@ -1,0 +1,94 @@
+-- What a fetch says of a block that was read.
+use Rattle.std.proofs.Common.{◌≡◌, ℕ, List, true, false, Option, Some, None, IfSome, IsSome, IsSomeAnd, ◌≤◌, All, Any, length, Result, Ok, IsErrAnd, Err, refl, sym, ap, ◌∙◌, subst, arith}
+use Rattle.std.specs.Option.{is_some}
+use Rattle.btr_rack.specs.Rack.{Seen, OnlyReads}
+use Rattle.btr_read.specs.Fate.{Lost, Unmapped, Crosses, passing, fate, sought}
+use Rattle.btr_read.specs.Candidates.{candidates}
+use Rattle.btr_read.specs.Cause.{Passes, IsOf}
+use Rattle.btr_read.specs.Fetch.{FitsFetch, AnswersOf, IsUnreadFor}
+use Rattle.btr_read.specs.declared.fault.ReadFault.{ReadFault}
+use Rattle.btr_read.specs.declared.fault.ReadFault.TheVariants as read
+use Rattle.btr_read.specs.Layout.{Layout}
+use Rattle.btr_read.specs.Store.{Blocks, Lent, block_of}
+use Rattle.btr_read.specs.declared.want.Want.{Want}
+use Rattle.btr_walk.specs.declared.fault.TreeFault.{TreeFault}
+use Rattle.btr_walk.specs.declared.fault.TreeFault.TheVariants as tree
+use Rattle.btr_walk.specs.declared.spot.Spot.{Spot}
+use Rattle.btr_node.specs.declared.node.Node.{Node}
+use Rattle.btr_walk.specs.Spot.{judged}
+use Rattle.btr_walk.specs.Reading.{Map, UnreadBlock, Reads, IsGoodFor, FaultCause, unread_by, tree_fault}
+use Rattle.btr_walk.specs.Le.{want_of}
+
+pub some_block : (store : Blocks) (loan : Lent) (block : List ℕ) (P : List ℕ → Type 0) → block_of store loan ≡ Some block → P block → IsSomeAnd (block_of store loan) P
+some_block store loan block P is h = subst (λ o. IsSomeAnd o P) (sym is) h
+
+some_is : (o : Option Node) → is_some o ≡ true → IsSome o
+some_is (Some x) e = refl
+some_is None e = cc
+
+none_is : (o : Option Node) → is_some o ≡ false → o ≡ None
+none_is (Some x) e = cc
+none_is None e = refl
+
+pub is_good : (level : ℕ) (spot : Spot) (store : Blocks) (loan : Lent) (block : List ℕ) → block_of store loan ≡ Some block → is_some (judged level spot block) ≡ true → IsGoodFor level spot store loan
+is_good level spot store loan block is e = some_block store loan block (λ b. IsSome (judged level spot b)) is (some_is (judged level spot block) e)
+
+pub is_bad : (level : ℕ) (spot : Spot) (block : List ℕ) → is_some (judged level spot block) ≡ false → judged level spot block ≡ None
+is_bad level spot block e = none_is (judged level spot block) e
+
+-- a cause stays one of calls that began earlier
+pub unread_since : (layout : Layout) {a b c : Seen} (u : UnreadBlock) (want : Want) → OnlyReads a b → unread_by layout b c u want → unread_by layout a c u want
+unread_since layout {a} {b} {c} u want first h = record {
+  same_addr = h.same_addr;
+  target = h.target;
+  is_sought = h.is_sought;
+  unread = record {
+    unsure = ap (λ (s : Seen). s.sure) (sym first.same) ∙ h.unread.unsure;
+    rose = (omega (arith, first.later, h.unread.rose.0), omega (arith, first.later, h.unread.rose.1));
+    read = h.unread.read;
+    on_slot = h.unread.on_slot;
+    of_candidate = h.unread.of_candidate;
+    only = h.unread.only;
+    some = h.unread.some;
+    enough = subst (λ held. IfSome held (λ images. length (passing images h.target) ≤ c.account.fresh)) (ap (λ (s : Seen). s.held) first.same) h.unread.enough;
+    each = subst (λ held. IfSome held (λ images. All (λ candidate. Passes images h.target candidate → Any (λ missed. IsOf h.target missed candidate) c.account.missed) (candidates h.target))) (ap (λ (s : Seen). s.held) first.same) h.unread.each;
+  };
+}
+
+-- what a fetch answers is what reading a block answers
+pub reads_err : (layout : Layout) (B : Map) (old new : Seen) (level : ℕ) (spot : Spot) (store : Blocks) (f : ReadFault) → FitsFetch layout (want_of level spot) old new store (Err f) → AnswersOf (want_of level spot) store (Err f) B → Reads (unread_by layout old new) B level spot store (Err (tree_fault f))
+reads_err layout B old new level spot store (read.Lost a) fits h = h
+reads_err layout B old new level spot store (read.Unread a slot) fits h = fits
+reads_err layout B old new level spot store (read.Unmapped a) fits h = h
+reads_err layout B old new level spot store (read.Crosses a) fits h = h
+
+pub cause_err : (layout : Layout) (old new : Seen) (level : ℕ) (spot : Spot) (store : Blocks) (f : ReadFault) → FitsFetch layout (want_of level spot) old new store (Err f) → FaultCause layout old new (tree_fault f)
+cause_err layout old new level spot store (read.Lost a) fits = (want_of level spot, fits.2)
+cause_err layout old new level spot store (read.Unread a slot) fits = (want_of level spot, fits)
+cause_err layout old new level spot store (read.Unmapped a) fits = (want_of level spot, fits)
+cause_err layout old new level spot store (read.Crosses a) fits = (want_of level spot, fits)
+
+-- what holds of the fault that a read's becomes
+pub by_fault : {A : Type 0} (P : Result A TreeFault → Type 0) (r : Result A TreeFault) (f : ReadFault) → IsErrAnd r (λ e. e ≡ tree_fault f) → P (Err (tree_fault f)) → P r
+by_fault P (Ok a) f h p = absurd h
+by_fault {A} P (Err e) f h p = subst (λ (x : TreeFault). P (Err x)) (sym h) p
+
+-- the same where the layout goes by another name
+pub since : {a b c : Seen} (layout layout' : Layout) → layout' ≡ layout → OnlyReads a b → (u : UnreadBlock) (want : Want) → unread_by layout' b c u want → unread_by layout a c u want
+since {a} {b} {c} layout layout' e first u want h = unread_since layout u want first (subst (λ (l : Layout). unread_by l b c u want) e h)
+
+pub cause_since : {a b : Seen} (c : Seen) (layout layout' : Layout) (f : TreeFault) → layout' ≡ layout → OnlyReads a b → FaultCause layout' b c f → FaultCause layout a c f
+cause_since {a} {b} c layout layout' (tree.Lost x) e first h = (
+  h.0,
+  subst (λ (l : Layout). IfSome a.held (λ images. fate images l h.0 ≡ Err (Lost x))) e
+      (subst (λ held. IfSome held (λ images. fate images layout' h.0 ≡ Err (Lost x))) (ap (λ (s : Seen). s.held) first.same) h.1),
+)
+cause_since c layout layout' (tree.Unread x slot) e first h = (h.0, since layout layout' e first (record { addr = x; slot = slot }) h.0 h.1)
+cause_since c layout layout' (tree.Unmapped x) e first h = (h.0, subst (λ (l : Layout). sought l h.0 ≡ Err (Unmapped x)) e h.1)
+cause_since c layout layout' (tree.Crosses x) e first h = (h.0, subst (λ (l : Layout). sought l h.0 ≡ Err (Crosses x)) e h.1)
+cause_since c layout layout' (tree.Malformed x) e first h = tt
+
+-- a fault that is passed on
+pub passed_on : {A : Type 0} (P : Result A TreeFault → Type 0) (r : Result A TreeFault) (f : TreeFault) → IsErrAnd r (λ e. e ≡ f) → P (Err f) → P r
+passed_on P (Ok a) f h p = absurd h
+passed_on {A} P (Err e) f h p = subst (λ (x : TreeFault). P (Err x)) (sym h) p

@@ -1,0 +1,117 @@
+-- How far a scan has come on its way to the next leaf.
+use Rattle.std.proofs.Common.{◌≡◌, ℕ, ◌≤◌, List, [], ◌∷◌, ◌++◌, set, Option, Some, None, IsSomeAnd, Result, Ok, Err, refl, sym, ap, ◌∙◌, subst, append-nil, append_assoc}
+use Rattle.btr_base.specs.declared.key.Key.{Key}
+use Rattle.btr_prog.specs.Prog.{Wants, run, prepend, exec, steps_of, wants_of}
+use Rattle.btr_prog.specs.Answers.{Halt, Follows, no_part}
+use Rattle.btr_prog.proofs.Follow.{follows_as, follows_behind}
+use Rattle.btr_read.specs.Fate as fate
+use Rattle.btr_read.specs.Store.{Blocks, SameLoans, block_of, with_loan}
+use Rattle.btr_walk.specs.Entering.{LendsLeafAt}
+use Rattle.btr_walk.specs.Ranks.{IsShaped, Nears}
+use Rattle.btr_read.specs.declared.want.Want.{Want}
+use Rattle.btr_walk.specs.declared.entering.LeafAt.{LeafAt}
+use Rattle.btr_walk.specs.declared.fault.TreeFault.{TreeFault}
+use Rattle.btr_walk.specs.declared.going.Gone.TheVariants as gone
+use Rattle.btr_walk.specs.declared.going.Where.{Where}
+use Rattle.btr_walk.specs.declared.leaving.Reached.TheVariants as reached
+use Rattle.btr_walk.specs.Le.{TreeItem}
+use Rattle.btr_walk.specs.Range.{RangeProg, emit_all}
+use Rattle.btr_walk.specs.Reading.{Map, UnreadBlock, halt_of}
+use Rattle.btr_walk.specs.Scans.{wants, part_items}
+use Rattle.btr_walk.specs.Going.{place_prog, IsOn, Comes, IsGone, LendsGone}
+use Rattle.btr_walk.specs.Leaving.{IsReached}
+use Rattle.btr_walk.proofs.Items.{part_none}
+use Rattle.btr_walk.proofs.Lending.{freed}
+
+wants_back : (ws : List Want) → wants_of (wants ws) ≡ ws
+wants_back [] = refl
+wants_back (w ∷ ws) = ap (λ x. w ∷ x) (wants_back ws)
+
+steps_back : (ws : List Want) → steps_of (wants ws) ≡ []
+steps_back [] = refl
+steps_back (w ∷ ws) = steps_back ws
+
+wants-append : (xs ys : List Want) → wants (xs ++ ys) ≡ wants xs ++ wants ys
+wants-append [] ys = refl
+wants-append (w ∷ xs) ys = ap (λ x. Wants w ∷ x) (wants-append xs ys)
+
+module _ (lo hi : Key) (B : Map) where
+  -- from whatever was seen before
+  abbrev pub Leads : Where → Where → Type 0
+  Leads from to = (seen : List Want) → IsOn lo hi B seen from → Comes lo hi B seen (place_prog lo hi B from) (place_prog lo hi B to) to
+
+  pub leads_none : (place : Where) → Leads place place
+  leads_none place seen on = record { past = []; is = refl; on = subst (λ (x : List Want). IsOn lo hi B x place) (sym (append-nil seen)) on }
+
+  -- one after another
+  comes_then : (seen : List Want) (a b c : RangeProg) (q r : Where) → (x : Comes lo hi B seen a b q) → Comes lo hi B (seen ++ x.past) b c r → Comes lo hi B seen a c r
+  comes_then seen a b c q r x y = record {
+    past = x.past ++ y.past;
+    is = x.is ∙ ap (prepend (wants x.past)) y.is
+        ∙ ap (λ ms. run ms (exec B c).ending) (sym (append_assoc (wants x.past) (wants y.past) (exec B c).marks) ∙ ap (λ ms. ms ++ (exec B c).marks) (sym (wants-append x.past y.past)));
+    on = subst (λ (z : List Want). IsOn lo hi B z r) (append_assoc seen x.past y.past) y.on;
+  }
+
+  pub leads_between : (Is : UnreadBlock → Want → Type 0) (from at after : Where) (store : Blocks) → Leads from at → IsGone lo hi Is B at store (Ok (gone.Between after)) → Leads from after
+  leads_between Is from at after store l g seen on =
+      let x = l seen on in
+      comes_then seen (place_prog lo hi B from) (place_prog lo hi B at) (place_prog lo hi B after) at after x (g (seen ++ x.past) x.on)
+
+  pub leads_leaf : (Is : UnreadBlock → Want → Type 0) (from at after : Where) (store : Blocks) (l : LeafAt) → Leads from at → IsGone lo hi Is B at store (Ok (gone.Leaf l after)) → IsReached lo hi Is B from store (Ok (reached.Leaf l after))
+  leads_leaf Is from at after store l lead g seen on =
+      let x = lead seen on in
+      both (block_of store l.loan) x (g (seen ++ x.past) x.on)
+    where
+      both : (o : Option (List ℕ)) (x : Comes lo hi B seen (place_prog lo hi B from) (place_prog lo hi B at) at) → IsSomeAnd o (λ block. Comes lo hi B (seen ++ x.past) (place_prog lo hi B at) (emit_all (part_items l.leaf block l.next l.end) (place_prog lo hi B after)) after) → IsSomeAnd o (λ block. Comes lo hi B seen (place_prog lo hi B from) (emit_all (part_items l.leaf block l.next l.end) (place_prog lo hi B after)) after)
+      both None x h = absurd h
+      both (Some block) x h = comes_then seen (place_prog lo hi B from) (place_prog lo hi B at) (emit_all (part_items l.leaf block l.next l.end) (place_prog lo hi B after)) at after x h
+
+  -- a leaf with no item in the range
+  pub leads_empty : (Is : UnreadBlock → Want → Type 0) (from at after : Where) (store : Blocks) (l : LeafAt) → l.end ≤ l.next → Leads from at → IsGone lo hi Is B at store (Ok (gone.Leaf l after)) → Leads from after
+  leads_empty Is from at after store l le lead g seen on =
+      let x = lead seen on in
+      empty (block_of store l.loan) x (g (seen ++ x.past) x.on)
+    where
+      empty : (o : Option (List ℕ)) (x : Comes lo hi B seen (place_prog lo hi B from) (place_prog lo hi B at) at) → IsSomeAnd o (λ block. Comes lo hi B (seen ++ x.past) (place_prog lo hi B at) (emit_all (part_items l.leaf block l.next l.end) (place_prog lo hi B after)) after) → Comes lo hi B seen (place_prog lo hi B from) (place_prog lo hi B after) after
+      empty None x h = absurd h
+      empty (Some block) x h =
+          comes_then seen (place_prog lo hi B from) (place_prog lo hi B at) (place_prog lo hi B after) at after x
+          (subst (λ (items : List TreeItem). Comes lo hi B (seen ++ x.past) (place_prog lo hi B at) (emit_all items (place_prog lo hi B after)) after) (part_none l.leaf block l.next l.end le) h)
+
+  -- what is answered from here is answered from the beginning
+  follows_from : (Is : UnreadBlock → Want → Type 0) (seen : List Want) (a b : RangeProg) (q : Where) (ans : Result (Unit {0}) (Halt fate.Fault UnreadBlock)) → (x : Comes lo hi B seen a b q) → Follows Is no_part (seen ++ x.past) (exec B b) [] ans → Follows Is no_part seen (exec B a) [] ans
+  follows_from Is seen a b q ans x h =
+      subst (λ r. Follows Is no_part seen r [] ans) (sym x.is)
+      (subst (λ (done : List TreeItem). Follows Is no_part seen (prepend (wants x.past) (exec B b)) done ans) (append-nil (steps_of (wants x.past)) ∙ steps_back x.past)
+      (follows_behind Is no_part seen (wants x.past) (exec B b) [] ans (subst (λ (ws : List Want). Follows Is no_part (seen ++ ws) (exec B b) [] ans) (sym (wants_back x.past)) h)))
+
+  pub leads_end : (Is : UnreadBlock → Want → Type 0) (from at : Where) (store store' : Blocks) → Leads from at → IsGone lo hi Is B at store (Ok gone.End) → IsReached lo hi Is B from store' (Ok reached.End)
+  leads_end Is from at store store' lead g seen on = let x = lead seen on in follows_from Is seen (place_prog lo hi B from) (place_prog lo hi B at) at (Ok tt) x (g (seen ++ x.past) x.on)
+
+  pub leads_err : (Is : UnreadBlock → Want → Type 0) (from at : Where) (store store' : Blocks) (f : TreeFault) → Leads from at → IsGone lo hi Is B at store (Err f) → IsReached lo hi Is B from store' (Err f)
+  leads_err Is from at store store' f lead g seen on = let x = lead seen on in follows_from Is seen (place_prog lo hi B from) (place_prog lo hi B at) at (Err (halt_of f)) x (g (seen ++ x.past) x.on)
+
+pub gone_lent : (old new : Blocks) (x : _) (l : LeafAt) (after : Where) → x ≡ gone.Leaf l after → LendsGone old new (Ok x) → LendsLeafAt old new l
+gone_lent old new x l after e h = subst (λ y. LendsGone old new (Ok y)) e h
+
+pub gone_same : (old new : Blocks) (x : _) (after : Where) → x ≡ gone.Between after → LendsGone old new (Ok x) → SameLoans old new
+gone_same old new x after e h = subst (λ y. LendsGone old new (Ok y)) e h
+
+pub gone_near : (place : Where) (x : _) (l : LeafAt) (after : Where) → x ≡ gone.Leaf l after → Nears place (Ok x) → IsShaped after
+gone_near place x l after e h = (subst (λ y. Nears place (Ok y)) e h).0
+
+pub gone_near_between : (place : Where) (x : _) (after : Where) → x ≡ gone.Between after → Nears place (Ok x) → IsShaped after
+gone_near_between place x after e h = (subst (λ y. Nears place (Ok y)) e h).0
+
+pub leaf_back : (old new : Blocks) (l : LeafAt) → LendsLeafAt old new l → SameLoans old (with_loan new l.loan.slot None)
+leaf_back old new l t = freed old new l.loan.slot t.after.0 t.layout t.after.1 t.free
+
+-- less may be said of a block that could not be read
+pub gone_as : (lo hi : Key) (B : Map) (Is Less : UnreadBlock → Want → Type 0) (place : Where) (store : Blocks) (result : Result _ TreeFault) → ((u : UnreadBlock) (w : Want) → Is u w → Less u w) → IsGone lo hi Is B place store result → IsGone lo hi Less B place store result
+gone_as lo hi B Is Less place store (Ok (gone.Leaf l after)) weaker g = g
+gone_as lo hi B Is Less place store (Ok (gone.Between after)) weaker g = g
+gone_as lo hi B Is Less place store (Ok gone.End) weaker g = g
+gone_as lo hi B Is Less place store (Err f) weaker g = λ seen on. follows_as Is Less weaker no_part seen (exec B (place_prog lo hi B place)) [] (Err (halt_of f)) (g seen on)
+
+pub leaf_given : (old new after : Blocks) (l : LeafAt) → LendsLeafAt old new l → after ≡ with_loan new l.loan.slot None → SameLoans old after
+leaf_given old new after l t given = let f = leaf_back old new l t in record { layout = ap (λ (s : Blocks). s.layout) given ∙ f.layout; loans = ap (λ (s : Blocks). s.loans) given ∙ f.loans }

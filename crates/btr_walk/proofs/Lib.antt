@@ -1,0 +1,17 @@
+mod Fitting
+mod Fetched
+mod Les
+mod Ways
+mod Lending
+mod Joined
+mod Shown
+mod Choosing
+mod Belows
+mod Entered
+mod Repeated
+mod Paths
+mod Items
+mod Ranking
+mod Leads
+mod Hands
+mod Nexts

@@ -1,0 +1,73 @@
+use Rattle.std.proofs.Common.{◌≡◌, ◌≤◌, ℕ, List, Ok, IsTrue, length, ◌∙◌}
+use Rattle.btr_node.specs.Block.{items, is_leaf}
+use Rattle.btr_prog.specs.Prog.{Wants, first, exec}
+use Rattle.btr_walk.specs.declared.entering.Entered.TheVariants.{Leaf, Inner}
+use Rattle.btr_walk.specs.Le.{want_of}
+use Rattle.btr_walk.specs.Range.{RangeProg, emit_all, range_at}
+use Rattle.btr_walk.specs.Scans.{part_items}
+use Rattle.btr_walk.specs.Reading.{Reads, unread_by}
+use Rattle.btr_walk.specs.Entering.{IsEntered}
+use Rattle.btr_walk.proofs.Fetched.{some_block}
+use Rattle.btr_walk.proofs.Lending.{given_back, served_back}
+use Rattle.btr_walk.proofs.Joined.{drawn, block_is, is_leaf_at, is_inner_at}
+use Rattle.btr_walk.proofs.Entered.{enter_leaf, enter_inner, enter_frame}
+use Rattle.btr_walk.proofs.entering.enter.Goals as goal
+
+pub part_of-part-requires-clause-good : goal.part_of-part-requires-clause-good
+part_of-part-requires-clause-good g c = (is_leaf_at c.args.todo.now.level c.args.todo.now.spot c.read_block.new.store c.in_ok-loan.loan c.bytes.result.now c.bytes.ensures.value c.in_ok-loan.ensures.good c.if-todo-eq0.true).good
+
+pub returns-then-todo-eq0-clause-lent : goal.returns-then-todo-eq0-clause-lent
+returns-then-todo-eq0-clause-lent g c =
+    let leaf = is_leaf_at c.args.todo.now.level c.args.todo.now.spot c.read_block.new.store c.in_ok-loan.loan c.bytes.result.now c.bytes.ensures.value c.in_ok-loan.ensures.good c.if-todo-eq0.true in
+    record {
+      there = c.in_ok-loan.ensures.lent.there;
+      free = c.in_ok-loan.ensures.lent.free;
+      layout = c.in_ok-loan.ensures.lent.layout;
+      after = c.in_ok-loan.ensures.lent.after;
+      large = c.in_ok-loan.ensures.lent.large;
+      live = c.in_ok-loan.ensures.lent.live;
+      good = some_block c.read_block.new.store c.in_ok-loan.loan c.bytes.result.now (λ (block : List ℕ). IsTrue (is_leaf block) × (c.part_of-part.result.end ≤ length (items block))) c.bytes.ensures.value (leaf.good, c.part_of-part.ensures.within);
+    }
+
+pub returns-then-todo-eq0-clause-content : goal.returns-then-todo-eq0-clause-content
+returns-then-todo-eq0-clause-content g c =
+    let is = unread_by c.args.store.now.layout (g.R.Rack.seen c.args.rack.now) (g.R.Rack.seen c.read_block.new.rack) in
+    let todo = c.args.todo.now in
+    let store = c.read_block.new.store in
+    let block = c.bytes.result.now in
+    let leaf = is_leaf_at todo.level todo.spot store c.in_ok-loan.loan block c.bytes.ensures.value c.in_ok-loan.ensures.good c.if-todo-eq0.true in
+    drawn c.args.store.now.layout (λ B. Reads is B todo.level todo.spot store (Ok c.in_ok-loan.loan)) (λ B. IsEntered c.args.lo c.args.hi is B todo store (Ok (Leaf (record { leaf = todo.spot.addr; next = c.part_of-part.result.next; end = c.part_of-part.result.end; loan = c.in_ok-loan.loan }))))
+    (λ B reads. some_block store c.in_ok-loan.loan block (λ (b : List ℕ). (rest : RangeProg) → exec B (range_at c.args.lo c.args.hi todo.level todo.spot rest) ≡ first (Wants (want_of todo.level todo.spot)) (exec B (emit_all (part_items todo.spot.addr b c.part_of-part.result.next c.part_of-part.result.end) rest))) c.bytes.ensures.value
+    (enter_leaf c.args.lo c.args.hi B todo.level todo.spot block c.part_of-part.result leaf c.part_of-part.ensures (block_is store c.in_ok-loan.loan block (λ (b : List ℕ). B (want_of todo.level todo.spot) ≡ Ok b) c.bytes.ensures.value reads)))
+    c.in_ok-loan.ensures.content
+
+pub below_of-below-requires-clause-good : goal.below_of-below-requires-clause-good
+below_of-below-requires-clause-good g c = (is_inner_at c.args.todo.now.level c.args.todo.now.spot c.read_block.new.store c.in_ok-loan.loan c.bytes-2.result.now c.bytes-2.ensures.value c.in_ok-loan.ensures.good c.if-todo-eq0.false).good
+
+pub returns-clause-lent : goal.returns-clause-lent
+returns-clause-lent g c = given_back _ _ _ _ c.in_ok-loan.loan c.in_ok-loan.ensures.lent c.give.ensures
+
+pub returns-clause-serves : goal.returns-clause-serves
+returns-clause-serves g c = served_back _ c.read_block.new.store c.give.new.self c.in_ok-loan.loan c.in_ok-loan.ensures.serves c.give.ensures
+
+pub returns-clause-content : goal.returns-clause-content
+returns-clause-content g c =
+    let is = unread_by c.args.store.now.layout (g.R.Rack.seen c.args.rack.now) (g.R.Rack.seen c.read_block.new.rack) in
+    let todo = c.args.todo.now in
+    let store = c.read_block.new.store in
+    let block = c.bytes-2.result.now in
+    let inner = is_inner_at todo.level todo.spot store c.in_ok-loan.loan block c.bytes-2.ensures.value c.in_ok-loan.ensures.good c.if-todo-eq0.false in
+    drawn c.args.store.now.layout (λ B. Reads is B todo.level todo.spot store (Ok c.in_ok-loan.loan)) (λ B. IsEntered c.args.lo c.args.hi is B todo c.give.new.self (Ok (Inner c.below_of-below.result)))
+    (λ B reads up.
+    let e = block_is store c.in_ok-loan.loan block (λ (b : List ℕ). B (want_of todo.level todo.spot) ≡ Ok b) c.bytes-2.ensures.value reads in (
+      enter_inner c.args.lo c.args.hi B todo block c.below_of-below.result inner c.below_of-below.ensures e up,
+      enter_frame c.args.lo c.args.hi B todo block c.below_of-below.result inner c.below_of-below.ensures e up,
+      c.below_of-below.ensures.up up,
+      c.below_of-below.ensures.level,
+    ))
+    c.in_ok-loan.ensures.content
+
+pub returns-clause-level : goal.returns-clause-level
+returns-clause-level g c =
+    let inner = is_inner_at c.args.todo.now.level c.args.todo.now.spot c.read_block.new.store c.in_ok-loan.loan c.bytes-2.result.now c.bytes-2.ensures.value c.in_ok-loan.ensures.good c.if-todo-eq0.false in
+    (inner.some, inner.few, c.below_of-below.ensures.fits, c.below_of-below.ensures.none, c.below_of-below.ensures.level)

@@ -1,0 +1,19 @@
+use Rattle.btr_rack.specs.Rack.{OnlyReads}
+use Rattle.btr_read.specs.Serves.{Serves}
+use Rattle.btr_read.specs.Store.{SameLoans}
+use Rattle.btr_walk.specs.Reading.{Tells}
+use Rattle.btr_walk.specs.Ranks.{IsShaped, rank}
+use Rattle.btr_walk.proofs.Leads.{Leads}
+use Rattle.btr_walk.proofs.leaving.to_leaf.Given as goal
+
+abbrev pub invariant-loop-fault : goal.invariant-loop-fault
+invariant-loop-fault g l = record {
+  reads : OnlyReads (g.R.Rack.seen l.fn.rack) (g.R.Rack.seen l.rack);
+  serves : Serves (g.R.Rack.seen l.rack) l.store;
+  same : SameLoans l.fn.store l.store;
+  shaped : IsShaped l.at;
+  tells : Tells l.fn.store.layout (g.R.Rack.seen l.fn.rack) (g.R.Rack.seen l.rack) (λ B. Leads l.lo l.hi B l.fn.place l.at);
+}
+
+abbrev pub decreases-loop-fault : goal.decreases-loop-fault
+decreases-loop-fault g l = rank l.at

@@ -1,0 +1,49 @@
+use Rattle.std.proofs.Common.{Ok, refl, ap, ◌∙◌}
+use Rattle.std.specs.Option.{is_some}
+use Rattle.btr_walk.proofs.Nexts.{cause_as, next_err, next_end, next_item, keeps_err, keeps_end, place_err}
+use Rattle.btr_walk.proofs.scan.next.Goals as goal
+
+pub returns-in-Err : goal.returns-in-Err
+returns-in-Err g c =
+    let a = c.advance-leaf.result in (
+      (refl, λ x. tt, next_err c.args.store.now c.advance-leaf.new.store c.args.scan.now c.take-leaf.result c.take-leaf.ensures.value a c.put.new.place c.put.ensures _ _ c.advance-leaf.ensures.serves c.advance-leaf.ensures.shaped c.in-Err.fault c.in-Err.is c.advance-leaf.ensures.others c.advance-leaf.ensures.hand c.advance-leaf.ensures.content),
+      record {
+        after = tt;
+        reads = c.advance-leaf.ensures.reads;
+        lo = refl;
+        hi = refl;
+        kept = keeps_err a.leaf c.put.new.place a.met c.in-Err.fault c.put.ensures c.in-Err.is c.advance-leaf.ensures.item;
+        place = place_err _ a.place c.args.scan.now.place a.met c.in-Err.fault c.in-Err.is c.advance-leaf.ensures.place;
+        cause = cause_as c.args.store.now.layout _ _ a.met c.in-Err.fault c.in-Err.is c.advance-leaf.ensures.cause;
+      },
+    )
+
+pub returns-in-Some : goal.returns-in-Some
+returns-in-Some g c =
+    let a = c.advance-leaf.result in (
+      (refl, λ x. tt, next_item c.args.store.now c.advance-leaf.new.store c.args.scan.now c.take-leaf.result c.take-leaf.ensures.value a c.put.new.place c.put.ensures _ _ c.advance-leaf.ensures.serves c.advance-leaf.ensures.shaped c.in-Some.hand c.in-Some.is c.found_at.result c.bytes.result.now c.bytes.ensures.value c.found_at.ensures (c.in-Ok-true.is ∙ ap Ok c.in-Ok-true.field-0-test) c.advance-leaf.ensures.others c.advance-leaf.ensures.hand c.advance-leaf.ensures.content),
+      record {
+        after = tt;
+        reads = c.advance-leaf.ensures.reads;
+        lo = refl;
+        hi = refl;
+        kept = ap is_some c.in-Some.is;
+        place = tt;
+        cause = tt;
+      },
+    )
+
+pub returns-in-Ok-false : goal.returns-in-Ok-false
+returns-in-Ok-false g c =
+    let a = c.advance-leaf.result in (
+      (refl, λ x. tt, next_end c.args.store.now c.advance-leaf.new.store c.args.scan.now c.take-leaf.result c.take-leaf.ensures.value a c.put.new.place c.put.ensures _ _ c.advance-leaf.ensures.serves c.advance-leaf.ensures.shaped (c.in-Ok-false.is ∙ ap Ok c.in-Ok-false.field-0-test) c.advance-leaf.ensures.others c.advance-leaf.ensures.hand c.advance-leaf.ensures.content),
+      record {
+        after = tt;
+        reads = c.advance-leaf.ensures.reads;
+        lo = refl;
+        hi = refl;
+        kept = keeps_end a.leaf c.put.new.place a.met c.put.ensures (c.in-Ok-false.is ∙ ap Ok c.in-Ok-false.field-0-test) c.advance-leaf.ensures.item;
+        place = tt;
+        cause = tt;
+      },
+    )

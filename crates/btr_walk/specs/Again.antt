@@ -1,0 +1,52 @@
+-- What comes of a node that is read again.
+use Rattle.std.specs.Prelude.{◌≡◌, ℕ, ◌+◌, ◌-◌, ◌<◌, ◌≤◌, List, length, drop, slice_index_or, Option, Some, None, IfSome, IsSome, Result, Ok, Err}
+use Rattle.btr_base.specs.declared.key.Key.{Key}
+use Rattle.btr_node.specs.Block.{KeyPointer}
+use Rattle.btr_read.specs.declared.want.Want.{Want}
+use Rattle.btr_walk.specs.declared.entering.Below.{Below}
+use Rattle.btr_walk.specs.declared.fault.TreeFault.{TreeFault}
+use Rattle.btr_walk.specs.declared.fault.TreeFault.TheVariants.{Lost, Unread, Unmapped, Crosses, Malformed}
+use Rattle.btr_walk.specs.declared.frame.Frame.{Frame}
+use Rattle.btr_walk.specs.declared.frame.Todo.{Todo}
+use Rattle.btr_walk.specs.Le.{below, up_of, want_of}
+use Rattle.btr_walk.specs.Reading.{Map, UnreadBlock}
+use Rattle.btr_walk.specs.Range.{RangeProg}
+use Rattle.btr_walk.specs.Scans.{todo_prog, frame_prog, frame_or_rest, IsFrame, IsTodo}
+
+-- the frame behind its next child
+abbrev pub later : Frame → Frame
+later frame = record { spot = frame.spot; next = frame.next + 1; end = frame.end }
+
+-- the next child of a frame
+pub record IsChild (ps : List KeyPointer) (level : ℕ) (frame : Frame) (todo : Todo) : Type 0 where
+  pub there : frame.next < length ps
+  pub level_is : todo.level ≡ level - 1
+  pub spot_is : (d : KeyPointer) → todo.spot ≡ below (slice_index_or ps frame.next d) (up_of (drop (frame.next + 1) ps) frame.spot.up)
+
+abbrev pub IsNextBelow : List KeyPointer → ℕ → Frame → Option Frame → Option Todo → Type 0
+IsNextBelow ps level frame None None = ⊥
+IsNextBelow ps level frame None (Some todo) = IsChild ps level frame todo × (frame.end ≤ frame.next + 1)
+IsNextBelow ps level frame (Some f) None = ⊥
+IsNextBelow ps level frame (Some f) (Some todo) = IsChild ps level frame todo × (frame.next + 1 < frame.end) × (f ≡ later frame)
+
+abbrev pub IsNext : List KeyPointer → ℕ → Frame → Option Below → Type 0
+IsNext ps level frame None = length ps ≤ frame.next
+IsNext ps level frame (Some b) = IsNextBelow ps level frame b.frame b.todo
+
+module _ (lo hi : Key) where
+  -- what is left of a frame is its next child, and then what is left behind it
+  pub record IsAgainBelow (B : Map) (level : ℕ) (frame : Frame) (seen : List Want) (b : Below) : Type 0 where
+    pub program : (rest : RangeProg) → frame_prog lo hi B level frame rest ≡ todo_prog lo hi b.todo (frame_or_rest lo hi B level b.frame rest)
+    pub frame_is : IfSome b.frame (IsFrame lo hi B seen level)
+    pub up : IsTodo lo hi b.todo
+    pub some : IsSome b.todo
+    pub level_is : IfSome b.todo (λ t. t.level ≡ level - 1)
+
+  -- where the node was read before, it is the same again, or it could not be read
+  abbrev pub IsAgain : (UnreadBlock → Want → Type 0) → Map → ℕ → Frame → Result Below TreeFault → Type 0
+  IsAgain Is B level frame (Ok b) = (seen : List Want) → IsFrame lo hi B seen level frame → IsAgainBelow B level frame seen b
+  IsAgain Is B level frame (Err (Lost a)) = (seen : List Want) → IsFrame lo hi B seen level frame → ⊥
+  IsAgain Is B level frame (Err (Unread a slot)) = Is (record { addr = a; slot = slot }) (want_of level frame.spot)
+  IsAgain Is B level frame (Err (Unmapped a)) = (seen : List Want) → IsFrame lo hi B seen level frame → ⊥
+  IsAgain Is B level frame (Err (Crosses a)) = (seen : List Want) → IsFrame lo hi B seen level frame → ⊥
+  IsAgain Is B level frame (Err (Malformed a)) = (seen : List Want) → IsFrame lo hi B seen level frame → ⊥

@@ -1,0 +1,48 @@
+-- What a lookup answers.
+use Rattle.std.specs.Prelude.{◌≡◌, ℕ, ◌<◌, ◌≤◌, List, [], Option, Some, None, IsSomeAnd, Result, Ok, Err, length, slice_set, IsTrue}
+use Rattle.std.specs.List.{HoldsAt}
+use Rattle.btr_base.specs.declared.key.Key.{Key}
+use Rattle.btr_node.specs.Block.{items, is_leaf}
+use Rattle.btr_prog.specs.Prog.{exec}
+use Rattle.btr_prog.specs.Answers.{Follows, no_part}
+use Rattle.btr_read.specs.Store.{Blocks, SameLoans, block_of, loan_in, IsLiveIn}
+use Rattle.btr_read.specs.declared.want.Want.{Want}
+use Rattle.btr_walk.specs.declared.place.RootPlace.{RootPlace}
+use Rattle.btr_walk.specs.declared.fault.TreeFault.{TreeFault}
+use Rattle.btr_walk.specs.declared.finding.Spotted.{Spotted}
+use Rattle.btr_walk.specs.Le.{TreeItem, tree_item, le}
+use Rattle.btr_walk.specs.Reading.{Map, UnreadBlock, answer_of}
+
+-- the item at a place of a leaf's block
+abbrev pub ItemAt : Blocks → Spotted → TreeItem → Type 0
+ItemAt store spotted item = IsSomeAnd (block_of store spotted.loan) (λ block. HoldsAt (λ x. tree_item spotted.leaf x ≡ item) (items block) spotted.at)
+
+-- the answer without the loan
+abbrev pub Shows : Blocks → Result (Option Spotted) TreeFault → Result (Option TreeItem) TreeFault → Type 0
+Shows store (Ok (Some spotted)) (Ok (Some item)) = ItemAt store spotted item
+Shows store (Ok (Some spotted)) (Ok None) = ⊥
+Shows store (Ok (Some spotted)) (Err f) = ⊥
+Shows store (Ok None) (Ok (Some item)) = ⊥
+Shows store (Ok None) (Ok None) = Unit {0}
+Shows store (Ok None) (Err f) = ⊥
+Shows store (Err f) (Ok o) = ⊥
+Shows store (Err f) (Err f') = f' ≡ f
+
+-- what a lookup answers follows the program
+abbrev pub Finds : (UnreadBlock → Want → Type 0) → Map → RootPlace → Key → Blocks → Result (Option Spotted) TreeFault → Type 0
+Finds Is B root key store result = (shown : Result (Option TreeItem) TreeFault) × Shows store result shown × Follows {S = ⊥} Is no_part [] (exec B (le root key)) [] (answer_of shown)
+
+-- a leaf is lent where there is an item, and nothing otherwise
+pub record LendsLeaf (old new : Blocks) (spotted : Spotted) : Type 0 where
+  pub there : spotted.loan.slot < length old.loans
+  pub free : loan_in old spotted.loan.slot ≡ None
+  pub layout : new.layout ≡ old.layout
+  pub after : (written : List ℕ) × (new.loans ≡ slice_set old.loans spotted.loan.slot (Some written))
+  pub large : 4096 ≤ spotted.loan.len
+  pub live : IsLiveIn new spotted.loan
+  pub good : IsSomeAnd (block_of new spotted.loan) (λ block. IsTrue (is_leaf block) × (spotted.at < length (items block)))
+
+abbrev pub LendsItem : Blocks → Blocks → Result (Option Spotted) TreeFault → Type 0
+LendsItem old new (Ok (Some spotted)) = LendsLeaf old new spotted
+LendsItem old new (Ok None) = SameLoans old new
+LendsItem old new (Err f) = SameLoans old new

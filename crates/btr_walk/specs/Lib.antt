@@ -1,0 +1,15 @@
+pub mod Spot
+pub mod Le
+pub mod Range
+pub mod Reading
+pub mod Finding
+pub mod Lending
+pub mod Showing
+pub mod Scans
+pub mod Entering
+pub mod Again
+pub mod Going
+pub mod Ranks
+pub mod Leaving
+pub mod Advancing
+pub mod ScanEnds

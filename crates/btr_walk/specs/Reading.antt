@@ -1,0 +1,82 @@
+-- What calls that read trees answer.
+use Rattle.std.specs.Prelude.{◌≡◌, ℕ, List, None, IfSome, IsSome, IsSomeAnd, Result, Ok, Err, ⊤}
+use Rattle.btr_rack.specs.Rack.{Seen}
+use Rattle.btr_prog.specs.Prog.{BlockMap}
+use Rattle.btr_prog.specs.Answers.{Halt, Fault, Unread}
+use Rattle.btr_prog.specs.Calls.{Calls}
+use Rattle.btr_read.specs.Fate as fate
+use Rattle.btr_read.specs.Fate.{fate, sought}
+use Rattle.btr_read.specs.Fetch.{IsUnreadFor}
+use Rattle.btr_read.specs.Layout.{Layout}
+use Rattle.btr_read.specs.Reading.{AgreedOn, OnMap, shown}
+use Rattle.btr_read.specs.Store.{Blocks, Lent, block_of}
+use Rattle.btr_read.specs.declared.fault.ReadFault.{ReadFault}
+use Rattle.btr_read.specs.declared.fault.ReadFault.TheVariants as read
+use Rattle.btr_read.specs.declared.want.Want.{Want}
+use Rattle.btr_walk.specs.declared.fault.TreeFault.{TreeFault}
+use Rattle.btr_walk.specs.declared.fault.TreeFault.TheVariants as tree
+use Rattle.btr_walk.specs.declared.spot.Spot.{Spot}
+use Rattle.btr_walk.specs.Spot.{judged}
+use Rattle.btr_walk.specs.Le.{want_of}
+
+-- a block map of the wants of trees
+abbrev pub Map : Type 0
+Map = BlockMap Want fate.Fault
+
+-- what is told of a block that could not be read: its address, and the slot of the last read that failed
+pub record UnreadBlock : Type 0 where
+  pub addr : ℕ
+  pub slot : ℕ
+
+-- in these calls the want is the one that could not be read: with its whole cause
+abbrev pub unread_by : Layout → Seen → Seen → UnreadBlock → Want → Type 0
+unread_by layout old new u want = IsUnreadFor layout want old new u.addr u.slot
+
+-- so far as the calls were steady, P holds of the block map of the images
+pub record Tells (layout : Layout) (old new : Seen) (P : Map → Type 0) : Type 0 where
+  pub calls : Calls (AgreedOn layout) (shown old) (shown new) (OnMap layout P)
+
+-- why a tree can't be read on, where a block of it could not be had
+abbrev pub tree_fault : ReadFault → TreeFault
+tree_fault (read.Lost a) = tree.Lost a
+tree_fault (read.Unread a slot) = tree.Unread a slot
+tree_fault (read.Unmapped a) = tree.Unmapped a
+tree_fault (read.Crosses a) = tree.Crosses a
+
+abbrev pub halt_of : TreeFault → Halt fate.Fault UnreadBlock
+halt_of (tree.Lost a) = Fault (fate.Lost a)
+halt_of (tree.Unread a slot) = Unread (record { addr = a; slot = slot })
+halt_of (tree.Unmapped a) = Fault (fate.Unmapped a)
+halt_of (tree.Crosses a) = Fault (fate.Crosses a)
+halt_of (tree.Malformed a) = Fault (fate.Malformed a)
+
+abbrev pub answer_of : {A : Type 0} → Result A TreeFault → Result A (Halt fate.Fault UnreadBlock)
+answer_of (Ok a) = Ok a
+answer_of (Err f) = Err (halt_of f)
+
+module _ (Is : UnreadBlock → Want → Type 0) (B : Map) where
+  -- a block of a level at a spot was read under a block map: these bytes, or why there are none
+  abbrev pub Reads : ℕ → Spot → Blocks → Result Lent TreeFault → Type 0
+  Reads level spot store (Ok loan) = IsSomeAnd (block_of store loan) (λ block. B (want_of level spot) ≡ Ok block)
+  Reads level spot store (Err (tree.Lost a)) = B (want_of level spot) ≡ Err (fate.Lost a)
+  Reads level spot store (Err (tree.Unread a slot)) = Is (record { addr = a; slot = slot }) (want_of level spot)
+  Reads level spot store (Err (tree.Unmapped a)) = B (want_of level spot) ≡ Err (fate.Unmapped a)
+  Reads level spot store (Err (tree.Crosses a)) = B (want_of level spot) ≡ Err (fate.Crosses a)
+  Reads level spot store (Err (tree.Malformed a)) = (a ≡ spot.addr) × ((block : List ℕ) × (B (want_of level spot) ≡ Ok block) × (judged level spot block ≡ None))
+
+-- the block lent is a good one that fits its spot
+abbrev pub IsGoodFor : ℕ → Spot → Blocks → Lent → Type 0
+IsGoodFor level spot store loan = IsSomeAnd (block_of store loan) (λ block. IsSome (judged level spot block))
+
+-- A fault of a tree has its cause: some want was lost, has no position, or is the one that could not be read. Whether a block is malformed hangs
+-- on the blocks before it: the program says it.
+abbrev pub FaultCause : Layout → Seen → Seen → TreeFault → Type 0
+FaultCause layout old new (tree.Lost a) = (want : Want) × IfSome old.held (λ images. fate images layout want ≡ Err (fate.Lost a))
+FaultCause layout old new (tree.Unread a slot) = (want : Want) × IsUnreadFor layout want old new a slot
+FaultCause layout old new (tree.Unmapped a) = (want : Want) × (sought layout want ≡ Err (fate.Unmapped a))
+FaultCause layout old new (tree.Crosses a) = (want : Want) × (sought layout want ≡ Err (fate.Crosses a))
+FaultCause layout old new (tree.Malformed a) = ⊤
+
+abbrev pub HasCause : {A : Type 0} → Layout → Seen → Seen → Result A TreeFault → Type 0
+HasCause layout old new (Ok a) = ⊤
+HasCause layout old new (Err f) = FaultCause layout old new f

@@ -1,0 +1,129 @@
+ghost use Rattle.std.specs.Prelude.{◌≡◌, ◌<◌, ◌≤◌, length, IfSome, OnErr};
+ghost use Rattle.btr_read.specs.Serves.{Serves};
+ghost use Rattle.btr_rack.specs.Rack.{OnlyReads};
+ghost use Rattle.btr_read.specs.Store.{SameLoans, free_count};
+ghost use Rattle.btr_walk.specs.Lending.{base};
+ghost use Rattle.btr_walk.specs.Reading.{Tells, unread_by, HasCause};
+ghost use Rattle.btr_walk.specs.Advancing.{IsInHand, loan_of, left, Lends, HasItem, IsAdvanced, FromPlace};
+ghost use Rattle.btr_walk.specs.Ranks.{IsShaped};
+
+use crate::TreeFault;
+use crate::entering::LeafAt;
+use crate::going::Where;
+use crate::leaving::{Reached, to_leaf};
+use btr_base::Key;
+use btr_rack::Rack;
+use btr_read::Store;
+
+/// Where a scan is after a step: the leaf in hand, whose item before `next` is the one that was met, if one was.
+pub(crate) struct Advanced {
+    pub(crate) place: Where,
+    pub(crate) leaf: Option<LeafAt>,
+    pub(crate) met: Result<bool, TreeFault>,
+}
+
+// One item further with no leaf in hand.
+pub(crate) fn from_place<R: Rack>(
+    place: Where,
+    lo: Key,
+    hi: Key,
+    rack: &mut R,
+    store: &mut Store,
+) -> Advanced
+    requires serves { Serves (R.seen rack.old) store.old }
+    requires room { 4 ≤ free_count store.old }
+    requires shaped { IsShaped place }
+    ensures serves { Serves (R.seen rack.new) store.new }
+    ensures reads { OnlyReads (R.seen rack.old) (R.seen rack.new) }
+    ensures lent { Lends store.old store.new result }
+    ensures shaped { IsShaped result.place }
+    ensures item { HasItem result.leaf result.met }
+    ensures place { OnErr result.met (result.place ≡ place) }
+    ensures cause { HasCause store.old.layout (R.seen rack.old) (R.seen rack.new) result.met }
+    ensures content { Tells store.old.layout (R.seen rack.old) (R.seen rack.new) (λ B. FromPlace lo hi (unread_by store.old.layout (R.seen rack.old) (R.seen rack.new)) B place store.new result) }
+{
+    match to_leaf(&place, lo, hi, rack, store) {
+        Err(fault) => Advanced {
+            place,
+            leaf: None,
+            met: Err(fault),
+        },
+        Ok(Reached::End) => Advanced {
+            place,
+            leaf: None,
+            met: Ok(false),
+        },
+        Ok(Reached::Leaf(reached, after)) => {
+            let LeafAt {
+                leaf,
+                next,
+                end,
+                loan,
+            } = reached;
+            let next = next + 1;
+            let leaf = LeafAt {
+                leaf,
+                next,
+                end,
+                loan,
+            };
+            Advanced {
+                place: after,
+                leaf: Some(leaf),
+                met: Ok(true),
+            }
+        }
+    }
+}
+
+// One item further.
+pub(crate) fn advance<R: Rack>(
+    place: Where,
+    leaf: Option<LeafAt>,
+    lo: Key,
+    hi: Key,
+    rack: &mut R,
+    store: &mut Store,
+) -> Advanced
+    requires serves { Serves (R.seen rack.old) store.old }
+    requires hand { IfSome leaf (IsInHand store.old) }
+    requires room { 4 ≤ free_count (base store.old (loan_of leaf)) }
+    requires shaped { IsShaped place }
+    ensures serves { Serves (R.seen rack.new) store.new }
+    ensures reads { OnlyReads (R.seen rack.old) (R.seen rack.new) }
+    ensures others { SameLoans (base store.old (loan_of leaf)) (base store.new (loan_of result.leaf)) }
+    ensures hand { IfSome result.leaf (IsInHand store.new) }
+    ensures shaped { IsShaped result.place }
+    ensures item { HasItem result.leaf result.met }
+    ensures place { OnErr result.met (result.place ≡ place) }
+    ensures cause { HasCause store.old.layout (R.seen rack.old) (R.seen rack.new) result.met }
+    ensures content { Tells store.old.layout (R.seen rack.old) (R.seen rack.new) (λ B. IsAdvanced lo hi (unread_by store.old.layout (R.seen rack.old) (R.seen rack.new)) B place (left lo hi B store.old leaf place) store.new result) }
+{
+    match leaf {
+        None => from_place(place, lo, hi, rack, store),
+        Some(hand) => {
+            let LeafAt {
+                leaf,
+                next,
+                end,
+                loan,
+            } = hand;
+            if next < end {
+                let next = next + 1;
+                let leaf = LeafAt {
+                    leaf,
+                    next,
+                    end,
+                    loan,
+                };
+                return Advanced {
+                    place,
+                    leaf: Some(leaf),
+                    met: Ok(true),
+                };
+            }
+            store.give(loan);
+            from_place(place, lo, hi, rack, store)
+        }
+    }
+}

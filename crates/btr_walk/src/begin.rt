@@ -1,0 +1,33 @@
+ghost use Rattle.std.specs.Prelude.{◌≡◌, ℕ, []};
+ghost use Rattle.btr_base.specs.declared.key.Key.{Key};
+ghost use Rattle.btr_walk.specs.Range.{range};
+ghost use Rattle.btr_walk.specs.Reading.{Map};
+ghost use Rattle.btr_walk.specs.Going.{IsOn, place_prog};
+ghost use Rattle.btr_walk.specs.Ranks.{IsShaped};
+
+use crate::RootPlace;
+use crate::frame::Todo;
+use crate::going::Where;
+use crate::path::HEIGHT;
+use crate::spot::Spot;
+
+// The place at which a scan begins: the root is to be read.
+pub(crate) fn begin(root: &RootPlace) -> Where
+    ensures program { (lo hi : Key) (B : Map) → place_prog lo hi B result ≡ range lo hi root.now }
+    ensures shaped { IsShaped result }
+    ensures on { (lo hi : Key) (B : Map) → IsOn lo hi B [] result }
+{
+    let spot = Spot {
+        addr: root.addr,
+        generation: root.generation,
+        first: None,
+        up: None,
+    };
+    Where {
+        path: [None; HEIGHT],
+        todo: Some(Todo {
+            level: root.level,
+            spot,
+        }),
+    }
+}

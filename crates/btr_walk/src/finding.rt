@@ -1,0 +1,188 @@
+ghost use Rattle.std.specs.Prelude.{◌≡◌, ◌+◌, ◌<◌, ◌≤◌, length, drop, IsTrue, IfOk, OnErr, IfNone, IfSome};
+ghost use Rattle.std.specs.List.{HoldsAt};
+ghost use Rattle.btr_node.specs.Block.{items, pointers, is_leaf, is_inner};
+ghost use Rattle.btr_read.specs.Serves.{Serves};
+ghost use Rattle.btr_rack.specs.Rack.{OnlyReads};
+ghost use Rattle.btr_read.specs.Store.{free_count};
+ghost use Rattle.btr_walk.specs.Le.{below, up_of, le_item, le_child};
+ghost use Rattle.btr_walk.specs.Reading.{Tells, unread_by, HasCause};
+ghost use Rattle.std.specs.Borrow.{sem};
+ghost use Rattle.std.specs.Prelude.{None, Some};
+ghost use Rattle.btr_walk.specs.Le.{tree_item};
+ghost use Rattle.btr_walk.specs.Finding.{Finds, LendsItem};
+ghost use Rattle.btr_walk.specs.Lending.{EndsWith};
+ghost use Rattle.btr_walk.specs.Showing.{item_of, FindsItem, LendsWhere};
+
+use crate::reading::read_block;
+use crate::spot::Spot;
+use crate::{Found, RootPlace, TreeFault};
+use btr_base::Key;
+use btr_node::{Inner, Leaf};
+use btr_rack::Rack;
+use btr_read::{Loan, Store};
+
+// The child of a pointer.
+pub(crate) fn child_at(inner: &Inner<'_>, i: usize, up: Option<Key>) -> Spot
+    requires { i < length inner.now }
+    ensures { HoldsAt (λ pointer. result ≡ below pointer (up_of (drop (i + 1) inner.now) up)) inner.now i }
+{
+    let pointer = inner.child(i);
+    let count = inner.count();
+    let next = i + 1;
+    let up = if next < count {
+        Some(inner.key(next))
+    } else {
+        up
+    };
+    Spot {
+        addr: pointer.addr,
+        generation: pointer.generation,
+        first: Some(inner.key(i)),
+        up,
+    }
+}
+
+// The child that leads to the greatest item at or below a key.
+fn child_le(block: &[u8], up: Option<Key>, key: Key) -> Option<Spot>
+    requires header { 101 ≤ length block.now }
+    requires good { IsTrue (is_inner block.now) }
+    ensures { result ≡ le_child key (pointers block.now) up }
+{
+    let inner = Inner::of(block);
+    match inner.seek_le(key) {
+        None => None,
+        Some(last) => Some(child_at(&inner, last, up)),
+    }
+}
+
+// The place of the greatest item at or below a key.
+fn place_le(block: &[u8], key: Key) -> Option<usize>
+    requires header { 101 ≤ length block.now }
+    requires good { IsTrue (is_leaf block.now) }
+    ensures none { IfNone result (le_item key (items block.now) ≡ None) }
+    ensures within { IfSome result (λ i. i < length (items block.now)) }
+    ensures some { IfSome result (λ i. HoldsAt (λ item. le_item key (items block.now) ≡ Some item) (items block.now) i) }
+{
+    Leaf::of(block).seek_le(key)
+}
+
+/// Where an item stands: its leaf's address and loan, and its place there.
+pub(crate) struct Spotted {
+    pub(crate) leaf: u64,
+    pub(crate) at: usize,
+    pub(crate) loan: Loan,
+}
+
+// Goes down to the greatest item at or below a key.
+pub(crate) fn seek_le<R: Rack>(
+    root: &RootPlace,
+    key: Key,
+    rack: &mut R,
+    store: &mut Store,
+) -> Result<Option<Spotted>, TreeFault>
+    requires serves { Serves (R.seen rack.old) store.old }
+    requires room { 4 ≤ free_count store.old }
+    ensures serves { Serves (R.seen rack.new) store.new }
+    ensures reads { OnlyReads (R.seen rack.old) (R.seen rack.new) }
+    ensures lent { LendsItem store.old store.new result }
+    ensures cause { HasCause store.old.layout (R.seen rack.old) (R.seen rack.new) result }
+    ensures content { Tells store.old.layout (R.seen rack.old) (R.seen rack.new) (λ B. Finds (unread_by store.old.layout (R.seen rack.old) (R.seen rack.new)) B root.now key store.new result) }
+{
+    let mut level = root.level;
+    let mut spot = Spot {
+        addr: root.addr,
+        generation: root.generation,
+        first: None,
+        up: None,
+    };
+    loop {
+        let loan = read_block(level, &spot, rack, store)?;
+        if level == 0 {
+            return match place_le(store.bytes(&loan), key) {
+                Some(at) => Ok(Some(Spotted {
+                    leaf: spot.addr,
+                    at,
+                    loan,
+                })),
+                None => {
+                    store.give(loan);
+                    Ok(None)
+                }
+            };
+        }
+        let child = child_le(store.bytes(&loan), spot.up, key);
+        store.give(loan);
+        match child {
+            None => return Ok(None),
+            Some(below) => {
+                spot = below;
+                level -= 1;
+            }
+        }
+    }
+}
+
+// The item at a place of a leaf.
+pub(crate) fn found_at(block: &[u8], leaf: u64, at: usize) -> Found<'_>
+    requires header { 101 ≤ length block.now }
+    requires good { IsTrue (is_leaf block.now) }
+    requires there { at < length (items block.now) }
+    ensures { HoldsAt (λ item. tree_item leaf item ≡ item_of result) (items block.now) at }
+{
+    let items = Leaf::of(block);
+    Found {
+        key: items.key(at),
+        block: leaf,
+        body: items.body(at),
+    }
+}
+
+// Puts a loan into an empty place.
+pub(crate) fn keep(place: &mut Option<Loan>, loan: Loan)
+    requires { place.old ≡ None }
+    ensures { place.new ≡ Some loan }
+{
+    match place.replace(loan) {
+        None => {}
+        Some(_) => unreachable!(),
+    }
+}
+
+/// Finds the greatest item at or below a key. The loan of its leaf is put into `loan`, which stays `None` where there is
+/// no item and after a fault. Four slots are free.
+///
+/// The faults are those of the one way down the tree: `Lost`, `Unread`, `Unmapped` and `Crosses` of a block of it, and
+/// `Malformed` where one breaks a rule or doesn't fit its place.
+pub fn find_le<'e, R: Rack>(
+    store: &'e mut Store,
+    root: &RootPlace,
+    key: Key,
+    rack: &mut R,
+    loan: &mut Option<Loan>,
+) -> Result<Option<Found<'e>>, TreeFault>
+    requires serves { Serves (R.seen rack.old) store.old }
+    requires room { 4 ≤ free_count store.old }
+    requires empty { loan.old ≡ None }
+    ensures* after { sem 𝓛 (EndsWith (R.seen rack.new) store.entry loan.new) }
+    ensures reads { OnlyReads (R.seen rack.old) (R.seen rack.new) }
+    ensures lent { LendsWhere result loan.new }
+    ensures cause { HasCause store.old.layout (R.seen rack.old) (R.seen rack.new) result }
+    ensures content { Tells store.old.layout (R.seen rack.old) (R.seen rack.new) (λ B. FindsItem (unread_by store.old.layout (R.seen rack.old) (R.seen rack.new)) B root.now key result) }
+{
+    match seek_le(root, key, rack, store) {
+        Err(fault) => Err(fault),
+        Ok(None) => Ok(None),
+        Ok(Some(spotted)) => {
+            let Spotted {
+                leaf,
+                at,
+                loan: taken,
+            } = spotted;
+            keep(loan, taken);
+            let Some(held) = &*loan else {
+                unreachable!();
+            };
+            Ok(Some(found_at(store.bytes(held), leaf, at)))
+        }
+    }
+}

@@ -1,0 +1,77 @@
+ghost use Rattle.std.specs.Prelude.{◌≡◌, ◌<◌, ◌≤◌, length};
+ghost use Rattle.btr_read.specs.Serves.{Serves};
+ghost use Rattle.btr_rack.specs.Rack.{OnlyReads};
+ghost use Rattle.btr_read.specs.Store.{free_count};
+ghost use Rattle.btr_walk.specs.Reading.{Tells, unread_by, HasCause};
+ghost use Rattle.btr_walk.specs.Going.{LendsGone, IsGone};
+ghost use Rattle.btr_walk.specs.Ranks.{IsShaped, Nears};
+
+use crate::TreeFault;
+use crate::again::read_again;
+use crate::entering::{Entered, LeafAt, enter};
+use crate::frame::Todo;
+use crate::path::{Path, lowest, with_frame};
+use btr_base::Key;
+use btr_rack::Rack;
+use btr_read::Store;
+
+/// Where a scan is: the block that is to be read, if one is, and the nodes of which children are still to come.
+#[derive(Clone, Copy, Debug, PartialEq, Eq)]
+pub(crate) struct Where {
+    pub(crate) path: Path,
+    pub(crate) todo: Option<Todo>,
+}
+
+/// What came of reading on.
+pub(crate) enum Gone {
+    Leaf(LeafAt, Where),
+    Between(Where),
+    End,
+}
+
+// Reads at most one block.
+pub(crate) fn go_on<R: Rack>(
+    place: &Where,
+    lo: Key,
+    hi: Key,
+    rack: &mut R,
+    store: &mut Store,
+) -> Result<Gone, TreeFault>
+    requires serves { Serves (R.seen rack.old) store.old }
+    requires room { 4 ≤ free_count store.old }
+    requires shaped { IsShaped place.now }
+    ensures nears { Nears place.now result }
+    ensures serves { Serves (R.seen rack.new) store.new }
+    ensures reads { OnlyReads (R.seen rack.old) (R.seen rack.new) }
+    ensures lent { LendsGone store.old store.new result }
+    ensures cause { HasCause store.old.layout (R.seen rack.old) (R.seen rack.new) result }
+    ensures content { Tells store.old.layout (R.seen rack.old) (R.seen rack.new) (λ B. IsGone lo hi (unread_by store.old.layout (R.seen rack.old) (R.seen rack.new)) B place.now store.new result) }
+{
+    let path = place.path;
+    match place.todo {
+        Some(todo) => match enter(&todo, lo, hi, rack, store) {
+            Err(fault) => Err(fault),
+            Ok(Entered::Leaf(leaf)) => Ok(Gone::Leaf(leaf, Where { path, todo: None })),
+            Ok(Entered::Inner(below)) => {
+                let path = with_frame(path, todo.level as usize - 1, below.frame);
+                Ok(Gone::Between(Where {
+                    path,
+                    todo: below.todo,
+                }))
+            }
+        },
+        None => match lowest(&path) {
+            None => Ok(Gone::End),
+            Some(low) => match read_again(low.at as u8 + 1, &low.frame, rack, store) {
+                Err(fault) => Err(fault),
+                Ok(below) => {
+                    let path = with_frame(path, low.at, below.frame);
+                    Ok(Gone::Between(Where {
+                        path,
+                        todo: below.todo,
+                    }))
+                }
+            },
+        },
+    }
+}

@@ -1,0 +1,61 @@
+ghost use Rattle.std.specs.Prelude.{◌≡◌, ◌<◌, ◌≤◌, length};
+ghost use Rattle.btr_read.specs.Serves.{Serves};
+ghost use Rattle.btr_rack.specs.Rack.{OnlyReads};
+ghost use Rattle.btr_read.specs.Store.{free_count};
+ghost use Rattle.btr_walk.specs.Reading.{Tells, unread_by, HasCause};
+ghost use Rattle.btr_walk.specs.Leaving.{LendsReached, IsReached, ShapesReached};
+ghost use Rattle.btr_walk.specs.Ranks.{IsShaped};
+
+use crate::TreeFault;
+use crate::entering::LeafAt;
+use crate::going::{Gone, Where, go_on};
+use btr_base::Key;
+use btr_rack::Rack;
+use btr_read::Store;
+
+/// The next leaf with an item, or the end.
+pub(crate) enum Reached {
+    Leaf(LeafAt, Where),
+    End,
+}
+
+// Reads on to the next leaf that has an item in the range.
+pub(crate) fn to_leaf<R: Rack>(
+    place: &Where,
+    lo: Key,
+    hi: Key,
+    rack: &mut R,
+    store: &mut Store,
+) -> Result<Reached, TreeFault>
+    requires serves { Serves (R.seen rack.old) store.old }
+    requires room { 4 ≤ free_count store.old }
+    requires shaped { IsShaped place.now }
+    ensures serves { Serves (R.seen rack.new) store.new }
+    ensures reads { OnlyReads (R.seen rack.old) (R.seen rack.new) }
+    ensures lent { LendsReached store.old store.new result }
+    ensures shaped { ShapesReached result }
+    ensures cause { HasCause store.old.layout (R.seen rack.old) (R.seen rack.new) result }
+    ensures content { Tells store.old.layout (R.seen rack.old) (R.seen rack.new) (λ B. IsReached lo hi (unread_by store.old.layout (R.seen rack.old) (R.seen rack.new)) B place.now store.new result) }
+{
+    let mut at = *place;
+    loop {
+        match go_on(&at, lo, hi, rack, store) {
+            Err(fault) => return Err(fault),
+            Ok(Gone::End) => return Ok(Reached::End),
+            Ok(Gone::Between(after)) => at = after,
+            Ok(Gone::Leaf(leaf, after)) => {
+                if leaf.next < leaf.end {
+                    return Ok(Reached::Leaf(leaf, after));
+                }
+                let LeafAt {
+                    leaf: _,
+                    next: _,
+                    end: _,
+                    loan,
+                } = leaf;
+                store.give(loan);
+                at = after;
+            }
+        }
+    }
+}

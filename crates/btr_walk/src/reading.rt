@@ -1,0 +1,43 @@
+ghost use Rattle.std.specs.Prelude.{◌≡◌, ◌≤◌, IfOk, OnErr};
+ghost use Rattle.btr_read.specs.Serves.{Serves};
+ghost use Rattle.btr_rack.specs.Rack.{OnlyReads};
+ghost use Rattle.btr_read.specs.Store.{IsLentBy, SameLoans, free_count};
+ghost use Rattle.btr_walk.specs.Le.{want_of};
+ghost use Rattle.btr_walk.specs.Reading.{Tells, unread_by, Reads, IsGoodFor, HasCause};
+
+use crate::TreeFault;
+use crate::judging::is_judged;
+use crate::spot::Spot;
+use btr_rack::Rack;
+use btr_read::{Loan, Store, Want, fetch};
+
+// Reads the block of a level at a spot, and tests whether it fits.
+pub(crate) fn read_block<R: Rack>(
+    level: u8,
+    spot: &Spot,
+    rack: &mut R,
+    store: &mut Store,
+) -> Result<Loan, TreeFault>
+    requires serves { Serves (R.seen rack.old) store.old }
+    requires room { 4 ≤ free_count store.old }
+    ensures serves { Serves (R.seen rack.new) store.new }
+    ensures reads { OnlyReads (R.seen rack.old) (R.seen rack.new) }
+    ensures lent { IfOk result (IsLentBy store.old store.new (want_of level spot.now)) }
+    ensures refused { OnErr result (SameLoans store.old store.new) }
+    ensures good { IfOk result (IsGoodFor level spot.now store.new) }
+    ensures cause { HasCause store.old.layout (R.seen rack.old) (R.seen rack.new) result }
+    ensures content { Tells store.old.layout (R.seen rack.old) (R.seen rack.new) (λ B. Reads (unread_by store.old.layout (R.seen rack.old) (R.seen rack.new)) B level spot.now store.new result) }
+{
+    let want = Want::Tree {
+        addr: spot.addr,
+        generation: spot.generation,
+        level,
+    };
+    let loan = fetch(&want, rack, store)?;
+    if is_judged(store.bytes(&loan), level, spot) {
+        Ok(loan)
+    } else {
+        store.give(loan);
+        Err(TreeFault::Malformed(spot.addr))
+    }
+}

@@ -1,0 +1,127 @@
+ghost use Rattle.std.specs.Prelude.{◌≡◌, ◌≤◌, IfSome, OnErr, None, Some};
+ghost use Rattle.std.specs.Borrow.{sem};
+ghost use Rattle.btr_read.specs.Serves.{Serves};
+ghost use Rattle.btr_rack.specs.Rack.{OnlyReads};
+ghost use Rattle.btr_read.specs.Store.{SameLoans, free_count};
+ghost use Rattle.btr_walk.specs.Advancing.{IsInHand};
+ghost use Rattle.std.specs.Prelude.{[]};
+ghost use Rattle.btr_read.specs.Store.{Blocks};
+ghost use Rattle.btr_walk.specs.Range.{range};
+ghost use Rattle.btr_walk.specs.Reading.{Map, HasCause};
+ghost use Rattle.btr_walk.specs.Going.{IsOn};
+ghost use Rattle.btr_rack.specs.Rack.{Seen};
+ghost use Rattle.btr_walk.specs.ScanEnds.{left_of, without_leaf, IsReady, KeepsLeaf, ScanEnds};
+
+use crate::advancing::{Advanced, advance};
+use crate::begin::begin;
+use crate::entering::LeafAt;
+use crate::finding::found_at;
+use crate::going::Where;
+use crate::{Found, RootPlace, TreeFault};
+use btr_base::Key;
+use btr_rack::Rack;
+use btr_read::Store;
+
+/// A scan of the items from one key to another.
+pub struct Scan {
+    pub(crate) lo: Key,
+    pub(crate) hi: Key,
+    pub(crate) place: Where,
+    pub(crate) leaf: Option<LeafAt>,
+}
+
+impl Scan {
+    /// A scan of a tree; nothing is read yet.
+    pub fn new(root: &RootPlace, lo: Key, hi: Key) -> Scan
+        ensures lo { result.lo ≡ lo }
+        ensures hi { result.hi ≡ hi }
+        ensures leaf { result.leaf ≡ None }
+        ensures ready { (rack : Seen) (store : Blocks) → Serves rack store → IsReady rack store result }
+        ensures program { (B : Map) (store : Blocks) → left_of B store result ≡ range lo hi root.now }
+        ensures on { (B : Map) → IsOn lo hi B [] result.place }
+    {
+        Scan {
+            lo,
+            hi,
+            place: begin(root),
+            leaf: None,
+        }
+    }
+
+    /// Gives the loan of the leaf back, if one is kept. No scan is let go without it.
+    pub fn finish(self, store: &mut Store)
+        requires { IfSome self.leaf (IsInHand store.old) }
+        ensures back { SameLoans (without_leaf store.old self) store.new }
+        ensures serves { (rack : Seen) → Serves rack store.old → Serves rack store.new }
+    {
+        let Scan {
+            lo: _,
+            hi: _,
+            place: _,
+            leaf,
+        } = self;
+        match leaf {
+            None => {}
+            Some(hand) => {
+                let LeafAt {
+                    leaf: _,
+                    next: _,
+                    end: _,
+                    loan,
+                } = hand;
+                store.give(loan);
+            }
+        }
+    }
+}
+
+// Puts a leaf into an empty place.
+fn put(place: &mut Option<LeafAt>, leaf: Option<LeafAt>)
+    requires { place.old ≡ None }
+    ensures { place.new ≡ leaf }
+{
+    match leaf {
+        None => {}
+        Some(leaf) => match place.replace(leaf) {
+            None => {}
+            Some(_) => unreachable!(),
+        },
+    }
+}
+
+/// Answers the next item, whose bytes stand in the slot of its leaf; `None` exactly after the last. It takes no memory.
+/// Four slots are free besides the leaf's, which the scan keeps.
+///
+/// The faults are those of the blocks of the range, in their order: `Lost`, `Unread`, `Unmapped` and `Crosses` of a block,
+/// and `Malformed` where one breaks a rule or doesn't fit its place. After a fault and after the last item no loan is kept;
+/// after a fault the next call goes on from the same place.
+pub fn next<'e, R: Rack>(
+    store: &'e mut Store,
+    scan: &mut Scan,
+    rack: &mut R,
+) -> Result<Option<Found<'e>>, TreeFault>
+    requires ready { IsReady (R.seen rack.old) store.old scan.old }
+    requires room { 4 ≤ free_count (without_leaf store.old scan.old) }
+    ensures* after { sem 𝓛 (ScanEnds store.entry scan.old scan.new (R.seen rack.old) (R.seen rack.new) result) }
+    ensures reads { OnlyReads (R.seen rack.old) (R.seen rack.new) }
+    ensures lo { scan.new.lo ≡ scan.old.lo }
+    ensures hi { scan.new.hi ≡ scan.old.hi }
+    ensures kept { KeepsLeaf result scan.new.leaf }
+    ensures place { OnErr result (scan.new.place ≡ scan.old.place) }
+    ensures cause { HasCause store.old.layout (R.seen rack.old) (R.seen rack.new) result }
+{
+    let leaf = scan.leaf.take();
+    let Advanced { place, leaf, met } = advance(scan.place, leaf, scan.lo, scan.hi, rack, store);
+    scan.place = place;
+    put(&mut scan.leaf, leaf);
+    match met {
+        Err(fault) => Err(fault),
+        Ok(false) => Ok(None),
+        Ok(true) => {
+            let Some(hand) = &scan.leaf else {
+                unreachable!();
+            };
+            Ok(Some(found_at(store.bytes(&hand.loan), hand.leaf, hand.next - 1)))
+        }
+    }
+}

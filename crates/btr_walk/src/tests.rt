@@ -1,0 +1,2 @@
+mod scans;
+mod volume;

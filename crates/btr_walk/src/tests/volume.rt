@@ -1,0 +1,195 @@
+// Trees in an image in memory, and a walk through them.
+ghost use Rattle.std.specs.Prelude.{◌≡◌, ◌<◌, ◌≤◌, IfOk, None, length};
+ghost use Rattle.btr_rack.specs.Memory.{seen_of, slots_of};
+ghost use Rattle.btr_read.specs.Serves.{Serves};
+ghost use Rattle.btr_read.specs.Store.{free_count};
+ghost use Rattle.btr_walk.specs.Lending.{IsLentOnly};
+ghost use Rattle.btr_walk.specs.ScanEnds.{IsReady, without_leaf};
+
+use crate::{RootPlace, Scan, TreeFault, find_le, next};
+use btr_base::Key;
+use btr_blocks::{Body, Form, Items, Tree};
+use btr_chunk::{Chunk, ChunkTable};
+use btr_rack::{MemRack, Rack};
+use btr_read::{Loan, Store};
+use std::alloc::{AllocError, Global};
+use std::test::Fail;
+
+/// Where the chunk begins, on the device too.
+pub(super) const START: u64 = 1048576;
+
+const CHUNK: u64 = 4194304;
+
+/// Small blocks, of which a leaf has three items and a node three pointers at most.
+pub(super) const FORM: Form = Form {
+    nodesize: 4096,
+    items: 3,
+    pointers: 3,
+    ..Form::DEFAULT
+};
+
+// The item of a chunk with one copy.
+fn item(alloc: Global) -> Result<Body, AllocError> {
+    Body::new(alloc)
+        .u64(CHUNK)?
+        .u64(2)?
+        .u64(65536)?
+        .u64(2)?
+        .u32(65536)?
+        .u32(65536)?
+        .u32(4096)?
+        .u16(1)?
+        .u16(1)?
+        .u64(1)?
+        .u64(START)?
+        .zeros(16)
+}
+
+/// A key of an item that is numbered.
+pub(super) fn key(n: u64) -> Key {
+    Key {
+        objectid: n,
+        kind: 1,
+        offset: 0,
+    }
+}
+
+/// The tree of the items whose numbers are the even ones below twice `count`.
+pub(super) fn tree(alloc: Global, count: u64) -> Result<Tree, Fail> {
+    let mut items = Items::new(alloc);
+    for n in 0..count {
+        items.put(n.wrapping_mul(2), 1, 0, Body::new(alloc).u64(n)?)?;
+    }
+    Ok(Tree::grow(alloc, &FORM, START, items)?)
+}
+
+/// The place of its root.
+pub(super) fn root(tree: &Tree) -> RootPlace {
+    RootPlace {
+        addr: tree.root(),
+        generation: FORM.generation,
+        level: tree.level(),
+    }
+}
+
+/// A rack with the tree in its one image, which is open, and with these bytes over those from an address on.
+pub(super) fn rack_of(alloc: Global, tree: &Tree, edited: &[u8], addr: u64) -> Result<MemRack, Fail>
+    ensures { IfOk result (λ rack. 0 < length (slots_of rack)) }
+{
+    let mut rack = MemRack::new(alloc);
+    rack.add("a", 8388608)?;
+    tree.put(&mut rack, "a")?;
+    rack.poke("a", addr, edited)?;
+    rack.open("a", false)?;
+    Ok(rack)
+}
+
+/// The store that reads the chunk from the first image.
+pub(super) fn store_over(alloc: Global, rack: &MemRack) -> Result<Store, Fail>
+    requires { 0 < length (slots_of rack.now) }
+    ensures serves { IfOk result (Serves (seen_of rack.now)) }
+    ensures free { IfOk result (λ store. free_count store ≡ 24) }
+{
+    let mut chunks = ChunkTable::new(alloc);
+    chunks.add(Chunk::read(alloc, START, item(alloc)?.as_slice())?)?;
+    let mut store = Store::new(alloc, FORM.sums, FORM.fsid, 4096, chunks)?;
+    store.add_device(1, 0, rack.len(0))?;
+    Ok(store)
+}
+
+// The number of the next item.
+fn step(store: &mut Store, scan: &mut Scan, rack: &mut MemRack) -> Result<Option<u64>, TreeFault>
+    requires ready { IsReady (seen_of rack.old) store.old scan.old }
+    requires free { free_count (without_leaf store.old scan.old) ≡ 24 }
+    ensures ready { IsReady (seen_of rack.new) store.new scan.new }
+    ensures free { free_count (without_leaf store.new scan.new) ≡ 24 }
+{
+    match next(store, scan, rack) {
+        Ok(Some(found)) => Ok(Some(found.key.objectid)),
+        Ok(None) => Ok(None),
+        Err(fault) => Err(fault),
+    }
+}
+
+// The numbers of the next items, to the end or to a fault.
+fn collect(
+    store: &mut Store,
+    scan: &mut Scan,
+    rack: &mut MemRack,
+    numbers: &mut Vec<u64>,
+) -> Result<Option<TreeFault>, AllocError>
+    requires ready { IsReady (seen_of rack.old) store.old scan.old }
+    requires free { free_count (without_leaf store.old scan.old) ≡ 24 }
+    ensures ready { IsReady (seen_of rack.new) store.new scan.new }
+    ensures free { free_count (without_leaf store.new scan.new) ≡ 24 }
+{
+    for _ in 0..1000 {
+        match step(store, scan, rack) {
+            Ok(Some(number)) => numbers.push(number)?,
+            Ok(None) => return Ok(None),
+            Err(fault) => return Ok(Some(fault)),
+        }
+    }
+    Ok(None)
+}
+
+/// The numbers of a tree's items from `lo` to `hi`, and the fault that ended the scan, if one did.
+pub(super) fn scanned(
+    alloc: Global,
+    store: &mut Store,
+    rack: &mut MemRack,
+    root: &RootPlace,
+    lo: u64,
+    hi: u64,
+) -> Result<(Vec<u64>, Option<TreeFault>), AllocError>
+    requires serves { Serves (seen_of rack.old) store.old }
+    requires free { free_count store.old ≡ 24 }
+    ensures serves { Serves (seen_of rack.new) store.new }
+    ensures free { free_count store.new ≡ 24 }
+{
+    let mut numbers = Vec::new(alloc);
+    let mut scan = Scan::new(root, key(lo), key(hi));
+    let ended = collect(store, &mut scan, rack, &mut numbers);
+    scan.finish(store);
+    Ok((numbers, ended?))
+}
+
+// The number of the greatest item at or below one; the loan of its leaf is kept.
+fn number_le(
+    store: &mut Store,
+    rack: &mut MemRack,
+    root: &RootPlace,
+    number: u64,
+    loan: &mut Option<Loan>,
+) -> Result<Option<u64>, TreeFault>
+    requires serves { Serves (seen_of rack.old) store.old }
+    requires room { 4 ≤ free_count store.old }
+    requires empty { loan.old ≡ None }
+    ensures { IsLentOnly (seen_of rack.new) store.old store.new loan.new }
+{
+    match find_le(store, root, key(number), rack, loan) {
+        Ok(Some(found)) => Ok(Some(found.key.objectid)),
+        Ok(None) => Ok(None),
+        Err(fault) => Err(fault),
+    }
+}
+
+/// The number of the greatest item at or below one.
+pub(super) fn floor(
+    store: &mut Store,
+    rack: &mut MemRack,
+    root: &RootPlace,
+    number: u64,
+) -> Result<Option<u64>, TreeFault>
+    requires serves { Serves (seen_of rack.old) store.old }
+    requires free { free_count store.old ≡ 24 }
+    ensures serves { Serves (seen_of rack.new) store.new }
+    ensures free { free_count store.new ≡ 24 }
+{
+    let mut loan = None;
+    let found = number_le(store, rack, root, number, &mut loan);
+    if let Some(loan) = loan {
+        store.give(loan);
+    }
+    found
+}
