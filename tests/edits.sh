@@ -1,0 +1,40 @@
+#!/bin/sh
+# Lists why the prover refused each must-fail edit, from what `rt must-fail` or `rt ci` wrote, and counts the reasons:
+#
+#     rt must-fail --anew >edits.log 2>&1
+#     tests/edits.sh edits.log
+#
+# clause, invariant   what a function promises, or the invariant of a type, isn't proved: the edit shows what the contract holds
+# loop, call, safety  an invariant of a loop, what a call requires, or a sum, index or cast isn't proved: it shows nearly as much
+# proof               a line of another proof isn't accepted first, as of a lemma: see whether it stands for one of the above
+# name, limit, bad    only a name is gone, the prover came to no verdict, or the edit can't be read: replace the edit
+# NOT REFUSED         the contract lets the edit through
+set -u
+
+cat -- "$@" | awk '
+    function kind(text) {
+        if (text ~ /NOT REFUSED/) return "NOT REFUSED"
+        if (text ~ /BAD EDIT|NOT TRIED/) return "bad"
+        if (text ~ /names what the edit took away/) return "name"
+        if (text ~ /only by a limit/) return "limit"
+        if (text ~ /invariant. of the struct/) return "invariant"
+        if (text ~ /what the function ensures|error: `returns/) return "clause"
+        if (text ~ /invariant of the loop|error: `loop-/) return "loop"
+        if (text ~ /requires/) return "call"
+        if (text ~ /proofs\//) return "proof"
+        return "safety"
+    }
+    match($0, /must-fail [a-z0-9_]+\/[^ ]+\.edit: /) {
+        edit = substr($0, RSTART + 10, RLENGTH - 12)
+        rest = substr($0, RSTART + RLENGTH)
+        if (edit in reason) next
+        reason[edit] = kind(rest)
+        sub(/^refused, as it must be:? ?/, "", rest)
+        printf "%-12s %-50s %s\n", reason[edit], edit, substr(rest, 1, 120)
+        count[reason[edit]]++
+    }
+    END {
+        for (k in count) printf "%d %s\n", count[k], k | "sort -rn"
+        close("sort -rn")
+    }
+'
