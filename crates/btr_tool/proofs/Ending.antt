@@ -1,22 +1,20 @@
 -- How a run ends, by what its command came to and what was put.
-use Rattle.std.proofs.Common.{◌≡◌, ◌≢◌, ◌⊎◌, inl, inr, ⊎_elim, Bool, true, false, Result, Ok, ℕ, ◌<◌, ◌≤◌, List, [], ◌++◌, length, map, take, drop, String, ◌-◌, Option, Some, None, Err, refl, sym, ap, ◌∙◌, subst, arith}
+use Rattle.std.proofs.Common.{◌≡◌, ◌≢◌, ◌⊎◌, inl, inr, ⊎_elim, true, false, Result, Ok, ℕ, ◌<◌, ◌≤◌, List, [], length, map, take, drop, String, ◌-◌, Option, Some, None, Err, refl, sym, ap, ◌∙◌, subst, arith}
 use Rattle.std.specs.Option.{IfSome}
 use Rattle.std.specs.declared.alloc.Global.{Global}
 use Rattle.std.specs.String.{string_bytes}
-use Rattle.std.proofs.lemmas.List.{append_assoc, append-nil, drop-map, take_all, take_rest}
+use Rattle.std.proofs.lemmas.List.{append-nil, drop-map, take_all, take_rest}
 use Rattle.std.proofs.lemmas.Bool.{cases_lt}
 use Rattle.btr_rack.specs.Rack.{Slot, Seen, Account, Rose, Steady, NoneFailed, Shelf}
 use Rattle.btr_rack.specs.Out.{Adds, Puts, CallAccount, Counts}
 use Rattle.btr_rack.specs.declared.error.SinkError.{SinkError}
 use Rattle.btr_rack.specs.declared.error.SinkError.TheVariants.{Failed, Memory as memory_fault}
-use Rattle.btr_super.specs.declared.superblock.Super.{Super}
-use Rattle.btr_tool.specs.Text.{super_text}
 use Rattle.btr_text.proofs.Writing.{adds_twice}
 use Rattle.btr_tool.specs.Words.{Words, IsSentence, IsUsageAt, images_of}
 use Rattle.btr_tool.specs.Answers.{error_line}
 use Rattle.btr_tool.specs.Causes.{OpeningFailed, ReadFailed, SuperCause, ImageCause, IsUnopened, HidesNone, FailsMissing, IsMissing, IsMissingImage}
 use Rattle.btr_tool.specs.Puts.{IsPut, IsShown, OutFailed, due_after, AddsPart, IsTold, IsMessage, IsSuperText}
-use Rattle.btr_tool.specs.Effects.{Effect, refused, shown, IsEffect, HasEffect, HasPart, IsDecided, FollowsWords, IsSuperEffect, HasTooMany, images_effect, most_images}
+use Rattle.btr_tool.specs.Effects.{Effect, refused, IsEffect, HasEffect, HasPart, IsDecided, FollowsWords, IsSuperEffect, HasTooMany, images_effect, most_images}
 use Rattle.btr_tool.specs.declared.plan.Command.TheVariants.{Super as super_command}
 use Rattle.btr_tool.specs.declared.plan.Plan.{Plan}
 use Rattle.btr_tool.specs.declared.answer.Answer.{Answer}

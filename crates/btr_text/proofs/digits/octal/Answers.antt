@@ -1,7 +1,7 @@
-use Rattle.std.proofs.Common.{◌∙◌, ◌+◌, ◌-◌, ◌/◌, ◌%◌, ◌∷◌, false, drop, refl, sym, ap, arith}
+use Rattle.std.proofs.Common.{◌∙◌, ◌+◌, ◌-◌, ◌/◌, ◌%◌, false, drop, refl, sym, ap, arith}
 use Rattle.std.specs.Fmt.{digits_onto}
 use Rattle.std.proofs.lemmas.List.{length-set}
-use Rattle.btr_text.proofs.Octal.{octal_begins, octal_last, octal_step, digit_before}
+use Rattle.btr_text.proofs.Octal.{octal_begins, octal_step, digit_before}
 use Rattle.btr_text.proofs.digits.octal.Goals as goal
 
 pub loop-start-init : goal.loop-start-init

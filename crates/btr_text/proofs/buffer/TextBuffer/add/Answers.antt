@@ -1,4 +1,4 @@
-use Rattle.std.proofs.Common.{◌∙◌, sym, ap}
+use Rattle.std.proofs.Common.{◌∙◌, ap}
 use Rattle.btr_text.proofs.Writing.{writes_from}
 use Rattle.btr_text.proofs.buffer.TextBuffer.add.Goals as goal
 

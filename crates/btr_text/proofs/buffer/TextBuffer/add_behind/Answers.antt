@@ -1,4 +1,4 @@
-use Rattle.std.proofs.Common.{◌∙◌, sym, ap}
+use Rattle.std.proofs.Common.{◌∙◌, ap}
 use Rattle.btr_text.proofs.Writing.{cut_flushing, writes_at_once, cut_writes}
 use Rattle.btr_text.proofs.buffer.TextBuffer.add_behind.Goals as goal
 

@@ -1,6 +1,5 @@
-use Rattle.std.proofs.Common.{◌≡◌, ◌∙◌, ◌++◌, ℕ, List, sym, ap, codes}
+use Rattle.std.proofs.Common.{◌≡◌, ◌++◌, codes}
 use Rattle.std.specs.Fmt.{decimal}
-use Rattle.std.specs.Option.{option_map_or}
 use Rattle.btr_text.specs.Pieces.{kind_text}
 use Rattle.btr_text.proofs.Writing.{cut_longer, cut_as, cut_writes, writes_then, writes_as}
 use Rattle.btr_text.proofs.buffer.TextBuffer.add_kind.Goals as goal

@@ -1,4 +1,4 @@
-use Rattle.std.proofs.Common.{◌+◌, ◌∙◌, ◌++◌, drop, take, get_or, refl, sym}
+use Rattle.std.proofs.Common.{◌+◌, ◌∙◌, drop, take, get_or, refl, sym}
 use Rattle.btr_base.specs.Shown.{shown}
 use Rattle.btr_text.specs.Pieces.{name_text}
 use Rattle.btr_text.proofs.Pieces.{name_more, name_around}

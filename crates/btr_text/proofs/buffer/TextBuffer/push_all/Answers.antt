@@ -1,6 +1,4 @@
-use Rattle.std.proofs.Common.{◌+◌, ◌∙◌, [], List, ℕ, drop, take, sym}
-use Rattle.btr_text.specs.declared.piece.Piece.{Piece}
-use Rattle.btr_text.specs.declared.piece.Piece.TheVariants.{Plain}
+use Rattle.std.proofs.Common.{◌+◌, ◌∙◌, drop, take, sym}
 use Rattle.btr_text.specs.Pieces.{text_of}
 use Rattle.btr_text.proofs.Pieces.{pieces_more, pieces_around}
 use Rattle.btr_text.proofs.Writing.{wrote_then, wrote_as, cut_then, cut_longer, cut_as, cut_writes}
