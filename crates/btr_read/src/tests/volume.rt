@@ -172,7 +172,10 @@ pub(super) fn can_fetch(rack: &MemRack, store: &Store) -> bool
     ensures room { IsTrue result → 4 ≤ free_count store.now }
 {
     let devices = store.devices.as_slice();
-    are_open(rack, devices) && have_own_slots(devices) && store.free() >= 4
+    if !are_open(rack, devices) || !have_own_slots(devices) {
+        return false;
+    }
+    store.free() >= 4
 }
 
 /// Fetches a block twice, without forgetting in between what the store keeps. The first loan is given back.
@@ -184,11 +187,14 @@ pub(super) fn fetched_twice(
 ) -> Result<Loan, ReadFault>
     ensures { IfOk result (IsLiveIn store.new) }
 {
-    assert!(rt; can_fetch(rack, store));
-    store.forget_kept();
-    let loan = fetch(want, rack, store)?;
-    store.give(loan);
-    fetch(want, rack, store)
+    if can_fetch(rack, store) {
+        store.forget_kept();
+        let loan = fetch(want, rack, store)?;
+        store.give(loan);
+        fetch(want, rack, store)
+    } else {
+        panic!(rt; "a device isn't open, or there is no room");
+    }
 }
 
 /// Fetches a block, where a fetch may.
