@@ -40,6 +40,7 @@ ready_stays old new r e =
       calls = ap (λ f. f.failing_calls) failing ∙ r.calls;
       writes = ap (λ f. f.failing_writes) failing ∙ r.writes;
       ranges = ap (λ f. f.failing_ranges) failing ∙ r.ranges;
+      unsynced = ap (λ (s : Standing). s.unsynced) e ∙ r.unsynced;
       faults = rw account r.faults;
     }
 
@@ -56,5 +57,6 @@ ready_zeros len none one two three e a b c =
       calls = refl;
       writes = refl;
       ranges = refl;
+      unsynced = refl;
       faults = omega arith;
     })
