@@ -5,7 +5,7 @@ use Rattle.btr_rack.specs.Rack.{Seen, OnlyReads}
 use Rattle.btr_read.specs.Fate.{Lost, Unmapped, Crosses, passing, fate, sought}
 use Rattle.btr_read.specs.Candidates.{candidates}
 use Rattle.btr_read.specs.Cause.{Passes, IsOf}
-use Rattle.btr_read.specs.Fetch.{FitsFetch, AnswersOf, IsUnreadFor}
+use Rattle.btr_read.specs.Fetch.{FitsFetch, AnswersOf}
 use Rattle.btr_read.specs.declared.fault.ReadFault.{ReadFault}
 use Rattle.btr_read.specs.declared.fault.ReadFault.TheVariants as read
 use Rattle.btr_read.specs.Layout.{Layout}

@@ -1,5 +1,5 @@
 -- How far a scan has come on its way to the next leaf.
-use Rattle.std.proofs.Common.{◌≡◌, ℕ, ◌≤◌, List, [], ◌∷◌, ◌++◌, set, Option, Some, None, IsSomeAnd, Result, Ok, Err, refl, sym, ap, ◌∙◌, subst, append-nil, append_assoc}
+use Rattle.std.proofs.Common.{◌≡◌, ℕ, ◌≤◌, List, [], ◌∷◌, ◌++◌, Option, Some, None, IsSomeAnd, Result, Ok, Err, refl, sym, ap, ◌∙◌, subst, append-nil, append_assoc}
 use Rattle.btr_base.specs.declared.key.Key.{Key}
 use Rattle.btr_prog.specs.Prog.{Wants, run, prepend, exec, steps_of, wants_of}
 use Rattle.btr_prog.specs.Answers.{Halt, Follows, no_part}

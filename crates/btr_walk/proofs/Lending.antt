@@ -1,5 +1,5 @@
 -- Loans that are given back.
-use Rattle.std.proofs.Common.{◌≡◌, ℕ, List, get_or, set, Option, Some, None, refl, sym, ap, ◌∙◌, subst}
+use Rattle.std.proofs.Common.{◌≡◌, ℕ, List, set, Option, Some, None, refl, sym, ap, ◌∙◌, subst}
 use Rattle.std.proofs.lemmas.List.{set-set, set-get_or}
 use Rattle.btr_rack.specs.Rack.{Seen}
 use Rattle.btr_read.specs.Serves.{Serves}

@@ -1,5 +1,5 @@
 -- What a lookup shows of the item that it found.
-use Rattle.std.proofs.Common.{◌≡◌, ℕ, List, [], get_or, set, Option, Some, None, Result, Ok, Err, sym, ap, ◌∙◌, subst}
+use Rattle.std.proofs.Common.{◌≡◌, ℕ, List, [], get_or, Option, Some, None, Result, Ok, Err, sym, ◌∙◌, subst}
 use Rattle.btr_base.specs.declared.key.Key.{Key}
 use Rattle.btr_node.specs.Block.{Item, items}
 use Rattle.btr_prog.specs.Prog.{exec}

@@ -14,7 +14,6 @@ use Rattle.btr_prog.specs.Answers.{Halt, Fault, Unread, Follows, no_part, Names}
 use Rattle.btr_prog.proofs.Follow.{follows_behind}
 use Rattle.btr_read.specs.Fate as fate
 use Rattle.btr_read.specs.Store.{Blocks}
-use Rattle.btr_read.specs.Want.{addr_of}
 use Rattle.btr_read.specs.declared.want.Want.{Want}
 use Rattle.btr_walk.specs.declared.fault.TreeFault.{TreeFault}
 use Rattle.btr_walk.specs.declared.fault.TreeFault.TheVariants as tree

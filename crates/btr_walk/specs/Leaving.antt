@@ -1,5 +1,5 @@
 -- How a scan comes to its next leaf.
-use Rattle.std.specs.Prelude.{◌≡◌, ◌<◌, List, [], IsSomeAnd, Result, Ok, Err}
+use Rattle.std.specs.Prelude.{◌<◌, List, [], IsSomeAnd, Result, Ok, Err}
 use Rattle.btr_base.specs.declared.key.Key.{Key}
 use Rattle.btr_prog.specs.Prog.{exec}
 use Rattle.btr_prog.specs.Answers.{Follows, no_part}

@@ -1,3 +1,4 @@
+// A node that is read again.
 ghost use Rattle.std.specs.Prelude.{◌≡◌, ◌<◌, ◌≤◌, length, IsTrue, IfOk};
 ghost use Rattle.btr_base.specs.declared.key.Key.{Key};
 ghost use Rattle.btr_node.specs.Block.{pointers, is_inner};

@@ -1,3 +1,4 @@
+// Where a scan begins.
 ghost use Rattle.std.specs.Prelude.{◌≡◌, ℕ, []};
 ghost use Rattle.btr_base.specs.declared.key.Key.{Key};
 ghost use Rattle.btr_walk.specs.Range.{range};

@@ -1,3 +1,4 @@
+// A block that is read on the way through a range.
 ghost use Rattle.std.specs.Prelude.{◌≡◌, ◌<◌, ◌≤◌, length, IsTrue};
 ghost use Rattle.btr_node.specs.Block.{items, pointers, is_leaf, is_inner};
 ghost use Rattle.btr_read.specs.Serves.{Serves};

@@ -1,3 +1,4 @@
+// The greatest item at or below a key.
 ghost use Rattle.std.specs.Prelude.{◌≡◌, ◌+◌, ◌<◌, ◌≤◌, length, drop, IsTrue, IfOk, OnErr, IfNone, IfSome};
 ghost use Rattle.std.specs.List.{HoldsAt};
 ghost use Rattle.btr_node.specs.Block.{items, pointers, is_leaf, is_inner};

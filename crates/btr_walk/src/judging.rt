@@ -1,3 +1,4 @@
+// Whether a block fits its place.
 ghost use Rattle.std.specs.Prelude.{◌≡◌, ◌≤◌, length};
 ghost use Rattle.std.specs.Option.{is_some};
 ghost use Rattle.btr_walk.specs.Spot.{fits_ends, judged};

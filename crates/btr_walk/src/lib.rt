@@ -1,4 +1,9 @@
-//! Trees of blocks: one item by its key, and all items of a range in order.
+//! Trees of blocks: the greatest item at or below a key, and all items from one key to another in order.
+//!
+//! A tree's blocks are fetched one by one through `btr_read`, each judged by its place: its level, the rules of one block,
+//! the key of its parent's pointer, and the bound of the next one (`specs/Spot.antt`). What a call answers follows a
+//! program over wants, whatever reads failed: `le` (`specs/Le.antt`) for `find_le`, `range` (`specs/Range.antt`) for a
+//! `Scan`, whose cursor keeps a path of places and one leaf's loan. Nothing takes memory, and nothing is written.
 #![tactic(auto)]
 
 mod advancing;

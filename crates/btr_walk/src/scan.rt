@@ -1,3 +1,4 @@
+// A scan of a range.
 ghost use Rattle.std.specs.Prelude.{◌≡◌, ◌≤◌, IfSome, OnErr, None, Some};
 ghost use Rattle.std.specs.Borrow.{sem};
 ghost use Rattle.btr_read.specs.Serves.{Serves};
@@ -22,7 +23,8 @@ use btr_base::Key;
 use btr_rack::Rack;
 use btr_read::Store;
 
-/// A scan of the items from one key to another.
+/// A scan of the items from one key to another, both included. It keeps at most one loan: that of its leaf. It is not let
+/// go but by `finish`.
 pub struct Scan {
     pub(crate) lo: Key,
     pub(crate) hi: Key,
@@ -31,7 +33,7 @@ pub struct Scan {
 }
 
 impl Scan {
-    /// A scan of a tree; nothing is read yet.
+    /// A scan of the tree with this root; nothing is read yet. Where `lo` is above `hi` it has no item.
     pub fn new(root: &RootPlace, lo: Key, hi: Key) -> Scan
         ensures lo { result.lo ≡ lo }
         ensures hi { result.hi ≡ hi }

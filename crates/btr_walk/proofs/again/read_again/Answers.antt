@@ -1,4 +1,4 @@
-use Rattle.std.proofs.Common.{◌≡◌, ℕ, List, Ok, Err, ◌∙◌, arith}
+use Rattle.std.proofs.Common.{◌≡◌, ℕ, List, Ok, Err, arith}
 use Rattle.btr_base.specs.declared.key.Key.{Key}
 use Rattle.btr_walk.specs.declared.fault.TreeFault.TheVariants as tree
 use Rattle.btr_walk.specs.Le.{want_of}
@@ -6,7 +6,7 @@ use Rattle.btr_walk.specs.Reading.{Reads, unread_by}
 use Rattle.btr_walk.specs.Again.{IsAgain}
 use Rattle.btr_walk.proofs.Lending.{given_back, served_back}
 use Rattle.btr_walk.proofs.Joined.{drawn, block_is, is_inner_at}
-use Rattle.btr_walk.proofs.Repeated.{again_ok, again_err, stale_never}
+use Rattle.btr_walk.proofs.Repeated.{again_ok, stale_never}
 use Rattle.btr_walk.proofs.again.read_again.Goals as goal
 
 pub next_of-below-requires-clause-good : goal.next_of-below-requires-clause-good

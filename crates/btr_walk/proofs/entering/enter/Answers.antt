@@ -1,4 +1,4 @@
-use Rattle.std.proofs.Common.{◌≡◌, ◌≤◌, ℕ, List, Ok, IsTrue, length, ◌∙◌}
+use Rattle.std.proofs.Common.{◌≡◌, ◌≤◌, ℕ, List, Ok, IsTrue, length}
 use Rattle.btr_node.specs.Block.{items, is_leaf}
 use Rattle.btr_prog.specs.Prog.{Wants, first, exec}
 use Rattle.btr_walk.specs.declared.entering.Entered.TheVariants.{Leaf, Inner}

@@ -1,4 +1,4 @@
-use Rattle.std.proofs.Common.{Ok, Err, Some, None, sym, ap, ◌∙◌, subst}
+use Rattle.std.proofs.Common.{Ok, Err, Some, None, sym, subst}
 use Rattle.btr_rack.proofs.Reading.{reads_more}
 use Rattle.btr_walk.specs.Reading.{Tells, Reads, unread_by}
 use Rattle.btr_walk.specs.Finding.{Finds}

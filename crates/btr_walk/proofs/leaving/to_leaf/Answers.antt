@@ -1,7 +1,7 @@
-use Rattle.std.proofs.Common.{Ok, Err, sym, ap, ◌∙◌, subst, arith}
+use Rattle.std.proofs.Common.{Ok, Err, subst, arith}
 use Rattle.btr_rack.proofs.Reading.{reads_more}
 use Rattle.btr_walk.specs.declared.leaving.Reached.TheVariants as reached
-use Rattle.btr_walk.specs.Reading.{HasCause, unread_by}
+use Rattle.btr_walk.specs.Reading.{unread_by}
 use Rattle.btr_walk.specs.Going.{IsGone}
 use Rattle.btr_walk.specs.Leaving.{IsReached}
 use Rattle.btr_walk.proofs.Joined.{joined}

@@ -1,6 +1,3 @@
-use Rattle.std.proofs.Common.{◌≡◌, ap, ◌∙◌, subst, sym, Some}
-use Rattle.btr_read.specs.Store.{Blocks, SameLoans, free_count}
-use Rattle.btr_walk.specs.Lending.{base, IsLentOnly}
 use Rattle.btr_walk.proofs.Lending.{served_back}
 use Rattle.btr_walk.proofs.tests.volume.floor.Goals as goal
 
