@@ -1,49 +1,54 @@
 // An output that never wants memory, over a rack that does.
-ghost use Rattle.std.specs.Prelude.{[], None, true, false};
-ghost use Rattle.std.proofs.Common.{lit<};
+ghost use Rattle.std.specs.Prelude.{None, true, false};
 ghost use Rattle.btr_rack.specs.CallsLaws.{unsure_calm};
-ghost use Rattle.btr_rack.specs.Rack.{no_failure};
 
 use crate::answer::Answer;
 use crate::run::run;
 use crate::tests::words;
-use btr_rack::{Out, Rack, RackError, SinkError};
+use btr_rack::{MemRack, Out, Rack, RackError, SinkError};
 use std::test::Fail;
 
-// A rack in which each opening wants memory, so that no image is open.
+// A rack in which each opening wants memory. All else is the inner rack's.
 #[derive(Drop)]
-struct WantingRack;
+struct WantingRack {
+    images: MemRack,
+}
 
 impl Rack for WantingRack {
-    ghost seen = { λ rack. record { slots = []; held = None; shelf = None; unsynced = []; sure = true; account = no_failure } };
+    ghost use Rattle.btr_rack.specs.Memory.{seen_of};
+    ghost use Rattle.btr_rack.specs.MemoryLaws.{sound_rack};
+
+    ghost seen = { λ rack. seen_of rack.images };
+
+    ghost sound = { λ rack. sound_rack rack.images };
 
     fn open(&mut self, _name: &str, _write: bool) -> Result<usize, RackError> {
         Err(RackError::Memory)
     }
 
     fn count(&self) -> usize {
-        0
+        self.images.count()
     }
 
-    fn len(&self, _slot: usize) -> u64 {
-        0
+    fn len(&self, slot: usize) -> u64 {
+        self.images.len(slot)
     }
 
-    fn read_at(&mut self, _slot: usize, _off: u64, _buf: &mut [u8]) -> Result<(), RackError> {
-        Ok(())
+    fn read_at(&mut self, slot: usize, off: u64, buf: &mut [u8]) -> Result<(), RackError> {
+        self.images.read_at(slot, off, buf)
     }
 
-    fn write_at(&mut self, _slot: usize, _off: u64, _bytes: &[u8]) -> Result<(), RackError> {
-        Ok(())
+    fn write_at(&mut self, slot: usize, off: u64, bytes: &[u8]) -> Result<(), RackError> {
+        self.images.write_at(slot, off, bytes)
     }
 
-    fn sync(&mut self, _slot: usize) -> Result<(), RackError> {
-        Ok(())
+    fn sync(&mut self, slot: usize) -> Result<(), RackError> {
+        self.images.sync(slot)
     }
 
-    fn forget(&mut self) {}
-
-    ghost sound = { λ rack. record { sized = tt; bytes = tt; calm = λ sure. lit< tt } };
+    fn forget(&mut self) {
+        self.images.forget()
+    }
 }
 
 // An output that keeps the first 64 bytes, and takes no memory.
@@ -77,8 +82,11 @@ fn want_of_memory_has_its_line(rt: HostRuntime) -> Result<(), Fail> {
         bytes: [0; 64],
         len: 0,
     };
+    let mut rack = WantingRack {
+        images: MemRack::new(rt.alloc()),
+    };
     let words = words(rt.alloc(), &["super", "a"])?;
-    let answer = run(rt.alloc(), &words, &mut WantingRack, &mut out);
+    let answer = run(rt.alloc(), &words, &mut rack, &mut out);
     assert_eq!(rt; answer, Answer::Memory);
     assert_eq!(rt; answer.code(), 5);
     assert_eq!(rt; out.len, 17);
