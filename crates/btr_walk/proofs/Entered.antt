@@ -5,6 +5,7 @@ use Rattle.btr_base.specs.declared.key.Key.{Key}
 use Rattle.btr_node.specs.Block.{Item, KeyPointer, items, pointers}
 use Rattle.btr_node.specs.declared.node.Node.TheVariants.{Leaf, Inner}
 use Rattle.btr_prog.specs.Prog.{Wants, first, given, exec}
+use Rattle.btr_read.specs.Store.{Blocks, Lent, block_of}
 use Rattle.btr_read.specs.declared.want.Want.{Want}
 use Rattle.btr_walk.specs.declared.choice.Part.{Part}
 use Rattle.btr_walk.specs.declared.entering.Below.{Below}
@@ -15,7 +16,7 @@ use Rattle.btr_walk.specs.Spot.{is_below, judged}
 use Rattle.btr_walk.specs.Le.{tree_item, want_of}
 use Rattle.btr_walk.specs.Range.{RangeProg, emit_all, over, range_leaf, range_inner, range_at}
 use Rattle.btr_walk.specs.Reading.{Map}
-use Rattle.btr_walk.specs.Scans.{IsPart, pointers_in, part_items, todo_prog, frame_or_rest, IsFrame}
+use Rattle.btr_walk.specs.Scans.{IsPart, pointers_in, part_items, todo_prog, frame_or_rest, IsFrame, IsHeld}
 use Rattle.btr_walk.specs.Entering.{IsBelow, IsPlace, below_prog}
 use Rattle.btr_walk.proofs.Choosing.{part_is}
 use Rattle.btr_walk.proofs.Ways.{IsLeafAt, IsInnerAt}
@@ -31,6 +32,16 @@ module _ (lo hi : Key) (B : Map) where
   pub enter_leaf : (level : ℕ) (spot : Spot) (block : List ℕ) (part : Part) → IsLeafAt level spot block → IsPart lo hi (items block) part → B (want_of level spot) ≡ Ok block → (rest : RangeProg) → exec B (range_at lo hi level spot rest) ≡ first (Wants (want_of level spot)) (exec B (emit_all (part_items spot.addr block part.next part.end) rest))
   enter_leaf zero spot block part leaf p e rest = leaf_zero spot block part leaf.is p e rest
   enter_leaf (suc n) spot block part leaf p e rest = let l = leaf.zero_level in absurd (omega (arith, l))
+
+  -- .. which is in hand
+  pub held_leaf : (level : ℕ) (spot : Spot) (block : List ℕ) (store : Blocks) (next end : ℕ) (loan : Lent) (seen : List Want) → IsLeafAt level spot block → block_of store loan ≡ Some block → B (want_of level spot) ≡ Ok block → Contains seen (want_of level spot) → IsHeld B seen store (record { spot = spot; next = next; end = end; loan = loan })
+  held_leaf level spot block store next end loan seen leaf lent e c = record {
+    block = block;
+    lent = lent;
+    came = subst (λ (n : ℕ). B (want_of n spot) ≡ Ok block) leaf.zero_level e;
+    is = subst (λ (n : ℕ). judged n spot block ≡ Some (Leaf (items block))) leaf.zero_level leaf.is;
+    read = subst (λ (n : ℕ). Contains seen (want_of n spot)) leaf.zero_level c;
+  }
 
   -- an inner node
   below_as : (n level : ℕ) (spot : Spot) (block : List ℕ) (frame : Option Frame) (todo : Option Todo) → level - 1 ≡ n → B (want_of level spot) ≡ Ok block → IfSome frame (λ (f : Frame). f.spot ≡ spot) → (todo ≡ None → frame ≡ None) → IfSome todo (λ (t : Todo). t.level ≡ level - 1) → (rest : RangeProg) → below_prog lo hi (range_at lo hi n) (pointers block) (record { frame = frame; todo = todo }) rest ≡ todo_prog lo hi todo (frame_or_rest lo hi B level frame rest)

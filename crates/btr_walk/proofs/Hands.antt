@@ -7,28 +7,37 @@ use Rattle.btr_prog.specs.Prog.{Does, first, prepend, exec}
 use Rattle.btr_prog.specs.Answers.{Follows, no_part}
 use Rattle.btr_rack.specs.Rack.{Seen}
 use Rattle.btr_read.specs.Layout.{Layout}
-use Rattle.btr_read.specs.Store.{Blocks, block_of}
+use Rattle.btr_read.specs.Store.{Blocks, Lent, block_of}
 use Rattle.btr_read.specs.declared.want.Want.{Want}
 use Rattle.btr_walk.specs.declared.advancing.Advanced.{Advanced}
 use Rattle.btr_walk.specs.declared.entering.LeafAt.{LeafAt}
 use Rattle.btr_walk.specs.declared.fault.TreeFault.{TreeFault}
+use Rattle.btr_walk.specs.declared.fault.TreeFault.TheVariants as tree
+use Rattle.btr_walk.specs.declared.frame.Frame.{Frame}
+use Rattle.btr_walk.specs.declared.scan_place.ScanPlace.{ScanPlace}
+use Rattle.btr_walk.specs.declared.spot.Spot.{Spot}
+use Rattle.btr_walk.specs.Spot.{judged}
+use Rattle.btr_node.specs.declared.node.Node.TheVariants.{Leaf}
+use Rattle.btr_read.specs.Fate as fate
 use Rattle.btr_walk.specs.declared.going.Where.{Where}
 use Rattle.btr_walk.specs.declared.leaving.Reached.{Reached}
 use Rattle.btr_walk.specs.declared.leaving.Reached.TheVariants as reached
-use Rattle.btr_walk.specs.Le.{tree_item}
+use Rattle.btr_walk.specs.Le.{tree_item, want_of}
 use Rattle.btr_walk.specs.Range.{RangeProg, emit_all}
-use Rattle.btr_walk.specs.Reading.{Map, UnreadBlock, Tells, unread_by, halt_of}
-use Rattle.btr_walk.specs.Scans.{wants, part_items}
+use Rattle.btr_walk.specs.Reading.{Map, UnreadBlock, Tells, unread_by, Reads, halt_of}
+use Rattle.btr_walk.specs.Scans.{wants, part_items, IsHeld, IsKept, items_in, kept_items}
 use Rattle.btr_walk.specs.Entering.{LendsLeafAt}
-use Rattle.btr_walk.specs.Going.{place_prog, IsOn, Comes}
+use Rattle.btr_walk.specs.Going.{place_prog, IsAlong, ComesTo, IsOn}
 use Rattle.btr_walk.specs.Leaving.{IsReached, LendsReached}
-use Rattle.btr_walk.specs.Advancing.{IsInHand, Lends, hand_items, left, Meets, AdvancesBy, IsAdvanced, FromPlace}
+use Rattle.btr_walk.specs.Advancing.{IsInHand, Lends, hand_items, hand_prog, leaf_prog, IsLeafOf, IsLeafAgain, left, Meets, AdvancesBy, FromPlace, FromHand, IsAdvanced}
+use Rattle.btr_prog.proofs.Follow.{follows_as, unread_here}
+use Rattle.btr_walk.proofs.Halting.{named}
 use Rattle.btr_walk.proofs.Items.{leaf_next, leaf_none}
 use Rattle.btr_walk.proofs.Leads.{leaf_back}
 
 -- the leaf behind its next item
 abbrev pub step : LeafAt → LeafAt
-step l = record { leaf = l.leaf; next = l.next + 1; end = l.end; loan = l.loan }
+step l = record { spot = l.spot; next = l.next + 1; end = l.end; loan = l.loan }
 
 pub hand_of : (old new : Blocks) (l : LeafAt) → LendsLeafAt old new l → IsInHand new l
 hand_of old new l t = record { live = t.live; large = t.large; good = t.good }
@@ -36,64 +45,139 @@ hand_of old new l t = record { live = t.live; large = t.large; good = t.good }
 pub hand_step : (store : Blocks) (l : LeafAt) → IsInHand store l → IsInHand store (step l)
 hand_step store l h = record { live = h.live; large = h.large; good = h.good }
 
+held_step : (B : Map) (seen : List Want) (store : Blocks) (l : LeafAt) → IsHeld B seen store l → IsHeld B seen store (step l)
+held_step B seen store l h = record { block = h.block; lent = h.lent; came = h.came; is = h.is; read = h.read }
+
 module _ (lo hi : Key) (B : Map) where
-  meets_in : (seen past : List Want) (before : RangeProg) (store : Blocks) (l : LeafAt) (place : Where) (o : Option (List ℕ)) → block_of store l.loan ≡ o → exec B before ≡ prepend (wants past) (exec B (left lo hi B store (Some l) place)) → IsOn lo hi B (seen ++ past) place → IsSomeAnd o (λ block. IsTrue (is_leaf block) × (l.end ≤ length (items block))) → l.next < l.end → Meets lo hi B seen before store (step l) place
-  meets_in seen past before store l place None is e on good lt = absurd good
-  meets_in seen past before store l place (Some block) is e on good lt =
+  meets_in : (was : Type 0) (seen past : List Want) (before : RangeProg) (store : Blocks) (l : LeafAt) (place : Where) (o : Option (List ℕ)) → block_of store l.loan ≡ o → exec B before ≡ prepend (wants past) (exec B (hand_prog store l (place_prog lo hi B place))) → IsAlong lo hi B (seen ++ past) place → IsSomeAnd o (λ block. IsTrue (is_leaf block) × (l.end ≤ length (items block))) → l.next < l.end → (was → IsHeld B (seen ++ past) store l) → Meets lo hi was B seen before store (step l) place
+  meets_in was seen past before store l place None is e on good lt held = absurd good
+  meets_in was seen past before store l place (Some block) is e on good lt held =
       let d : Item = record { key = lo; offset = 0; size = 0; body = [] } in
       let rest = place_prog lo hi B place in
       let same : l.next + 1 - 1 ≡ l.next = omega arith in
       record {
         past = past;
-        item = tree_item l.leaf (get_or (items block) l.next d);
+        item = tree_item l.spot.addr (get_or (items block) l.next d);
         is = e
             ∙ ap (λ x. prepend (wants past) (exec B (emit_all (hand_items x l) rest))) is
-            ∙ ap (prepend (wants past)) (leaf_next B l.leaf block l.next l.end d rest lt good.1)
-            ∙ ap (λ x. prepend (wants past) (first (Does (tree_item l.leaf (get_or (items block) l.next d))) (exec B (emit_all (hand_items x (step l)) rest)))) (sym is);
+            ∙ ap (prepend (wants past)) (leaf_next B l.spot.addr block l.next l.end d rest lt good.1)
+            ∙ ap (λ x. prepend (wants past) (first (Does (tree_item l.spot.addr (get_or (items block) l.next d))) (exec B (emit_all (hand_items x (step l)) rest)))) (sym is);
         on = on;
         some = omega arith;
-        at = subst (λ x. IsSomeAnd x (λ b. (l.next + 1 ≤ length (items b)) × ((f : Item) → tree_item l.leaf (get_or (items b) (l.next + 1 - 1) f) ≡ tree_item l.leaf (get_or (items block) l.next d)))) (sym is) (
+        at = subst (λ x. IsSomeAnd x (λ b. (l.next + 1 ≤ length (items b)) × ((f : Item) → tree_item l.spot.addr (get_or (items b) (l.next + 1 - 1) f) ≡ tree_item l.spot.addr (get_or (items block) l.next d)))) (sym is) (
           omega (arith, lt, good.1),
-          λ f. ap (λ (i : ℕ). tree_item l.leaf (get_or (items block) i f)) same ∙ ap (tree_item l.leaf) (get_or_default (items block) l.next f d (omega (arith, lt, good.1))),
+          λ f. ap (λ (i : ℕ). tree_item l.spot.addr (get_or (items block) i f)) same ∙ ap (tree_item l.spot.addr) (get_or_default (items block) l.next f d (omega (arith, lt, good.1))),
         );
+        held = λ w. held_step B (seen ++ past) store l (held w);
       }
-
-  pub meets_next : (seen past : List Want) (before : RangeProg) (store : Blocks) (l : LeafAt) (place : Where) → exec B before ≡ prepend (wants past) (exec B (left lo hi B store (Some l) place)) → IsOn lo hi B (seen ++ past) place → IsInHand store l → l.next < l.end → Meets lo hi B seen before store (step l) place
-  meets_next seen past before store l place e on hand lt = meets_in seen past before store l place (block_of store l.loan) refl e on hand.good lt
 
   -- a leaf that was reached
   pub meets_reached : (Is : UnreadBlock → Want → Type 0) (from after : Where) (store : Blocks) (l : LeafAt) → IsInHand store l → l.next < l.end → IsReached lo hi Is B from store (Ok (reached.Leaf l after)) → FromPlace lo hi Is B from store (record { place = after; leaf = Some (step l); met = Ok true })
   meets_reached Is from after store l hand lt h seen on = at_block (block_of store l.loan) refl (h seen on)
     where
-      at_block : (o : Option (List ℕ)) → block_of store l.loan ≡ o → IsSomeAnd o (λ block. Comes lo hi B seen (place_prog lo hi B from) (emit_all (part_items l.leaf block l.next l.end) (place_prog lo hi B after)) after) → Meets lo hi B seen (place_prog lo hi B from) store (step l) after
+      at_block : (o : Option (List ℕ)) → block_of store l.loan ≡ o → IsSomeAnd o (λ block. ComesTo lo hi B seen (place_prog lo hi B from) (emit_all (part_items l.spot.addr block l.next l.end) (place_prog lo hi B after)) after store l) → Meets lo hi (Unit {0}) B seen (place_prog lo hi B from) store (step l) after
       at_block None is g = absurd g
-      at_block (Some block) is g = meets_next seen g.past (place_prog lo hi B from) store l after (g.is ∙ ap (λ x. prepend (wants g.past) (exec B (emit_all (hand_items x l) (place_prog lo hi B after)))) (sym is)) g.on hand lt
+      at_block (Some block) is g =
+          let c = g.comes in
+          meets_in (Unit {0}) seen c.past (place_prog lo hi B from) store l after (block_of store l.loan) refl (c.is ∙ ap (λ x. prepend (wants c.past) (exec B (emit_all (hand_items x l) (place_prog lo hi B after)))) (sym is)) c.on hand.good lt (λ u. g.held)
 
   -- the leaf in hand has one more
-  pub meets_hand : (Is : UnreadBlock → Want → Type 0) (store : Blocks) (leaf : Option LeafAt) (l : LeafAt) (place : Where) → leaf ≡ Some l → IsInHand store l → l.next < l.end → IsAdvanced lo hi Is B place (left lo hi B store leaf place) store (record { place = place; leaf = Some (step l); met = Ok true })
-  meets_hand Is store leaf l place e hand lt seen on =
-      meets_next seen [] (left lo hi B store leaf place) store l place (ap (λ x. exec B (left lo hi B store x place)) e) (subst (λ (x : List Want). IsOn lo hi B x place) (sym (append-nil seen)) on) hand lt
+  pub meets_hand : (Is : UnreadBlock → Want → Type 0) (store : Blocks) (l : LeafAt) (place : Where) → IsInHand store l → l.next < l.end → FromHand lo hi Is B place l store store (record { place = place; leaf = Some (step l); met = Ok true })
+  meets_hand Is store l place hand lt seen on =
+      meets_in (IsHeld B seen store l) seen [] (hand_prog store l (place_prog lo hi B place)) store l place (block_of store l.loan) refl refl (subst (λ (x : List Want). IsAlong lo hi B x place) (sym (append-nil seen)) on) hand.good lt
+      (λ h. subst (λ (x : List Want). IsHeld B x store l) (sym (append-nil seen)) h)
 
-  advances_same : (Is : UnreadBlock → Want → Type 0) (seen : List Want) (a b : RangeProg) (store : Blocks) (place : Where) (leaf : Option LeafAt) (met : Result Bool TreeFault) → exec B a ≡ exec B b → AdvancesBy lo hi Is B seen b store place leaf met → AdvancesBy lo hi Is B seen a store place leaf met
-  advances_same Is seen a b store place None (Ok true) e h = absurd h
-  advances_same Is seen a b store place (Some l) (Ok true) e h = record { past = h.past; item = h.item; is = e ∙ h.is; on = h.on; some = h.some; at = h.at }
-  advances_same Is seen a b store place None (Ok false) e h = subst (λ r. Follows Is no_part seen r [] (Ok tt)) (sym e) h
-  advances_same Is seen a b store place (Some l) (Ok false) e h = subst (λ r. Follows Is no_part seen r [] (Ok tt)) (sym e) h
-  advances_same Is seen a b store place None (Err f) e h = subst (λ r. Follows Is no_part seen r [] (Err (halt_of f))) (sym e) h
-  advances_same Is seen a b store place (Some l) (Err f) e h = subst (λ r. Follows Is no_part seen r [] (Err (halt_of f))) (sym e) h
+  -- the same of another program with the same run, where less is said of a block that could not be read
+  pub advances_as : (was then : Type 0) (Is Less : UnreadBlock → Want → Type 0) (seen : List Want) (a b : RangeProg) (store : Blocks) (place : Where) (leaf : Option LeafAt) (met : Result Bool TreeFault) → ((u : UnreadBlock) (w : Want) → Is u w → Less u w) → (then → was) → exec B a ≡ exec B b → AdvancesBy lo hi was Is B seen b store place leaf met → AdvancesBy lo hi then Less B seen a store place leaf met
+  advances_as was then Is Less seen a b store place None (Ok true) weaker f e h = absurd h
+  advances_as was then Is Less seen a b store place (Some l) (Ok true) weaker f e h = record { past = h.past; item = h.item; is = e ∙ h.is; on = h.on; some = h.some; at = h.at; held = λ t. h.held (f t) }
+  advances_as was then Is Less seen a b store place None (Ok false) weaker f e h = subst (λ r. Follows Less no_part seen r [] (Ok tt)) (sym e) (follows_as Is Less weaker no_part seen (exec B b) [] (Ok tt) h)
+  advances_as was then Is Less seen a b store place (Some l) (Ok false) weaker f e h = subst (λ r. Follows Less no_part seen r [] (Ok tt)) (sym e) (follows_as Is Less weaker no_part seen (exec B b) [] (Ok tt) h)
+  advances_as was then Is Less seen a b store place None (Err x) weaker f e h = subst (λ r. Follows Less no_part seen r [] (Err (halt_of x))) (sym e) (follows_as Is Less weaker no_part seen (exec B b) [] (Err (halt_of x)) h)
+  advances_as was then Is Less seen a b store place (Some l) (Err x) weaker f e h = subst (λ r. Follows Less no_part seen r [] (Err (halt_of x))) (sym e) (follows_as Is Less weaker no_part seen (exec B b) [] (Err (halt_of x)) h)
 
-  hand_none : (store : Blocks) (l : LeafAt) (place : Where) (o : Option (List ℕ)) → block_of store l.loan ≡ o → IsSomeAnd o (λ block. IsTrue (is_leaf block) × (l.end ≤ length (items block))) → l.end ≤ l.next → exec B (left lo hi B store (Some l) place) ≡ exec B (place_prog lo hi B place)
+  hand_none : (store : Blocks) (l : LeafAt) (place : Where) (o : Option (List ℕ)) → block_of store l.loan ≡ o → IsSomeAnd o (λ block. IsTrue (is_leaf block) × (l.end ≤ length (items block))) → l.end ≤ l.next → exec B (hand_prog store l (place_prog lo hi B place)) ≡ exec B (place_prog lo hi B place)
   hand_none store l place None is good le = absurd good
-  hand_none store l place (Some block) is good le = ap (λ x. exec B (emit_all (hand_items x l) (place_prog lo hi B place))) is ∙ leaf_none B l.leaf block l.next l.end (place_prog lo hi B place) le
+  hand_none store l place (Some block) is good le = ap (λ x. exec B (emit_all (hand_items x l) (place_prog lo hi B place))) is ∙ leaf_none B l.spot.addr block l.next l.end (place_prog lo hi B place) le
 
   -- the leaf in hand has no more
-  pub from_hand : (Is : UnreadBlock → Want → Type 0) (store store' : Blocks) (leaf : Option LeafAt) (l : LeafAt) (place : Where) (a : Advanced) → leaf ≡ Some l → IsInHand store l → l.end ≤ l.next → FromPlace lo hi Is B place store' a → IsAdvanced lo hi Is B place (left lo hi B store leaf place) store' a
-  from_hand Is store store' leaf l place a e hand le h seen on =
-      advances_same Is seen (left lo hi B store leaf place) (place_prog lo hi B place) store' a.place a.leaf a.met (ap (λ x. exec B (left lo hi B store x place)) e ∙ hand_none store l place (block_of store l.loan) refl hand.good le) (h seen on)
+  pub hand_empty : (Is : UnreadBlock → Want → Type 0) (store store' : Blocks) (l : LeafAt) (place : Where) (a : Advanced) → IsInHand store l → l.end ≤ l.next → FromPlace lo hi Is B place store' a → FromHand lo hi Is B place l store store' a
+  hand_empty Is store store' l place a hand le h seen on =
+      advances_as (Unit {0}) (IsHeld B seen store l) Is Is seen (hand_prog store l (place_prog lo hi B place)) (place_prog lo hi B place) store' a.place a.leaf a.met (λ u w x. x) (λ t. tt) (hand_none store l place (block_of store l.loan) refl hand.good le) (h seen on)
 
-  -- no leaf is in hand
-  pub from_none : (Is : UnreadBlock → Want → Type 0) (store store' : Blocks) (leaf : Option LeafAt) (place : Where) (a : Advanced) → leaf ≡ None → FromPlace lo hi Is B place store' a → IsAdvanced lo hi Is B place (left lo hi B store leaf place) store' a
-  from_none Is store store' leaf place a e h seen on = advances_same Is seen (left lo hi B store leaf place) (place_prog lo hi B place) store' a.place a.leaf a.met (ap (λ x. exec B (left lo hi B store x place)) e) (h seen on)
+  -- a leaf is in hand, or none is, and none was given back
+  pub with_hand : (Is : UnreadBlock → Want → Type 0) (old new : Blocks) (leaf : Option LeafAt) (l : LeafAt) (place : ScanPlace) (a : Advanced) → leaf ≡ Some l → FromHand lo hi Is B place.rest l old new a → IsAdvanced lo hi Is B place leaf old new a
+  with_hand Is old new leaf l place a is h seen on =
+      advances_as (IsHeld B seen old l) (IfSome leaf (IsHeld B seen old)) Is Is seen (left lo hi B old leaf place) (hand_prog old l (place_prog lo hi B place.rest)) new a.place a.leaf a.met (λ u w x. x) (λ x. subst (λ o. IfSome o (IsHeld B seen old)) is x)
+      (ap (λ o. exec B (leaf_prog B old o place.leaf (place_prog lo hi B place.rest))) is) (h seen on.rest)
+
+  pub with_none : (Is : UnreadBlock → Want → Type 0) (old new : Blocks) (leaf : Option LeafAt) (place : ScanPlace) (a : Advanced) → leaf ≡ None → place.leaf ≡ None → FromPlace lo hi Is B place.rest new a → IsAdvanced lo hi Is B place leaf old new a
+  with_none Is old new leaf place a is free h seen on =
+      let rest = place_prog lo hi B place.rest in
+      advances_as (Unit {0}) (IfSome leaf (IsHeld B seen old)) Is Is seen (left lo hi B old leaf place) rest new a.place a.leaf a.met (λ u w x. x) (λ x. tt)
+      (ap (λ o. exec B (leaf_prog B old o place.leaf rest)) is ∙ ap (λ k. exec B (leaf_prog B old None k rest)) free) (h seen on.rest)
+
+  -- the leaf that was given back is in hand again
+  again_items : (seen : List Want) (store : Blocks) (l : LeafAt) (frame : Frame) → IsLeafOf frame l → IsHeld B seen store l → kept_items B frame ≡ hand_items (block_of store l.loan) l
+  again_items seen store l frame same h =
+      ap (λ (s : Spot). items_in (B (want_of 0 s)) s.addr frame.next frame.end) (sym same.0)
+      ∙ ap (λ (n : ℕ). items_in (B (want_of 0 l.spot)) l.spot.addr n frame.end) (sym same.1)
+      ∙ ap (λ (n : ℕ). items_in (B (want_of 0 l.spot)) l.spot.addr l.next n) (sym same.2)
+      ∙ ap (λ x. items_in x l.spot.addr l.next l.end) h.came
+      ∙ ap (λ x. hand_items x l) (sym h.lent)
+
+  module _ (leaf : Option LeafAt) (place : ScanPlace) (frame : Frame) (is : leaf ≡ None) (kept : place.leaf ≡ Some frame) where
+    kept_is : (seen : List Want) → IsOn lo hi B seen place → IsKept B seen frame
+    kept_is seen on = subst (λ k. IfSome k (IsKept B seen)) kept on.kept
+
+    kept_prog : (old : Blocks) → exec B (left lo hi B old leaf place) ≡ exec B (emit_all (kept_items B frame) (place_prog lo hi B place.rest))
+    kept_prog old = let rest = place_prog lo hi B place.rest in ap (λ o. exec B (leaf_prog B old o place.leaf rest)) is ∙ ap (λ k. exec B (leaf_prog B old None k rest)) kept
+
+    pub with_kept : (Was Then Is : UnreadBlock → Want → Type 0) (old mid new : Blocks) (l : LeafAt) (a : Advanced) → ((u : UnreadBlock) (w : Want) → Then u w → Is u w) → IsLeafOf frame l → IsLeafAgain Was B frame mid (Ok l) → FromHand lo hi Then B place.rest l mid new a → IsAdvanced lo hi Is B place leaf old new a
+    with_kept Was Then Is old mid new l a weaker same again h seen on =
+        let held = again seen (kept_is seen on) in
+        advances_as (IsHeld B seen mid l) (IfSome leaf (IsHeld B seen old)) Then Is seen (left lo hi B old leaf place) (hand_prog mid l (place_prog lo hi B place.rest)) new a.place a.leaf a.met weaker (λ x. held)
+        (kept_prog old ∙ ap (λ x. exec B (emit_all x (place_prog lo hi B place.rest))) (again_items seen mid l frame same held)) (h seen on.rest)
+
+    pub kept_halts : (Is : UnreadBlock → Want → Type 0) (old new : Blocks) (f : TreeFault) → IsLeafAgain Is B frame new (Err f) → IsAdvanced lo hi Is B place leaf old new (record { place = place.rest; leaf = None; met = Err f })
+    kept_halts Is old new f h seen on = h seen (kept_is seen on) (left lo hi B old leaf place)
+
+-- a leaf that is read again
+module _ (Is : UnreadBlock → Want → Type 0) (B : Map) (frame : Frame) (store : Blocks) where
+  never_fault : (seen : List Want) → IsKept B seen frame → (x : fate.Fault) → B (want_of 0 frame.spot) ≡ Err x → ⊥
+  never_fault seen k x e = let g : Ok k.block ≡ Err x = sym k.came ∙ e in cc
+
+  never_bad : (seen : List Want) → IsKept B seen frame → (block : List ℕ) → B (want_of 0 frame.spot) ≡ Ok block → judged 0 frame.spot block ≡ None → ⊥
+  never_bad seen k block e bad =
+      let g : Ok block ≡ Ok k.block = sym e ∙ k.came in
+      let same : block ≡ k.block = cc in
+      let x : None ≡ Some (Leaf (items k.block)) = sym bad ∙ ap (λ (b : List ℕ). judged 0 frame.spot b) same ∙ k.is in cc
+
+  pub again_halts : (f : TreeFault) → Reads Is B 0 frame.spot store (Err f) → IsLeafAgain Is B frame store (Err f)
+  again_halts (tree.Lost a) h seen k p = absurd (never_fault seen k (fate.Lost a) h)
+  again_halts (tree.Unread a slot) h seen k p = unread_here Is no_part seen (record { addr = a; slot = slot }) (exec B p) (named Is (record { addr = a; slot = slot }) seen (want_of 0 frame.spot) h k.read)
+  again_halts (tree.Unmapped a) h seen k p = absurd (never_fault seen k (fate.Unmapped a) h)
+  again_halts (tree.Crosses a) h seen k p = absurd (never_fault seen k (fate.Crosses a) h)
+  again_halts (tree.Malformed a) h seen k p = absurd (never_bad seen k h.1.0 h.1.1 h.1.2)
+
+  module _ (loan : Lent) (block : List ℕ) (is : block_of store loan ≡ Some block) (came : B (want_of 0 frame.spot) ≡ Ok block) where
+    same_block : (seen : List Want) (k : IsKept B seen frame) → block ≡ k.block
+    same_block seen k = let g : Ok block ≡ Ok k.block = sym came ∙ k.came in cc
+
+    pub again_short : (after : Blocks) (a : ℕ) → length (items block) < frame.end → IsLeafAgain Is B frame after (Err (tree.Malformed a))
+    again_short after a lt seen k p =
+        let l : length (items block) ≡ length (items k.block) = ap (λ (b : List ℕ). length (items b)) (same_block seen k) in
+        let w = k.within in
+        absurd (omega (arith, lt, l, w))
+
+    pub again_held : IsLeafAgain Is B frame store (Ok (record { spot = frame.spot; next = frame.next; end = frame.end; loan = loan }))
+    again_held seen k = record {
+      block = k.block;
+      lent = is ∙ ap Some (same_block seen k);
+      came = k.came;
+      is = k.is;
+      read = k.read;
+    }
 
 pub reached_lent : (old new : Blocks) (x : Reached) (l : LeafAt) (after : Where) → x ≡ reached.Leaf l after → LendsReached old new (Ok x) → LendsLeafAt old new l × (l.next < l.end)
 reached_lent old new x l after e h = subst (λ y. LendsReached old new (Ok y)) e h

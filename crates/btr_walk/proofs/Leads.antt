@@ -1,5 +1,5 @@
 -- How far a scan has come on its way to the next leaf.
-use Rattle.std.proofs.Common.{◌≡◌, ℕ, ◌≤◌, List, [], ◌∷◌, ◌++◌, Option, Some, None, IsSomeAnd, Result, Ok, Err, refl, sym, ap, ◌∙◌, subst, append-nil, append_assoc}
+use Rattle.std.proofs.Common.{◌≡◌, ℕ, ◌<◌, ◌≤◌, List, [], ◌∷◌, ◌++◌, Option, Some, None, IsSomeAnd, Result, Ok, Err, refl, sym, ap, ◌∙◌, subst, append-nil, append_assoc}
 use Rattle.btr_base.specs.declared.key.Key.{Key}
 use Rattle.btr_prog.specs.Prog.{Wants, run, prepend, exec, steps_of, wants_of}
 use Rattle.btr_prog.specs.Answers.{Halt, Follows, no_part}
@@ -7,7 +7,7 @@ use Rattle.btr_prog.proofs.Follow.{follows_as, follows_behind}
 use Rattle.btr_read.specs.Fate as fate
 use Rattle.btr_read.specs.Store.{Blocks, SameLoans, block_of, with_loan}
 use Rattle.btr_walk.specs.Entering.{LendsLeafAt}
-use Rattle.btr_walk.specs.Ranks.{IsShaped, Nears}
+use Rattle.btr_walk.specs.Ranks.{IsShaped, Nears, rank}
 use Rattle.btr_read.specs.declared.want.Want.{Want}
 use Rattle.btr_walk.specs.declared.entering.LeafAt.{LeafAt}
 use Rattle.btr_walk.specs.declared.fault.TreeFault.{TreeFault}
@@ -17,8 +17,8 @@ use Rattle.btr_walk.specs.declared.leaving.Reached.TheVariants as reached
 use Rattle.btr_walk.specs.Le.{TreeItem}
 use Rattle.btr_walk.specs.Range.{RangeProg, emit_all}
 use Rattle.btr_walk.specs.Reading.{Map, UnreadBlock, halt_of}
-use Rattle.btr_walk.specs.Scans.{wants, part_items}
-use Rattle.btr_walk.specs.Going.{place_prog, IsOn, Comes, IsGone, LendsGone}
+use Rattle.btr_walk.specs.Scans.{wants, part_items, IsHeld}
+use Rattle.btr_walk.specs.Going.{place_prog, IsAlong, Comes, ComesTo, IsGone, LendsGone}
 use Rattle.btr_walk.specs.Leaving.{IsReached}
 use Rattle.btr_walk.proofs.Items.{part_none}
 use Rattle.btr_walk.proofs.Lending.{freed}
@@ -38,18 +38,18 @@ wants-append (w ∷ xs) ys = ap (λ x. Wants w ∷ x) (wants-append xs ys)
 module _ (lo hi : Key) (B : Map) where
   -- from whatever was seen before
   abbrev pub Leads : Where → Where → Type 0
-  Leads from to = (seen : List Want) → IsOn lo hi B seen from → Comes lo hi B seen (place_prog lo hi B from) (place_prog lo hi B to) to
+  Leads from to = (seen : List Want) → IsAlong lo hi B seen from → Comes lo hi B seen (place_prog lo hi B from) (place_prog lo hi B to) to
 
   pub leads_none : (place : Where) → Leads place place
-  leads_none place seen on = record { past = []; is = refl; on = subst (λ (x : List Want). IsOn lo hi B x place) (sym (append-nil seen)) on }
+  leads_none place seen on = record { past = []; is = refl; on = subst (λ (x : List Want). IsAlong lo hi B x place) (sym (append-nil seen)) on }
 
   -- one after another
-  comes_then : (seen : List Want) (a b c : RangeProg) (q r : Where) → (x : Comes lo hi B seen a b q) → Comes lo hi B (seen ++ x.past) b c r → Comes lo hi B seen a c r
+  abbrev comes_then : (seen : List Want) (a b c : RangeProg) (q r : Where) → (x : Comes lo hi B seen a b q) → Comes lo hi B (seen ++ x.past) b c r → Comes lo hi B seen a c r
   comes_then seen a b c q r x y = record {
     past = x.past ++ y.past;
     is = x.is ∙ ap (prepend (wants x.past)) y.is
         ∙ ap (λ ms. run ms (exec B c).ending) (sym (append_assoc (wants x.past) (wants y.past) (exec B c).marks) ∙ ap (λ ms. ms ++ (exec B c).marks) (sym (wants-append x.past y.past)));
-    on = subst (λ (z : List Want). IsOn lo hi B z r) (append_assoc seen x.past y.past) y.on;
+    on = subst (λ (z : List Want). IsAlong lo hi B z r) (append_assoc seen x.past y.past) y.on;
   }
 
   pub leads_between : (Is : UnreadBlock → Want → Type 0) (from at after : Where) (store : Blocks) → Leads from at → IsGone lo hi Is B at store (Ok (gone.Between after)) → Leads from after
@@ -62,9 +62,14 @@ module _ (lo hi : Key) (B : Map) where
       let x = lead seen on in
       both (block_of store l.loan) x (g (seen ++ x.past) x.on)
     where
-      both : (o : Option (List ℕ)) (x : Comes lo hi B seen (place_prog lo hi B from) (place_prog lo hi B at) at) → IsSomeAnd o (λ block. Comes lo hi B (seen ++ x.past) (place_prog lo hi B at) (emit_all (part_items l.leaf block l.next l.end) (place_prog lo hi B after)) after) → IsSomeAnd o (λ block. Comes lo hi B seen (place_prog lo hi B from) (emit_all (part_items l.leaf block l.next l.end) (place_prog lo hi B after)) after)
+      both : (o : Option (List ℕ)) (x : Comes lo hi B seen (place_prog lo hi B from) (place_prog lo hi B at) at) → IsSomeAnd o (λ block. ComesTo lo hi B (seen ++ x.past) (place_prog lo hi B at) (emit_all (part_items l.spot.addr block l.next l.end) (place_prog lo hi B after)) after store l) → IsSomeAnd o (λ block. ComesTo lo hi B seen (place_prog lo hi B from) (emit_all (part_items l.spot.addr block l.next l.end) (place_prog lo hi B after)) after store l)
       both None x h = absurd h
-      both (Some block) x h = comes_then seen (place_prog lo hi B from) (place_prog lo hi B at) (emit_all (part_items l.leaf block l.next l.end) (place_prog lo hi B after)) at after x h
+      both (Some block) x h =
+          let c = h.comes in
+          record {
+            comes = comes_then seen (place_prog lo hi B from) (place_prog lo hi B at) (emit_all (part_items l.spot.addr block l.next l.end) (place_prog lo hi B after)) at after x c;
+            held = subst (λ (z : List Want). IsHeld B z store l) (append_assoc seen x.past c.past) h.held;
+          }
 
   -- a leaf with no item in the range
   pub leads_empty : (Is : UnreadBlock → Want → Type 0) (from at after : Where) (store : Blocks) (l : LeafAt) → l.end ≤ l.next → Leads from at → IsGone lo hi Is B at store (Ok (gone.Leaf l after)) → Leads from after
@@ -72,11 +77,11 @@ module _ (lo hi : Key) (B : Map) where
       let x = lead seen on in
       empty (block_of store l.loan) x (g (seen ++ x.past) x.on)
     where
-      empty : (o : Option (List ℕ)) (x : Comes lo hi B seen (place_prog lo hi B from) (place_prog lo hi B at) at) → IsSomeAnd o (λ block. Comes lo hi B (seen ++ x.past) (place_prog lo hi B at) (emit_all (part_items l.leaf block l.next l.end) (place_prog lo hi B after)) after) → Comes lo hi B seen (place_prog lo hi B from) (place_prog lo hi B after) after
+      empty : (o : Option (List ℕ)) (x : Comes lo hi B seen (place_prog lo hi B from) (place_prog lo hi B at) at) → IsSomeAnd o (λ block. ComesTo lo hi B (seen ++ x.past) (place_prog lo hi B at) (emit_all (part_items l.spot.addr block l.next l.end) (place_prog lo hi B after)) after store l) → Comes lo hi B seen (place_prog lo hi B from) (place_prog lo hi B after) after
       empty None x h = absurd h
       empty (Some block) x h =
           comes_then seen (place_prog lo hi B from) (place_prog lo hi B at) (place_prog lo hi B after) at after x
-          (subst (λ (items : List TreeItem). Comes lo hi B (seen ++ x.past) (place_prog lo hi B at) (emit_all items (place_prog lo hi B after)) after) (part_none l.leaf block l.next l.end le) h)
+          (subst (λ (items : List TreeItem). Comes lo hi B (seen ++ x.past) (place_prog lo hi B at) (emit_all items (place_prog lo hi B after)) after) (part_none l.spot.addr block l.next l.end le) h.comes)
 
   -- what is answered from here is answered from the beginning
   follows_from : (Is : UnreadBlock → Want → Type 0) (seen : List Want) (a b : RangeProg) (q : Where) (ans : Result (Unit {0}) (Halt fate.Fault UnreadBlock)) → (x : Comes lo hi B seen a b q) → Follows Is no_part (seen ++ x.past) (exec B b) [] ans → Follows Is no_part seen (exec B a) [] ans
@@ -97,11 +102,11 @@ gone_lent old new x l after e h = subst (λ y. LendsGone old new (Ok y)) e h
 pub gone_same : (old new : Blocks) (x : _) (after : Where) → x ≡ gone.Between after → LendsGone old new (Ok x) → SameLoans old new
 gone_same old new x after e h = subst (λ y. LendsGone old new (Ok y)) e h
 
-pub gone_near : (place : Where) (x : _) (l : LeafAt) (after : Where) → x ≡ gone.Leaf l after → Nears place (Ok x) → IsShaped after
-gone_near place x l after e h = (subst (λ y. Nears place (Ok y)) e h).0
+pub gone_near : (place : Where) (x : _) (l : LeafAt) (after : Where) → x ≡ gone.Leaf l after → Nears place (Ok x) → IsShaped after × (rank after < rank place)
+gone_near place x l after e h = subst (λ y. Nears place (Ok y)) e h
 
-pub gone_near_between : (place : Where) (x : _) (after : Where) → x ≡ gone.Between after → Nears place (Ok x) → IsShaped after
-gone_near_between place x after e h = (subst (λ y. Nears place (Ok y)) e h).0
+pub gone_near_between : (place : Where) (x : _) (after : Where) → x ≡ gone.Between after → Nears place (Ok x) → IsShaped after × (rank after < rank place)
+gone_near_between place x after e h = subst (λ y. Nears place (Ok y)) e h
 
 pub leaf_back : (old new : Blocks) (l : LeafAt) → LendsLeafAt old new l → SameLoans old (with_loan new l.loan.slot None)
 leaf_back old new l t = freed old new l.loan.slot t.after.0 t.layout t.after.1 t.free

@@ -1,9 +1,9 @@
 mod Fitting
-mod Fetched
+pub mod Fetched
 mod Les
 mod Ways
-mod Lending
-mod Joined
+pub mod Lending
+pub mod Joined
 mod Shown
 mod Choosing
 mod Belows
@@ -15,3 +15,9 @@ mod Ranking
 mod Leads
 mod Hands
 mod Nexts
+mod Folds
+mod Turns
+mod Halting
+mod Preorders
+mod Walks
+mod Froms

@@ -1,6 +1,6 @@
 -- A step of a scan.
-use Rattle.std.proofs.Common.{◌≡◌, ℕ, ◌-◌, ◌≤◌, true, false, List, [], length, get_or, Option, Some, None, IfSome, OnErr, Bool, Result, Ok, Err, sym, ap, ◌∙◌, subst}
-use Rattle.btr_node.specs.Block.{Item, items}
+use Rattle.std.proofs.Common.{◌≡◌, ℕ, ◌+◌, ◌-◌, ◌*◌, ◌^◌, ◌<◌, ◌≤◌, true, false, List, [], ◌++◌, length, get_or, Option, Some, None, IfSome, IsTrue, Bool, cond, Result, Ok, Err, refl, sym, ap, ◌∙◌, subst, arith}
+use Rattle.btr_node.specs.Block.{Item, items, is_leaf}
 use Rattle.btr_prog.specs.Prog.{Does, first, prepend, exec}
 use Rattle.btr_prog.specs.Answers.{Follows, no_part}
 use Rattle.btr_rack.specs.Rack.{Seen}
@@ -12,70 +12,89 @@ use Rattle.btr_walk.specs.declared.advancing.Advanced.{Advanced}
 use Rattle.btr_walk.specs.declared.entering.LeafAt.{LeafAt}
 use Rattle.btr_walk.specs.declared.fault.TreeFault.{TreeFault}
 use Rattle.btr_walk.specs.declared.found.Found.{Found}
+use Rattle.btr_walk.specs.declared.frame.Frame.{Frame}
 use Rattle.btr_walk.specs.declared.going.Where.{Where}
 use Rattle.btr_walk.specs.declared.scan.Scan.{Scan}
-use Rattle.btr_walk.specs.Le.{TreeItem, tree_item}
-use Rattle.btr_walk.specs.Range.{RangeProg}
+use Rattle.btr_walk.specs.declared.spot.Spot.{Spot}
+use Rattle.btr_walk.specs.Spot.{is_below, judged}
+use Rattle.std.specs.List.{Contains}
+use Rattle.btr_base.specs.declared.key.Key.{Key}
+use Rattle.btr_walk.specs.declared.scan_place.ScanPlace.{ScanPlace}
+use Rattle.btr_walk.specs.Le.{TreeItem, tree_item, root_spot, want_of}
+use Rattle.btr_walk.specs.Range.{RangeProg, emit_all, range}
 use Rattle.btr_walk.specs.Reading.{UnreadBlock, Tells, unread_by, FaultCause, HasCause, halt_of}
 use Rattle.btr_walk.specs.Reading.{Map}
-use Rattle.btr_walk.specs.Scans.{wants}
+use Rattle.btr_walk.specs.Scans.{wants, IsFrame, IsTodo, IsHeld, IsKept, items_in, kept_items}
 use Rattle.btr_walk.specs.Showing.{item_of}
 use Rattle.btr_walk.specs.Lending.{base}
-use Rattle.btr_walk.specs.Advancing.{IsInHand, loan_of, left, HasItem, Meets, AdvancesBy, IsAdvanced}
-use Rattle.btr_walk.specs.Ranks.{IsShaped}
-use Rattle.btr_walk.specs.ScanEnds.{left_of, Gives, IsNextOn, Scanned}
+use Rattle.btr_walk.specs.Advancing.{IsInHand, loan_of, hand_items, hand_prog, leaf_prog, left, HasItem, Meets, AdvancesBy, IsAdvanced}
+use Rattle.btr_walk.specs.Ranks.{IsShaped, rank, rank_leaf, rank_on, StepNears}
+use Rattle.btr_walk.specs.Going.{place_prog}
+use Rattle.btr_walk.specs.ScanEnds.{left_of, HoldsLeaf, Gives, IsNextOn, IsReady, Scanned, Paused, rank_of, from_key, IsFrom, sought_from, Sought}
 use Rattle.btr_walk.proofs.Joined.{drawn, block_is}
 
-abbrev pub scan_at : Scan → Where → Option LeafAt → Scan
-scan_at scan place leaf = record { lo = scan.lo; hi = scan.hi; place = place; leaf = leaf }
+abbrev pub scan_at : Scan → ScanPlace → Option LeafAt → Scan
+scan_at scan place leaf = record { root = scan.root; lo = scan.lo; hi = scan.hi; place = place; leaf = leaf }
+
+-- the place behind the leaf in hand
+abbrev pub in_hand : Where → ScanPlace
+in_hand place = record { leaf = None; rest = place }
 
 pub cause_as : {A : Type 0} (layout : Layout) (old new : Seen) (met : Result A TreeFault) (f : TreeFault) → met ≡ Err f → HasCause layout old new met → FaultCause layout old new f
 cause_as layout old new met f e h = subst (HasCause layout old new) e h
 
-module _ (store new : Blocks) (scan : Scan) (taken : Option LeafAt) (is_taken : taken ≡ scan.leaf) (a : Advanced) (leaf : Option LeafAt) (is_leaf : leaf ≡ a.leaf) (before now : Seen) (serves : Serves now new) (shaped : IsShaped a.place) where
+no_leaf : (scan : Scan) (leaf : Option LeafAt) → leaf ≡ None → IfSome leaf (λ l. scan.place.leaf ≡ None)
+no_leaf scan leaf e = subst (λ x. IfSome x (λ l. scan.place.leaf ≡ None)) (sym e) tt
+
+free_leaf : (place : Where) (leaf : Option LeafAt) → IfSome leaf (λ l. (in_hand place).leaf ≡ None)
+free_leaf place None = tt
+free_leaf place (Some l) = refl
+
+module _ (store new : Blocks) (scan : Scan) (taken : Option LeafAt) (is_taken : taken ≡ scan.leaf) (a : Advanced) (leaf : Option LeafAt) (is_leaf : leaf ≡ a.leaf) (before now : Seen) (serves : Serves now new) where
   abbrev Is : UnreadBlock → Want → Type 0
   Is = unread_by store.layout before now
 
-  scanned : (result : Result (Option Found) TreeFault) → SameLoans (base store (loan_of taken)) (base new (loan_of a.leaf)) → IfSome a.leaf (IsInHand new) → ((B : Map) → IsAdvanced scan.lo scan.hi Is B scan.place (left scan.lo scan.hi B store scan.leaf scan.place) new a → IsNextOn Is B store new scan (scan_at scan a.place leaf) result) → Tells store.layout before now (λ B. IsAdvanced scan.lo scan.hi Is B scan.place (left scan.lo scan.hi B store taken scan.place) new a) → Scanned store new scan (scan_at scan a.place leaf) before now result
-  scanned result others hand f c = record {
+  scanned : (place : ScanPlace) (result : Result (Option Found) TreeFault) → IsShaped place.rest → IfSome leaf (λ l. place.leaf ≡ None) → SameLoans (base store (loan_of taken)) (base new (loan_of a.leaf)) → IfSome a.leaf (IsInHand new) → ((B : Map) → IsAdvanced scan.lo scan.hi Is B scan.place scan.leaf store new a → IsNextOn Is B store new scan (scan_at scan place leaf) result) → Tells store.layout before now (λ B. IsAdvanced scan.lo scan.hi Is B scan.place taken store new a) → Scanned store new scan (scan_at scan place leaf) before now result
+  scanned place result shaped alone others hand f c = record {
     others = subst (λ l. SameLoans (base store (loan_of scan.leaf)) (base new (loan_of l))) (sym is_leaf) (subst (λ l. SameLoans (base store (loan_of l)) (base new (loan_of a.leaf))) is_taken others);
-    ready = record { serves = serves; hand = subst (λ l. IfSome l (IsInHand new)) (sym is_leaf) hand; shaped = shaped };
-    content = drawn store.layout (λ B. IsAdvanced scan.lo scan.hi Is B scan.place (left scan.lo scan.hi B store taken scan.place) new a) (λ B. IsNextOn Is B store new scan (scan_at scan a.place leaf) result)
-        (λ B h. f B (subst (λ l. IsAdvanced scan.lo scan.hi Is B scan.place (left scan.lo scan.hi B store l scan.place) new a) is_taken h)) c;
+    ready = record { serves = serves; hand = subst (λ l. IfSome l (IsInHand new)) (sym is_leaf) hand; shaped = shaped; alone = alone };
+    content = drawn store.layout (λ B. IsAdvanced scan.lo scan.hi Is B scan.place taken store new a) (λ B. IsNextOn Is B store new scan (scan_at scan place leaf) result)
+        (λ B h. f B (subst (λ l. IsAdvanced scan.lo scan.hi Is B scan.place l store new a) is_taken h)) c;
   }
 
-  of_err : (B : Map) (seen : List Want) (p : RangeProg) (f : TreeFault) (l : Option LeafAt) → AdvancesBy scan.lo scan.hi Is B seen p new a.place l (Err f) → Follows Is no_part seen (exec B p) [] (Err (halt_of f))
-  of_err B seen p f None h = h
-  of_err B seen p f (Some x) h = h
+  of_err : (B : Map) (was : Type 0) (seen : List Want) (p : RangeProg) (f : TreeFault) (l : Option LeafAt) → AdvancesBy scan.lo scan.hi was Is B seen p new a.place l (Err f) → Follows Is no_part seen (exec B p) [] (Err (halt_of f))
+  of_err B was seen p f None h = h
+  of_err B was seen p f (Some x) h = h
 
-  of_end : (B : Map) (seen : List Want) (p : RangeProg) (l : Option LeafAt) → AdvancesBy scan.lo scan.hi Is B seen p new a.place l (Ok false) → Follows Is no_part seen (exec B p) [] (Ok tt)
-  of_end B seen p None h = h
-  of_end B seen p (Some x) h = h
+  of_end : (B : Map) (was : Type 0) (seen : List Want) (p : RangeProg) (l : Option LeafAt) → AdvancesBy scan.lo scan.hi was Is B seen p new a.place l (Ok false) → Follows Is no_part seen (exec B p) [] (Ok tt)
+  of_end B was seen p None h = h
+  of_end B was seen p (Some x) h = h
 
-  pub next_err : (f : TreeFault) → a.met ≡ Err f → SameLoans (base store (loan_of taken)) (base new (loan_of a.leaf)) → IfSome a.leaf (IsInHand new) → Tells store.layout before now (λ B. IsAdvanced scan.lo scan.hi Is B scan.place (left scan.lo scan.hi B store taken scan.place) new a) → Scanned store new scan (scan_at scan a.place leaf) before now (Err f)
-  next_err f e others hand c = scanned (Err f) others hand (λ B h seen on. of_err B seen (left_of B store scan) f a.leaf (subst (λ m. AdvancesBy scan.lo scan.hi Is B seen (left_of B store scan) new a.place a.leaf m) e (h seen on))) c
+  pub next_err : (f : TreeFault) → a.met ≡ Err f → leaf ≡ None → IsShaped scan.place.rest → SameLoans (base store (loan_of taken)) (base new (loan_of a.leaf)) → IfSome a.leaf (IsInHand new) → Tells store.layout before now (λ B. IsAdvanced scan.lo scan.hi Is B scan.place taken store new a) → Scanned store new scan (scan_at scan scan.place leaf) before now (Err f)
+  next_err f e free shaped others hand c = scanned scan.place (Err f) shaped (no_leaf scan leaf free) others hand (λ B h seen on. of_err B (HoldsLeaf B seen store scan) seen (left_of B store scan) f a.leaf (subst (λ m. AdvancesBy scan.lo scan.hi (HoldsLeaf B seen store scan) Is B seen (left_of B store scan) new a.place a.leaf m) e (h seen on))) c
 
-  pub next_end : a.met ≡ Ok false → SameLoans (base store (loan_of taken)) (base new (loan_of a.leaf)) → IfSome a.leaf (IsInHand new) → Tells store.layout before now (λ B. IsAdvanced scan.lo scan.hi Is B scan.place (left scan.lo scan.hi B store taken scan.place) new a) → Scanned store new scan (scan_at scan a.place leaf) before now (Ok None)
-  next_end e others hand c = scanned (Ok None) others hand (λ B h seen on. of_end B seen (left_of B store scan) a.leaf (subst (λ m. AdvancesBy scan.lo scan.hi Is B seen (left_of B store scan) new a.place a.leaf m) e (h seen on))) c
+  pub next_end : a.met ≡ Ok false → leaf ≡ None → IsShaped scan.place.rest → SameLoans (base store (loan_of taken)) (base new (loan_of a.leaf)) → IfSome a.leaf (IsInHand new) → Tells store.layout before now (λ B. IsAdvanced scan.lo scan.hi Is B scan.place taken store new a) → Scanned store new scan (scan_at scan scan.place leaf) before now (Ok None)
+  next_end e free shaped others hand c = scanned scan.place (Ok None) shaped (no_leaf scan leaf free) others hand (λ B h seen on. of_end B (HoldsLeaf B seen store scan) seen (left_of B store scan) a.leaf (subst (λ m. AdvancesBy scan.lo scan.hi (HoldsLeaf B seen store scan) Is B seen (left_of B store scan) new a.place a.leaf m) e (h seen on))) c
 
-  module _ (l : LeafAt) (there : leaf ≡ Some l) (found : Found) (block : List ℕ) (is : block_of new l.loan ≡ Some block) (at : (d : Item) → tree_item l.leaf (get_or (items block) (l.next - 1) d) ≡ item_of found) where
-    gives : (B : Map) (seen : List Want) → Meets scan.lo scan.hi B seen (left_of B store scan) new l a.place → Gives B seen store new scan (scan_at scan a.place leaf) found
+  module _ (l : LeafAt) (there : leaf ≡ Some l) (found : Found) (block : List ℕ) (is : block_of new l.loan ≡ Some block) (at : (d : Item) → tree_item l.spot.addr (get_or (items block) (l.next - 1) d) ≡ item_of found) where
+    gives : (B : Map) (seen : List Want) → Meets scan.lo scan.hi (HoldsLeaf B seen store scan) B seen (left_of B store scan) new l a.place → Gives B seen store new scan (scan_at scan (in_hand a.place) leaf) found
     gives B seen m =
         let d : Item = record { key = scan.lo; offset = 0; size = 0; body = [] } in
-        let here = block_is new l.loan block (λ b. (l.next ≤ length (items b)) × ((e : Item) → tree_item l.leaf (get_or (items b) (l.next - 1) e) ≡ m.item)) is m.at in
+        let here = block_is new l.loan block (λ b. (l.next ≤ length (items b)) × ((e : Item) → tree_item l.spot.addr (get_or (items b) (l.next - 1) e) ≡ m.item)) is m.at in
         let same : m.item ≡ item_of found = sym (here.1 d) ∙ at d in
         record {
           past = m.past;
           is = m.is
-              ∙ ap (λ (i : TreeItem). prepend (wants m.past) (first (Does i) (exec B (left scan.lo scan.hi B new (Some l) a.place)))) same
-              ∙ ap (λ x. prepend (wants m.past) (first (Does (item_of found)) (exec B (left scan.lo scan.hi B new x a.place)))) (sym there);
-          on = m.on;
+              ∙ ap (λ (i : TreeItem). prepend (wants m.past) (first (Does i) (exec B (left scan.lo scan.hi B new (Some l) (in_hand a.place))))) same
+              ∙ ap (λ x. prepend (wants m.past) (first (Does (item_of found)) (exec B (left scan.lo scan.hi B new x (in_hand a.place))))) (sym there);
+          on = record { rest = m.on; kept = tt };
+          held = λ w. subst (λ x. IfSome x (IsHeld B (seen ++ m.past) new)) (sym there) (m.held w);
         }
 
-    pub next_item : a.met ≡ Ok true → SameLoans (base store (loan_of taken)) (base new (loan_of a.leaf)) → IfSome a.leaf (IsInHand new) → Tells store.layout before now (λ B. IsAdvanced scan.lo scan.hi Is B scan.place (left scan.lo scan.hi B store taken scan.place) new a) → Scanned store new scan (scan_at scan a.place leaf) before now (Ok (Some found))
-    next_item e others hand c =
-        scanned (Ok (Some found)) others hand
-        (λ B h seen on. gives B seen (subst (λ x. AdvancesBy scan.lo scan.hi Is B seen (left_of B store scan) new a.place x (Ok true)) (sym is_leaf ∙ there) (subst (λ m. AdvancesBy scan.lo scan.hi Is B seen (left_of B store scan) new a.place a.leaf m) e (h seen on)))) c
+    pub next_item : a.met ≡ Ok true → IsShaped a.place → SameLoans (base store (loan_of taken)) (base new (loan_of a.leaf)) → IfSome a.leaf (IsInHand new) → Tells store.layout before now (λ B. IsAdvanced scan.lo scan.hi Is B scan.place taken store new a) → Scanned store new scan (scan_at scan (in_hand a.place) leaf) before now (Ok (Some found))
+    next_item e shaped others hand c =
+        scanned (in_hand a.place) (Ok (Some found)) shaped (free_leaf a.place leaf) others hand
+        (λ B h seen on. gives B seen (subst (λ x. AdvancesBy scan.lo scan.hi (HoldsLeaf B seen store scan) Is B seen (left_of B store scan) new a.place x (Ok true)) (sym is_leaf ∙ there) (subst (λ m. AdvancesBy scan.lo scan.hi (HoldsLeaf B seen store scan) Is B seen (left_of B store scan) new a.place a.leaf m) e (h seen on)))) c
 
 -- what is kept after a step
 pub keeps_end : (leaf leaf' : Option LeafAt) (met : Result Bool TreeFault) → leaf' ≡ leaf → met ≡ Ok false → HasItem leaf met → leaf' ≡ None
@@ -92,5 +111,153 @@ keeps_err leaf leaf' met f is e h = is ∙ ends leaf (subst (HasItem leaf) e h)
     ends None h = h
     ends (Some x) h = h
 
-pub place_err : (A : Type 0) (x y : A) (met : Result Bool TreeFault) (f : TreeFault) → met ≡ Err f → OnErr met (x ≡ y) → x ≡ y
-place_err A x y met f e h = subst (λ m. OnErr m (x ≡ y)) e h
+-- the scan came nearer to its end
+pub near_some : (scan : Scan) (taken leaf' : Option LeafAt) (a : Advanced) → taken ≡ scan.leaf → leaf' ≡ a.leaf → StepNears (rank_on scan.place taken) a.place a.leaf a.met → a.met ≡ Ok true → rank_of (scan_at scan (in_hand a.place) leaf') < rank_of scan
+near_some scan taken leaf' a is_taken is_leaf h e =
+    let g : 2 ^ 64 * rank a.place + rank_leaf a.leaf None < rank_on scan.place taken = subst (λ m. StepNears (rank_on scan.place taken) a.place a.leaf m) e h in
+    let x : rank_leaf taken scan.place.leaf ≡ rank_leaf scan.leaf scan.place.leaf = ap (λ l. rank_leaf l scan.place.leaf) is_taken in
+    let y : rank_leaf leaf' None ≡ rank_leaf a.leaf None = ap (λ l. rank_leaf l None) is_leaf in
+    omega (arith, g, x, y)
+
+-- .. or stands where it stood
+leaf_gone : (place : ScanPlace) (leaf : Option LeafAt) → IfSome leaf (λ l. place.leaf ≡ None) → rank_leaf None place.leaf ≤ rank_leaf leaf place.leaf
+leaf_gone place None h = omega arith
+leaf_gone place (Some l) h = let e : rank_leaf None place.leaf ≡ 0 = ap (rank_leaf None) h in omega (arith, e)
+
+pub near_none : (scan : Scan) (leaf' : Option LeafAt) → leaf' ≡ None → IfSome scan.leaf (λ l. scan.place.leaf ≡ None) → rank_of (scan_at scan scan.place leaf') ≤ rank_of scan
+near_none scan leaf' e h =
+    let x : rank_leaf leaf' scan.place.leaf ≡ rank_leaf None scan.place.leaf = ap (λ l. rank_leaf l scan.place.leaf) e in
+    omega (arith, x, leaf_gone scan.place scan.leaf h)
+
+-- a scan that has no leaf in hand is paused
+pub paused_none : (store : Blocks) (scan : Scan) (leaf' : Option LeafAt) → scan.leaf ≡ None → leaf' ≡ None → Paused store store scan (scan_at scan scan.place leaf')
+paused_none store scan leaf' e f = record {
+  root = refl;
+  lo = refl;
+  hi = refl;
+  leaf = f;
+  rank = ap (λ l. rank_on scan.place l) (f ∙ sym e);
+  program = λ B seen h. ap (λ l. left scan.lo scan.hi B store l scan.place) (f ∙ sym e);
+  on = λ B seen h on. on;
+}
+
+-- .. or gives its leaf back
+module _ (store after : Blocks) (scan : Scan) (leaf' : Option LeafAt) (l : LeafAt) (is : scan.leaf ≡ Some l) (hand : IfSome scan.leaf (IsInHand store)) (none : leaf' ≡ None) where
+  abbrev kept : Frame
+  kept = record { spot = l.spot; next = l.next; end = l.end }
+
+  held_is : (B : Map) (seen : List Want) → HoldsLeaf B seen store scan → IsHeld B seen store l
+  held_is B seen h = subst (λ x. IfSome x (IsHeld B seen store)) is h
+
+  hand_is : IsInHand store l
+  hand_is = subst (λ x. IfSome x (IsInHand store)) is hand
+
+  kept_as : (B : Map) (seen : List Want) → HoldsLeaf B seen store scan → IsKept B seen kept
+  kept_as B seen h =
+      let x = held_is B seen h in
+      record { block = x.block; came = x.came; is = x.is; read = x.read; within = (block_is store l.loan x.block (λ b. IsTrue (is_leaf b) × (l.end ≤ length (items b))) x.lent hand_is.good).1 }
+
+  kept_same : (B : Map) (seen : List Want) (rest : RangeProg) → IsHeld B seen store l → emit_all (kept_items B kept) rest ≡ hand_prog store l rest
+  kept_same B seen rest h = ap (λ x. emit_all (items_in x l.spot.addr l.next l.end) rest) h.came ∙ ap (λ x. emit_all (hand_items x l) rest) (sym h.lent)
+
+  pub paused_leaf : Paused store after scan (scan_at scan (record { leaf = Some kept; rest = scan.place.rest }) leaf')
+  paused_leaf = record {
+    root = refl;
+    lo = refl;
+    hi = refl;
+    leaf = none;
+    rank = ap (λ x. 2 ^ 64 * rank scan.place.rest + rank_leaf x (Some kept)) none ∙ ap (λ x. 2 ^ 64 * rank scan.place.rest + rank_leaf x scan.place.leaf) (sym is);
+    program = λ B seen h.
+        let rest = place_prog scan.lo scan.hi B scan.place.rest in
+        ap (λ x. leaf_prog B after x (Some kept) rest) none ∙ kept_same B seen rest (held_is B seen h) ∙ ap (λ x. leaf_prog B store x scan.place.leaf rest) (sym is);
+    on = λ B seen h on. record { rest = on.rest; kept = kept_as B seen h };
+  }
+
+-- what a rack and a store need to go on with a scan that is paused
+pub ready_paused : (now : Seen) (store after : Blocks) (scan : Scan) (leaf' : Option LeafAt) (place : ScanPlace) → leaf' ≡ None → place.rest ≡ scan.place.rest → (Serves now store → Serves now after) → IsReady now store scan → IsReady now after (scan_at scan place leaf')
+ready_paused now store after scan leaf' place none same serves r = record {
+  serves = serves r.serves;
+  hand = subst (λ l. IfSome l (IsInHand after)) (sym none) tt;
+  shaped = subst IsShaped (sym same) r.shaped;
+  alone = subst (λ l. IfSome l (λ x. place.leaf ≡ None)) (sym none) tt;
+}
+
+-- a scan goes on in its leaf
+module _ (store : Blocks) (scan : Scan) (key : Key) (l l' : LeafAt) (is : scan.leaf ≡ Some l) (below : is_below l.spot.up key ≡ true) (from : IsFrom store l key l') (leaf : Option LeafAt) (is_leaf : leaf ≡ Some l') where
+  same_items : (B : Map) → leaf_prog B store leaf scan.place.leaf (place_prog scan.lo scan.hi B scan.place.rest) ≡ sought_from B store scan key (Some l)
+  same_items B =
+      let rest = place_prog scan.lo scan.hi B scan.place.rest in
+      ap (λ x. leaf_prog B store x scan.place.leaf rest) is_leaf
+      ∙ ap (λ x. emit_all x rest) from.items
+      ∙ ap (λ b. cond b (emit_all (from_key key (hand_items (block_of store l.loan) l)) rest) (range key scan.hi scan.root)) (sym below)
+
+  pub sought_in : Sought store store scan (scan_at scan scan.place leaf) key
+  sought_in = record {
+    root = refl;
+    hi = refl;
+    program = λ B. same_items B ∙ ap (sought_from B store scan key) (sym is);
+    on = λ B seen on. on;
+    held = λ B seen h. subst (λ x. IfSome x (IsHeld B seen store)) (sym is_leaf) (held_from B seen (subst (λ x. IfSome x (IsHeld B seen store)) is h));
+  }
+    where
+      held_from : (B : Map) (seen : List Want) → IsHeld B seen store l → IsHeld B seen store l'
+      held_from B seen h = record {
+        block = h.block;
+        lent = ap (block_of store) from.loan ∙ h.lent;
+        came = ap (λ (s : Spot). B (want_of 0 s)) from.spot ∙ h.came;
+        is = ap (λ (s : Spot). judged 0 s h.block) from.spot ∙ h.is;
+        read = subst (λ (s : Spot). Contains seen (want_of 0 s)) (sym from.spot) h.read;
+      }
+
+  pub sought_others : SameLoans (base store (loan_of scan.leaf)) (base store (loan_of leaf))
+  sought_others = subst (λ x. SameLoans (base store (loan_of scan.leaf)) (base store (loan_of x))) (sym is_leaf)
+      (subst (λ x. SameLoans (base store (loan_of scan.leaf)) (base store (Some x))) (sym from.loan)
+      (subst (λ x. SameLoans (base store (loan_of x)) (base store (Some l.loan))) (sym is) (record { layout = refl; loans = refl })))
+
+  pub sought_ready : (now : Seen) → IsInHand store l' → IsReady now store scan → IsReady now store (scan_at scan scan.place leaf)
+  sought_ready now hand r = record {
+    serves = r.serves;
+    hand = subst (λ x. IfSome x (IsInHand store)) (sym is_leaf) hand;
+    shaped = r.shaped;
+    alone = subst (λ x. IfSome x (λ y. scan.place.leaf ≡ None)) (sym is_leaf) (subst (λ x. IfSome x (λ y. scan.place.leaf ≡ None)) is r.alone);
+  }
+
+abbrev pub anew : Scan → Key → ScanPlace → Option LeafAt → Scan
+anew scan key place leaf = record { root = scan.root; lo = key; hi = scan.hi; place = place; leaf = leaf }
+
+-- .. or begins anew
+pub sought_anew : (store new : Blocks) (scan : Scan) (key : Key) (place : ScanPlace) (leaf : Option LeafAt) → leaf ≡ None → place.leaf ≡ None → ((B : Map) → sought_from B store scan key scan.leaf ≡ range key scan.hi scan.root) → ((lo hi : Key) (B : Map) → place_prog lo hi B place.rest ≡ range lo hi scan.root) → ((k : ℕ) → get_or place.rest.path k None ≡ None) → place.rest.todo ≡ Some (record { level = scan.root.level; spot = root_spot scan.root }) → Sought store new scan (anew scan key place leaf) key
+sought_anew store new scan key place leaf none free is program clear todo = record {
+  root = refl;
+  hi = refl;
+  program = λ B.
+      let rest = place_prog key scan.hi B place.rest in
+      ap (λ x. leaf_prog B new x place.leaf rest) none ∙ ap (λ x. leaf_prog B new None x rest) free ∙ program key scan.hi B ∙ sym (is B);
+  on = λ B seen on. record {
+    rest = record {
+      frames = λ k. subst (λ x. IfSome x (IsFrame key scan.hi B seen (k + 1))) (sym (clear k)) tt;
+      above = subst (λ t. IfSome t (λ t. (k : ℕ) → k < t.level → get_or place.rest.path k None ≡ None)) (sym todo) (λ k lt. clear k);
+      up = subst (IsTodo key scan.hi) (sym todo) refl;
+    };
+    kept = subst (λ x. IfSome x (IsKept B seen)) (sym free) tt;
+  };
+  held = λ B seen h. subst (λ x. IfSome x (IsHeld B seen new)) (sym none) tt;
+}
+
+pub anew_ready : (now : Seen) (store new : Blocks) (scan : Scan) (key : Key) (place : ScanPlace) (leaf : Option LeafAt) → leaf ≡ None → IsShaped place.rest → (Serves now store → Serves now new) → IsReady now store scan → IsReady now new (anew scan key place leaf)
+anew_ready now store new scan key place leaf none shaped serves r = record {
+  serves = serves r.serves;
+  hand = subst (λ x. IfSome x (IsInHand new)) (sym none) tt;
+  shaped = shaped;
+  alone = subst (λ x. IfSome x (λ y. place.leaf ≡ None)) (sym none) tt;
+}
+
+-- the key isn't in the leaf in hand
+pub no_hand : (B : Map) (store : Blocks) (scan : Scan) (key : Key) (leaf : Option LeafAt) → leaf ≡ None → scan.leaf ≡ leaf → sought_from B store scan key scan.leaf ≡ range key scan.hi scan.root
+no_hand B store scan key leaf none is = ap (sought_from B store scan key) (is ∙ none)
+
+pub past_hand : (B : Map) (store : Blocks) (scan : Scan) (key : Key) (l : LeafAt) → scan.leaf ≡ Some l → is_below l.spot.up key ≡ false → sought_from B store scan key scan.leaf ≡ range key scan.hi scan.root
+past_hand B store scan key l is past =
+    let rest = place_prog scan.lo scan.hi B scan.place.rest in
+    ap (sought_from B store scan key) is
+    ∙ ap (λ b. cond b (emit_all (from_key key (hand_items (block_of store l.loan) l)) rest) (range key scan.hi scan.root)) past

@@ -5,9 +5,8 @@ use Rattle.std.proofs.lemmas.Bool.{cases_eq}
 use Rattle.std.proofs.lemmas.List.{get_or-set_same, get_or-set_other, set-get_or}
 use Rattle.std.proofs.lemmas.List.Elements.{Contains-append_left, Contains-append_right}
 use Rattle.btr_base.specs.declared.key.Key.{Key}
-use Rattle.btr_prog.specs.Prog.{Return, Wants, Run, run, first, given, exec}
-use Rattle.btr_prog.specs.Answers.{Fault, Unread, Names, Follows, no_part}
-use Rattle.btr_read.specs.Fate as fate
+use Rattle.btr_prog.specs.Prog.{Return, Wants, first, exec}
+use Rattle.btr_prog.specs.Answers.{Names, Follows, no_part}
 use Rattle.btr_read.specs.Store.{Blocks, block_of}
 use Rattle.btr_read.specs.declared.want.Want.{Want}
 use Rattle.btr_walk.specs.declared.entering.Below.{Below}
@@ -21,13 +20,14 @@ use Rattle.btr_walk.specs.declared.going.Gone.TheVariants.{Leaf, Between, End}
 use Rattle.btr_walk.specs.declared.going.Where.{Where}
 use Rattle.btr_walk.specs.declared.spot.Spot.{Spot}
 use Rattle.btr_walk.specs.Spot.{judged}
-use Rattle.btr_walk.specs.Le.{TreeItem, want_of}
+use Rattle.btr_walk.specs.Le.{want_of}
 use Rattle.btr_walk.specs.Range.{RangeProg, emit_all, range_leaf, range_inner, range_at}
 use Rattle.btr_walk.specs.Reading.{Map, UnreadBlock, Reads, halt_of}
 use Rattle.btr_walk.specs.Scans.{part_items, todo_prog, frame_prog, frame_or_rest, IsFrame}
 use Rattle.btr_walk.specs.Entering.{IsEntered, HasLevel}
 use Rattle.btr_walk.specs.Again.{IsAgain}
-use Rattle.btr_walk.specs.Going.{path_prog, place_prog, IsOn, Comes, IsGone}
+use Rattle.btr_walk.proofs.Halting.{need_halts, named}
+use Rattle.btr_walk.specs.Going.{path_prog, place_prog, IsAlong, Comes, ComesTo, IsGone}
 
 module _ (lo hi : Key) (B : Map) where
   -- places of a path that have no frame
@@ -103,14 +103,17 @@ module _ (lo hi : Key) (B : Map) where
 
   -- a block that was to be read is a leaf
   pub gone_leaf : (Is : UnreadBlock → Want → Type 0) (path : List (Option Frame)) (todo : Todo) (store : Blocks) (l : LeafAt) → IsEntered lo hi Is B todo store (Ok (entered.Leaf l)) → IsGone lo hi Is B (record { path = path; todo = Some todo }) store (Ok (Leaf l (record { path = path; todo = None })))
-  gone_leaf Is path todo store l h seen on = some_more (block_of store l.loan) h
+  gone_leaf Is path todo store l h seen on = some_more (block_of store l.loan) h.0
     where
-      some_more : (o : Option (List ℕ)) → IsSomeAnd o (λ block. (rest : RangeProg) → exec B (range_at lo hi todo.level todo.spot rest) ≡ first (Wants (want_of todo.level todo.spot)) (exec B (emit_all (part_items l.leaf block l.next l.end) rest))) → IsSomeAnd o (λ block. Comes lo hi B seen (place_prog lo hi B (record { path = path; todo = Some todo })) (emit_all (part_items l.leaf block l.next l.end) (place_prog lo hi B (record { path = path; todo = None }))) (record { path = path; todo = None }))
+      some_more : (o : Option (List ℕ)) → IsSomeAnd o (λ block. (rest : RangeProg) → exec B (range_at lo hi todo.level todo.spot rest) ≡ first (Wants (want_of todo.level todo.spot)) (exec B (emit_all (part_items l.spot.addr block l.next l.end) rest))) → IsSomeAnd o (λ block. ComesTo lo hi B seen (place_prog lo hi B (record { path = path; todo = Some todo })) (emit_all (part_items l.spot.addr block l.next l.end) (place_prog lo hi B (record { path = path; todo = None }))) (record { path = path; todo = None }) store l)
       some_more None g = absurd g
       some_more (Some block) g = record {
-        past = want_of todo.level todo.spot ∷ [];
-        is = g (path_prog lo hi B 0 path);
-        on = record { frames = λ k. seen_if seen (want_of todo.level todo.spot ∷ []) (k + 1) (get_or path k None) (on.frames k); above = tt; up = tt };
+        comes = record {
+          past = want_of todo.level todo.spot ∷ [];
+          is = g (path_prog lo hi B 0 path);
+          on = record { frames = λ k. seen_if seen (want_of todo.level todo.spot ∷ []) (k + 1) (get_or path k None) (on.frames k); above = tt; up = tt };
+        };
+        held = h.1 (seen ++ (want_of todo.level todo.spot ∷ [])) (last_read seen (want_of todo.level todo.spot));
       }
 
   -- .. or an inner node
@@ -128,7 +131,7 @@ module _ (lo hi : Key) (B : Map) where
       record {
         past = w ∷ [];
         is = ap (λ x. exec B (range_at lo hi todo.level todo.spot x)) old ∙ (e.0 (behind i path) ∙ ap (λ x. first (Wants w) (exec B (todo_prog lo hi b.todo x))) (sym new));
-        on = subst (λ x. IsOn lo hi B (seen ++ (w ∷ [])) (record { path = x; todo = b.todo })) (sym set_is) (record {
+        on = subst (λ x. IsAlong lo hi B (seen ++ (w ∷ [])) (record { path = x; todo = b.todo })) (sym set_is) (record {
           frames = frames_set seen (w ∷ []) path i b.frame within on.frames (subst (λ (x : ℕ). IfSome b.frame (IsFrame lo hi B (seen ++ (w ∷ [])) x)) (sym level) (e.1 (seen ++ (w ∷ [])) (last_read seen w)));
           above = above_set path i b.frame b.todo clear (lower b.todo todo.level i refl e.3);
           up = e.2;
@@ -151,7 +154,7 @@ module _ (lo hi : Key) (B : Map) where
       record {
         past = [];
         is = ap (exec B) (old ∙ a.program (behind i path) ∙ ap (todo_prog lo hi b.todo) (sym new));
-        on = subst (λ x. IsOn lo hi B (seen ++ []) (record { path = x; todo = b.todo })) (sym set_is) (record {
+        on = subst (λ x. IsAlong lo hi B (seen ++ []) (record { path = x; todo = b.todo })) (sym set_is) (record {
           frames = frames_set seen [] path i b.frame within on.frames (seen_if seen [] (i + 1) b.frame (subst (λ (x : ℕ). IfSome b.frame (IsFrame lo hi B seen x)) level_is a.frame_is));
           above = above_set path i b.frame b.todo clear (lower b.todo level i (omega (arith, level_is)) a.level_is);
           up = a.up;
@@ -159,38 +162,12 @@ module _ (lo hi : Key) (B : Map) where
       }
 
   -- a block that could not be had
-  faults : (Is : UnreadBlock → Want → Type 0) (w : Want) (f : fate.Fault) (k : List ℕ → RangeProg) (seen : List Want) → B w ≡ Err f → Follows Is no_part seen (first (Wants w) (given (B w) (λ b. exec B (k b)))) [] (Err (Fault f))
-  faults Is w f k seen e = subst (λ x. Follows Is no_part seen (first (Wants w) (given x (λ b. exec B (k b)))) [] (Err (Fault f))) (sym e) (refl, refl)
-
-  bad : (Is : UnreadBlock → Want → Type 0) (w : Want) (f : fate.Fault) (block : List ℕ) (k : List ℕ → RangeProg) (seen : List Want) → B w ≡ Ok block → exec B (k block) ≡ run [] (Err f) → Follows Is no_part seen (first (Wants w) (given (B w) (λ b. exec B (k b)))) [] (Err (Fault f))
-  bad Is w f block k seen e is = subst (λ x. Follows Is no_part seen (first (Wants w) (given x (λ b. exec B (k b)))) [] (Err (Fault f))) (sym e) (subst (λ x. Follows Is no_part seen (first (Wants w) x) [] (Err (Fault f))) (sym is) (refl, refl))
-
-  names_last : (Is : UnreadBlock → Want → Type 0) (u : UnreadBlock) (seen : List Want) (w : Want) → Is u w → Names Is u (seen ++ (w ∷ []))
-  names_last Is u [] w e = inl e
-  names_last Is u (v ∷ seen) w e = inr (names_last Is u seen w e)
-
-  unread : (Is : UnreadBlock → Want → Type 0) (w : Want) (u : UnreadBlock) (r : Run Want fate.Fault TreeItem (Unit {0})) (seen : List Want) → Is u w → Follows Is no_part seen (first (Wants w) r) [] (Err (Unread u))
-  unread Is w u r seen e = record { before = Wants w ∷ []; behind = r.marks; left = None; place = refl; steps = refl; leaves = tt; holds = names_last Is u seen w e }
-
   todo_halts : (Is : UnreadBlock → Want → Type 0) (level : ℕ) (spot : Spot) (store : Blocks) (f : TreeFault) (rest : RangeProg) (seen : List Want) → Reads Is B level spot store (Err f) → Follows Is no_part seen (exec B (range_at lo hi level spot rest)) [] (Err (halt_of f))
-  todo_halts Is zero spot store (tree.Lost a) rest seen h = faults Is (want_of 0 spot) (fate.Lost a) (λ b. range_leaf lo hi spot rest (judged 0 spot b)) seen h
-  todo_halts Is zero spot store (tree.Unread a slot) rest seen h = unread Is (want_of 0 spot) (record { addr = a; slot = slot }) (given (B (want_of 0 spot)) (λ b. exec B (range_leaf lo hi spot rest (judged 0 spot b)))) seen h
-  todo_halts Is zero spot store (tree.Unmapped a) rest seen h = faults Is (want_of 0 spot) (fate.Unmapped a) (λ b. range_leaf lo hi spot rest (judged 0 spot b)) seen h
-  todo_halts Is zero spot store (tree.Crosses a) rest seen h = faults Is (want_of 0 spot) (fate.Crosses a) (λ b. range_leaf lo hi spot rest (judged 0 spot b)) seen h
-  todo_halts Is zero spot store (tree.Malformed a) rest seen h = subst (λ (x : ℕ). Follows Is no_part seen (exec B (range_at lo hi 0 spot rest)) [] (Err (Fault (fate.Malformed x)))) (sym h.0) (bad Is (want_of 0 spot) (fate.Malformed spot.addr) h.1.0 (λ b. range_leaf lo hi spot rest (judged 0 spot b)) seen h.1.1 (ap (λ x. exec B (range_leaf lo hi spot rest x)) h.1.2))
-  todo_halts Is (suc n) spot store (tree.Lost a) rest seen h = faults Is (want_of (suc n) spot) (fate.Lost a) (λ b. range_inner lo hi (range_at lo hi n) spot rest (judged (suc n) spot b)) seen h
-  todo_halts Is (suc n) spot store (tree.Unread a slot) rest seen h = unread Is (want_of (suc n) spot) (record { addr = a; slot = slot }) (given (B (want_of (suc n) spot)) (λ b. exec B (range_inner lo hi (range_at lo hi n) spot rest (judged (suc n) spot b)))) seen h
-  todo_halts Is (suc n) spot store (tree.Unmapped a) rest seen h = faults Is (want_of (suc n) spot) (fate.Unmapped a) (λ b. range_inner lo hi (range_at lo hi n) spot rest (judged (suc n) spot b)) seen h
-  todo_halts Is (suc n) spot store (tree.Crosses a) rest seen h = faults Is (want_of (suc n) spot) (fate.Crosses a) (λ b. range_inner lo hi (range_at lo hi n) spot rest (judged (suc n) spot b)) seen h
-  todo_halts Is (suc n) spot store (tree.Malformed a) rest seen h = subst (λ (x : ℕ). Follows Is no_part seen (exec B (range_at lo hi (suc n) spot rest)) [] (Err (Fault (fate.Malformed x)))) (sym h.0) (bad Is (want_of (suc n) spot) (fate.Malformed spot.addr) h.1.0 (λ b. range_inner lo hi (range_at lo hi n) spot rest (judged (suc n) spot b)) seen h.1.1 (ap (λ x. exec B (range_inner lo hi (range_at lo hi n) spot rest x)) h.1.2))
+  todo_halts Is zero spot store f rest seen h = need_halts Is B 0 spot store f (λ block. range_leaf lo hi spot rest (judged 0 spot block)) seen (λ block bad. ap (λ x. exec B (range_leaf lo hi spot rest x)) bad) h
+  todo_halts Is (suc n) spot store f rest seen h = need_halts Is B (suc n) spot store f (λ block. range_inner lo hi (range_at lo hi n) spot rest (judged (suc n) spot block)) seen (λ block bad. ap (λ x. exec B (range_inner lo hi (range_at lo hi n) spot rest x)) bad) h
 
   pub gone_err : (Is : UnreadBlock → Want → Type 0) (path : List (Option Frame)) (todo : Todo) (store store' : Blocks) (f : TreeFault) → IsEntered lo hi Is B todo store (Err f) → IsGone lo hi Is B (record { path = path; todo = Some todo }) store' (Err f)
   gone_err Is path todo store store' f h seen on = todo_halts Is todo.level todo.spot store f (path_prog lo hi B 0 path) seen h
-
-  named : (Is : UnreadBlock → Want → Type 0) (u : UnreadBlock) (seen : List Want) (w : Want) → Is u w → Contains seen w → Names Is u seen
-  named Is u [] w e c = absurd (omega (arith, c.1))
-  named Is u (v ∷ seen) w e (zero, lt, at) = inl (subst (Is u) (sym at) e)
-  named Is u (v ∷ seen) w e (suc k, lt, at) = inr (named Is u seen w e (k, omega (arith, lt), at))
 
   pub again_halts : (Is : UnreadBlock → Want → Type 0) (path : List (Option Frame)) (i level : ℕ) (frame : Frame) (store : Blocks) (f : TreeFault) → level ≡ i + 1 → get_or path i None ≡ Some frame → IsAgain lo hi Is B level frame (Err f) → IsGone lo hi Is B (record { path = path; todo = None }) store (Err f)
   again_halts Is path i level frame store (tree.Unread a slot) level_is here h seen on =

@@ -1,5 +1,5 @@
 -- A node that is read again.
-use Rattle.std.proofs.Common.{◌≡◌, ℕ, ◌+◌, ◌-◌, ◌<◌, ◌≤◌, true, List, length, drop, All, Option, Some, None, Ok, Err, refl, sym, ap, ◌∙◌, subst, arith}
+use Rattle.std.proofs.Common.{◌≡◌, inl, inr, ℕ, ◌+◌, ◌-◌, ◌<◌, ◌≤◌, true, List, length, drop, All, Option, Some, None, Result, Ok, Err, refl, sym, ap, ◌∙◌, subst, arith}
 use Rattle.btr_base.specs.declared.key.Key.{Key}
 use Rattle.btr_base.specs.Key.{key_number}
 use Rattle.btr_node.specs.Block.{KeyPointer, pointers}
@@ -17,7 +17,7 @@ use Rattle.btr_walk.specs.Spot.{is_below, judged}
 use Rattle.btr_walk.specs.Le.{want_of}
 use Rattle.btr_walk.specs.Range.{RangeProg, over, range_at}
 use Rattle.btr_walk.specs.Scans.{pointers_in, frame_prog, IsFrame}
-use Rattle.btr_walk.specs.Again.{later, IsChild, IsNextBelow, IsNext, IsAgainBelow, IsAgain}
+use Rattle.btr_walk.specs.Again.{later, IsChild, IsNextBelow, IsNext, IsAgainBelow, IsAgain, Rereads}
 use Rattle.btr_walk.specs.Reading.{Map, UnreadBlock, Reads}
 use Rattle.btr_walk.proofs.Choosing.{over_none, bound_behind}
 use Rattle.btr_walk.proofs.Belows.{all_later, all_at, over_at}
@@ -79,10 +79,10 @@ module _ (lo hi : Key) (B : Map) (level : ℕ) (frame : Frame) (seen : List Want
     level_is = h.0.level_is;
   }
 
-  pub again_ok : (block : List ℕ) (b : Below) → B (want_of level frame.spot) ≡ Ok block → IsNext (pointers block) level frame (Some b) → IsAgainBelow lo hi B level frame seen b
+  again_ok : (block : List ℕ) (b : Below) → B (want_of level frame.spot) ≡ Ok block → IsNext (pointers block) level frame (Some b) → IsAgainBelow lo hi B level frame seen b
   again_ok block b e n = again_as b.frame b.todo (subst (λ (x : List ℕ). IsNextBelow (pointers x) level frame b.frame b.todo) (same_block block e) n)
 
-  pub stale_never : (block : List ℕ) → B (want_of level frame.spot) ≡ Ok block → length (pointers block) ≤ frame.next → ⊥
+  stale_never : (block : List ℕ) → B (want_of level frame.spot) ≡ Ok block → length (pointers block) ≤ frame.next → ⊥
   stale_never block e le = let s = same_block block e in let l : length (pointers block) ≡ length (pointers f.block) = ap (λ (x : List ℕ). length (pointers x)) s in omega (arith, l, f.more, f.within, le)
 
   fault_never : (x : fate.Fault) → B (want_of level frame.spot) ≡ Err x → ⊥
@@ -91,9 +91,18 @@ module _ (lo hi : Key) (B : Map) (level : ℕ) (frame : Frame) (seen : List Want
   bad_never : (block : List ℕ) → B (want_of level frame.spot) ≡ Ok block → judged level frame.spot block ≡ None → ⊥
   bad_never block e bad = let g : None ≡ Some (Inner (pointers f.block)) = sym bad ∙ ap (λ (x : List ℕ). judged level frame.spot x) (same_block block e) ∙ f.is in cc
 
-pub again_err : (lo hi : Key) (Is : UnreadBlock → Want → Type 0) (B : Map) (level : ℕ) (frame : Frame) (store : Blocks) (x : TreeFault) → Reads Is B level frame.spot store (Err x) → IsAgain lo hi Is B level frame (Err x)
-again_err lo hi Is B level frame store (tree.Lost a) h = λ seen f. fault_never lo hi B level frame seen f (fate.Lost a) h
-again_err lo hi Is B level frame store (tree.Unread a slot) h = h
-again_err lo hi Is B level frame store (tree.Unmapped a) h = λ seen f. fault_never lo hi B level frame seen f (fate.Unmapped a) h
-again_err lo hi Is B level frame store (tree.Crosses a) h = λ seen f. fault_never lo hi B level frame seen f (fate.Crosses a) h
-again_err lo hi Is B level frame store (tree.Malformed a) h = λ seen f. bad_never lo hi B level frame seen f h.1.0 h.1.1 h.1.2
+-- a node that was read before is the same, or could not be read
+pub again_from : (lo hi : Key) (Is : UnreadBlock → Want → Type 0) (B : Map) (level : ℕ) (frame : Frame) (result : Result Below TreeFault) → Rereads Is B level frame result → IsAgain lo hi Is B level frame result
+again_from lo hi Is B level frame (Ok b) h = λ seen f. again_ok lo hi B level frame seen f h.0 b h.1 h.2
+again_from lo hi Is B level frame (Err (tree.Lost a)) h = λ seen f. fault_never lo hi B level frame seen f (fate.Lost a) h
+again_from lo hi Is B level frame (Err (tree.Unread a slot)) h = h
+again_from lo hi Is B level frame (Err (tree.Unmapped a)) h = λ seen f. fault_never lo hi B level frame seen f (fate.Unmapped a) h
+again_from lo hi Is B level frame (Err (tree.Crosses a)) h = λ seen f. fault_never lo hi B level frame seen f (fate.Crosses a) h
+again_from lo hi Is B level frame (Err (tree.Malformed a)) h = λ seen f. elim h.2 [ inl bad ↦ bad_never lo hi B level frame seen f h.0 h.1 bad | inr le ↦ stale_never lo hi B level frame seen f h.0 h.1 le ]
+
+pub rereads_err : (Is : UnreadBlock → Want → Type 0) (B : Map) (level : ℕ) (frame : Frame) (store : Blocks) (x : TreeFault) → Reads Is B level frame.spot store (Err x) → Rereads Is B level frame (Err x)
+rereads_err Is B level frame store (tree.Lost a) h = h
+rereads_err Is B level frame store (tree.Unread a slot) h = h
+rereads_err Is B level frame store (tree.Unmapped a) h = h
+rereads_err Is B level frame store (tree.Crosses a) h = h
+rereads_err Is B level frame store (tree.Malformed a) h = (h.1.0, h.1.1, inl h.1.2)

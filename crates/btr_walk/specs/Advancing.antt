@@ -9,12 +9,15 @@ use Rattle.btr_read.specs.declared.want.Want.{Want}
 use Rattle.btr_walk.specs.declared.advancing.Advanced.{Advanced}
 use Rattle.btr_walk.specs.declared.entering.LeafAt.{LeafAt}
 use Rattle.btr_walk.specs.declared.fault.TreeFault.{TreeFault}
+use Rattle.btr_walk.specs.declared.frame.Frame.{Frame}
 use Rattle.btr_walk.specs.declared.going.Where.{Where}
+use Rattle.btr_walk.specs.declared.scan_place.ScanPlace.{ScanPlace}
+use Rattle.btr_walk.specs.Entering.{LendsLeafAt}
 use Rattle.btr_walk.specs.Le.{TreeItem, tree_item}
 use Rattle.btr_walk.specs.Range.{RangeProg, emit_all}
 use Rattle.btr_walk.specs.Reading.{Map, UnreadBlock, halt_of}
-use Rattle.btr_walk.specs.Scans.{wants, part_items}
-use Rattle.btr_walk.specs.Going.{place_prog, IsOn}
+use Rattle.btr_walk.specs.Scans.{wants, part_items, IsHeld, IsKept, kept_items}
+use Rattle.btr_walk.specs.Going.{place_prog, IsAlong, IsOn}
 use Rattle.btr_walk.specs.Lending.{base}
 
 -- a leaf in hand: its loan is live, and its block is a good leaf
@@ -34,35 +37,63 @@ pub record Lends (old new : Blocks) (a : Advanced) : Type 0 where
 
 abbrev pub hand_items : Option (List ℕ) → LeafAt → List TreeItem
 hand_items None l = []
-hand_items (Some block) l = part_items l.leaf block l.next l.end
+hand_items (Some block) l = part_items l.spot.addr block l.next l.end
+
+-- the items of a leaf in hand that are still to come, and then the rest
+abbrev pub hand_prog : Blocks → LeafAt → RangeProg → RangeProg
+hand_prog store l rest = emit_all (hand_items (block_of store l.loan) l) rest
+
+-- the same of the leaf in hand, or of the one that was given back
+abbrev pub leaf_prog : Map → Blocks → Option LeafAt → Option Frame → RangeProg → RangeProg
+leaf_prog B store (Some l) kept rest = hand_prog store l rest
+leaf_prog B store None (Some frame) rest = emit_all (kept_items B frame) rest
+leaf_prog B store None None rest = rest
+
+-- the leaf that was given back
+abbrev pub IsLeafOf : Frame → LeafAt → Type 0
+IsLeafOf frame l = (l.spot ≡ frame.spot) × (l.next ≡ frame.next) × (l.end ≡ frame.end)
+
+abbrev pub LendsAgain : Blocks → Blocks → Result LeafAt TreeFault → Type 0
+LendsAgain old new (Ok l) = LendsLeafAt old new l
+LendsAgain old new (Err f) = SameLoans old new
+
+-- it is the same again, or it could not be read
+abbrev pub IsLeafAgain : (UnreadBlock → Want → Type 0) → Map → Frame → Blocks → Result LeafAt TreeFault → Type 0
+IsLeafAgain Is B frame store (Ok l) = (seen : List Want) → IsKept B seen frame → IsHeld B seen store l
+IsLeafAgain Is B frame store (Err f) = (seen : List Want) → IsKept B seen frame → (p : RangeProg) → Follows Is no_part seen (exec B p) [] (Err (halt_of f))
 
 module _ (lo hi : Key) where
   -- what a scan has still to give
-  abbrev pub left : Map → Blocks → Option LeafAt → Where → RangeProg
-  left B store None place = place_prog lo hi B place
-  left B store (Some l) place = emit_all (hand_items (block_of store l.loan) l) (place_prog lo hi B place)
+  abbrev pub left : Map → Blocks → Option LeafAt → ScanPlace → RangeProg
+  left B store leaf place = leaf_prog B store leaf place.leaf (place_prog lo hi B place.rest)
 
-  -- the item before `next` was met, some wants before it; what is left comes behind
-  pub record Meets (B : Map) (seen : List Want) (before : RangeProg) (store : Blocks) (l : LeafAt) (place : Where) : Type 0 where
+  -- the item before `next` was met, some wants before it; what is left comes behind. The leaf is among the blocks that were
+  -- read, where `was` holds of the one before.
+  pub record Meets (was : Type 0) (B : Map) (seen : List Want) (before : RangeProg) (store : Blocks) (l : LeafAt) (place : Where) : Type 0 where
     pub past : List Want
     pub item : TreeItem
-    pub is : exec B before ≡ prepend (wants past) (first (Does item) (exec B (left B store (Some l) place)))
-    pub on : IsOn lo hi B (seen ++ past) place
+    pub is : exec B before ≡ prepend (wants past) (first (Does item) (exec B (hand_prog store l (place_prog lo hi B place))))
+    pub on : IsAlong lo hi B (seen ++ past) place
     pub some : 0 < l.next
-    pub at : IsSomeAnd (block_of store l.loan) (λ block. (l.next ≤ length (items block)) × ((d : Item) → tree_item l.leaf (slice_index_or (items block) (l.next - 1) d) ≡ item))
+    pub at : IsSomeAnd (block_of store l.loan) (λ block. (l.next ≤ length (items block)) × ((d : Item) → tree_item l.spot.addr (slice_index_or (items block) (l.next - 1) d) ≡ item))
+    pub held : was → IsHeld B (seen ++ past) store l
 
   -- a step of a scan that had still to give what `before` says
-  abbrev pub AdvancesBy : (UnreadBlock → Want → Type 0) → Map → List Want → RangeProg → Blocks → Where → Option LeafAt → Result Bool TreeFault → Type 0
-  AdvancesBy Is B seen before store place None (Ok true) = ⊥
-  AdvancesBy Is B seen before store place (Some l) (Ok true) = Meets B seen before store l place
-  AdvancesBy Is B seen before store place leaf (Ok false) = Follows Is no_part seen (exec B before) [] (Ok tt)
-  AdvancesBy Is B seen before store place leaf (Err f) = Follows Is no_part seen (exec B before) [] (Err (halt_of f))
+  abbrev pub AdvancesBy : Type 0 → (UnreadBlock → Want → Type 0) → Map → List Want → RangeProg → Blocks → Where → Option LeafAt → Result Bool TreeFault → Type 0
+  AdvancesBy was Is B seen before store place None (Ok true) = ⊥
+  AdvancesBy was Is B seen before store place (Some l) (Ok true) = Meets was B seen before store l place
+  AdvancesBy was Is B seen before store place leaf (Ok false) = Follows Is no_part seen (exec B before) [] (Ok tt)
+  AdvancesBy was Is B seen before store place leaf (Err f) = Follows Is no_part seen (exec B before) [] (Err (halt_of f))
 
-  abbrev pub IsAdvanced : (UnreadBlock → Want → Type 0) → Map → Where → RangeProg → Blocks → Advanced → Type 0
-  IsAdvanced Is B place before store a = (seen : List Want) → IsOn lo hi B seen place → AdvancesBy Is B seen before store a.place a.leaf a.met
-
+  -- with no leaf, with one in hand, and with one in hand or given back
   abbrev pub FromPlace : (UnreadBlock → Want → Type 0) → Map → Where → Blocks → Advanced → Type 0
-  FromPlace Is B place store a = IsAdvanced Is B place (place_prog lo hi B place) store a
+  FromPlace Is B place store a = (seen : List Want) → IsAlong lo hi B seen place → AdvancesBy (Unit {0}) Is B seen (place_prog lo hi B place) store a.place a.leaf a.met
+
+  abbrev pub FromHand : (UnreadBlock → Want → Type 0) → Map → Where → LeafAt → Blocks → Blocks → Advanced → Type 0
+  FromHand Is B place hand old new a = (seen : List Want) → IsAlong lo hi B seen place → AdvancesBy (IsHeld B seen old hand) Is B seen (hand_prog old hand (place_prog lo hi B place)) new a.place a.leaf a.met
+
+  abbrev pub IsAdvanced : (UnreadBlock → Want → Type 0) → Map → ScanPlace → Option LeafAt → Blocks → Blocks → Advanced → Type 0
+  IsAdvanced Is B place leaf old new a = (seen : List Want) → IsOn lo hi B seen place → AdvancesBy (IfSome leaf (IsHeld B seen old)) Is B seen (left B old leaf place) new a.place a.leaf a.met
 
 -- a leaf is kept where an item was met, which stands before `next`, and only there
 abbrev pub HasItem : Option LeafAt → Result Bool TreeFault → Type 0

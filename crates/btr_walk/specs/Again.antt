@@ -1,13 +1,15 @@
 -- What comes of a node that is read again.
-use Rattle.std.specs.Prelude.{◌≡◌, ℕ, ◌+◌, ◌-◌, ◌<◌, ◌≤◌, List, length, drop, slice_index_or, Option, Some, None, IfSome, IsSome, Result, Ok, Err}
+use Rattle.std.specs.Prelude.{◌≡◌, ◌⊎◌, ℕ, ◌+◌, ◌-◌, ◌<◌, ◌≤◌, List, length, drop, slice_index_or, Option, Some, None, IfSome, IsSome, Result, Ok, Err}
 use Rattle.btr_base.specs.declared.key.Key.{Key}
-use Rattle.btr_node.specs.Block.{KeyPointer}
+use Rattle.btr_node.specs.Block.{KeyPointer, pointers}
+use Rattle.btr_read.specs.Fate as fate
 use Rattle.btr_read.specs.declared.want.Want.{Want}
 use Rattle.btr_walk.specs.declared.entering.Below.{Below}
 use Rattle.btr_walk.specs.declared.fault.TreeFault.{TreeFault}
 use Rattle.btr_walk.specs.declared.fault.TreeFault.TheVariants.{Lost, Unread, Unmapped, Crosses, Malformed}
 use Rattle.btr_walk.specs.declared.frame.Frame.{Frame}
 use Rattle.btr_walk.specs.declared.frame.Todo.{Todo}
+use Rattle.btr_walk.specs.Spot.{judged}
 use Rattle.btr_walk.specs.Le.{below, up_of, want_of}
 use Rattle.btr_walk.specs.Reading.{Map, UnreadBlock}
 use Rattle.btr_walk.specs.Range.{RangeProg}
@@ -32,6 +34,15 @@ IsNextBelow ps level frame (Some f) (Some todo) = IsChild ps level frame todo ×
 abbrev pub IsNext : List KeyPointer → ℕ → Frame → Option Below → Type 0
 IsNext ps level frame None = length ps ≤ frame.next
 IsNext ps level frame (Some b) = IsNextBelow ps level frame b.frame b.todo
+
+-- a node was read again under a block map: what comes of it, or why it didn't come
+abbrev pub Rereads : (UnreadBlock → Want → Type 0) → Map → ℕ → Frame → Result Below TreeFault → Type 0
+Rereads Is B level frame (Ok b) = (block : List ℕ) × (B (want_of level frame.spot) ≡ Ok block) × IsNext (pointers block) level frame (Some b)
+Rereads Is B level frame (Err (Lost a)) = B (want_of level frame.spot) ≡ Err (fate.Lost a)
+Rereads Is B level frame (Err (Unread a slot)) = Is (record { addr = a; slot = slot }) (want_of level frame.spot)
+Rereads Is B level frame (Err (Unmapped a)) = B (want_of level frame.spot) ≡ Err (fate.Unmapped a)
+Rereads Is B level frame (Err (Crosses a)) = B (want_of level frame.spot) ≡ Err (fate.Crosses a)
+Rereads Is B level frame (Err (Malformed a)) = (block : List ℕ) × (B (want_of level frame.spot) ≡ Ok block) × ((judged level frame.spot block ≡ None) ⊎ (length (pointers block) ≤ frame.next))
 
 module _ (lo hi : Key) where
   -- what is left of a frame is its next child, and then what is left behind it

@@ -19,7 +19,7 @@ use Rattle.btr_walk.specs.Spot.{is_below}
 use Rattle.btr_walk.specs.Le.{want_of}
 use Rattle.btr_walk.specs.Range.{RangeProg, emit_all, over, range_at}
 use Rattle.btr_walk.specs.Reading.{Map, UnreadBlock, Reads}
-use Rattle.btr_walk.specs.Scans.{part_items, todo_prog, frame_or_rest, IsFrame, IsTodo}
+use Rattle.btr_walk.specs.Scans.{part_items, todo_prog, frame_or_rest, IsFrame, IsTodo, IsHeld}
 
 module _ (lo hi : Key) where
   abbrev pub rest_of : (Spot → RangeProg → RangeProg) → List KeyPointer → Option Frame → RangeProg → RangeProg
@@ -50,7 +50,9 @@ module _ (lo hi : Key) where
 
   -- a block was read: the program of its spot is the want, and then what it has
   abbrev pub IsEntered : (UnreadBlock → Want → Type 0) → Map → Todo → Blocks → Result Entered TreeFault → Type 0
-  IsEntered Is B todo store (Ok (Leaf l)) = IsSomeAnd (block_of store l.loan) (λ block. (rest : RangeProg) → exec B (range_at lo hi todo.level todo.spot rest) ≡ first (Wants (want_of todo.level todo.spot)) (exec B (emit_all (part_items l.leaf block l.next l.end) rest)))
+  IsEntered Is B todo store (Ok (Leaf l)) =
+      IsSomeAnd (block_of store l.loan) (λ block. (rest : RangeProg) → exec B (range_at lo hi todo.level todo.spot rest) ≡ first (Wants (want_of todo.level todo.spot)) (exec B (emit_all (part_items l.spot.addr block l.next l.end) rest)))
+      × ((seen : List Want) → Contains seen (want_of todo.level todo.spot) → IsHeld B seen store l)
   IsEntered Is B todo store (Ok (Inner b)) =
       is_below todo.spot.up lo ≡ true
       → ((rest : RangeProg) → exec B (range_at lo hi todo.level todo.spot rest) ≡ first (Wants (want_of todo.level todo.spot)) (exec B (todo_prog lo hi b.todo (frame_or_rest lo hi B todo.level b.frame rest))))

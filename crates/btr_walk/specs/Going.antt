@@ -5,14 +5,16 @@ use Rattle.btr_prog.specs.Prog.{Return, prepend, exec}
 use Rattle.btr_prog.specs.Answers.{Follows, no_part}
 use Rattle.btr_read.specs.Store.{Blocks, SameLoans, block_of}
 use Rattle.btr_read.specs.declared.want.Want.{Want}
+use Rattle.btr_walk.specs.declared.entering.LeafAt.{LeafAt}
 use Rattle.btr_walk.specs.declared.fault.TreeFault.{TreeFault}
 use Rattle.btr_walk.specs.declared.frame.Frame.{Frame}
 use Rattle.btr_walk.specs.declared.going.Gone.{Gone}
 use Rattle.btr_walk.specs.declared.going.Gone.TheVariants.{Leaf, Between, End}
 use Rattle.btr_walk.specs.declared.going.Where.{Where}
+use Rattle.btr_walk.specs.declared.scan_place.ScanPlace.{ScanPlace}
 use Rattle.btr_walk.specs.Range.{RangeProg, emit_all}
 use Rattle.btr_walk.specs.Reading.{Map, UnreadBlock, halt_of}
-use Rattle.btr_walk.specs.Scans.{wants, part_items, todo_prog, frame_or_rest, IsFrame, IsTodo}
+use Rattle.btr_walk.specs.Scans.{wants, part_items, todo_prog, frame_or_rest, IsFrame, IsTodo, IsHeld, IsKept}
 use Rattle.btr_walk.specs.Entering.{LendsLeafAt}
 
 module _ (lo hi : Key) where
@@ -26,25 +28,35 @@ module _ (lo hi : Key) where
   place_prog B place = todo_prog lo hi place.todo (path_prog B 0 place.path)
 
   -- each frame of the path was read before; the block that is to be read lies below all of them, and ends behind lo
-  pub record IsOn (B : Map) (seen : List Want) (place : Where) : Type 0 where
+  pub record IsAlong (B : Map) (seen : List Want) (place : Where) : Type 0 where
     pub frames : (k : ℕ) → IfSome (slice_index_or place.path k None) (IsFrame lo hi B seen (k + 1))
     pub above : IfSome place.todo (λ t. (k : ℕ) → k < t.level → slice_index_or place.path k None ≡ None)
     pub up : IsTodo lo hi place.todo
+
+  -- the same of a scan's place, and of the leaf that was given back
+  pub record IsOn (B : Map) (seen : List Want) (place : ScanPlace) : Type 0 where
+    pub rest : IsAlong B seen place.rest
+    pub kept : IfSome place.leaf (IsKept B seen)
 
   -- some wants are past, and the rest is still to come
   pub record Comes (B : Map) (seen : List Want) (from to : RangeProg) (place : Where) : Type 0 where
     pub past : List Want
     pub is : exec B from ≡ prepend (wants past) (exec B to)
-    pub on : IsOn B (seen ++ past) place
+    pub on : IsAlong B (seen ++ past) place
+
+  -- .. and the leaf in hand is among the blocks that were read
+  pub record ComesTo (B : Map) (seen : List Want) (from to : RangeProg) (place : Where) (store : Blocks) (l : LeafAt) : Type 0 where
+    pub comes : Comes B seen from to place
+    pub held : IsHeld B (seen ++ comes.past) store l
 
   abbrev pub GoneTo : (UnreadBlock → Want → Type 0) → Map → List Want → Where → Blocks → Result Gone TreeFault → Type 0
-  GoneTo Is B seen place store (Ok (Leaf l after)) = IsSomeAnd (block_of store l.loan) (λ block. Comes B seen (place_prog B place) (emit_all (part_items l.leaf block l.next l.end) (place_prog B after)) after)
+  GoneTo Is B seen place store (Ok (Leaf l after)) = IsSomeAnd (block_of store l.loan) (λ block. ComesTo B seen (place_prog B place) (emit_all (part_items l.spot.addr block l.next l.end) (place_prog B after)) after store l)
   GoneTo Is B seen place store (Ok (Between after)) = Comes B seen (place_prog B place) (place_prog B after) after
   GoneTo Is B seen place store (Ok End) = Follows Is no_part seen (exec B (place_prog B place)) [] (Ok tt)
   GoneTo Is B seen place store (Err f) = Follows Is no_part seen (exec B (place_prog B place)) [] (Err (halt_of f))
 
   abbrev pub IsGone : (UnreadBlock → Want → Type 0) → Map → Where → Blocks → Result Gone TreeFault → Type 0
-  IsGone Is B place store result = (seen : List Want) → IsOn B seen place → GoneTo Is B seen place store result
+  IsGone Is B place store result = (seen : List Want) → IsAlong B seen place → GoneTo Is B seen place store result
 
 abbrev pub LendsGone : Blocks → Blocks → Result Gone TreeFault → Type 0
 LendsGone old new (Ok (Leaf l after)) = LendsLeafAt old new l

@@ -13,24 +13,25 @@ use Rattle.btr_walk.specs.Range.{emit_all}
 use Rattle.btr_walk.specs.Reading.{Map, UnreadBlock, halt_of}
 use Rattle.btr_walk.specs.Scans.{part_items}
 use Rattle.btr_walk.specs.Entering.{LendsLeafAt}
-use Rattle.btr_walk.specs.Going.{place_prog, IsOn, Comes}
-use Rattle.btr_walk.specs.Ranks.{IsShaped}
+use Rattle.btr_walk.specs.Going.{place_prog, IsAlong, ComesTo}
+use Rattle.btr_walk.specs.Ranks.{IsShaped, rank}
 
 module _ (lo hi : Key) where
   abbrev pub ReachedTo : (UnreadBlock → Want → Type 0) → Map → List Want → Where → Blocks → Result Reached TreeFault → Type 0
-  ReachedTo Is B seen place store (Ok (Leaf l after)) = IsSomeAnd (block_of store l.loan) (λ block. Comes lo hi B seen (place_prog lo hi B place) (emit_all (part_items l.leaf block l.next l.end) (place_prog lo hi B after)) after)
+  ReachedTo Is B seen place store (Ok (Leaf l after)) = IsSomeAnd (block_of store l.loan) (λ block. ComesTo lo hi B seen (place_prog lo hi B place) (emit_all (part_items l.spot.addr block l.next l.end) (place_prog lo hi B after)) after store l)
   ReachedTo Is B seen place store (Ok End) = Follows Is no_part seen (exec B (place_prog lo hi B place)) [] (Ok tt)
   ReachedTo Is B seen place store (Err f) = Follows Is no_part seen (exec B (place_prog lo hi B place)) [] (Err (halt_of f))
 
   abbrev pub IsReached : (UnreadBlock → Want → Type 0) → Map → Where → Blocks → Result Reached TreeFault → Type 0
-  IsReached Is B place store result = (seen : List Want) → IsOn lo hi B seen place → ReachedTo Is B seen place store result
+  IsReached Is B place store result = (seen : List Want) → IsAlong lo hi B seen place → ReachedTo Is B seen place store result
 
 abbrev pub LendsReached : Blocks → Blocks → Result Reached TreeFault → Type 0
 LendsReached old new (Ok (Leaf l after)) = LendsLeafAt old new l × (l.next < l.end)
 LendsReached old new (Ok End) = SameLoans old new
 LendsReached old new (Err f) = SameLoans old new
 
-abbrev pub ShapesReached : Result Reached TreeFault → Type 0
-ShapesReached (Ok (Leaf l after)) = IsShaped after
-ShapesReached (Ok End) = Unit {0}
-ShapesReached (Err f) = Unit {0}
+-- a leaf that was reached is nearer to the end
+abbrev pub NearsReached : Where → Result Reached TreeFault → Type 0
+NearsReached place (Ok (Leaf l after)) = IsShaped after × (rank after < rank place)
+NearsReached place (Ok End) = Unit {0}
+NearsReached place (Err f) = Unit {0}

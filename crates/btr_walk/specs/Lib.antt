@@ -13,3 +13,7 @@ pub mod Ranks
 pub mod Leaving
 pub mod Advancing
 pub mod ScanEnds
+pub mod Folds
+pub mod Folding
+pub mod Blocks
+pub mod Preorder

@@ -1,36 +1,45 @@
 -- What a scan and its store are after a step.
-use Rattle.std.specs.Prelude.{◌≡◌, ◌++◌, List, [], Option, Some, None, IfSome, IsSome, Result, Ok, Err, ⊤}
+use Rattle.std.specs.Prelude.{◌≡◌, ℕ, ◌-◌, ◌<◌, ◌≤◌, ◌++◌, List, filter, if◌then◌else◌, [], Option, Some, None, IfSome, IsSome, Result, Ok, Err, ⊤}
 use Rattle.std.specs.Borrow.{follows_so, MutBor, Fml}
 use mathlib.Core.Option.{none}
+use Rattle.btr_base.specs.Key.{key_le}
+use Rattle.btr_base.specs.declared.key.Key.{Key}
 use Rattle.btr_prog.specs.Prog.{Does, first, prepend, exec}
 use Rattle.btr_prog.specs.Answers.{Follows, no_part}
 use Rattle.btr_rack.specs.Rack.{Seen}
 use Rattle.btr_read.specs.Serves.{Serves}
-use Rattle.btr_read.specs.Store.{Blocks, SameLoans}
+use Rattle.btr_read.specs.Store.{Blocks, SameLoans, block_of}
 use Rattle.btr_read.specs.contracts.store.Store.{the_row}
 use Rattle.btr_read.specs.declared.want.Want.{Want}
 use Rattle.btr_walk.specs.declared.entering.LeafAt.{LeafAt}
 use Rattle.btr_walk.specs.declared.fault.TreeFault.{TreeFault}
 use Rattle.btr_walk.specs.declared.found.Found.{Found}
 use Rattle.btr_walk.specs.declared.scan.Scan.{Scan}
+use Rattle.btr_walk.specs.Spot.{is_below}
+use Rattle.btr_walk.specs.Le.{TreeItem}
 use Rattle.btr_walk.specs.Reading.{Map, UnreadBlock, Tells, unread_by, halt_of}
-use Rattle.btr_walk.specs.Scans.{wants}
-use Rattle.btr_walk.specs.Range.{RangeProg}
+use Rattle.btr_walk.specs.Scans.{wants, IsHeld}
+use Rattle.btr_walk.specs.Range.{RangeProg, emit_all, range}
 use Rattle.btr_walk.specs.Showing.{item_of}
 use Rattle.btr_walk.specs.Lending.{base}
-use Rattle.btr_walk.specs.Going.{IsOn}
-use Rattle.btr_walk.specs.Ranks.{IsShaped}
-use Rattle.btr_walk.specs.Advancing.{IsInHand, loan_of, left}
+use Rattle.btr_walk.specs.Going.{place_prog, IsOn}
+use Rattle.btr_walk.specs.Ranks.{IsShaped, rank_on}
+use Rattle.btr_walk.specs.Advancing.{IsInHand, loan_of, hand_items, left}
 
 -- what a scan has still to give
 abbrev pub left_of : Map → Blocks → Scan → RangeProg
 left_of B store scan = left scan.lo scan.hi B store scan.leaf scan.place
+
+-- the leaf in hand, if there is one, is the block that its want came to, which was read
+abbrev pub HoldsLeaf : Map → List Want → Blocks → Scan → Type 0
+HoldsLeaf B seen store scan = IfSome scan.leaf (IsHeld B seen store)
 
 -- some wants, and then the item; what is left comes behind
 pub record Gives (B : Map) (seen : List Want) (old new : Blocks) (scan scan' : Scan) (found : Found) : Type 0 where
   pub past : List Want
   pub is : exec B (left_of B old scan) ≡ prepend (wants past) (first (Does (item_of found)) (exec B (left_of B new scan')))
   pub on : IsOn scan.lo scan.hi B (seen ++ past) scan'.place
+  pub held : HoldsLeaf B seen old scan → HoldsLeaf B (seen ++ past) new scan'
 
 abbrev pub NextBy : (UnreadBlock → Want → Type 0) → Map → List Want → Blocks → Blocks → Scan → Scan → Result (Option Found) TreeFault → Type 0
 NextBy Is B seen old new scan scan' (Ok (Some found)) = Gives B seen old new scan scan' found
@@ -44,7 +53,8 @@ IsNextOn Is B old new scan scan' result = (seen : List Want) → IsOn scan.lo sc
 pub record IsReady (rack : Seen) (store : Blocks) (scan : Scan) : Type 0 where
   pub serves : Serves rack store
   pub hand : IfSome scan.leaf (IsInHand store)
-  pub shaped : IsShaped scan.place
+  pub shaped : IsShaped scan.place.rest
+  pub alone : IfSome scan.leaf (λ l. scan.place.leaf ≡ None)
 
 -- the store without the loan of a scan's leaf
 abbrev pub without_leaf : Blocks → Scan → Blocks
@@ -64,3 +74,48 @@ abbrev pub KeepsLeaf : Result (Option Found) TreeFault → Option LeafAt → Typ
 KeepsLeaf (Ok (Some found)) leaf = IsSome leaf
 KeepsLeaf (Ok None) leaf = leaf ≡ None
 KeepsLeaf (Err f) leaf = leaf ≡ None
+
+-- how much a scan has still to do, whatever its tree holds: the measure of a loop over it
+abbrev pub rank_of : Scan → ℕ
+rank_of scan = rank_on scan.place scan.leaf
+
+-- a scan comes nearer to its end with each item, and never goes back
+abbrev pub NextNears : Scan → Scan → Result (Option Found) TreeFault → Type 0
+NextNears scan scan' (Ok (Some found)) = rank_of scan' < rank_of scan
+NextNears scan scan' (Ok None) = rank_of scan' ≤ rank_of scan
+NextNears scan scan' (Err f) = rank_of scan' ≤ rank_of scan
+
+-- the items from a key on
+abbrev pub from_key : Key → List TreeItem → List TreeItem
+from_key key items = filter (λ (i : TreeItem). key_le key i.key) items
+
+-- a leaf in hand behind its items below a key
+pub record IsFrom (store : Blocks) (l : LeafAt) (key : Key) (l' : LeafAt) : Type 0 where
+  pub loan : l'.loan ≡ l.loan
+  pub spot : l'.spot ≡ l.spot
+  pub fewer : l'.end - l'.next ≤ l.end - l.next
+  pub items : hand_items (block_of store l'.loan) l' ≡ from_key key (hand_items (block_of store l.loan) l)
+
+-- what is left from a key on: where the leaf in hand ends behind it, its items from the key on, and then what comes behind the
+-- leaf; else what a new scan gives
+abbrev pub sought_from : Map → Blocks → Scan → Key → Option LeafAt → RangeProg
+sought_from B store scan key None = range key scan.hi scan.root
+sought_from B store scan key (Some l) = if is_below l.spot.up key then emit_all (from_key key (hand_items (block_of store l.loan) l)) (place_prog scan.lo scan.hi B scan.place.rest) else range key scan.hi scan.root
+
+-- a scan goes on at a key
+pub record Sought (old new : Blocks) (scan scan' : Scan) (key : Key) : Type 0 where
+  pub root : scan'.root ≡ scan.root
+  pub hi : scan'.hi ≡ scan.hi
+  pub program : (B : Map) → left_of B new scan' ≡ sought_from B old scan key scan.leaf
+  pub on : (B : Map) (seen : List Want) → IsOn scan.lo scan.hi B seen scan.place → IsOn scan'.lo scan'.hi B seen scan'.place
+  pub held : (B : Map) (seen : List Want) → HoldsLeaf B seen old scan → HoldsLeaf B seen new scan'
+
+-- a scan that gave its leaf back has still to give the same, and comes to its end as near
+pub record Paused (old new : Blocks) (scan scan' : Scan) : Type 0 where
+  pub root : scan'.root ≡ scan.root
+  pub lo : scan'.lo ≡ scan.lo
+  pub hi : scan'.hi ≡ scan.hi
+  pub leaf : scan'.leaf ≡ None
+  pub rank : rank_of scan' ≡ rank_of scan
+  pub program : (B : Map) (seen : List Want) → HoldsLeaf B seen old scan → left_of B new scan' ≡ left_of B old scan
+  pub on : (B : Map) (seen : List Want) → HoldsLeaf B seen old scan → IsOn scan.lo scan.hi B seen scan.place → IsOn scan.lo scan.hi B seen scan'.place

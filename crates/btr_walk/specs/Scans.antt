@@ -7,8 +7,10 @@ use Rattle.btr_node.specs.Block.{Item, KeyPointer, items, pointers}
 use Rattle.btr_prog.specs.Prog.{Mark, Wants}
 use Rattle.btr_read.specs.Fate.{Fault}
 use Rattle.btr_read.specs.declared.want.Want.{Want}
-use Rattle.btr_node.specs.declared.node.Node.TheVariants.{Inner}
+use Rattle.btr_node.specs.declared.node.Node.TheVariants.{Leaf, Inner}
+use Rattle.btr_read.specs.Store.{Blocks, block_of}
 use Rattle.btr_walk.specs.declared.choice.Part.{Part}
+use Rattle.btr_walk.specs.declared.entering.LeafAt.{LeafAt}
 use Rattle.btr_walk.specs.declared.frame.Frame.{Frame}
 use Rattle.btr_walk.specs.declared.frame.Todo.{Todo}
 use Rattle.btr_walk.specs.Spot.{is_below, judged}
@@ -78,3 +80,27 @@ module _ (lo hi : Key) where
 abbrev pub wants : List Want → List (Mark Want TreeItem)
 wants [] = []
 wants (w ∷ ws) = Wants w ∷ wants ws
+
+-- a leaf in hand is the block that its want came to, a good one at its spot
+pub record IsHeld (B : Map) (seen : List Want) (store : Blocks) (l : LeafAt) : Type 0 where
+  pub block : List ℕ
+  pub lent : block_of store l.loan ≡ Some block
+  pub came : B (want_of 0 l.spot) ≡ Ok block
+  pub is : judged 0 l.spot block ≡ Some (Leaf (items block))
+  pub read : Contains seen (want_of 0 l.spot)
+
+-- .. and so is a leaf that was given back: it was read before
+pub record IsKept (B : Map) (seen : List Want) (frame : Frame) : Type 0 where
+  pub block : List ℕ
+  pub came : B (want_of 0 frame.spot) ≡ Ok block
+  pub is : judged 0 frame.spot block ≡ Some (Leaf (items block))
+  pub read : Contains seen (want_of 0 frame.spot)
+  pub within : frame.end ≤ length (items block)
+
+abbrev pub items_in : Result (List ℕ) Fault → ℕ → ℕ → ℕ → List TreeItem
+items_in (Ok block) addr next end = part_items addr block next end
+items_in (Err f) addr next end = []
+
+-- the items of a leaf that was given back
+abbrev pub kept_items : Map → Frame → List TreeItem
+kept_items B frame = items_in (B (want_of 0 frame.spot)) frame.spot.addr frame.next frame.end

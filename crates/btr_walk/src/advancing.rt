@@ -1,17 +1,19 @@
 // One item further.
-ghost use Rattle.std.specs.Prelude.{◌≡◌, ◌<◌, ◌≤◌, length, IfSome, OnErr};
+ghost use Rattle.std.specs.Prelude.{◌≡◌, ◌+◌, ◌-◌, ◌*◌, ◌^◌, ◌<◌, ◌≤◌, length, Some, IfSome};
 ghost use Rattle.btr_read.specs.Serves.{Serves};
 ghost use Rattle.btr_rack.specs.Rack.{OnlyReads};
 ghost use Rattle.btr_read.specs.Store.{SameLoans, free_count};
 ghost use Rattle.btr_walk.specs.Lending.{base};
 ghost use Rattle.btr_walk.specs.Reading.{Tells, unread_by, HasCause};
-ghost use Rattle.btr_walk.specs.Advancing.{IsInHand, loan_of, left, Lends, HasItem, IsAdvanced, FromPlace};
-ghost use Rattle.btr_walk.specs.Ranks.{IsShaped};
+ghost use Rattle.btr_walk.specs.Advancing.{IsInHand, loan_of, Lends, HasItem, FromPlace, FromHand, IsAdvanced};
+ghost use Rattle.btr_walk.specs.Ranks.{IsShaped, rank, rank_on, StepNears};
 
 use crate::TreeFault;
 use crate::entering::LeafAt;
 use crate::going::Where;
+use crate::leaf_again::read_leaf;
 use crate::leaving::{Reached, to_leaf};
+use crate::scan_place::ScanPlace;
 use btr_base::Key;
 use btr_rack::Rack;
 use btr_read::Store;
@@ -38,8 +40,8 @@ pub(crate) fn from_place<R: Rack>(
     ensures reads { OnlyReads (R.seen rack.old) (R.seen rack.new) }
     ensures lent { Lends store.old store.new result }
     ensures shaped { IsShaped result.place }
+    ensures nears { StepNears (2 ^ 64 * rank place) result.place result.leaf result.met }
     ensures item { HasItem result.leaf result.met }
-    ensures place { OnErr result.met (result.place ≡ place) }
     ensures cause { HasCause store.old.layout (R.seen rack.old) (R.seen rack.new) result.met }
     ensures content { Tells store.old.layout (R.seen rack.old) (R.seen rack.new) (λ B. FromPlace lo hi (unread_by store.old.layout (R.seen rack.old) (R.seen rack.new)) B place store.new result) }
 {
@@ -56,14 +58,14 @@ pub(crate) fn from_place<R: Rack>(
         },
         Ok(Reached::Leaf(reached, after)) => {
             let LeafAt {
-                leaf,
+                spot,
                 next,
                 end,
                 loan,
             } = reached;
             let next = next + 1;
             let leaf = LeafAt {
-                leaf,
+                spot,
                 next,
                 end,
                 loan,
@@ -77,9 +79,56 @@ pub(crate) fn from_place<R: Rack>(
     }
 }
 
+// One item further with a leaf in hand.
+pub(crate) fn from_hand<R: Rack>(
+    place: Where,
+    hand: LeafAt,
+    lo: Key,
+    hi: Key,
+    rack: &mut R,
+    store: &mut Store,
+) -> Advanced
+    requires serves { Serves (R.seen rack.old) store.old }
+    requires hand { IsInHand store.old hand }
+    requires room { 4 ≤ free_count (base store.old (Some hand.loan)) }
+    requires shaped { IsShaped place }
+    ensures serves { Serves (R.seen rack.new) store.new }
+    ensures reads { OnlyReads (R.seen rack.old) (R.seen rack.new) }
+    ensures others { SameLoans (base store.old (Some hand.loan)) (base store.new (loan_of result.leaf)) }
+    ensures hand { IfSome result.leaf (IsInHand store.new) }
+    ensures shaped { IsShaped result.place }
+    ensures nears { StepNears (2 ^ 64 * rank place + (hand.end - hand.next)) result.place result.leaf result.met }
+    ensures item { HasItem result.leaf result.met }
+    ensures cause { HasCause store.old.layout (R.seen rack.old) (R.seen rack.new) result.met }
+    ensures content { Tells store.old.layout (R.seen rack.old) (R.seen rack.new) (λ B. FromHand lo hi (unread_by store.old.layout (R.seen rack.old) (R.seen rack.new)) B place hand store.old store.new result) }
+{
+    let LeafAt {
+        spot,
+        next,
+        end,
+        loan,
+    } = hand;
+    if next < end {
+        let next = next + 1;
+        let leaf = LeafAt {
+            spot,
+            next,
+            end,
+            loan,
+        };
+        return Advanced {
+            place,
+            leaf: Some(leaf),
+            met: Ok(true),
+        };
+    }
+    store.give(loan);
+    from_place(place, lo, hi, rack, store)
+}
+
 // One item further.
 pub(crate) fn advance<R: Rack>(
-    place: Where,
+    place: &ScanPlace,
     leaf: Option<LeafAt>,
     lo: Key,
     hi: Key,
@@ -89,42 +138,29 @@ pub(crate) fn advance<R: Rack>(
     requires serves { Serves (R.seen rack.old) store.old }
     requires hand { IfSome leaf (IsInHand store.old) }
     requires room { 4 ≤ free_count (base store.old (loan_of leaf)) }
-    requires shaped { IsShaped place }
+    requires shaped { IsShaped place.now.rest }
     ensures serves { Serves (R.seen rack.new) store.new }
     ensures reads { OnlyReads (R.seen rack.old) (R.seen rack.new) }
     ensures others { SameLoans (base store.old (loan_of leaf)) (base store.new (loan_of result.leaf)) }
     ensures hand { IfSome result.leaf (IsInHand store.new) }
     ensures shaped { IsShaped result.place }
+    ensures nears { StepNears (rank_on place.now leaf) result.place result.leaf result.met }
     ensures item { HasItem result.leaf result.met }
-    ensures place { OnErr result.met (result.place ≡ place) }
     ensures cause { HasCause store.old.layout (R.seen rack.old) (R.seen rack.new) result.met }
-    ensures content { Tells store.old.layout (R.seen rack.old) (R.seen rack.new) (λ B. IsAdvanced lo hi (unread_by store.old.layout (R.seen rack.old) (R.seen rack.new)) B place (left lo hi B store.old leaf place) store.new result) }
+    ensures content { Tells store.old.layout (R.seen rack.old) (R.seen rack.new) (λ B. IsAdvanced lo hi (unread_by store.old.layout (R.seen rack.old) (R.seen rack.new)) B place.now leaf store.old store.new result) }
 {
     match leaf {
-        None => from_place(place, lo, hi, rack, store),
-        Some(hand) => {
-            let LeafAt {
-                leaf,
-                next,
-                end,
-                loan,
-            } = hand;
-            if next < end {
-                let next = next + 1;
-                let leaf = LeafAt {
-                    leaf,
-                    next,
-                    end,
-                    loan,
-                };
-                return Advanced {
-                    place,
-                    leaf: Some(leaf),
-                    met: Ok(true),
-                };
-            }
-            store.give(loan);
-            from_place(place, lo, hi, rack, store)
-        }
+        Some(hand) => from_hand(place.rest, hand, lo, hi, rack, store),
+        None => match place.leaf {
+            None => from_place(place.rest, lo, hi, rack, store),
+            Some(kept) => match read_leaf(&kept, rack, store) {
+                Ok(hand) => from_hand(place.rest, hand, lo, hi, rack, store),
+                Err(fault) => Advanced {
+                    place: place.rest,
+                    leaf: None,
+                    met: Err(fault),
+                },
+            },
+        },
     }
 }

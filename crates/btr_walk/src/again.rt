@@ -1,12 +1,11 @@
 // A node that is read again.
 ghost use Rattle.std.specs.Prelude.{◌≡◌, ◌<◌, ◌≤◌, length, IsTrue, IfOk};
-ghost use Rattle.btr_base.specs.declared.key.Key.{Key};
 ghost use Rattle.btr_node.specs.Block.{pointers, is_inner};
 ghost use Rattle.btr_read.specs.Serves.{Serves};
 ghost use Rattle.btr_rack.specs.Rack.{OnlyReads};
 ghost use Rattle.btr_read.specs.Store.{SameLoans, free_count};
 ghost use Rattle.btr_walk.specs.Reading.{Tells, unread_by, HasCause};
-ghost use Rattle.btr_walk.specs.Again.{IsNext, IsAgain};
+ghost use Rattle.btr_walk.specs.Again.{IsNext, Rereads};
 ghost use Rattle.btr_walk.specs.Ranks.{FitsNext};
 
 use crate::TreeFault;
@@ -19,7 +18,7 @@ use btr_rack::Rack;
 use btr_read::Store;
 
 // The next child of a frame, and the frame where more are to come; `None` where the node isn't the one that it was.
-fn next_of(block: &[u8], level: u8, frame: &Frame) -> Option<Below>
+pub(crate) fn next_of(block: &[u8], level: u8, frame: &Frame) -> Option<Below>
     requires header { 101 ≤ length block.now }
     requires good { IsTrue (is_inner block.now) }
     requires some { 0 < level }
@@ -68,7 +67,7 @@ pub(crate) fn read_again<R: Rack>(
     ensures store { SameLoans store.old store.new }
     ensures next { IfOk result (λ b. FitsNext level frame.now b.frame b.todo) }
     ensures cause { HasCause store.old.layout (R.seen rack.old) (R.seen rack.new) result }
-    ensures content { Tells store.old.layout (R.seen rack.old) (R.seen rack.new) (λ B. (lo hi : Key) → IsAgain lo hi (unread_by store.old.layout (R.seen rack.old) (R.seen rack.new)) B level frame.now result) }
+    ensures content { Tells store.old.layout (R.seen rack.old) (R.seen rack.new) (λ B. Rereads (unread_by store.old.layout (R.seen rack.old) (R.seen rack.new)) B level frame.now result) }
 {
     let loan = read_block(level, &frame.spot, rack, store)?;
     let below = next_of(store.bytes(&loan), level, frame);

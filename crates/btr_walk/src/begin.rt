@@ -1,9 +1,10 @@
 // Where a scan begins.
-ghost use Rattle.std.specs.Prelude.{◌≡◌, ℕ, []};
+ghost use Rattle.std.specs.Prelude.{◌≡◌, ℕ, [], None, Some, slice_index_or};
 ghost use Rattle.btr_base.specs.declared.key.Key.{Key};
+ghost use Rattle.btr_walk.specs.Le.{root_spot};
 ghost use Rattle.btr_walk.specs.Range.{range};
 ghost use Rattle.btr_walk.specs.Reading.{Map};
-ghost use Rattle.btr_walk.specs.Going.{IsOn, place_prog};
+ghost use Rattle.btr_walk.specs.Going.{IsAlong, place_prog};
 ghost use Rattle.btr_walk.specs.Ranks.{IsShaped};
 
 use crate::RootPlace;
@@ -15,8 +16,10 @@ use crate::spot::Spot;
 // The place at which a scan begins: the root is to be read.
 pub(crate) fn begin(root: &RootPlace) -> Where
     ensures program { (lo hi : Key) (B : Map) → place_prog lo hi B result ≡ range lo hi root.now }
+    ensures todo { result.todo ≡ Some (record { level = root.now.level; spot = root_spot root.now }) }
+    ensures path { (k : ℕ) → slice_index_or result.path k None ≡ None }
     ensures shaped { IsShaped result }
-    ensures on { (lo hi : Key) (B : Map) → IsOn lo hi B [] result }
+    ensures on { (lo hi : Key) (B : Map) → IsAlong lo hi B [] result }
 {
     let spot = Spot {
         addr: root.addr,

@@ -12,6 +12,7 @@ use crate::choice::{choose, part_of};
 use crate::finding::child_at;
 use crate::frame::{Frame, Todo};
 use crate::reading::read_block;
+use crate::spot::Spot;
 use btr_base::Key;
 use btr_node::Inner;
 use btr_rack::Rack;
@@ -19,7 +20,7 @@ use btr_read::{Loan, Store};
 
 /// A leaf in hand, of which some items are still to come: those from `next` up to before `end`.
 pub(crate) struct LeafAt {
-    pub(crate) leaf: u64,
+    pub(crate) spot: Spot,
     pub(crate) next: usize,
     pub(crate) end: usize,
     pub(crate) loan: Loan,
@@ -96,7 +97,7 @@ pub(crate) fn enter<R: Rack>(
     if todo.level == 0 {
         let part = part_of(store.bytes(&loan), lo, hi);
         return Ok(Entered::Leaf(LeafAt {
-            leaf: todo.spot.addr,
+            spot: todo.spot,
             next: part.next,
             end: part.end,
             loan,

@@ -1,13 +1,23 @@
 // Whether a block fits its place.
 ghost use Rattle.std.specs.Prelude.{◌≡◌, ◌≤◌, length};
 ghost use Rattle.std.specs.Option.{is_some};
-ghost use Rattle.btr_walk.specs.Spot.{fits_ends, judged};
+ghost use Rattle.btr_walk.specs.Spot.{fits_ends, is_below, judged};
 
 use crate::spot::Spot;
 use btr_base::Key;
 use btr_node::Node;
 
 impl Spot {
+    // Whether the block may have a key from this one on.
+    pub(crate) fn ends_behind(&self, key: Key) -> bool
+        ensures { result ≡ is_below self.now.up key }
+    {
+        match self.up {
+            None => true,
+            Some(up) => key.is_before(up),
+        }
+    }
+
     // Whether a block whose first and last key are these fits.
     fn fits_ends(&self, first: Key, last: Key) -> bool
         ensures { result ≡ fits_ends self.now first last }
@@ -16,11 +26,7 @@ impl Spot {
             None => true,
             Some(key) => !first.is_before(key) && !key.is_before(first),
         };
-        let ends = match self.up {
-            None => true,
-            Some(up) => last.is_before(up),
-        };
-        begins && ends
+        begins && self.ends_behind(last)
     }
 }
 

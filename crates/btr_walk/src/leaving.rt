@@ -4,7 +4,7 @@ ghost use Rattle.btr_read.specs.Serves.{Serves};
 ghost use Rattle.btr_rack.specs.Rack.{OnlyReads};
 ghost use Rattle.btr_read.specs.Store.{free_count};
 ghost use Rattle.btr_walk.specs.Reading.{Tells, unread_by, HasCause};
-ghost use Rattle.btr_walk.specs.Leaving.{LendsReached, IsReached, ShapesReached};
+ghost use Rattle.btr_walk.specs.Leaving.{LendsReached, IsReached, NearsReached};
 ghost use Rattle.btr_walk.specs.Ranks.{IsShaped};
 
 use crate::TreeFault;
@@ -34,7 +34,7 @@ pub(crate) fn to_leaf<R: Rack>(
     ensures serves { Serves (R.seen rack.new) store.new }
     ensures reads { OnlyReads (R.seen rack.old) (R.seen rack.new) }
     ensures lent { LendsReached store.old store.new result }
-    ensures shaped { ShapesReached result }
+    ensures nears { NearsReached place.now result }
     ensures cause { HasCause store.old.layout (R.seen rack.old) (R.seen rack.new) result }
     ensures content { Tells store.old.layout (R.seen rack.old) (R.seen rack.new) (λ B. IsReached lo hi (unread_by store.old.layout (R.seen rack.old) (R.seen rack.new)) B place.now store.new result) }
 {
@@ -49,7 +49,7 @@ pub(crate) fn to_leaf<R: Rack>(
                     return Ok(Reached::Leaf(leaf, after));
                 }
                 let LeafAt {
-                    leaf: _,
+                    spot: _,
                     next: _,
                     end: _,
                     loan,

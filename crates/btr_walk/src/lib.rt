@@ -8,26 +8,38 @@
 
 mod advancing;
 mod again;
+mod ahead;
 mod begin;
+mod block_scan;
 mod choice;
 mod entering;
 mod fault;
 mod finding;
+mod folder;
+mod folding;
 mod found;
+mod found_block;
 mod frame;
 mod going;
 mod judging;
+mod leaf_again;
 mod leaving;
 mod path;
 mod place;
+mod preorder;
 mod reading;
 mod scan;
+mod scan_place;
 mod spot;
 #[cfg(test)]
 mod tests;
 
+pub use block_scan::{BlockScan, next_block};
 pub use fault::TreeFault;
 pub use finding::find_le;
+pub use folder::{FoldFault, Folder, Took};
+pub use folding::fold;
 pub use found::Found;
+pub use found_block::FoundBlock;
 pub use place::RootPlace;
 pub use scan::{Scan, next};

@@ -1,5 +1,5 @@
 // A scan of a range.
-ghost use Rattle.std.specs.Prelude.{◌≡◌, ◌≤◌, IfSome, OnErr, None, Some};
+ghost use Rattle.std.specs.Prelude.{◌≡◌, ℕ, ◌+◌, ◌-◌, ◌≤◌, slice_index_or, IfSome, OnErr, None, Some};
 ghost use Rattle.std.specs.Borrow.{sem};
 ghost use Rattle.btr_read.specs.Serves.{Serves};
 ghost use Rattle.btr_rack.specs.Rack.{OnlyReads};
@@ -9,32 +9,54 @@ ghost use Rattle.std.specs.Prelude.{[]};
 ghost use Rattle.btr_read.specs.Store.{Blocks};
 ghost use Rattle.btr_walk.specs.Range.{range};
 ghost use Rattle.btr_walk.specs.Reading.{Map, HasCause};
-ghost use Rattle.btr_walk.specs.Going.{IsOn};
+ghost use Rattle.btr_base.specs.declared.key.Key.{Key};
+ghost use Rattle.btr_walk.specs.Going.{IsOn, place_prog};
+ghost use Rattle.btr_walk.specs.Le.{root_spot};
+ghost use Rattle.btr_walk.specs.Ranks.{IsShaped};
 ghost use Rattle.btr_rack.specs.Rack.{Seen};
-ghost use Rattle.btr_walk.specs.ScanEnds.{left_of, without_leaf, IsReady, KeepsLeaf, ScanEnds};
+ghost use Rattle.btr_walk.specs.ScanEnds.{left_of, without_leaf, IsReady, KeepsLeaf, NextNears, Paused, IsFrom, Sought, ScanEnds};
 
 use crate::advancing::{Advanced, advance};
 use crate::begin::begin;
 use crate::entering::LeafAt;
 use crate::finding::found_at;
-use crate::going::Where;
+use crate::frame::Frame;
+use crate::scan_place::ScanPlace;
 use crate::{Found, RootPlace, TreeFault};
 use btr_base::Key;
+use btr_node::Leaf;
 use btr_rack::Rack;
 use btr_read::Store;
 
 /// A scan of the items from one key to another, both included. It keeps at most one loan: that of its leaf. It is not let
 /// go but by `finish`.
 pub struct Scan {
+    pub(crate) root: RootPlace,
     pub(crate) lo: Key,
     pub(crate) hi: Key,
-    pub(crate) place: Where,
+    pub(crate) place: ScanPlace,
     pub(crate) leaf: Option<LeafAt>,
+}
+
+// The place before all items of a tree.
+fn before_all(root: &RootPlace) -> ScanPlace
+    ensures leaf { result.leaf ≡ None }
+    ensures program { (lo hi : Key) (B : Map) → place_prog lo hi B result.rest ≡ range lo hi root.now }
+    ensures todo { result.rest.todo ≡ Some (record { level = root.now.level; spot = root_spot root.now }) }
+    ensures path { (k : ℕ) → slice_index_or result.rest.path k None ≡ None }
+    ensures shaped { IsShaped result.rest }
+    ensures on { (lo hi : Key) (B : Map) → IsOn lo hi B [] result }
+{
+    ScanPlace {
+        leaf: None,
+        rest: begin(root),
+    }
 }
 
 impl Scan {
     /// A scan of the tree with this root; nothing is read yet. Where `lo` is above `hi` it has no item.
     pub fn new(root: &RootPlace, lo: Key, hi: Key) -> Scan
+        ensures root { result.root ≡ root.now }
         ensures lo { result.lo ≡ lo }
         ensures hi { result.hi ≡ hi }
         ensures leaf { result.leaf ≡ None }
@@ -43,10 +65,68 @@ impl Scan {
         ensures on { (B : Map) → IsOn lo hi B [] result.place }
     {
         Scan {
+            root: *root,
             lo,
             hi,
-            place: begin(root),
+            place: before_all(root),
             leaf: None,
+        }
+    }
+
+    /// Gives the loan of the leaf back, if one is kept, and stays at its place: the next call of `next` reads the leaf again and
+    /// goes on behind the item that was met last. What is still to come stays the same, where the leaf does.
+    pub fn pause(&mut self, store: &mut Store)
+        requires { IfSome self.old.leaf (IsInHand store.old) }
+        ensures back { SameLoans (without_leaf store.old self.old) store.new }
+        ensures serves { (rack : Seen) → Serves rack store.old → Serves rack store.new }
+        ensures ready { (rack : Seen) → IsReady rack store.old self.old → IsReady rack store.new self.new }
+        ensures paused { Paused store.old store.new self.old self.new }
+    {
+        match self.leaf.take() {
+            None => {}
+            Some(hand) => {
+                let LeafAt {
+                    spot,
+                    next,
+                    end,
+                    loan,
+                } = hand;
+                self.place.leaf = Some(Frame { spot, next, end });
+                store.give(loan);
+            }
+        }
+    }
+
+    /// Goes on at a key, where that is above the key of the item that was met last. Where the leaf that is kept ends behind the
+    /// key, the scan stays in it, at its first item from the key on. Else it gives the leaf back and begins anew at the root.
+    /// Nothing is read.
+    pub fn seek(&mut self, key: Key, store: &mut Store)
+        requires { IfSome self.old.leaf (IsInHand store.old) }
+        ensures others { SameLoans (without_leaf store.old self.old) (without_leaf store.new self.new) }
+        ensures ready { (rack : Seen) → IsReady rack store.old self.old → IsReady rack store.new self.new }
+        ensures sought { Sought store.old store.new self.old self.new key }
+    {
+        match self.leaf.take() {
+            None => {
+                self.lo = key;
+                self.place = before_all(&self.root);
+            }
+            Some(hand) => {
+                if hand.spot.ends_behind(key) {
+                    let hand = hand_from(hand, key, store);
+                    put(&mut self.leaf, Some(hand));
+                    return;
+                }
+                let LeafAt {
+                    spot: _,
+                    next: _,
+                    end: _,
+                    loan,
+                } = hand;
+                store.give(loan);
+                self.lo = key;
+                self.place = before_all(&self.root);
+            }
         }
     }
 
@@ -57,6 +137,7 @@ impl Scan {
         ensures serves { (rack : Seen) → Serves rack store.old → Serves rack store.new }
     {
         let Scan {
+            root: _,
             lo: _,
             hi: _,
             place: _,
@@ -66,7 +147,7 @@ impl Scan {
             None => {}
             Some(hand) => {
                 let LeafAt {
-                    leaf: _,
+                    spot: _,
                     next: _,
                     end: _,
                     loan,
@@ -74,6 +155,35 @@ impl Scan {
                 store.give(loan);
             }
         }
+    }
+}
+
+// The greater of two places.
+fn at_least(next: usize, at: usize) -> usize
+    ensures { result ≡ next + (at - next) }
+{
+    if next < at { at } else { next }
+}
+
+// The leaf in hand behind its items below a key.
+fn hand_from(hand: LeafAt, key: Key, store: &Store) -> LeafAt
+    requires { IsInHand store.now hand }
+    ensures hand { IsInHand store.now result }
+    ensures from { IsFrom store.now hand key result }
+{
+    let LeafAt {
+        spot,
+        next,
+        end,
+        loan,
+    } = hand;
+    let at = Leaf::of(store.bytes(&loan)).seek(key);
+    let next = at_least(next, at);
+    LeafAt {
+        spot,
+        next,
+        end,
+        loan,
     }
 }
 
@@ -106,24 +216,29 @@ pub fn next<'e, R: Rack>(
     requires room { 4 ≤ free_count (without_leaf store.old scan.old) }
     ensures* after { sem 𝓛 (ScanEnds store.entry scan.old scan.new (R.seen rack.old) (R.seen rack.new) result) }
     ensures reads { OnlyReads (R.seen rack.old) (R.seen rack.new) }
+    ensures root { scan.new.root ≡ scan.old.root }
     ensures lo { scan.new.lo ≡ scan.old.lo }
     ensures hi { scan.new.hi ≡ scan.old.hi }
     ensures kept { KeepsLeaf result scan.new.leaf }
+    ensures nears { NextNears scan.old scan.new result }
     ensures place { OnErr result (scan.new.place ≡ scan.old.place) }
     ensures cause { HasCause store.old.layout (R.seen rack.old) (R.seen rack.new) result }
 {
     let leaf = scan.leaf.take();
-    let Advanced { place, leaf, met } = advance(scan.place, leaf, scan.lo, scan.hi, rack, store);
-    scan.place = place;
+    let Advanced { place, leaf, met } = advance(&scan.place, leaf, scan.lo, scan.hi, rack, store);
     put(&mut scan.leaf, leaf);
     match met {
         Err(fault) => Err(fault),
         Ok(false) => Ok(None),
         Ok(true) => {
+            scan.place = ScanPlace {
+                leaf: None,
+                rest: place,
+            };
             let Some(hand) = &scan.leaf else {
                 unreachable!();
             };
-            Ok(Some(found_at(store.bytes(&hand.loan), hand.leaf, hand.next - 1)))
+            Ok(Some(found_at(store.bytes(&hand.loan), hand.spot.addr, hand.next - 1)))
         }
     }
 }

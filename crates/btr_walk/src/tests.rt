@@ -1,2 +1,4 @@
+mod folds;
 mod scans;
 mod volume;
+mod walks;

@@ -1,6 +1,6 @@
 // Scans and lookups of trees of one to four levels.
-use super::volume::{FORM, START, floor, rack_of, root, scanned, store_over, tree};
-use crate::TreeFault;
+use super::volume::{FORM, START, floor, key, rack_of, root, scanned, step_from, store_over, tree};
+use crate::{Scan, TreeFault};
 use btr_base::sum;
 use std::alloc::Global;
 use std::process::Abort;
@@ -48,9 +48,18 @@ fn ranges_of_trees(rt: HostRuntime) -> Result<(), Fail> {
             (55, 99),
             (17, 6),
         ] {
-            let (numbers, fault) = scanned(rt.alloc(), &mut store, &mut rack, &place, lo, hi)?;
-            assert_eq!(rt; fault, None);
-            assert!(rt; is_even_run(numbers.as_slice(), count, lo, hi));
+            for is_pausing in [false, true] {
+                let (numbers, fault) = scanned(
+                    rt.alloc(),
+                    &mut store,
+                    &mut rack,
+                    &place,
+                    (lo, hi),
+                    is_pausing,
+                )?;
+                assert_eq!(rt; fault, None);
+                assert!(rt; is_even_run(numbers.as_slice(), count, lo, hi));
+            }
         }
         for number in 0..60 {
             let below = match (number / 2).min(count.wrapping_sub(1)) {
@@ -89,7 +98,7 @@ fn fault_of(
     edit(&mut copy, at, bytes);
     let mut rack = rack_of(alloc, &tree, &copy, edited.addr)?;
     let mut store = store_over(alloc, &rack)?;
-    let (numbers, fault) = scanned(alloc, &mut store, &mut rack, &place, 0, 99)?;
+    let (numbers, fault) = scanned(alloc, &mut store, &mut rack, &place, (0, 99), false)?;
     assert!(rt; numbers.len() < 10);
     Ok((edited.addr, fault))
 }
@@ -129,11 +138,19 @@ fn blocks_that_are_wrong(rt: HostRuntime) -> Result<(), Fail> {
 fn calls_that_fail(rt: HostRuntime) -> Result<(), Fail> {
     let tree = tree(rt.alloc(), 10)?;
     let place = root(&tree);
-    for n in 1..20 {
+    for n in 1..40 {
+        let is_pausing = n % 2 == 0;
         let mut rack = rack_of(rt.alloc(), &tree, &[], START)?;
         rack.fail_call(n)?;
         let mut store = store_over(rt.alloc(), &rack)?;
-        let (numbers, fault) = scanned(rt.alloc(), &mut store, &mut rack, &place, 0, 99)?;
+        let (numbers, fault) = scanned(
+            rt.alloc(),
+            &mut store,
+            &mut rack,
+            &place,
+            (0, 99),
+            is_pausing,
+        )?;
         match fault {
             None => assert_eq!(rt; numbers.len(), 10),
             Some(TreeFault::Unread(addr, slot)) => {
@@ -142,9 +159,42 @@ fn calls_that_fail(rt: HostRuntime) -> Result<(), Fail> {
             Some(_) => panic!(rt; "another fault"),
         }
         // What could be read is read again from the same place.
-        let (numbers, fault) = scanned(rt.alloc(), &mut store, &mut rack, &place, 0, 99)?;
+        let (numbers, fault) = scanned(
+            rt.alloc(),
+            &mut store,
+            &mut rack,
+            &place,
+            (0, 99),
+            is_pausing,
+        )?;
         assert_eq!(rt; fault, None);
         assert_eq!(rt; numbers.len(), 10);
     }
+    Ok(())
+}
+
+#[test]
+fn seeking_forward(rt: HostRuntime) -> Result<(), Fail> {
+    let tree = tree(rt.alloc(), 28)?;
+    let mut rack = rack_of(rt.alloc(), &tree, &[], START)?;
+    let mut store = store_over(rt.alloc(), &rack)?;
+    let mut scan = Scan::new(&root(&tree), key(0), key(52));
+    // In the leaf, behind it, at an item, between two, the last, and behind the last.
+    for (number, wanted) in [
+        (0, Some(0)),
+        (1, Some(2)),
+        (4, Some(4)),
+        (5, Some(6)),
+        (23, Some(24)),
+        (26, Some(26)),
+        (51, Some(52)),
+        (53, None),
+    ] {
+        assert_eq!(rt;
+            step_from(&mut store, &mut scan, &mut rack, number),
+            Ok(wanted)
+        );
+    }
+    scan.finish(&mut store);
     Ok(())
 }

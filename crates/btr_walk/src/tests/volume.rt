@@ -111,11 +111,12 @@ fn step(store: &mut Store, scan: &mut Scan, rack: &mut MemRack) -> Result<Option
     }
 }
 
-// The numbers of the next items, to the end or to a fault.
+// The numbers of the next items, to the end or to a fault, with a pause before each where it is asked for.
 fn collect(
     store: &mut Store,
     scan: &mut Scan,
     rack: &mut MemRack,
+    is_pausing: bool,
     numbers: &mut Vec<u64>,
 ) -> Result<Option<TreeFault>, AllocError>
     requires ready { IsReady (seen_of rack.old) store.old scan.old }
@@ -124,6 +125,9 @@ fn collect(
     ensures free { free_count (without_leaf store.new scan.new) ≡ 24 }
 {
     for _ in 0..1000 {
+        if is_pausing {
+            scan.pause(store);
+        }
         match step(store, scan, rack) {
             Ok(Some(number)) => numbers.push(number)?,
             Ok(None) => return Ok(None),
@@ -133,14 +137,14 @@ fn collect(
     Ok(None)
 }
 
-/// The numbers of a tree's items from `lo` to `hi`, and the fault that ended the scan, if one did.
+/// The numbers of a tree's items in a range, and the fault that ended the scan, if one did; with a pause before each.
 pub(super) fn scanned(
     alloc: Global,
     store: &mut Store,
     rack: &mut MemRack,
     root: &RootPlace,
-    lo: u64,
-    hi: u64,
+    range: (u64, u64),
+    is_pausing: bool,
 ) -> Result<(Vec<u64>, Option<TreeFault>), AllocError>
     requires serves { Serves (seen_of rack.old) store.old }
     requires free { free_count store.old ≡ 24 }
@@ -148,10 +152,27 @@ pub(super) fn scanned(
     ensures free { free_count store.new ≡ 24 }
 {
     let mut numbers = Vec::new(alloc);
+    let (lo, hi) = range;
     let mut scan = Scan::new(root, key(lo), key(hi));
-    let ended = collect(store, &mut scan, rack, &mut numbers);
+    let ended = collect(store, &mut scan, rack, is_pausing, &mut numbers);
     scan.finish(store);
     Ok((numbers, ended?))
+}
+
+/// The number of the next item from one on.
+pub(super) fn step_from(
+    store: &mut Store,
+    scan: &mut Scan,
+    rack: &mut MemRack,
+    number: u64,
+) -> Result<Option<u64>, TreeFault>
+    requires ready { IsReady (seen_of rack.old) store.old scan.old }
+    requires free { free_count (without_leaf store.old scan.old) ≡ 24 }
+    ensures ready { IsReady (seen_of rack.new) store.new scan.new }
+    ensures free { free_count (without_leaf store.new scan.new) ≡ 24 }
+{
+    scan.seek(key(number), store);
+    step(store, scan, rack)
 }
 
 // The number of the greatest item at or below one; the loan of its leaf is kept.

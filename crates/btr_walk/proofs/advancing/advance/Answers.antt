@@ -1,36 +1,53 @@
-use Rattle.std.proofs.Common.{Ok, Some, true, sym, ap, subst, arith}
+use Rattle.std.proofs.Common.{Ok, Err, None, sym, subst}
 use Rattle.btr_read.specs.Store.{SameLoans}
+use Rattle.btr_walk.specs.Advancing.{loan_of, FromPlace, FromHand, IsLeafAgain, IsAdvanced}
 use Rattle.btr_walk.specs.Lending.{base}
 use Rattle.btr_walk.specs.Reading.{unread_by}
-use Rattle.btr_walk.specs.Advancing.{left, loan_of, FromPlace, IsAdvanced}
-use Rattle.btr_walk.proofs.Joined.{drawn, unread_on}
-use Rattle.btr_walk.proofs.Hands.{step, meets_hand, from_hand, from_none, hand_some, from_as}
-use Rattle.btr_walk.proofs.Lending.{served_back}
+use Rattle.btr_walk.proofs.Fetched.{since}
+use Rattle.btr_walk.proofs.Hands.{with_hand, with_none, with_kept, kept_halts}
+use Rattle.btr_walk.proofs.Joined.{drawn, joined}
+use Rattle.btr_walk.proofs.Leads.{leaf_back}
+use Rattle.btr_walk.proofs.Lending.{same_then}
 use Rattle.btr_walk.proofs.advancing.advance.Goals as goal
 
-pub returns-then-next-end-clause-content : goal.returns-then-next-end-clause-content
-returns-then-next-end-clause-content g c =
-    let is = unread_by c.args.store.now.layout (g.R.Rack.seen c.args.rack.now) (g.R.Rack.seen c.args.rack.now) in
-    unread_on c.args.store.now.layout (λ B. IsAdvanced c.args.lo c.args.hi is B c.args.place (left c.args.lo c.args.hi B c.args.store.now c.args.leaf c.args.place) c.args.store.now (record { place = c.args.place; leaf = Some (step c.in-Some.hand); met = Ok true }))
-    (λ B. meets_hand c.args.lo c.args.hi B is c.args.store.now c.args.leaf c.in-Some.hand c.args.place c.in-Some.is (hand_some c.args.store.now c.args.leaf c.in-Some.hand c.in-Some.is c.requires.hand) c.if-next-end.true)
+pub returns-in-Some-clause-content : goal.returns-in-Some-clause-content
+returns-in-Some-clause-content g c =
+    let is = unread_by c.args.store.now.layout (g.R.Rack.seen c.args.rack.now) (g.R.Rack.seen c.from_hand.new.rack) in
+    drawn c.args.store.now.layout (λ B. FromHand c.args.lo c.args.hi is B c.args.place.now.rest c.in-Some.hand c.args.store.now c.from_hand.new.store c.from_hand.result)
+    (λ B. IsAdvanced c.args.lo c.args.hi is B c.args.place.now c.args.leaf c.args.store.now c.from_hand.new.store c.from_hand.result)
+    (λ B h. with_hand c.args.lo c.args.hi B is c.args.store.now c.from_hand.new.store c.args.leaf c.in-Some.hand c.args.place.now c.from_hand.result c.in-Some.is h) c.from_hand.ensures.content
 
-pub returns-in-None-clause-content : goal.returns-in-None-clause-content
-returns-in-None-clause-content g c =
+pub returns-in-None-leaf-clause-content : goal.returns-in-None-leaf-clause-content
+returns-in-None-leaf-clause-content g c =
     let is = unread_by c.args.store.now.layout (g.R.Rack.seen c.args.rack.now) (g.R.Rack.seen c.from_place.new.rack) in
-    drawn c.args.store.now.layout (λ B. FromPlace c.args.lo c.args.hi is B c.args.place c.from_place.new.store c.from_place.result) (λ B. IsAdvanced c.args.lo c.args.hi is B c.args.place (left c.args.lo c.args.hi B c.args.store.now c.args.leaf c.args.place) c.from_place.new.store c.from_place.result)
-    (λ B h. from_none c.args.lo c.args.hi B is c.args.store.now c.from_place.new.store c.args.leaf c.args.place c.from_place.result c.in-None.is h) c.from_place.ensures.content
+    drawn c.args.store.now.layout (λ B. FromPlace c.args.lo c.args.hi is B c.args.place.now.rest c.from_place.new.store c.from_place.result)
+    (λ B. IsAdvanced c.args.lo c.args.hi is B c.args.place.now c.args.leaf c.args.store.now c.from_place.new.store c.from_place.result)
+    (λ B h. with_none c.args.lo c.args.hi B is c.args.store.now c.from_place.new.store c.args.leaf c.args.place.now c.from_place.result c.in-None.is c.in-None-leaf.is h) c.from_place.ensures.content
 
-pub returns-else-next-end-clause-content : goal.returns-else-next-end-clause-content
-returns-else-next-end-clause-content g c =
-    let is = unread_by c.args.store.now.layout (g.R.Rack.seen c.args.rack.now) (g.R.Rack.seen c.from_place-in-Some.new.rack) in
-    drawn c.args.store.now.layout (λ B. FromPlace c.args.lo c.args.hi is B c.args.place c.from_place-in-Some.new.store c.from_place-in-Some.result) (λ B. IsAdvanced c.args.lo c.args.hi is B c.args.place (left c.args.lo c.args.hi B c.args.store.now c.args.leaf c.args.place) c.from_place-in-Some.new.store c.from_place-in-Some.result)
-    (λ B h. from_hand c.args.lo c.args.hi B is c.args.store.now c.from_place-in-Some.new.store c.args.leaf c.in-Some.hand c.args.place c.from_place-in-Some.result c.in-Some.is (hand_some c.args.store.now c.args.leaf c.in-Some.hand c.in-Some.is c.requires.hand) (omega (arith, c.if-next-end.false)) h)
-    (from_as c.args.store.now.layout c.give.new.self.layout (g.R.Rack.seen c.args.rack.now) (g.R.Rack.seen c.from_place-in-Some.new.rack) c.args.lo c.args.hi c.args.place c.from_place-in-Some.new.store c.from_place-in-Some.result (ap (λ s. s.layout) c.give.ensures) c.from_place-in-Some.ensures.content)
+pub returns-in-Ok-clause-others : goal.returns-in-Ok-clause-others
+returns-in-Ok-clause-others g c =
+    let a = c.from_hand-in-Ok.result in
+    let new = c.from_hand-in-Ok.new.store in
+    subst (λ l. SameLoans (base c.args.store.now (loan_of l)) (base new (loan_of a.leaf))) (sym c.in-None.is) (same_then (leaf_back c.args.store.now c.read_leaf.new.store c.in-Ok.hand c.in-Ok.ensures.lent) c.from_hand-in-Ok.ensures.others)
 
-pub from_place-requires-in-Some-clause-serves : goal.from_place-requires-in-Some-clause-serves
-from_place-requires-in-Some-clause-serves g c = served_back _ c.args.store.now c.give.new.self c.in-Some.hand.loan c.requires.serves c.give.ensures
+pub returns-in-Ok-clause-content : goal.returns-in-Ok-clause-content
+returns-in-Ok-clause-content g c =
+    let was = unread_by c.args.store.now.layout (g.R.Rack.seen c.args.rack.now) (g.R.Rack.seen c.read_leaf.new.rack) in
+    let mid = c.read_leaf.new.store in
+    let then = unread_by mid.layout (g.R.Rack.seen c.read_leaf.new.rack) (g.R.Rack.seen c.from_hand-in-Ok.new.rack) in
+    let is = unread_by c.args.store.now.layout (g.R.Rack.seen c.args.rack.now) (g.R.Rack.seen c.from_hand-in-Ok.new.rack) in
+    let kept = c.in-Some-leaf.kept in
+    let lent = c.in-Ok.ensures.lent in
+    joined (λ B. IsLeafAgain was B kept mid (Ok c.in-Ok.hand)) (λ B. FromHand c.args.lo c.args.hi then B c.args.place.now.rest c.in-Ok.hand mid c.from_hand-in-Ok.new.store c.from_hand-in-Ok.result)
+    (λ B. IsAdvanced c.args.lo c.args.hi is B c.args.place.now c.args.leaf c.args.store.now c.from_hand-in-Ok.new.store c.from_hand-in-Ok.result) lent.layout
+    (λ B x h. with_kept c.args.lo c.args.hi B c.args.leaf c.args.place.now kept c.in-None.is c.in-Some-leaf.is was then is c.args.store.now mid c.from_hand-in-Ok.new.store c.in-Ok.hand c.from_hand-in-Ok.result (since _ _ lent.layout c.in-Ok.ensures.reads) c.in-Ok.ensures.same x h)
+    c.in-Ok.ensures.content c.from_hand-in-Ok.ensures.content
 
-pub returns-else-next-end-clause-others : goal.returns-else-next-end-clause-others
-returns-else-next-end-clause-others g c =
-    subst (λ leaf. SameLoans (base c.args.store.now (loan_of leaf)) (base c.from_place-in-Some.new.store (loan_of c.from_place-in-Some.result.leaf))) (sym c.in-Some.is)
-    (subst (λ s. SameLoans s (base c.from_place-in-Some.new.store (loan_of c.from_place-in-Some.result.leaf))) c.give.ensures c.from_place-in-Some.ensures.lent.others)
+pub returns-in-Err-clause-content : goal.returns-in-Err-clause-content
+returns-in-Err-clause-content g c =
+    let is = unread_by c.args.store.now.layout (g.R.Rack.seen c.args.rack.now) (g.R.Rack.seen c.read_leaf.new.rack) in
+    let kept = c.in-Some-leaf.kept in
+    let new = c.read_leaf.new.store in
+    drawn c.args.store.now.layout (λ B. IsLeafAgain is B kept new (Err c.in-Err.fault))
+    (λ B. IsAdvanced c.args.lo c.args.hi is B c.args.place.now c.args.leaf c.args.store.now new (record { place = c.args.place.now.rest; leaf = None; met = Err c.in-Err.fault }))
+    (λ B h. kept_halts c.args.lo c.args.hi B c.args.leaf c.args.place.now kept c.in-None.is c.in-Some-leaf.is is c.args.store.now new c.in-Err.fault h) c.in-Err.ensures.content

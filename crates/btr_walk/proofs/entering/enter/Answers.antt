@@ -10,7 +10,7 @@ use Rattle.btr_walk.specs.Entering.{IsEntered}
 use Rattle.btr_walk.proofs.Fetched.{some_block}
 use Rattle.btr_walk.proofs.Lending.{given_back, served_back}
 use Rattle.btr_walk.proofs.Joined.{drawn, block_is, is_leaf_at, is_inner_at}
-use Rattle.btr_walk.proofs.Entered.{enter_leaf, enter_inner, enter_frame}
+use Rattle.btr_walk.proofs.Entered.{enter_leaf, held_leaf, enter_inner, enter_frame}
 use Rattle.btr_walk.proofs.entering.enter.Goals as goal
 
 pub part_of-part-requires-clause-good : goal.part_of-part-requires-clause-good
@@ -36,9 +36,12 @@ returns-then-todo-eq0-clause-content g c =
     let store = c.read_block.new.store in
     let block = c.bytes.result.now in
     let leaf = is_leaf_at todo.level todo.spot store c.in_ok-loan.loan block c.bytes.ensures.value c.in_ok-loan.ensures.good c.if-todo-eq0.true in
-    drawn c.args.store.now.layout (λ B. Reads is B todo.level todo.spot store (Ok c.in_ok-loan.loan)) (λ B. IsEntered c.args.lo c.args.hi is B todo store (Ok (Leaf (record { leaf = todo.spot.addr; next = c.part_of-part.result.next; end = c.part_of-part.result.end; loan = c.in_ok-loan.loan }))))
-    (λ B reads. some_block store c.in_ok-loan.loan block (λ (b : List ℕ). (rest : RangeProg) → exec B (range_at c.args.lo c.args.hi todo.level todo.spot rest) ≡ first (Wants (want_of todo.level todo.spot)) (exec B (emit_all (part_items todo.spot.addr b c.part_of-part.result.next c.part_of-part.result.end) rest))) c.bytes.ensures.value
-    (enter_leaf c.args.lo c.args.hi B todo.level todo.spot block c.part_of-part.result leaf c.part_of-part.ensures (block_is store c.in_ok-loan.loan block (λ (b : List ℕ). B (want_of todo.level todo.spot) ≡ Ok b) c.bytes.ensures.value reads)))
+    drawn c.args.store.now.layout (λ B. Reads is B todo.level todo.spot store (Ok c.in_ok-loan.loan)) (λ B. IsEntered c.args.lo c.args.hi is B todo store (Ok (Leaf (record { spot = todo.spot; next = c.part_of-part.result.next; end = c.part_of-part.result.end; loan = c.in_ok-loan.loan }))))
+    (λ B reads. let e = block_is store c.in_ok-loan.loan block (λ (b : List ℕ). B (want_of todo.level todo.spot) ≡ Ok b) c.bytes.ensures.value reads in (
+      some_block store c.in_ok-loan.loan block (λ (b : List ℕ). (rest : RangeProg) → exec B (range_at c.args.lo c.args.hi todo.level todo.spot rest) ≡ first (Wants (want_of todo.level todo.spot)) (exec B (emit_all (part_items todo.spot.addr b c.part_of-part.result.next c.part_of-part.result.end) rest))) c.bytes.ensures.value
+          (enter_leaf c.args.lo c.args.hi B todo.level todo.spot block c.part_of-part.result leaf c.part_of-part.ensures e),
+      λ seen read. held_leaf c.args.lo c.args.hi B todo.level todo.spot block store c.part_of-part.result.next c.part_of-part.result.end c.in_ok-loan.loan seen leaf c.bytes.ensures.value e read,
+    ))
     c.in_ok-loan.ensures.content
 
 pub below_of-below-requires-clause-good : goal.below_of-below-requires-clause-good

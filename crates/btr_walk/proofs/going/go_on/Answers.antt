@@ -1,12 +1,12 @@
 use Rattle.std.proofs.Common.{◌+◌, Ok, Err, Some, None, refl, subst}
-use Rattle.btr_base.specs.declared.key.Key.{Key}
 use Rattle.btr_walk.specs.declared.going.Gone.TheVariants as gone
 use Rattle.btr_walk.specs.Entering.{IsEntered}
-use Rattle.btr_walk.specs.Again.{IsAgain}
+use Rattle.btr_walk.specs.Again.{Rereads}
 use Rattle.btr_walk.specs.Going.{IsGone}
 use Rattle.btr_walk.specs.Reading.{unread_by}
 use Rattle.btr_walk.proofs.Joined.{drawn, unread_on}
 use Rattle.btr_walk.proofs.Paths.{gone_leaf, gone_inner, gone_end, gone_again, gone_err, again_halts, at_place, level_is}
+use Rattle.btr_walk.proofs.Repeated.{again_from}
 use Rattle.btr_walk.proofs.Ranking.{near_leaf, near_inner, near_again, near_place, fits_below}
 use Rattle.btr_walk.proofs.going.go_on.Goals as goal
 
@@ -49,8 +49,8 @@ returns-in-Err-read_again-clause-content g c =
     let place = c.args.place.now in
     let low = c.in-Some-lowest.low in
     let fault = c.in-Err-read_again.fault in
-    drawn c.args.store.now.layout (λ B. (lo hi : Key) → IsAgain lo hi is B (low.at + 1) low.frame (Err fault)) (λ B. IsGone c.args.lo c.args.hi is B place c.read_again.new.store (Err fault))
-    (λ B h. at_place c.args.lo c.args.hi is B place None c.read_again.new.store (Err fault) c.in-None.is (again_halts c.args.lo c.args.hi B is place.path low.at (low.at + 1) low.frame c.read_again.new.store fault refl c.in-Some-lowest.ensures.here (h c.args.lo c.args.hi))) c.in-Err-read_again.ensures.content
+    drawn c.args.store.now.layout (λ B. Rereads is B (low.at + 1) low.frame (Err fault)) (λ B. IsGone c.args.lo c.args.hi is B place c.read_again.new.store (Err fault))
+    (λ B h. at_place c.args.lo c.args.hi is B place None c.read_again.new.store (Err fault) c.in-None.is (again_halts c.args.lo c.args.hi B is place.path low.at (low.at + 1) low.frame c.read_again.new.store fault refl c.in-Some-lowest.ensures.here (again_from c.args.lo c.args.hi is B (low.at + 1) low.frame (Err fault) h))) c.in-Err-read_again.ensures.content
 
 pub returns-in-Ok-clause-content : goal.returns-in-Ok-clause-content
 returns-in-Ok-clause-content g c =
@@ -58,9 +58,9 @@ returns-in-Ok-clause-content g c =
     let place = c.args.place.now in
     let low = c.in-Some-lowest.low in
     let b = c.in-Ok.below in
-    drawn c.args.store.now.layout (λ B. (lo hi : Key) → IsAgain lo hi is B (low.at + 1) low.frame (Ok b)) (λ B. IsGone c.args.lo c.args.hi is B place c.read_again.new.store (Ok (gone.Between (record { path = c.with_frame-path-in-Ok.result; todo = b.todo }))))
+    drawn c.args.store.now.layout (λ B. Rereads is B (low.at + 1) low.frame (Ok b)) (λ B. IsGone c.args.lo c.args.hi is B place c.read_again.new.store (Ok (gone.Between (record { path = c.with_frame-path-in-Ok.result; todo = b.todo }))))
     (λ B h. at_place c.args.lo c.args.hi is B place None c.read_again.new.store (Ok (gone.Between (record { path = c.with_frame-path-in-Ok.result; todo = b.todo }))) c.in-None.is
-    (gone_again c.args.lo c.args.hi B is place.path low.at (low.at + 1) low.frame c.read_again.new.store b c.with_frame-path-in-Ok.result c.with_frame-path-in-Ok.ensures.long c.in-Some-lowest.ensures.within refl c.in-Some-lowest.ensures.before c.in-Some-lowest.ensures.here c.with_frame-path-in-Ok.ensures.set (h c.args.lo c.args.hi))) c.in-Ok.ensures.content
+    (gone_again c.args.lo c.args.hi B is place.path low.at (low.at + 1) low.frame c.read_again.new.store b c.with_frame-path-in-Ok.result c.with_frame-path-in-Ok.ensures.long c.in-Some-lowest.ensures.within refl c.in-Some-lowest.ensures.before c.in-Some-lowest.ensures.here c.with_frame-path-in-Ok.ensures.set (again_from c.args.lo c.args.hi is B (low.at + 1) low.frame (Ok b) h))) c.in-Ok.ensures.content
 
 pub returns-in-Ok-Leaf-clause-nears : goal.returns-in-Ok-Leaf-clause-nears
 returns-in-Ok-Leaf-clause-nears g c =

@@ -31,7 +31,8 @@ loop-fault-preserved-in-Ok-Between g c =
       reads = reads_more c.loop-fault.invariant.reads c.in-Ok-Between.ensures.reads;
       serves = c.in-Ok-Between.ensures.serves;
       same = same_then c.loop-fault.invariant.same (gone_same c.loop-fault.store c.go_on.new.store c.in-Ok-Between.field-0 c.in-Ok-Between.after c.in-Ok-Between.field-0-is c.in-Ok-Between.ensures.lent);
-      shaped = gone_near_between c.loop-fault.at c.in-Ok-Between.field-0 c.in-Ok-Between.after c.in-Ok-Between.field-0-is c.in-Ok-Between.ensures.nears;
+      shaped = (gone_near_between c.loop-fault.at c.in-Ok-Between.field-0 c.in-Ok-Between.after c.in-Ok-Between.field-0-is c.in-Ok-Between.ensures.nears).0;
+      near = omega (arith, c.loop-fault.invariant.near, (gone_near_between c.loop-fault.at c.in-Ok-Between.field-0 c.in-Ok-Between.after c.in-Ok-Between.field-0-is c.in-Ok-Between.ensures.nears).1);
       tells = joined (λ B. Leads c.args.lo c.args.hi B c.args.place.now c.loop-fault.at) (λ B. IsGone c.args.lo c.args.hi was B c.loop-fault.at c.go_on.new.store (Ok c.in-Ok-Between.field-0)) (λ B. Leads c.args.lo c.args.hi B c.args.place.now c.in-Ok-Between.after) c.loop-fault.invariant.same.layout
           (λ B l g. leads_between c.args.lo c.args.hi B was c.args.place.now c.loop-fault.at c.in-Ok-Between.after c.go_on.new.store l (subst (λ x. IsGone c.args.lo c.args.hi was B c.loop-fault.at c.go_on.new.store (Ok x)) c.in-Ok-Between.field-0-is g)) c.loop-fault.invariant.tells c.in-Ok-Between.ensures.content;
     }
@@ -50,10 +51,16 @@ loop-fault-preserved g c =
       reads = reads_more c.loop-fault.invariant.reads c.in-Ok-Leaf.ensures.reads;
       serves = served_back _ c.go_on.new.store c.give.new.self c.in-Ok-Leaf.leaf.loan c.in-Ok-Leaf.ensures.serves c.give.ensures;
       same = same_then c.loop-fault.invariant.same (leaf_given c.loop-fault.store c.go_on.new.store c.give.new.self c.in-Ok-Leaf.leaf (gone_lent c.loop-fault.store c.go_on.new.store c.in-Ok-Leaf.field-0 c.in-Ok-Leaf.leaf c.in-Ok-Leaf.after c.in-Ok-Leaf.field-0-is c.in-Ok-Leaf.ensures.lent) c.give.ensures);
-      shaped = gone_near c.loop-fault.at c.in-Ok-Leaf.field-0 c.in-Ok-Leaf.leaf c.in-Ok-Leaf.after c.in-Ok-Leaf.field-0-is c.in-Ok-Leaf.ensures.nears;
+      shaped = (gone_near c.loop-fault.at c.in-Ok-Leaf.field-0 c.in-Ok-Leaf.leaf c.in-Ok-Leaf.after c.in-Ok-Leaf.field-0-is c.in-Ok-Leaf.ensures.nears).0;
+      near = omega (arith, c.loop-fault.invariant.near, (gone_near c.loop-fault.at c.in-Ok-Leaf.field-0 c.in-Ok-Leaf.leaf c.in-Ok-Leaf.after c.in-Ok-Leaf.field-0-is c.in-Ok-Leaf.ensures.nears).1);
       tells = joined (λ B. Leads c.args.lo c.args.hi B c.args.place.now c.loop-fault.at) (λ B. IsGone c.args.lo c.args.hi was B c.loop-fault.at c.go_on.new.store (Ok c.in-Ok-Leaf.field-0)) (λ B. Leads c.args.lo c.args.hi B c.args.place.now c.in-Ok-Leaf.after) c.loop-fault.invariant.same.layout
           (λ B l g. leads_empty c.args.lo c.args.hi B was c.args.place.now c.loop-fault.at c.in-Ok-Leaf.after c.go_on.new.store c.in-Ok-Leaf.leaf (omega (arith, c.if-leaf.false)) l (subst (λ x. IsGone c.args.lo c.args.hi was B c.loop-fault.at c.go_on.new.store (Ok x)) c.in-Ok-Leaf.field-0-is g)) c.loop-fault.invariant.tells c.in-Ok-Leaf.ensures.content;
     }
 
 pub returns-in-Err-clause-cause : goal.returns-in-Err-clause-cause
 returns-in-Err-clause-cause g c = cause_since (g.R.Rack.seen c.go_on.new.rack) c.args.store.now.layout c.loop-fault.store.layout c.in-Err.fault c.loop-fault.invariant.same.layout c.loop-fault.invariant.reads c.in-Err.ensures.cause
+
+pub returns-then-leaf-clause-nears : goal.returns-then-leaf-clause-nears
+returns-then-leaf-clause-nears g c =
+    let n = gone_near c.loop-fault.at c.in-Ok-Leaf.field-0 c.in-Ok-Leaf.leaf c.in-Ok-Leaf.after c.in-Ok-Leaf.field-0-is c.in-Ok-Leaf.ensures.nears in
+    (n.0, omega (arith, c.loop-fault.invariant.near, n.1))

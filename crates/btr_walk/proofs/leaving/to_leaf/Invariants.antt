@@ -1,3 +1,4 @@
+use Rattle.std.proofs.Common.{◌≤◌}
 use Rattle.btr_rack.specs.Rack.{OnlyReads}
 use Rattle.btr_read.specs.Serves.{Serves}
 use Rattle.btr_read.specs.Store.{SameLoans}
@@ -12,6 +13,7 @@ invariant-loop-fault g l = record {
   serves : Serves (g.R.Rack.seen l.rack) l.store;
   same : SameLoans l.fn.store l.store;
   shaped : IsShaped l.at;
+  near : rank l.at ≤ rank l.fn.place;
   tells : Tells l.fn.store.layout (g.R.Rack.seen l.fn.rack) (g.R.Rack.seen l.rack) (λ B. Leads l.lo l.hi B l.fn.place l.at);
 }
 

@@ -1,33 +1,39 @@
 use Rattle.std.proofs.Common.{Ok, refl, ap, ◌∙◌}
 use Rattle.std.specs.Option.{is_some}
-use Rattle.btr_walk.proofs.Nexts.{cause_as, next_err, next_end, next_item, keeps_err, keeps_end, place_err}
+use Rattle.btr_walk.proofs.Nexts.{cause_as, next_err, next_end, next_item, keeps_err, keeps_end, near_some, near_none}
 use Rattle.btr_walk.proofs.scan.next.Goals as goal
 
 pub returns-in-Err : goal.returns-in-Err
 returns-in-Err g c =
-    let a = c.advance-leaf.result in (
-      (refl, λ x. tt, next_err c.args.store.now c.advance-leaf.new.store c.args.scan.now c.take-leaf.result c.take-leaf.ensures.value a c.put.new.place c.put.ensures _ _ c.advance-leaf.ensures.serves c.advance-leaf.ensures.shaped c.in-Err.fault c.in-Err.is c.advance-leaf.ensures.others c.advance-leaf.ensures.hand c.advance-leaf.ensures.content),
+    let a = c.advance-leaf.result in
+    let free = keeps_err a.leaf c.put.new.place a.met c.in-Err.fault c.put.ensures c.in-Err.is c.advance-leaf.ensures.item in (
+      (refl, λ x. tt, next_err c.args.store.now c.advance-leaf.new.store c.args.scan.now c.take-leaf.result c.take-leaf.ensures.value a c.put.new.place c.put.ensures _ _ c.advance-leaf.ensures.serves c.in-Err.fault c.in-Err.is free c.requires.ready.shaped c.advance-leaf.ensures.others c.advance-leaf.ensures.hand c.advance-leaf.ensures.content),
       record {
         after = tt;
         reads = c.advance-leaf.ensures.reads;
+        root = refl;
         lo = refl;
         hi = refl;
-        kept = keeps_err a.leaf c.put.new.place a.met c.in-Err.fault c.put.ensures c.in-Err.is c.advance-leaf.ensures.item;
-        place = place_err _ a.place c.args.scan.now.place a.met c.in-Err.fault c.in-Err.is c.advance-leaf.ensures.place;
+        kept = free;
+        nears = near_none c.args.scan.now c.put.new.place free c.requires.ready.alone;
+        place = refl;
         cause = cause_as c.args.store.now.layout _ _ a.met c.in-Err.fault c.in-Err.is c.advance-leaf.ensures.cause;
       },
     )
 
 pub returns-in-Some : goal.returns-in-Some
 returns-in-Some g c =
-    let a = c.advance-leaf.result in (
-      (refl, λ x. tt, next_item c.args.store.now c.advance-leaf.new.store c.args.scan.now c.take-leaf.result c.take-leaf.ensures.value a c.put.new.place c.put.ensures _ _ c.advance-leaf.ensures.serves c.advance-leaf.ensures.shaped c.in-Some.hand c.in-Some.is c.found_at.result c.bytes.result.now c.bytes.ensures.value c.found_at.ensures (c.in-Ok-true.is ∙ ap Ok c.in-Ok-true.field-0-test) c.advance-leaf.ensures.others c.advance-leaf.ensures.hand c.advance-leaf.ensures.content),
+    let a = c.advance-leaf.result in
+    let met = c.in-Ok-true.is ∙ ap Ok c.in-Ok-true.field-0-test in (
+      (refl, λ x. tt, next_item c.args.store.now c.advance-leaf.new.store c.args.scan.now c.take-leaf.result c.take-leaf.ensures.value a c.put.new.place c.put.ensures _ _ c.advance-leaf.ensures.serves c.in-Some.hand c.in-Some.is c.found_at.result c.bytes.result.now c.bytes.ensures.value c.found_at.ensures met c.advance-leaf.ensures.shaped c.advance-leaf.ensures.others c.advance-leaf.ensures.hand c.advance-leaf.ensures.content),
       record {
         after = tt;
         reads = c.advance-leaf.ensures.reads;
+        root = refl;
         lo = refl;
         hi = refl;
         kept = ap is_some c.in-Some.is;
+        nears = near_some c.args.scan.now c.take-leaf.result c.put.new.place a c.take-leaf.ensures.value c.put.ensures c.advance-leaf.ensures.nears met;
         place = tt;
         cause = tt;
       },
@@ -35,14 +41,18 @@ returns-in-Some g c =
 
 pub returns-in-Ok-false : goal.returns-in-Ok-false
 returns-in-Ok-false g c =
-    let a = c.advance-leaf.result in (
-      (refl, λ x. tt, next_end c.args.store.now c.advance-leaf.new.store c.args.scan.now c.take-leaf.result c.take-leaf.ensures.value a c.put.new.place c.put.ensures _ _ c.advance-leaf.ensures.serves c.advance-leaf.ensures.shaped (c.in-Ok-false.is ∙ ap Ok c.in-Ok-false.field-0-test) c.advance-leaf.ensures.others c.advance-leaf.ensures.hand c.advance-leaf.ensures.content),
+    let a = c.advance-leaf.result in
+    let met = c.in-Ok-false.is ∙ ap Ok c.in-Ok-false.field-0-test in
+    let free = keeps_end a.leaf c.put.new.place a.met c.put.ensures met c.advance-leaf.ensures.item in (
+      (refl, λ x. tt, next_end c.args.store.now c.advance-leaf.new.store c.args.scan.now c.take-leaf.result c.take-leaf.ensures.value a c.put.new.place c.put.ensures _ _ c.advance-leaf.ensures.serves met free c.requires.ready.shaped c.advance-leaf.ensures.others c.advance-leaf.ensures.hand c.advance-leaf.ensures.content),
       record {
         after = tt;
         reads = c.advance-leaf.ensures.reads;
+        root = refl;
         lo = refl;
         hi = refl;
-        kept = keeps_end a.leaf c.put.new.place a.met c.put.ensures (c.in-Ok-false.is ∙ ap Ok c.in-Ok-false.field-0-test) c.advance-leaf.ensures.item;
+        kept = free;
+        nears = near_none c.args.scan.now c.put.new.place free c.requires.ready.alone;
         place = tt;
         cause = tt;
       },

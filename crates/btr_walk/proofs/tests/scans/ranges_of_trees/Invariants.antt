@@ -15,3 +15,9 @@ invariant-loop-number g l = record {
   serves : Serves (seen_of l.rack) l.store;
   free : free_count l.store ≡ 24;
 }
+
+abbrev pub invariant-loop-is_pausing : goal.invariant-loop-is_pausing
+invariant-loop-is_pausing g l = record {
+  serves : Serves (seen_of l.rack) l.store;
+  free : free_count l.store ≡ 24;
+}

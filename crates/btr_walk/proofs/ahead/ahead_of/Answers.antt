@@ -1,0 +1,38 @@
+use Rattle.std.proofs.Common.{◌+◌, Ok, Err, Some, None, refl, subst, arith}
+use Rattle.btr_walk.specs.Again.{Rereads}
+use Rattle.btr_walk.specs.Preorder.{IsAhead}
+use Rattle.btr_walk.specs.Reading.{unread_by}
+use Rattle.btr_walk.proofs.Joined.{drawn, unread_on}
+use Rattle.btr_walk.proofs.Preorders.{at_end, ahead_again, ahead_halts}
+use Rattle.btr_walk.proofs.Ranking.{near_again, near_place, near_ahead}
+use Rattle.btr_walk.proofs.ahead.ahead_of.Goals as goal
+
+pub returns-in-None-lowest-clause-content : goal.returns-in-None-lowest-clause-content
+returns-in-None-lowest-clause-content g c =
+    let is = unread_by c.args.store.now.layout (g.R.Rack.seen c.args.rack.now) (g.R.Rack.seen c.args.rack.now) in
+    unread_on c.args.store.now.layout (λ B. IsAhead is B c.args.place.now (Ok None))
+    (λ B seen on. at_end B c.args.place.now c.in-None.is c.in-None-lowest.ensures.none)
+
+pub returns-in-Err-clause-content : goal.returns-in-Err-clause-content
+returns-in-Err-clause-content g c =
+    let is = unread_by c.args.store.now.layout (g.R.Rack.seen c.args.rack.now) (g.R.Rack.seen c.read_again.new.rack) in
+    let low = c.in-Some-lowest.low in
+    drawn c.args.store.now.layout (λ B. Rereads is B (low.at + 1) low.frame (Err c.in-Err.fault)) (λ B. IsAhead is B c.args.place.now (Err c.in-Err.fault))
+    (λ B h seen on. ahead_halts B c.args.place.now low.at low.frame c.in-None.is c.in-Some-lowest.ensures.here is c.in-Err.fault seen on h) c.in-Err.ensures.content
+
+pub returns-in-Some-todo-clause-nears : goal.returns-in-Some-todo-clause-nears
+returns-in-Some-todo-clause-nears g c =
+    let place = c.args.place.now in
+    let low = c.in-Some-lowest.low in
+    let b = c.in-Ok.below in
+    near_ahead place c.with_frame-path.result b.todo c.in-Some-todo.todo c.in-Some-todo.is
+    (near_place place None (record { path = c.with_frame-path.result; todo = b.todo }) c.in-None.is c.requires.shaped (near_again place.path c.with_frame-path.result low.at (low.at + 1) low.frame b refl c.in-Some-lowest.ensures.within c.in-Ok.ensures.next c.with_frame-path.ensures.set c.in-Some-lowest.ensures.here c.in-Some-lowest.ensures.before))
+
+pub returns-in-Some-todo-clause-content : goal.returns-in-Some-todo-clause-content
+returns-in-Some-todo-clause-content g c =
+    let is = unread_by c.args.store.now.layout (g.R.Rack.seen c.args.rack.now) (g.R.Rack.seen c.read_again.new.rack) in
+    let place = c.args.place.now in
+    let low = c.in-Some-lowest.low in
+    let b = c.in-Ok.below in
+    drawn c.args.store.now.layout (λ B. Rereads is B (low.at + 1) low.frame (Ok b)) (λ B. IsAhead is B place (Ok (Some (record { todo = c.in-Some-todo.todo; path = c.with_frame-path.result }))))
+    (λ B h seen on. ahead_again B place low.at low.frame c.in-None.is c.in-Some-lowest.ensures.here is b c.in-Some-todo.todo c.with_frame-path.result seen c.in-Some-lowest.ensures.long c.in-Some-lowest.ensures.within c.in-Some-lowest.ensures.before c.with_frame-path.ensures.set c.in-Some-todo.is on h) c.in-Ok.ensures.content

@@ -1,0 +1,48 @@
+// A leaf that is read again.
+ghost use Rattle.std.specs.Prelude.{◌≡◌, ◌≤◌, IfOk};
+ghost use Rattle.btr_rack.specs.Rack.{OnlyReads};
+ghost use Rattle.btr_read.specs.Serves.{Serves};
+ghost use Rattle.btr_read.specs.Store.{free_count};
+ghost use Rattle.btr_walk.specs.Advancing.{IsLeafOf, LendsAgain, IsLeafAgain};
+ghost use Rattle.btr_walk.specs.Reading.{Tells, unread_by, HasCause};
+
+use crate::TreeFault;
+use crate::entering::LeafAt;
+use crate::frame::Frame;
+use crate::reading::read_block;
+use btr_node::Leaf;
+use btr_rack::Rack;
+use btr_read::Store;
+
+// Reads a leaf again that was given back, of which the items of the frame are still to come.
+pub(crate) fn read_leaf<R: Rack>(
+    frame: &Frame,
+    rack: &mut R,
+    store: &mut Store,
+) -> Result<LeafAt, TreeFault>
+    requires serves { Serves (R.seen rack.old) store.old }
+    requires room { 4 ≤ free_count store.old }
+    ensures serves { Serves (R.seen rack.new) store.new }
+    ensures reads { OnlyReads (R.seen rack.old) (R.seen rack.new) }
+    ensures lent { LendsAgain store.old store.new result }
+    ensures same { IfOk result (IsLeafOf frame.now) }
+    ensures cause { HasCause store.old.layout (R.seen rack.old) (R.seen rack.new) result }
+    ensures content { Tells store.old.layout (R.seen rack.old) (R.seen rack.new) (λ B. IsLeafAgain (unread_by store.old.layout (R.seen rack.old) (R.seen rack.new)) B frame.now store.new result) }
+{
+    match read_block(0, &frame.spot, rack, store) {
+        Err(fault) => Err(fault),
+        Ok(loan) => {
+            let count = Leaf::of(store.bytes(&loan)).count();
+            if count < frame.end {
+                store.give(loan);
+                return Err(TreeFault::Malformed(frame.spot.addr));
+            }
+            Ok(LeafAt {
+                spot: frame.spot,
+                next: frame.next,
+                end: frame.end,
+                loan,
+            })
+        }
+    }
+}

@@ -1,0 +1,130 @@
+// The next block of a walk over all blocks of a tree.
+ghost use Rattle.std.specs.Prelude.{◌≡◌, ◌^◌, ◌<◌, ◌≤◌, length, IsSome, IsTrue};
+ghost use Rattle.btr_node.specs.Block.{pointers, is_inner};
+ghost use Rattle.btr_rack.specs.Rack.{OnlyReads};
+ghost use Rattle.btr_read.specs.Serves.{Serves};
+ghost use Rattle.btr_read.specs.Store.{free_count};
+ghost use Rattle.btr_walk.specs.Again.{IsNextBelow};
+ghost use Rattle.btr_walk.specs.Preorder.{place_of, IsBehind, IsEntry, NearsEntry, LendsEntry, IsStep, NearsStep, LendsStep};
+ghost use Rattle.btr_walk.specs.Ranks.{IsShaped, rank};
+ghost use Rattle.btr_walk.specs.Spot.{judged};
+ghost use Rattle.btr_walk.specs.Reading.{Tells, unread_by, HasCause};
+
+use crate::TreeFault;
+use crate::again::next_of;
+use crate::ahead::{Ahead, ahead_of};
+use crate::entering::Below;
+use crate::frame::{Frame, Todo};
+use crate::going::Where;
+use crate::path::with_frame;
+use crate::reading::read_block;
+use btr_node::Inner;
+use btr_rack::Rack;
+use btr_read::{Loan, Store};
+
+/// A block that was read, and where the walk is behind it.
+pub(crate) struct Entry {
+    pub(crate) addr: u64,
+    pub(crate) level: u8,
+    pub(crate) loan: Loan,
+    pub(crate) place: Where,
+}
+
+// The first child of an inner node, and the node where more are to come.
+fn children_of(block: &[u8], todo: &Todo) -> Below
+    requires header { 101 ≤ length block.now }
+    requires good { IsTrue (is_inner block.now) }
+    requires some { 0 < todo.now.level }
+    ensures few { length (pointers block.now) < 2 ^ 64 }
+    ensures first { IsNextBelow (pointers block.now) todo.now.level (record { spot = todo.now.spot; next = 0; end = length (pointers block.now) }) result.frame result.todo }
+{
+    let end = Inner::of(block).count();
+    let all = Frame {
+        spot: todo.spot,
+        next: 0,
+        end,
+    };
+    match next_of(block, todo.level, &all) {
+        Some(below) => below,
+        None => unreachable!(),
+    }
+}
+
+// Where a walk is behind a block: before its first child, if it has any.
+fn behind(ahead: &Ahead, block: &[u8]) -> Where
+    requires header { 101 ≤ length block.now }
+    requires good { IsSome (judged ahead.now.todo.level ahead.now.todo.spot block.now) }
+    requires shaped { IsShaped (place_of ahead.now) }
+    ensures nears { IsShaped result × (rank result < rank (place_of ahead.now)) }
+    ensures behind { IsBehind ahead.now block.now result }
+{
+    let todo = ahead.todo;
+    if todo.level == 0 {
+        return Where {
+            path: ahead.path,
+            todo: None,
+        };
+    }
+    let below = children_of(block, &todo);
+    Where {
+        path: with_frame(ahead.path, todo.level as usize - 1, below.frame),
+        todo: below.todo,
+    }
+}
+
+// Reads the block that is to be read.
+pub(crate) fn enter_block<R: Rack>(
+    ahead: &Ahead,
+    rack: &mut R,
+    store: &mut Store,
+) -> Result<Entry, TreeFault>
+    requires serves { Serves (R.seen rack.old) store.old }
+    requires room { 4 ≤ free_count store.old }
+    requires shaped { IsShaped (place_of ahead.now) }
+    ensures nears { NearsEntry (place_of ahead.now) result }
+    ensures serves { Serves (R.seen rack.new) store.new }
+    ensures reads { OnlyReads (R.seen rack.old) (R.seen rack.new) }
+    ensures lent { LendsEntry store.old store.new ahead.now result }
+    ensures cause { HasCause store.old.layout (R.seen rack.old) (R.seen rack.new) result }
+    ensures content { Tells store.old.layout (R.seen rack.old) (R.seen rack.new) (λ B. IsEntry (unread_by store.old.layout (R.seen rack.old) (R.seen rack.new)) B ahead.now store.new result) }
+{
+    let todo = ahead.todo;
+    match read_block(todo.level, &todo.spot, rack, store) {
+        Err(fault) => Err(fault),
+        Ok(loan) => {
+            let place = behind(ahead, store.bytes(&loan));
+            Ok(Entry {
+                addr: todo.spot.addr,
+                level: todo.level,
+                loan,
+                place,
+            })
+        }
+    }
+}
+
+// One block further.
+pub(crate) fn step_block<R: Rack>(
+    place: &Where,
+    rack: &mut R,
+    store: &mut Store,
+) -> Result<Option<Entry>, TreeFault>
+    requires serves { Serves (R.seen rack.old) store.old }
+    requires room { 4 ≤ free_count store.old }
+    requires shaped { IsShaped place.now }
+    ensures nears { NearsStep place.now result }
+    ensures serves { Serves (R.seen rack.new) store.new }
+    ensures reads { OnlyReads (R.seen rack.old) (R.seen rack.new) }
+    ensures lent { LendsStep store.old store.new result }
+    ensures cause { HasCause store.old.layout (R.seen rack.old) (R.seen rack.new) result }
+    ensures content { Tells store.old.layout (R.seen rack.old) (R.seen rack.new) (λ B. IsStep (unread_by store.old.layout (R.seen rack.old) (R.seen rack.new)) B place.now store.new result) }
+{
+    match ahead_of(place, rack, store) {
+        Err(fault) => Err(fault),
+        Ok(None) => Ok(None),
+        Ok(Some(ahead)) => match enter_block(&ahead, rack, store) {
+            Err(fault) => Err(fault),
+            Ok(entry) => Ok(Some(entry)),
+        },
+    }
+}
