@@ -1,0 +1,5 @@
+mod Readings
+pub mod Looked
+mod Roots
+mod Members
+mod Opened

@@ -1,0 +1,290 @@
+-- How the steps of opening fit together.
+use Rattle.std.proofs.Common.{◌≡◌, ◌⊎◌, inl, inr, ℕ, ◌<◌, map, List, [], length, get_or, Option, Some, None, Result, Ok, Err, refl, sym, ap, ◌∙◌, subst}
+use Rattle.std.specs.Prelude.{slice_get}
+use Rattle.std.proofs.lemmas.List.Folds.{find_at}
+use Rattle.std.proofs.lemmas.Option.{slice_get-get_or}
+use Rattle.std.proofs.Common.{true, ◌≤◌, IsErrAnd, arith}
+use Rattle.btr_volume.specs.Start.{is_geometry}
+use Rattle.btr_base.specs.Sum.{kind_of_type}
+use Rattle.btr_base.specs.declared.kind.SumKind.{SumKind}
+use Rattle.btr_chunk.specs.Array.{array_of}
+use Rattle.btr_chunk.specs.declared.array.ArrayFault.{ArrayFault}
+use Rattle.btr_read.specs.Store.{Blocks}
+use Rattle.btr_read.specs.declared.device.Member.{Member}
+use Rattle.btr_super.specs.Newest.{newest, newest_index, is_newest}
+use Rattle.btr_volume.specs.Start.{Start, Images, supers_from, start_of, start_with, start_by, started, with_kind, with_array, array_bytes, devices_from, refusals, first_refusal}
+use Rattle.btr_volume.specs.Refusing.{IsRefusal}
+use Rattle.std.specs.Option.{IfSome}
+use Rattle.btr_base.specs.Key.{last_key}
+use Rattle.btr_base.specs.declared.memory.Memory.{Memory as no_memory}
+use Rattle.btr_chunk.specs.declared.chunk.Chunk.{Chunk}
+use Rattle.btr_rack.specs.Rack.{Seen}
+use Rattle.btr_read.specs.Layout.{Layout}
+use Rattle.btr_super.specs.declared.superblock.Super.{Super}
+use Rattle.btr_walk.specs.Folding.{FoldFollows}
+use Rattle.btr_walk.specs.Reading.{Map, Tells, unread_by}
+use Rattle.btr_walk.specs.declared.folder.FoldFault.{FoldFault}
+use Rattle.btr_walk.specs.declared.folder.FoldFault.TheVariants as folds
+use Rattle.btr_walk.specs.declared.fault.TreeFault.{TreeFault}
+use Rattle.btr_volume.specs.Table.{TableResult, refusal_of, table_step, whole_table, first_key, chunk_root}
+use Rattle.btr_volume.specs.Opening.{ScansTable, ReadsTable, MakesStore, Begins, NoneAtFault, Prepares, SupersCause, OpenCause, TableCause, Opens, Scans, start_in}
+use Rattle.btr_volume.specs.declared.volume.Volume.{Volume}
+use Rattle.btr_prog.specs.Prog.{exec}
+use Rattle.btr_prog.specs.Answers.{Follows, no_part}
+use Rattle.btr_prog.specs.Calls.{Sure, First, Any, IsCalm}
+use Rattle.btr_read.specs.Fate.{fate, Agreed}
+use Rattle.btr_read.specs.Reading.{AgreedOn, OnMap}
+use Rattle.btr_volume.specs.Maps.{array_layout}
+use Rattle.btr_volume.specs.Table.{table_scan}
+use Rattle.btr_volume.specs.Opening.{OpenedIsOfImages, IsVolumeOf, Opened}
+use Rattle.btr_volume.proofs.Readings.{Sized}
+use Rattle.btr_rack.specs.Rack.{Slot, Account, OnlyCounts, NoneFailed}
+use Rattle.btr_read.specs.Serves.{Serves}
+use Rattle.btr_read.specs.Store.{with_chunks}
+use Rattle.btr_read.proofs.Serving.{serving, serves_anew}
+use Rattle.btr_volume.specs.declared.fault.OpenFault.{OpenFault}
+use Rattle.btr_volume.specs.declared.fault.OpenFault.TheVariants.{ImageFault, NoSuper, SumKind as kind_fault, Foreign, Twin, Unsupported, Geometry, LogPending, BadArray, BadChunk as bad_chunk, Limit, Tree, Memory}
+use Rattle.btr_volume.specs.declared.fault.TableFault.{TableFault}
+use Rattle.btr_volume.specs.declared.fault.TableFault.TheVariants.{Stripes, BadChunk, Chunks}
+
+module _ (s : Super) (layout : Layout) (old new : Seen) (table : List Chunk) (same : table ≡ layout.chunks) where
+  abbrev Folds : Result TableResult (FoldFault no_memory) → Type 0
+  Folds r = Tells layout old new (λ B. FoldFollows table_step whole_table (unread_by layout old new) B table (chunk_root s) first_key last_key r)
+
+  abbrev FoldsFrom : List Chunk → Result TableResult (FoldFault no_memory) → Type 0
+  FoldsFrom from r = Tells layout old new (λ B. FoldFollows table_step whole_table (unread_by layout old new) B from (chunk_root s) first_key last_key r)
+
+  pub table_read : (chunks : List Chunk) → Folds (Ok (Ok chunks)) → ReadsTable s layout old new (Ok chunks)
+  table_read chunks h = subst (λ from. FoldsFrom from (Ok (Ok chunks))) same h
+
+  pub table_refused : (fault : TableFault) (refusal : OpenFault) → refusal ≡ refusal_of fault → Folds (Ok (Err fault)) → ReadsTable s layout old new (Err refusal)
+  table_refused fault refusal is h = subst (λ (x : OpenFault). ReadsTable s layout old new (Err x)) (sym is) (by fault (subst (λ from. FoldsFrom from (Ok (Err fault))) same h))
+    where
+      by : (fault : TableFault) → ScansTable s layout old new (Ok (Err fault)) → ReadsTable s layout old new (Err (refusal_of fault))
+      by (Stripes n) h = (Stripes n, refl, h)
+      by (BadChunk start) h = (BadChunk start, refl, h)
+      by Chunks h = (Chunks, refl, h)
+
+  pub table_unread : (fault : TreeFault) → Folds (Err (folds.Tree fault)) → ReadsTable s layout old new (Err (Tree fault))
+  table_unread fault h = subst (λ from. FoldsFrom from (Err (folds.Tree fault))) same h
+
+-- the superblock at the index of the newest is the newest
+pub newest_at : (supers : List Super) (slot : ℕ) (s : Super) → newest_index supers ≡ slot → slot < length supers → s ≡ get_or supers slot s → newest supers ≡ Some s
+newest_at supers slot s index lt is =
+    find_at (is_newest supers) supers ∙ ap (slice_get supers) index ∙ slice_get-get_or supers slot s lt ∙ ap (λ x. Some x) (sym is)
+
+module _ (supers : List Super) (s : Super) (is : newest supers ≡ Some s) (lens : List ℕ) where
+  begun_as : (refusal : OpenFault) → start_by supers lens (newest supers) ≡ Err refusal → Begins supers lens (Err refusal)
+  begun_as Memory e = tt
+  begun_as (ImageFault slot) e = e
+  begun_as (NoSuper slot) e = e
+  begun_as (kind_fault n) e = e
+  begun_as (Foreign slot) e = e
+  begun_as (Twin slot) e = e
+  begun_as (Unsupported bits) e = e
+  begun_as Geometry e = e
+  begun_as LogPending e = e
+  begun_as BadArray e = e
+  begun_as (bad_chunk start) e = e
+  begun_as (Limit which n) e = e
+  begun_as (Tree fault) e = e
+
+  -- refused by the superblocks alone
+  pub begun_refused : (refusal : OpenFault) → IsRefusal (first_refusal (refusals supers s)) (Err refusal) → Begins supers lens (Err refusal)
+  begun_refused refusal e = begun_as refusal (ap (start_by supers lens) is ∙ ap (started s (devices_from 0 supers lens)) e)
+
+  accepted : (r : Result Unit OpenFault) → r ≡ Ok tt → IsRefusal (first_refusal (refusals supers s)) r → start_by supers lens (newest supers) ≡ with_kind s (devices_from 0 supers lens) (kind_of_type s.csum_type)
+  accepted r e none = ap (start_by supers lens) is ∙ ap (started s (devices_from 0 supers lens)) (subst (IsRefusal (first_refusal (refusals supers s))) e none)
+
+  -- refused by the store
+  pub begun_unstored : (refusal : OpenFault) → first_refusal (refusals supers s) ≡ None → MakesStore s (Err refusal) → Begins supers lens (Err refusal)
+  begun_unstored Memory none made = tt
+  begun_unstored (ImageFault slot) none made = ap (start_by supers lens) is ∙ ap (started s (devices_from 0 supers lens)) none ∙ made (devices_from 0 supers lens)
+  begun_unstored (NoSuper slot) none made = ap (start_by supers lens) is ∙ ap (started s (devices_from 0 supers lens)) none ∙ made (devices_from 0 supers lens)
+  begun_unstored (kind_fault n) none made = ap (start_by supers lens) is ∙ ap (started s (devices_from 0 supers lens)) none ∙ made (devices_from 0 supers lens)
+  begun_unstored (Foreign slot) none made = ap (start_by supers lens) is ∙ ap (started s (devices_from 0 supers lens)) none ∙ made (devices_from 0 supers lens)
+  begun_unstored (Twin slot) none made = ap (start_by supers lens) is ∙ ap (started s (devices_from 0 supers lens)) none ∙ made (devices_from 0 supers lens)
+  begun_unstored (Unsupported bits) none made = ap (start_by supers lens) is ∙ ap (started s (devices_from 0 supers lens)) none ∙ made (devices_from 0 supers lens)
+  begun_unstored Geometry none made = ap (start_by supers lens) is ∙ ap (started s (devices_from 0 supers lens)) none ∙ made (devices_from 0 supers lens)
+  begun_unstored LogPending none made = ap (start_by supers lens) is ∙ ap (started s (devices_from 0 supers lens)) none ∙ made (devices_from 0 supers lens)
+  begun_unstored BadArray none made = ap (start_by supers lens) is ∙ ap (started s (devices_from 0 supers lens)) none ∙ made (devices_from 0 supers lens)
+  begun_unstored (bad_chunk start) none made = ap (start_by supers lens) is ∙ ap (started s (devices_from 0 supers lens)) none ∙ made (devices_from 0 supers lens)
+  begun_unstored (Limit which n) none made = ap (start_by supers lens) is ∙ ap (started s (devices_from 0 supers lens)) none ∙ made (devices_from 0 supers lens)
+  begun_unstored (Tree fault) none made = ap (start_by supers lens) is ∙ ap (started s (devices_from 0 supers lens)) none ∙ made (devices_from 0 supers lens)
+
+  -- the volume that begins
+  pub begun : (store store' : Blocks) → first_refusal (refusals supers s) ≡ None → MakesStore s (Ok store) → store'.layout ≡ record (store.layout) { devices = devices_from 0 supers lens } → Begins supers lens (Ok (record { store = store'; sup = s }))
+  begun store store' none made layout =
+      ap (start_by supers lens) is ∙ ap (started s (devices_from 0 supers lens)) none ∙ made.3 (devices_from 0 supers lens)
+      ∙ ap {A = Layout} (λ l. Ok (record { sup = s; devices = l.devices; setting = l.setting; array = l.chunks })) (sym layout)
+
+abbrev the_ok : Start → Result Start OpenFault
+the_ok x = Ok x
+
+array_kept : (s : Super) (devices : List Member) (kind : Option SumKind) (x : Start) → with_kind s devices kind ≡ Ok x → array_of (array_bytes s) ≡ Ok x.array
+array_kept s devices None x e = absurd (cc e)
+array_kept s devices (Some kind) x e = by (array_of (array_bytes s)) e
+  where
+    by : (array : Result (List Chunk) ArrayFault) → with_array s kind devices array ≡ Ok x → array ≡ Ok x.array
+    by (Ok chunks) e = ap (λ c. Ok c) (same _ x e)
+      where
+        same : (a b : Start) → the_ok a ≡ the_ok b → a.array ≡ b.array
+        same a b e = cc
+    by (Err fault) e = absurd (cc e)
+
+-- the chunks of a store that was made are the array's
+pub array_made : (s : Super) (store : Blocks) → MakesStore s (Ok store) → array_of (array_bytes s) ≡ Ok store.layout.chunks
+array_made s store made = array_kept s [] (kind_of_type s.csum_type) _ (made.3 [])
+
+pub nodes_fit : (s : Super) → is_geometry s ≡ true → (4096 ≤ s.nodesize) × (s.nodesize ≤ 65536)
+nodes_fit s e = grind arith
+
+pub array_fits : (s : Super) → is_geometry s ≡ true → s.sys_chunk_array_size ≤ 2048
+array_fits s e = grind arith
+
+-- no call failed, so nothing of the rack is other than it was
+pub same_seen : (old new : Seen) → OnlyCounts old new → NoneFailed old.account new.account → new ≡ old
+same_seen old new same none =
+    same ∙ ap {A = Account} (λ a. record old { account = a }) (λ i. record { faults = none.faults i; fresh = none.fresh i; missed = none.missed i; last = none.last i; opening = none.opening i; shut = none.shut i })
+
+-- what the superblocks come to over the images
+module _ (slots : List Slot) (supers : List Super) where
+  prepares_of : (images : Images) (r : Result Volume OpenFault) → map length images ≡ map (λ s. s.len) slots → supers_from 0 images ≡ Ok supers → NoneAtFault r → Begins supers (map (λ s. s.len) slots) r → Prepares images r
+  prepares_of images r sized read early begins = by r early begins
+    where
+      whole : start_of images ≡ start_by supers (map (λ s. s.len) slots) (newest supers)
+      whole = ap (start_with images) read ∙ ap (λ lens. start_by supers lens (newest supers)) sized
+
+      by : (r : Result Volume OpenFault) → NoneAtFault r → Begins supers (map (λ s. s.len) slots) r → Prepares images r
+      by (Ok volume) early e = whole ∙ e
+      by (Err Memory) early e = tt
+      by (Err (ImageFault slot)) early e = tt
+      by (Err (Tree fault)) early e = absurd early
+      by (Err (NoSuper slot)) early e = whole ∙ e
+      by (Err (kind_fault n)) early e = whole ∙ e
+      by (Err (Foreign slot)) early e = whole ∙ e
+      by (Err (Twin slot)) early e = whole ∙ e
+      by (Err (Unsupported bits)) early e = whole ∙ e
+      by (Err Geometry) early e = whole ∙ e
+      by (Err LogPending) early e = whole ∙ e
+      by (Err BadArray) early e = whole ∙ e
+      by (Err (bad_chunk start)) early e = whole ∙ e
+      by (Err (Limit which n)) early e = whole ∙ e
+
+  pub prepared : (held : Option Images) (r : Result Volume OpenFault) → Sized held slots → IfSome held (λ images. supers_from 0 images ≡ Ok supers) → NoneAtFault r → Begins supers (map (λ s. s.len) slots) r → IfSome held (λ images. Prepares images r)
+  prepared None r sized read early begins = tt
+  prepared (Some images) r sized read early begins = prepares_of images r sized read early begins
+
+-- a refusal before the chunk tree is read
+module _ (old new : Seen) where
+  pub refused_early : (refusal : OpenFault) (T : Type 0) → SupersCause {T = Volume} old new (Err refusal) → OpenCause {T = T} old new (Err refusal)
+  refused_early Memory T h = tt
+  refused_early (ImageFault slot) T h = h
+  refused_early (Tree fault) T h = absurd h
+  refused_early (NoSuper slot) T h = h
+  refused_early (kind_fault n) T h = h
+  refused_early (Foreign slot) T h = h
+  refused_early (Twin slot) T h = h
+  refused_early (Unsupported bits) T h = h
+  refused_early Geometry T h = h
+  refused_early LogPending T h = h
+  refused_early BadArray T h = h
+  refused_early (bad_chunk start) T h = tt
+  refused_early (Limit which n) T h = tt
+
+  opens_early : (images : Images) (refusal : OpenFault) → Prepares images (Err refusal) → Opens images old new (Err refusal)
+  opens_early images Memory h = tt
+  opens_early images (ImageFault slot) h = tt
+  opens_early images (Tree fault) h = absurd h
+  opens_early images (NoSuper slot) h = inl h
+  opens_early images (kind_fault n) h = inl h
+  opens_early images (Foreign slot) h = inl h
+  opens_early images (Twin slot) h = inl h
+  opens_early images (Unsupported bits) h = inl h
+  opens_early images Geometry h = inl h
+  opens_early images LogPending h = inl h
+  opens_early images BadArray h = inl h
+  opens_early images (bad_chunk start) h = inl h
+  opens_early images (Limit which n) h = inl h
+
+  pub told_early : (held : Option Images) (refusal : OpenFault) → IfSome held (λ images. Prepares images (Err refusal)) → IfSome held (λ images. Opens images old new (Err refusal))
+  told_early None refusal h = tt
+  told_early (Some images) refusal h = opens_early images refusal h
+
+  -- a refusal by the chunk tree
+  pub refused_late : (layout : Layout) (refusal : OpenFault) (T U : Type 0) → TableCause {T = T} layout old new (Err refusal) → OpenCause {T = U} old new (Err refusal)
+  refused_late layout Memory T U h = tt
+  refused_late layout (Tree fault) T U h = (layout, h)
+  refused_late layout (bad_chunk start) T U h = tt
+  refused_late layout (Limit which n) T U h = tt
+  refused_late layout (ImageFault slot) T U h = absurd h
+  refused_late layout (NoSuper slot) T U h = absurd h
+  refused_late layout (kind_fault n) T U h = absurd h
+  refused_late layout (Foreign slot) T U h = absurd h
+  refused_late layout (Twin slot) T U h = absurd h
+  refused_late layout (Unsupported bits) T U h = absurd h
+  refused_late layout Geometry T U h = absurd h
+  refused_late layout LogPending T U h = absurd h
+  refused_late layout BadArray T U h = absurd h
+
+  module _ (volume : Volume) where
+    opens_late : (images : Images) (refusal : OpenFault) (layout : Layout) (T : Type 0) → TableCause {T = T} layout old new (Err refusal) → start_of images ≡ Ok (start_in volume) → ReadsTable volume.sup volume.store.layout old new (Err refusal) → Opens images old new (Err refusal)
+    opens_late images Memory layout T c is h = tt
+    opens_late images (Tree fault) layout T c is h = record { start = start_in volume; is = is; scans = h }
+    opens_late images (bad_chunk start) layout T c is h = inr (h.0, h.1, record { start = start_in volume; is = is; scans = h.2 })
+    opens_late images (Limit which n) layout T c is h = inr (h.0, h.1, record { start = start_in volume; is = is; scans = h.2 })
+    opens_late images (ImageFault slot) layout T c is h = absurd c
+    opens_late images (NoSuper slot) layout T c is h = absurd c
+    opens_late images (kind_fault n) layout T c is h = absurd c
+    opens_late images (Foreign slot) layout T c is h = absurd c
+    opens_late images (Twin slot) layout T c is h = absurd c
+    opens_late images (Unsupported bits) layout T c is h = absurd c
+    opens_late images Geometry layout T c is h = absurd c
+    opens_late images LogPending layout T c is h = absurd c
+    opens_late images BadArray layout T c is h = absurd c
+
+    pub told_late : (held : Option Images) (refusal : OpenFault) (layout : Layout) (T : Type 0) → TableCause {T = T} layout old new (Err refusal) → IfSome held (λ images. start_of images ≡ Ok (start_in volume)) → ReadsTable volume.sup volume.store.layout old new (Err refusal) → IfSome held (λ images. Opens images old new (Err refusal))
+    told_late None refusal layout T c is h = tt
+    told_late (Some images) refusal layout T c is h = opens_late images refusal layout T c is h
+
+    -- the volume that was opened
+    pub told_opened : (held : Option Images) (store : Blocks) (chunks : List Chunk) → IfSome held (λ images. start_of images ≡ Ok (start_in volume)) → store.layout ≡ record (volume.store.layout) { chunks = chunks } → ReadsTable volume.sup volume.store.layout old new (Ok chunks) → IfSome held (λ images. Opens images old new (Ok (record { store = store; sup = volume.sup })))
+    told_opened None store chunks is e h = tt
+    told_opened (Some images) store chunks is e h =
+        let same : store.layout.chunks ≡ chunks = ap (λ (l : Layout). l.chunks) e in
+        record {
+          start = start_in volume;
+          is = is;
+          by = record { sup = refl; layout = e ∙ ap {A = List Chunk} (λ c. record (volume.store.layout) { chunks = c }) (sym same) };
+          scans = subst (λ (c : List Chunk). Scans (start_in volume) old new (Ok (Ok c))) (sym same) h;
+        }
+
+-- a rack serves a store with other chunks
+pub served_anew : (rack : Seen) (store store' : Blocks) (chunks : List Chunk) → Serves rack store → store' ≡ with_chunks store chunks → Serves rack store'
+served_anew rack store store' chunks serves e =
+    let s = serving rack store serves in
+    subst (Serves rack) (sym e) (serves_anew rack (with_chunks store chunks) s.are_open s.own_slots refl)
+
+-- what holds of a refusal that is passed on
+pub passed : {A : Type 0} (P : Result A OpenFault → Type 0) (r : Result A OpenFault) (refusal : OpenFault) → IsErrAnd r (λ e. e ≡ refusal) → P (Err refusal) → P r
+passed P (Ok a) refusal h p = absurd h
+passed {A} P (Err e) refusal h p = subst (λ (x : OpenFault). P (Err x)) (sym h) p
+
+-- a volume that was opened is the one of the images
+told_of : (images : Images) (layout : Layout) (P : Map → Type 0) (h : Option Images) (sure : Sure) → h ≡ Some images → OnMap layout P sure h → P (fate images layout)
+told_of images layout P h sure e p = subst (λ x. OnMap layout P sure x) e p
+
+pub opened_is : OpenedIsOfImages
+opened_is images old new volume held opened known = record {
+  start = opened.start;
+  is = opened.is;
+  by = opened.by;
+  table = (by known).1;
+}
+  where
+    P : Map → Type 0
+    P B = Follows {S = ⊥} (unread_by (array_layout opened.start) old new) no_part [] (exec B (table_scan opened.start)) [] (Ok (Ok volume.store.layout.chunks))
+
+    by : IsCalm old.account.faults new.account.faults ⊎ Agreed images (array_layout opened.start) → P (fate images (array_layout opened.start))
+    by (inl calm) = told_of images (array_layout opened.start) P old.held First held (opened.scans.calls.content First calm)
+    by (inr agreed) = told_of images (array_layout opened.start) P old.held Any held (opened.scans.calls.content Any (subst (λ h. AgreedOn (array_layout opened.start) h) (sym held) agreed))

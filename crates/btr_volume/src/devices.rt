@@ -1,0 +1,28 @@
+// The devices of the images.
+ghost use Rattle.std.specs.Prelude.{◌≡◌, ◌≤◌, None, [], IfOk, length, map};
+ghost use Rattle.btr_read.specs.Store.{none_kept};
+ghost use Rattle.btr_volume.specs.Start.{twin_from, devices_from};
+
+use btr_base::Memory;
+use btr_rack::Rack;
+use btr_read::Store;
+use btr_super::Super;
+
+/// Adds the device of each image, which stands in the slot of its superblock. No two superblocks are those of one device.
+pub(crate) fn add_devices<R: Rack>(
+    supers: &[Super],
+    rack: &R,
+    store: &mut Store,
+) -> Result<(), Memory>
+    requires count { length supers.now ≤ length (R.seen rack.now).slots }
+    requires own { twin_from 0 [] supers.now ≡ None }
+    requires empty { store.old.layout.devices ≡ [] }
+    ensures devices { IfOk result (λ _. store.new.layout ≡ record store.old.layout { devices = devices_from 0 supers.now (map (λ slot. slot.len) (R.seen rack.now).slots) }) }
+    ensures loans { store.new.loans ≡ store.old.loans }
+    ensures kept { store.old.kept ≡ none_kept → store.new.kept ≡ none_kept }
+{
+    for (slot, s) in supers.iter().enumerate() {
+        store.add_device(s.devid, slot, rack.len(slot))?;
+    }
+    Ok(())
+}

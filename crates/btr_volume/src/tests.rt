@@ -1,0 +1,4 @@
+// Volumes in memory, opened.
+mod refusals;
+mod rows;
+mod volume;
