@@ -1,11 +1,12 @@
 -- The text of pieces, piece by piece.
-use Rattle.std.proofs.Common.{◌≡◌, ℕ, ◌+◌, ◌<◌, List, [], ◌∷◌, ◌++◌, length, take, drop, get_or, refl, sym, ap, ◌∙◌}
+use Rattle.std.proofs.Common.{◌≡◌, ℕ, ◌+◌, ◌/◌, ◌%◌, ◌<◌, List, [], ◌∷◌, ◌++◌, length, take, drop, get_or, refl, sym, ap, ◌∙◌}
 use Rattle.std.proofs.lemmas.List.{append_assoc, append-nil, take-append-drop, take_more}
 use Rattle.btr_text.specs.declared.piece.Piece.{Piece}
 use Rattle.std.proofs.lemmas.Grind.{flat_map-append}
 use Rattle.std.proofs.lemmas.List.{flat_map_more}
 use Rattle.btr_base.specs.Shown.{shown}
-use Rattle.btr_text.specs.Pieces.{pieces_onto, text_of, piece_text, name_text}
+use Rattle.hex.specs.Hex.{encode_with, lower_digits}
+use Rattle.btr_text.specs.Pieces.{pieces_onto, text_of, piece_text, name_text, bytes_text}
 
 -- a text with pieces behind it is the text and theirs
 onto : (text : List ℕ) (pieces : List Piece) → pieces_onto text pieces ≡ text ++ text_of pieces
@@ -37,3 +38,19 @@ pub name_around : (name : List ℕ) (i b : ℕ) → i < length name → b ≡ ge
 name_around name i b lt is =
     ap name_text (sym (take-append-drop (i + 1) name)) ∙ flat_map-append shown (take (i + 1) name) (drop (i + 1) name)
     ∙ ap (λ l. l ++ name_text (drop (i + 1) name)) (name_more name i b lt is)
+
+-- the digits of the bytes of two lists
+digits_both : (table first second : List ℕ) → encode_with table (first ++ second) ≡ encode_with table first ++ encode_with table second
+unfolding encode_with
+digits_both table [] second = refl
+digits_both table (b ∷ first) second = ap (λ l. get_or table (b / 16) 0 ∷ get_or table (b % 16) 0 ∷ l) (digits_both table first second)
+
+-- the digits of one byte more
+pub digits_more : (bytes : List ℕ) (i b : ℕ) → i < length bytes → b ≡ get_or bytes i 0 → bytes_text (take (i + 1) bytes) ≡ bytes_text (take i bytes) ++ bytes_text (b ∷ [])
+digits_more bytes i b lt is = ap bytes_text (take_more bytes i 0 lt ∙ ap (λ x. take i bytes ++ x ∷ []) (sym is)) ∙ digits_both lower_digits (take i bytes) (b ∷ [])
+
+-- the digits, around those of one of the bytes
+pub digits_around : (bytes : List ℕ) (i b : ℕ) → i < length bytes → b ≡ get_or bytes i 0 → bytes_text bytes ≡ (bytes_text (take i bytes) ++ bytes_text (b ∷ [])) ++ bytes_text (drop (i + 1) bytes)
+digits_around bytes i b lt is =
+    ap bytes_text (sym (take-append-drop (i + 1) bytes)) ∙ digits_both lower_digits (take (i + 1) bytes) (drop (i + 1) bytes)
+    ∙ ap (λ l. l ++ bytes_text (drop (i + 1) bytes)) (digits_more bytes i b lt is)

@@ -8,11 +8,15 @@ use Rattle.uuid.specs.Text.{hyphenated_text, lower}
 use Rattle.btr_base.specs.Shown.{shown}
 use Rattle.btr_base.specs.declared.key.Key.{Key}
 use Rattle.btr_text.specs.declared.piece.Piece.{Piece}
-use Rattle.btr_text.specs.declared.piece.Piece.TheVariants.{Plain, Decimal, Hexadecimal, Octal, Name, Key as key_piece, Id}
+use Rattle.btr_text.specs.declared.piece.Piece.TheVariants.{Plain, Decimal, Hexadecimal, Octal, Name, Key as key_piece, HexadecimalBytes, Id}
 
 -- 16 lower-case hexadecimal digits
 abbrev pub hex_text : ℕ → List ℕ
 hex_text n = encode_lower (to_be_bytes w64 n)
+
+-- bytes, two lower-case hexadecimal digits each
+abbrev pub bytes_text : List ℕ → List ℕ
+bytes_text bytes = encode_lower bytes
 
 -- octal digits, without a prefix
 abbrev pub octal_text : ℕ → List ℕ
@@ -65,6 +69,7 @@ piece_text (Hexadecimal n) = hex_text n
 piece_text (Octal n) = octal_text n
 piece_text (Name name) = name_text name.now
 piece_text (key_piece key) = key_text key
+piece_text (HexadecimalBytes bytes) = bytes_text bytes.now
 piece_text (Id id) = id_text id
 
 -- a text with pieces behind it, one after another

@@ -3,10 +3,10 @@ ghost use Rattle.std.specs.Prelude.{◌≡◌, []};
 ghost use Rattle.std.specs.Fmt.{decimal};
 ghost use Rattle.uuid.specs.Text.{hyphenated_text, lower};
 ghost use Rattle.btr_rack.specs.Out.{Puts, Counts};
-ghost use Rattle.btr_text.specs.Pieces.{name_text, kind_text, key_text, piece_text, text_of};
+ghost use Rattle.btr_text.specs.Pieces.{name_text, bytes_text, kind_text, key_text, piece_text, text_of};
 ghost use Rattle.btr_text.specs.Text.{Writes};
 
-use crate::digits::{hexadecimal, octal};
+use crate::digits::{byte_digits, hexadecimal, octal};
 use crate::kind::kind_name;
 use crate::piece::Piece;
 use arrayvec::ArrayVec;
@@ -75,6 +75,7 @@ impl TextBuffer {
             Piece::Octal(n) => self.add(octal(n).as_slice(), out),
             Piece::Name(name) => self.add_name(name, out),
             Piece::Key(key) => self.add_key(key, out),
+            Piece::HexadecimalBytes(bytes) => self.add_bytes(bytes, out),
             Piece::Id(id) => self.add_id(id, out),
         }
     }
@@ -127,6 +128,16 @@ impl TextBuffer {
         for b in name {
             let shown = show_byte(*b);
             self.add(shown.as_slice(), out)?;
+        }
+        Ok(())
+    }
+
+    fn add_bytes<O: Out>(&mut self, bytes: &[u8], out: &mut O) -> Result<(), SinkError>
+        ensures text { Writes (O.text out.old) (O.text out.new) self.old self.new (bytes_text bytes.now) result }
+        ensures account { Counts (O.account out.old) (O.account out.new) result }
+    {
+        for b in bytes {
+            self.add(&byte_digits(*b), out)?;
         }
         Ok(())
     }

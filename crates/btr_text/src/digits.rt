@@ -1,6 +1,6 @@
 // The digits of a number, without taking memory.
-ghost use Rattle.std.specs.Prelude.{◌≡◌, ◌≤◌, false, drop, take};
-ghost use Rattle.btr_text.specs.Pieces.{hex_text, octal_text};
+ghost use Rattle.std.specs.Prelude.{◌≡◌, ◌≤◌, [], ◌∷◌, false, drop, take};
+ghost use Rattle.btr_text.specs.Pieces.{hex_text, octal_text, bytes_text};
 
 // The octal digits of a number: those of `bytes` from `start` on.
 #[derive(Clone, Copy)]
@@ -42,6 +42,17 @@ pub(crate) fn hexadecimal(n: u64) -> [u8; 16]
     let bytes = n.to_be_bytes();
     let mut digits = [b'0'; 16];
     match hex::encode_to_slice(bytes.as_slice(), &mut digits) {
+        Ok(()) => digits,
+        Err(_) => unreachable!(),
+    }
+}
+
+// Two lower-case hexadecimal digits.
+pub(crate) fn byte_digits(b: u8) -> [u8; 2]
+    ensures { result ≡ bytes_text (b ∷ []) }
+{
+    let mut digits = [b'0'; 2];
+    match hex::encode_to_slice([b].as_slice(), &mut digits) {
         Ok(()) => digits,
         Err(_) => unreachable!(),
     }

@@ -16,6 +16,8 @@ pub enum Piece<'a> {
     Name(&'a [u8]),
     /// A key: its object, the name of its item type and its offset, in parentheses.
     Key(Key),
+    /// Bytes: two lower-case hexadecimal digits each.
+    HexadecimalBytes(&'a [u8]),
     /// A UUID: 32 lower-case hexadecimal digits with hyphens.
     Id([u8; 16]),
 }

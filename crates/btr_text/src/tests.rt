@@ -42,6 +42,13 @@ fn pieces(rt: HostRuntime) -> Result<(), Fail> {
     shows(
         &rt,
         alloc,
+        Piece::HexadecimalBytes(b"\x0a\xff\0"),
+        b"0aff00",
+    )?;
+    shows(&rt, alloc, Piece::HexadecimalBytes(b""), b"")?;
+    shows(
+        &rt,
+        alloc,
         Piece::Id([0x1a; 16]),
         b"1a1a1a1a-1a1a-1a1a-1a1a-1a1a1a1a1a1a",
     )?;
