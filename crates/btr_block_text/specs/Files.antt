@@ -1,0 +1,47 @@
+-- The lines of the items of files and directories. Each line stands behind two tabs.
+use Rattle.std.specs.Prelude.{ℕ, List, ◌++◌, codes}
+use Rattle.std.specs.Fmt.{decimal}
+use Rattle.btr_base.specs.Field.{bytes_at}
+use Rattle.btr_items.specs.declared.entry.Entry.{Entry}
+use Rattle.btr_items.specs.declared.ext_ref.ExtRef.{ExtRef}
+use Rattle.btr_items.specs.declared.file_extent.FileExtent.{FileExtent}
+use Rattle.btr_items.specs.declared.inode.Inode.{Inode}
+use Rattle.btr_items.specs.declared.inode_ref.InodeRef.{InodeRef}
+use Rattle.btr_items.specs.declared.shape.Shape.{Shape}
+use Rattle.btr_items.specs.declared.shape.Shape.TheVariants.{Inline, Regular, Prealloc}
+use Rattle.btr_text.specs.Pieces.{hex_text, octal_text, key_text, name_text}
+
+abbrev pub inode_line : Inode → List ℕ
+inode_line inode =
+    codes "\t\tsize " ++ decimal inode.size ++ codes " nlink " ++ decimal inode.nlink ++ codes " mode " ++ octal_text inode.mode ++ codes " flags " ++ hex_text inode.flags ++ codes "\n"
+
+-- the name of a length at a place of the body, as each name ends a line
+abbrev pub named : List ℕ → ℕ → ℕ → List ℕ
+named body at len = codes " namelen " ++ decimal len ++ codes " name " ++ name_text (bytes_at len at body) ++ codes "\n"
+
+abbrev pub inode_ref_line : List ℕ → InodeRef → List ℕ
+inode_ref_line body found = codes "\t\tindex " ++ decimal found.index ++ named body found.name_at found.name_len
+
+abbrev pub ext_ref_line : List ℕ → ExtRef → List ℕ
+ext_ref_line body found = codes "\t\tparent " ++ decimal found.parent ++ codes " index " ++ decimal found.index ++ named body found.name_at found.name_len
+
+abbrev pub entry_line : List ℕ → Entry → List ℕ
+entry_line body entry =
+    codes "\t\tlocation " ++ key_text entry.location ++ codes " kind " ++ decimal entry.kind ++ codes " transid " ++ decimal entry.transid ++ codes " datalen " ++ decimal entry.extra_len
+    ++ named body entry.name_at entry.name_len
+
+-- an extent on the disk, behind its word
+abbrev pub disk_text : List ℕ → ℕ → ℕ → ℕ → ℕ → List ℕ
+disk_text word addr disk_len skip len = word ++ decimal addr ++ codes " length " ++ decimal disk_len ++ codes " offset " ++ decimal skip ++ codes " bytes " ++ decimal len
+
+-- where the bytes of a range of a file stand
+abbrev pub shape_text : Shape → List ℕ
+shape_text (Inline len) = codes " inline bytes " ++ decimal len
+shape_text (Regular addr disk_len skip len) = disk_text (codes " regular disk ") addr disk_len skip len
+shape_text (Prealloc addr disk_len skip len) = disk_text (codes " prealloc disk ") addr disk_len skip len
+
+abbrev pub range_end : FileExtent → List ℕ
+range_end extent = codes " ram " ++ decimal extent.ram ++ codes " compression " ++ decimal extent.compression ++ codes "\n"
+
+abbrev pub file_extent_line : FileExtent → List ℕ
+file_extent_line extent = codes "\t\tgeneration " ++ decimal extent.generation ++ shape_text extent.shape ++ range_end extent
