@@ -1,0 +1,7 @@
+pub mod Asking
+pub mod Blocks
+pub mod Endings
+pub mod Loops
+pub mod Rooting
+pub mod Telling
+pub mod Writing

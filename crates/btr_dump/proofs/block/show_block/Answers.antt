@@ -1,0 +1,45 @@
+use Rattle.std.proofs.Common.{◌∙◌, [], Ok, Err, sym, ap, subst}
+use Rattle.btr_read.specs.declared.want.Want.TheVariants.{Block}
+use Rattle.btr_read.proofs.Serving.{serves_given}
+use Rattle.btr_read.specs.Serves.{Serves}
+use Rattle.btr_volume.specs.declared.stop.Stop.TheVariants.{Tree}
+use Rattle.btr_walk.specs.Reading.{unread_by}
+use Rattle.btr_prog.specs.Prog.{exec}
+use Rattle.btr_dump.specs.Pieces.{block_shown}
+use Rattle.btr_dump.specs.Showing.{TellsBlock, Writes}
+use Rattle.btr_dump.specs.Stops.{StopCause}
+use Rattle.btr_dump.proofs.Blocks.{block_failed, block_came, block_cause, lent_back}
+use Rattle.btr_dump.proofs.block.show_block.Goals as goal
+
+pub returns-in-Err-clause-content : goal.returns-in-Err-clause-content
+returns-in-Err-clause-content g c =
+    let layout = c.args.store.now.layout in
+    let old = g.R.Rack.seen c.args.rack.now in
+    let new = g.R.Rack.seen c.fetch.new.rack in
+    let text = g.O.Out.text c.args.out.now in
+    subst (λ f. TellsBlock layout c.args.addr old new (λ B. Writes (unread_by layout old new) [] (exec B (block_shown c.args.kind c.args.addr)) text text c.args.text.now c.args.text.now (Err (Tree f)))) (sym c.from.ensures)
+    (block_failed layout old new c.args.kind c.args.addr c.in-Err.ensures.reads text c.args.text.now c.fetch.new.store c.in-Err.fault c.in-Err.ensures.answer)
+
+pub returns-in-Err-clause-cause : goal.returns-in-Err-clause-cause
+returns-in-Err-clause-cause g c =
+    let layout = c.args.store.now.layout in
+    let old = g.R.Rack.seen c.args.rack.now in
+    let new = g.R.Rack.seen c.fetch.new.rack in
+    subst (λ f. StopCause {A = Unit {0}} layout old new (Err (Tree f))) (sym c.from.ensures) (block_cause layout old new c.args.kind c.args.addr c.in-Err.ensures.reads c.fetch.new.store c.in-Err.fault c.in-Err.ensures.answer)
+
+pub returns-clause-serves : goal.returns-clause-serves
+returns-clause-serves g c = subst (Serves (g.R.Rack.seen c.fetch.new.rack)) (sym c.give.ensures) (serves_given (g.R.Rack.seen c.fetch.new.rack) c.fetch.new.store c.in-Ok.loan.slot c.in-Ok.ensures.serves)
+
+pub returns-clause-loans : goal.returns-clause-loans
+returns-clause-loans g c = lent_back _ _ _ (Block c.args.addr) c.in-Ok.loan c.in-Ok.ensures.lent c.give.ensures
+
+pub returns-clause-cause : goal.returns-clause-cause
+returns-clause-cause g c = c.write_held-shown.ensures.cause c.args.store.now.layout (g.R.Rack.seen c.args.rack.now) (g.R.Rack.seen c.fetch.new.rack)
+
+pub returns-clause-content : goal.returns-clause-content
+returns-clause-content g c =
+    let layout = c.args.store.now.layout in
+    let old = g.R.Rack.seen c.args.rack.now in
+    let new = g.R.Rack.seen c.fetch.new.rack in
+    block_came layout old new c.args.kind c.args.addr c.in-Ok.ensures.reads (g.O.Out.text c.args.out.now) (g.O.Out.text c.write_held-shown.new.out) c.args.text.now c.write_held-shown.new.text c.fetch.new.store c.in-Ok.loan c.bytes.result.now c.write_held-shown.result c.in-Ok.ensures.answer
+    c.bytes.ensures.value (c.write_held-shown.ensures.text layout old new [])

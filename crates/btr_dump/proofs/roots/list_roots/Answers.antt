@@ -1,0 +1,7 @@
+use Rattle.btr_dump.proofs.roots.list_roots.Goals as goal
+
+pub returns-clause-account : goal.returns-clause-account
+returns-clause-account g c = c.finish.ensures.account (g.O.Out.account c.args.out.now) c.show_roots-shown.ensures.account
+
+pub returns-clause-cause : goal.returns-clause-cause
+returns-clause-cause g c = c.finish.ensures.cause c.args.vol.now.store.layout (g.R.Rack.seen c.args.rack.now) (g.R.Rack.seen c.show_roots-shown.new.rack) c.show_roots-shown.ensures.cause

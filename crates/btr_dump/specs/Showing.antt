@@ -1,0 +1,123 @@
+-- What calls that show a text answer, and what they put by then.
+use Rattle.std.specs.Prelude.{◌≡◌, ℕ, ◌<◌, Bool, true, false, List, [], ◌++◌, take, Option, Some, None, IfSome, Result, Ok, Err}
+use Rattle.std.specs.List.{flat_map}
+use Rattle.btr_prog.specs.Prog.{Mark, Run, prepend, steps_of, wants_of}
+use Rattle.btr_prog.specs.Answers.{Halt, Broke, Follows}
+use Rattle.btr_prog.specs.Calls.{Calls}
+use Rattle.btr_rack.specs.Out.{Adds}
+use Rattle.btr_rack.specs.Rack.{Seen}
+use Rattle.btr_read.specs.Fate.{Fault, Agree}
+use Rattle.btr_read.specs.Layout.{Layout}
+use Rattle.btr_read.specs.Reading.{OnMap, shown}
+use Rattle.btr_read.specs.declared.want.Want.{Want}
+use Rattle.btr_read.specs.declared.want.Want.TheVariants.{Block}
+use Rattle.btr_text.specs.Text.{Wrote, WasCut}
+use Rattle.btr_walk.specs.Reading.{Map, UnreadBlock, halt_of}
+use Rattle.btr_volume.specs.declared.stop.Stop.{Stop}
+use Rattle.btr_volume.specs.declared.stop.Stop.TheVariants.{NoTree, Tree, Deletion, Balance, Missing, Image, Sink, Out, Memory}
+use Rattle.btr_dump.specs.Pieces.{Text}
+
+-- what stands of a piece that was broken off after n bytes
+abbrev pub part : Text → ℕ → Option Text
+part text n = Some (take n text)
+
+-- pieces one after another
+abbrev pub whole : List Text → Text
+whole pieces = flat_map (λ piece. piece) pieces
+
+abbrev pub TextRun : Type 0 → Type 0
+TextRun A = Run Want Fault Text A
+
+-- pieces were put, and these and the answer follow a run; a refusal of the output may come at any place
+abbrev pub StopFollows : (UnreadBlock → Want → Type 0) → TextRun (Unit {0}) → List Text → Result (Unit {0}) Stop → Type 0
+StopFollows Is r done (Ok u) = Follows Is part [] r done (Ok tt)
+StopFollows Is r done (Err (Tree f)) = Follows Is part [] r done (Err (halt_of f))
+StopFollows Is r done (Err Out) = Follows Is part [] r done (Err Broke)
+StopFollows Is r done (Err Memory) = Follows Is part [] r done (Err Broke)
+StopFollows Is r done (Err (NoTree n)) = ⊥
+StopFollows Is r done (Err (Deletion n)) = ⊥
+StopFollows Is r done (Err Balance) = ⊥
+StopFollows Is r done (Err (Missing n)) = ⊥
+StopFollows Is r done (Err (Image slot)) = ⊥
+StopFollows Is r done (Err Sink) = ⊥
+
+-- what was put on an output
+pub record Puts (Is : UnreadBlock → Want → Type 0) (r : TextRun (Unit {0})) (old new : Option Text) (result : Result (Unit {0}) Stop) : Type 0 where
+  pub done : List Text
+  pub adds : Adds old new (whole done)
+  pub follows : StopFollows Is r done result
+
+-- the same where a tree was asked for: that there isn't such a tree is the run's own value
+abbrev pub AskedFollows : (UnreadBlock → Want → Type 0) → TextRun (Option ℕ) → List Text → Result (Unit {0}) Stop → Type 0
+AskedFollows Is r done (Ok u) = Follows Is part [] r done (Ok None)
+AskedFollows Is r done (Err (NoTree n)) = Follows Is part [] r done (Ok (Some n))
+AskedFollows Is r done (Err (Tree f)) = Follows Is part [] r done (Err (halt_of f))
+AskedFollows Is r done (Err Out) = Follows Is part [] r done (Err Broke)
+AskedFollows Is r done (Err Memory) = Follows Is part [] r done (Err Broke)
+AskedFollows Is r done (Err (Deletion n)) = ⊥
+AskedFollows Is r done (Err Balance) = ⊥
+AskedFollows Is r done (Err (Missing n)) = ⊥
+AskedFollows Is r done (Err (Image slot)) = ⊥
+AskedFollows Is r done (Err Sink) = ⊥
+
+pub record PutsAsked (Is : UnreadBlock → Want → Type 0) (r : TextRun (Option ℕ)) (old new : Option Text) (result : Result (Unit {0}) Stop) : Type 0 where
+  pub done : List Text
+  pub adds : Adds old new (whole done)
+  pub follows : AskedFollows Is r done result
+
+-- the candidates of the block at an address that pass are equal, where the rack tells its images
+abbrev pub BlockAgreed : Layout → ℕ → Option (List (List ℕ)) → Type 0
+BlockAgreed layout addr held = IfSome held (λ images. Agree images layout (Block addr))
+
+-- so far as the calls were steady, P holds of the block map of the images
+pub record TellsBlock (layout : Layout) (addr : ℕ) (old new : Seen) (P : Map → Type 0) : Type 0 where
+  pub calls : Calls (BlockAgreed layout addr) (shown old) (shown new) (OnMap layout P)
+
+-- the output refused within some first marks of a run: a first part of what waited before and then of their pieces was put
+pub record CutIn {A : Type 0} (r : TextRun A) (old new : Option Text) (waited waits : Text) : Type 0 where
+  pub before : List (Mark Want Text)
+  pub behind : List (Mark Want Text)
+  pub place : r.marks ≡ before ++ behind
+  pub cut : WasCut old new waited waits (whole (steps_of before))
+
+-- pieces were written behind what waited, and these and the answer follow a run; `seen` are wants from before it
+pub record WroteAll {A : Type 0} (Is : UnreadBlock → Want → Type 0) (seen : List Want) (r : TextRun A) (old new : Option Text) (waited waits : Text) (answer : Result A (Halt Fault UnreadBlock)) : Type 0 where
+  pub done : List Text
+  pub wrote : Wrote old new waited waits (whole done)
+  pub follows : Follows Is part seen r done answer
+
+-- what a call wrote
+abbrev pub Writes : {A : Type 0} → (UnreadBlock → Want → Type 0) → List Want → TextRun A → Option Text → Option Text → Text → Text → Result A Stop → Type 0
+Writes Is seen r old new waited waits (Ok a) = WroteAll Is seen r old new waited waits (Ok a)
+Writes Is seen r old new waited waits (Err (Tree f)) = WroteAll Is seen r old new waited waits (Err (halt_of f))
+Writes Is seen r old new waited waits (Err Out) = CutIn r old new waited waits
+Writes Is seen r old new waited waits (Err Memory) = CutIn r old new waited waits
+Writes Is seen r old new waited waits (Err (NoTree n)) = ⊥
+Writes Is seen r old new waited waits (Err (Deletion n)) = ⊥
+Writes Is seen r old new waited waits (Err Balance) = ⊥
+Writes Is seen r old new waited waits (Err (Missing n)) = ⊥
+Writes Is seen r old new waited waits (Err (Image slot)) = ⊥
+Writes Is seen r old new waited waits (Err Sink) = ⊥
+
+-- some first marks are past, and their pieces were written behind what waited
+pub record Past (from to : TextRun (Unit {0})) (old new : Option Text) (waited waits : Text) : Type 0 where
+  pub marks : List (Mark Want Text)
+  pub is : from ≡ prepend marks to
+  pub wrote : Wrote old new waited waits (whole (steps_of marks))
+
+-- a cursor goes on: some first marks are past, and it stands at a place that is known by the wants up to there
+pub record GoesOn (On : List Want → Type 0) (from to : TextRun (Unit {0})) (seen : List Want) (old new : Option Text) (waited waits : Text) : Type 0 where
+  pub past : Past from to old new waited waits
+  pub on : On (seen ++ wants_of past.marks)
+
+-- one turn of a loop over a cursor: it goes on, or is at its end
+abbrev pub Turns : (UnreadBlock → Want → Type 0) → (List Want → Type 0) → TextRun (Unit {0}) → TextRun (Unit {0}) → List Want → Option Text → Option Text → Text → Text → Result Bool Stop → Type 0
+Turns Is On from to seen old new waited waits (Ok true) = GoesOn On from to seen old new waited waits
+Turns Is On from to seen old new waited waits (Ok false) = Writes {A = Unit {0}} Is seen from old new waited waits (Ok tt)
+Turns Is On from to seen old new waited waits (Err stop) = Writes Is seen from old new waited waits (Err stop)
+
+-- a cursor that goes on comes nearer to its end
+abbrev pub TurnNears : ℕ → ℕ → Result Bool Stop → Type 0
+TurnNears old new (Ok true) = new < old
+TurnNears old new (Ok false) = Unit {0}
+TurnNears old new (Err stop) = Unit {0}

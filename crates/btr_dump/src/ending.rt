@@ -1,0 +1,49 @@
+// How a text ends.
+ghost use Rattle.std.specs.Prelude.{◌≡◌, [], Option};
+ghost use Rattle.btr_rack.specs.Out.{CallAccount};
+ghost use Rattle.btr_rack.specs.Rack.{Seen};
+ghost use Rattle.btr_read.specs.Layout.{Layout};
+ghost use Rattle.btr_walk.specs.Reading.{unread_by};
+ghost use Rattle.btr_dump.specs.Pieces.{Text};
+ghost use Rattle.btr_dump.specs.Showing.{TextRun, Writes, Puts};
+ghost use Rattle.btr_dump.specs.Stops.{stop_of, is_cut, StopCounts, StopCause};
+
+use btr_rack::{Out, SinkError};
+use btr_text::TextBuffer;
+use btr_volume::Stop;
+
+/// What a refusal of the output makes of a command.
+pub(crate) fn stop_of(refusal: SinkError) -> Stop
+    ensures { result ≡ stop_of refusal }
+{
+    match refusal {
+        SinkError::Failed => Stop::Out,
+        SinkError::Memory => Stop::Memory,
+    }
+}
+
+// Whether the output refused on the way, so that nothing waits any more.
+fn is_cut(shown: &Result<(), Stop>) -> bool
+    ensures { result ≡ is_cut shown.now }
+{
+    matches!(shown, Err(Stop::Out | Stop::Memory))
+}
+
+/// Puts what waits of a text, and answers what showing it came to, unless the output refuses; where it did on the way, nothing is put.
+pub(crate) fn finish<O: Out>(
+    shown: Result<(), Stop>,
+    mut text: TextBuffer,
+    out: &mut O,
+) -> Result<(), Stop>
+    ensures text { (layout : Layout) (before now : Seen) (r : TextRun (Unit {0})) (begun : Option Text) → Writes (unread_by layout before now) [] r begun (O.text out.old) [] text shown → Puts (unread_by layout before now) r begun (O.text out.new) result }
+    ensures account { (begun : CallAccount) → StopCounts begun (O.account out.old) shown → StopCounts begun (O.account out.new) result }
+    ensures cause { (layout : Layout) (before now : Seen) → StopCause layout before now shown → StopCause layout before now result }
+{
+    if is_cut(&shown) {
+        return shown;
+    }
+    match text.flush(out) {
+        Ok(()) => shown,
+        Err(refusal) => Err(stop_of(refusal)),
+    }
+}

@@ -1,0 +1,166 @@
+// The lines of the roots.
+ghost use Rattle.std.specs.Prelude.{◌≡◌, ◌<◌, ◌≤◌, List, [], ◌++◌};
+ghost use Rattle.btr_prog.specs.Prog.{exec};
+ghost use Rattle.btr_rack.specs.Out.{Counts};
+ghost use Rattle.btr_rack.specs.Rack.{OnlyReads};
+ghost use Rattle.btr_read.specs.Serves.{Serves};
+ghost use Rattle.btr_read.specs.Store.{SameLoans, free_count};
+ghost use Rattle.btr_read.specs.declared.want.Want.{Want};
+ghost use Rattle.btr_text.specs.Pieces.{text_of};
+ghost use Rattle.btr_text.specs.Text.{Writes as WritesText};
+ghost use Rattle.btr_walk.specs.Going.{IsOn};
+ghost use Rattle.btr_walk.specs.Reading.{Tells, unread_by};
+ghost use Rattle.btr_walk.specs.ScanEnds.{IsReady, without_leaf, left_of, rank_of};
+ghost use Rattle.btr_volume.specs.Looking.{SameVolume};
+ghost use Rattle.btr_volume.specs.Tree.{root_root, named_root};
+ghost use Rattle.btr_volume.specs.Table.{chunk_root};
+ghost use Rattle.btr_dump.specs.Pieces as spec;
+ghost use Rattle.btr_dump.specs.Showing.{Writes, Turns, TurnNears, Puts};
+ghost use Rattle.btr_dump.specs.Stops.{StopCounts, StopCause};
+
+use crate::ending::{finish, stop_of};
+use crate::lines::{root_line, write_item};
+use btr_base::Key;
+use btr_rack::{Out, Rack, SinkError};
+use btr_read::Store;
+use btr_super::Super;
+use btr_text::{Piece, TextBuffer};
+use btr_volume::{Stop, Volume, chunk_root, root_root};
+use btr_walk::{RootPlace, Scan, next};
+
+// The first and the last key that there are.
+const FIRST_KEY: Key = Key {
+    objectid: 0,
+    kind: 0,
+    offset: 0,
+};
+
+const LAST_KEY: Key = Key {
+    objectid: u64::MAX,
+    kind: u8::MAX,
+    offset: u64::MAX,
+};
+
+fn top_line(id: u64, place: &RootPlace) -> [Piece<'static>; 11]
+    ensures { text_of result ≡ spec.root_line (named_root id place.now) }
+{
+    root_line(id, 0, place.addr, u64::from(place.level), place.generation)
+}
+
+// The lines of the root tree and of the chunk tree.
+fn write_tops<O: Out>(s: &Super, text: &mut TextBuffer, out: &mut O) -> Result<(), SinkError>
+    ensures text { WritesText (O.text out.old) (O.text out.new) text.old text.new (spec.root_line (named_root 1 (root_root s.now)) ++ spec.root_line (named_root 3 (chunk_root s.now))) result }
+    ensures account { Counts (O.account out.old) (O.account out.new) result }
+{
+    text.push_all(&top_line(1, &root_root(s)), out)?;
+    text.push_all(&top_line(3, &chunk_root(s)), out)
+}
+
+// Shows the next item of a scan; `false` where there is none.
+fn show_next<R: Rack, O: Out>(
+    scan: &mut Scan,
+    rack: &mut R,
+    store: &mut Store,
+    text: &mut TextBuffer,
+    out: &mut O,
+) -> Result<bool, Stop>
+    requires ready { IsReady (R.seen rack.old) store.old scan.old }
+    requires room { 4 ≤ free_count (without_leaf store.old scan.old) }
+    ensures ready { IsReady (R.seen rack.new) store.new scan.new }
+    ensures reads { OnlyReads (R.seen rack.old) (R.seen rack.new) }
+    ensures others { SameLoans (without_leaf store.old scan.old) (without_leaf store.new scan.new) }
+    ensures lo { scan.new.lo ≡ scan.old.lo }
+    ensures hi { scan.new.hi ≡ scan.old.hi }
+    ensures nears { TurnNears (rank_of scan.old) (rank_of scan.new) result }
+    ensures account { StopCounts (O.account out.old) (O.account out.new) result }
+    ensures cause { StopCause store.old.layout (R.seen rack.old) (R.seen rack.new) result }
+    ensures content { Tells store.old.layout (R.seen rack.old) (R.seen rack.new)
+        (λ B. (seen : List Want) → IsOn scan.old.lo scan.old.hi B seen scan.old.place
+        → Turns (unread_by store.old.layout (R.seen rack.old) (R.seen rack.new)) (λ ws. IsOn scan.old.lo scan.old.hi B ws scan.new.place) (exec B (spec.item_lines (left_of B store.old scan.old))) (exec B (spec.item_lines (left_of B store.new scan.new))) seen (O.text out.old) (O.text out.new) text.old text.new result) }
+{
+    match next(store, scan, rack) {
+        Err(fault) => Err(Stop::Tree(fault)),
+        Ok(None) => Ok(false),
+        Ok(Some(found)) => match write_item(&found, text, out) {
+            Err(stop) => Err(stop),
+            Ok(()) => Ok(true),
+        },
+    }
+}
+
+// Shows the items of a scan.
+fn show_items<R: Rack, O: Out>(
+    scan: &mut Scan,
+    rack: &mut R,
+    store: &mut Store,
+    text: &mut TextBuffer,
+    out: &mut O,
+) -> Result<(), Stop>
+    requires ready { IsReady (R.seen rack.old) store.old scan.old }
+    requires room { 4 ≤ free_count (without_leaf store.old scan.old) }
+    ensures ready { IsReady (R.seen rack.new) store.new scan.new }
+    ensures reads { OnlyReads (R.seen rack.old) (R.seen rack.new) }
+    ensures others { SameLoans (without_leaf store.old scan.old) (without_leaf store.new scan.new) }
+    ensures account { StopCounts (O.account out.old) (O.account out.new) result }
+    ensures cause { StopCause store.old.layout (R.seen rack.old) (R.seen rack.new) result }
+    ensures content { Tells store.old.layout (R.seen rack.old) (R.seen rack.new)
+        (λ B. (seen : List Want) → IsOn scan.old.lo scan.old.hi B seen scan.old.place
+        → Writes (unread_by store.old.layout (R.seen rack.old) (R.seen rack.new)) seen (exec B (spec.item_lines (left_of B store.old scan.old))) (O.text out.old) (O.text out.new) text.old text.new result) }
+{
+    loop {
+        match show_next(scan, rack, store, text, out) {
+            Err(stop) => return Err(stop),
+            Ok(false) => return Ok(()),
+            Ok(true) => {}
+        }
+    }
+}
+
+// Shows all roots.
+fn show_roots<R: Rack, O: Out>(
+    s: &Super,
+    rack: &mut R,
+    store: &mut Store,
+    text: &mut TextBuffer,
+    out: &mut O,
+) -> Result<(), Stop>
+    requires serves { Serves (R.seen rack.old) store.old }
+    requires room { 4 ≤ free_count store.old }
+    ensures serves { Serves (R.seen rack.new) store.new }
+    ensures reads { OnlyReads (R.seen rack.old) (R.seen rack.new) }
+    ensures loans { SameLoans store.old store.new }
+    ensures account { StopCounts (O.account out.old) (O.account out.new) result }
+    ensures cause { StopCause store.old.layout (R.seen rack.old) (R.seen rack.new) result }
+    ensures content { Tells store.old.layout (R.seen rack.old) (R.seen rack.new) (λ B. Writes (unread_by store.old.layout (R.seen rack.old) (R.seen rack.new)) [] (exec B (spec.roots_shown s.now)) (O.text out.old) (O.text out.new) text.old text.new result) }
+{
+    match write_tops(s, text, out) {
+        Ok(()) => {}
+        Err(refusal) => return Err(stop_of(refusal)),
+    }
+    let mut scan = Scan::new(&root_root(s), FIRST_KEY, LAST_KEY);
+    let shown = show_items(&mut scan, rack, store, text, out);
+    scan.finish(store);
+    shown
+}
+
+/// Puts a line for each tree: where its root block stands. First the root tree and the chunk tree, as the superblock has them, and
+/// then each ROOT_ITEM of the root tree in the order of the keys. It takes no memory of its own. Four slots are free, and after it
+/// as many as before.
+///
+/// `Tree`: a block of the root tree is `Lost`, `Unread`, `Unmapped`, `Crosses` or `Malformed`, or a ROOT_ITEM breaks its form, and so its
+/// leaf is `Malformed`; then the lines of the items before it were put. `Out` and `Memory` are the output's refusals: then a first part
+/// of the text was put.
+pub fn list_roots<R: Rack, O: Out>(rack: &mut R, vol: &mut Volume, out: &mut O) -> Result<(), Stop>
+    requires serves { Serves (R.seen rack.old) vol.old.store }
+    requires room { 4 ≤ free_count vol.old.store }
+    ensures serves { Serves (R.seen rack.new) vol.new.store }
+    ensures reads { OnlyReads (R.seen rack.old) (R.seen rack.new) }
+    ensures same { SameVolume vol.old vol.new }
+    ensures account { StopCounts (O.account out.old) (O.account out.new) result }
+    ensures cause { StopCause vol.old.store.layout (R.seen rack.old) (R.seen rack.new) result }
+    ensures content { Tells vol.old.store.layout (R.seen rack.old) (R.seen rack.new) (λ B. Puts (unread_by vol.old.store.layout (R.seen rack.old) (R.seen rack.new)) (exec B (spec.roots_shown vol.old.sup)) (O.text out.old) (O.text out.new) result) }
+{
+    let mut text = TextBuffer::new();
+    let shown = show_roots(&vol.sup, rack, &mut vol.store, &mut text, out);
+    finish(shown, text, out)
+}
