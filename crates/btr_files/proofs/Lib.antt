@@ -1,0 +1,4 @@
+pub mod Folding
+pub mod Meeting
+pub mod Surveys
+pub mod Lookups

@@ -1,0 +1,67 @@
+-- The bytes of a file, each by its position.
+use Rattle.std.specs.Prelude.{◌≡◌, ℕ, ◌+◌, ◌-◌, ◌%◌, ◌<◌, Bool, ◌&&◌, ◌==◌, nat_le, nat_lt, if◌then◌else◌, List, [], length, find, flat_map, replicate, slice_index, Option, Result, Ok, Err}
+use Rattle.std.specs.Option.{option_map_or}
+use Rattle.btr_base.specs.declared.kind.SumKind.{SumKind}
+use Rattle.btr_items.specs.FileExtent.{end_of}
+use Rattle.btr_items.specs.declared.shape.Shape.{Shape}
+use Rattle.btr_items.specs.declared.shape.Shape.TheVariants.{Inline, Regular, Prealloc}
+use Rattle.btr_prog.specs.Prog.{BlockMap, exec, steps}
+use Rattle.btr_read.specs.Fate.{Fault}
+use Rattle.btr_read.specs.declared.want.Want.{Want}
+use Rattle.btr_read.specs.declared.want.Want.TheVariants.{Tree, Block, Sector, Plain}
+use Rattle.btr_volume.specs.declared.root.TreeRoot.{TreeRoot}
+use Rattle.btr_files.specs.Content.{Piece, Bytes, Gap, sector_want, content}
+use Rattle.btr_files.specs.Extents.{Extent, extents}
+
+-- the bytes of some pieces
+abbrev pub piece_bytes : Piece → List ℕ
+piece_bytes (Bytes bytes summed) = bytes
+piece_bytes (Gap count) = replicate count 0
+
+abbrev pub bytes_of : List Piece → List ℕ
+bytes_of pieces = flat_map piece_bytes pieces
+
+-- a position lies in an extent
+abbrev pub covers : ℕ → Extent → Bool
+covers p x = nat_le x.start p && nat_lt p (end_of x.start x.fields)
+
+module _ (B : BlockMap Want Fault) (kind : SumKind) (sums : Option TreeRoot) (nosum : Bool) where
+  abbrev pub bytes_or_none : Result (List ℕ) Fault → List ℕ
+  bytes_or_none (Ok bytes) = bytes
+  bytes_or_none (Err fault) = []
+
+  abbrev pub bytes_by : Result Want Fault → List ℕ
+  bytes_by (Ok want) = bytes_or_none (B want)
+  bytes_by (Err fault) = []
+
+  -- the bytes of the sector at an address
+  abbrev pub sector_bytes : ℕ → List ℕ
+  sector_bytes addr = bytes_by (exec B (sector_want kind sums nosum addr)).ending
+
+  -- the byte at a position that an extent covers: an inline byte, that of a sector, or zero
+  abbrev pub byte_in : ℕ → Extent → Shape → ℕ
+  byte_in p x (Inline len) = slice_index x.inline (p - x.start)
+  byte_in p x (Regular addr disk_len skip len) =
+      let at = addr + skip + (p - x.start) in
+      if addr == 0 then 0 else slice_index (sector_bytes (at - at % 4096)) (at % 4096)
+  byte_in p x (Prealloc addr disk_len skip len) = 0
+
+  -- the byte at a position of a file of some extents: zero where none covers it
+  abbrev pub file_at : List Extent → ℕ → ℕ
+  file_at xs p = option_map_or (λ x. byte_in p x x.fields.shape) (find (covers p) xs) 0
+
+-- data is wanted by whole sectors
+abbrev pub IsSectorLong : Want → List ℕ → Type 0
+IsSectorLong (Tree addr generation level) bytes = Unit {0}
+IsSectorLong (Block addr) bytes = Unit {0}
+IsSectorLong (Sector addr sum) bytes = length bytes ≡ 4096
+IsSectorLong (Plain addr) bytes = length bytes ≡ 4096
+
+-- the pieces of a file are its bytes, as many as its size
+abbrev pub ContentIsFile : Type 0
+ContentIsFile =
+    (B : BlockMap Want Fault) (kind : SumKind) (sums : Option TreeRoot) (nosum : Bool) (size : ℕ) (tree : TreeRoot) (ino : ℕ)
+    → ((want : Want) (bytes : List ℕ) → B want ≡ Ok bytes → IsSectorLong want bytes)
+    → (exec B (content kind sums nosum size tree ino)).ending ≡ Ok tt
+    → (length (bytes_of (steps B (content kind sums nosum size tree ino))) ≡ size)
+    × ((p : ℕ) → p < size → slice_index (bytes_of (steps B (content kind sums nosum size tree ino))) p ≡ file_at B kind sums nosum (steps B (extents tree ino)) p)

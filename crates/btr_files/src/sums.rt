@@ -1,0 +1,120 @@
+// The checksum of a sector.
+ghost use Rattle.std.specs.Prelude.{◌≡◌, ◌≤◌, ◌<◌, ◌-◌, ◌/◌, ◌*◌, length, Some};
+ghost use Rattle.btr_base.specs.Sum.{sum_size};
+ghost use Rattle.btr_rack.specs.Rack.{OnlyReads};
+ghost use Rattle.btr_read.specs.Serves.{Serves};
+ghost use Rattle.btr_read.specs.Store.{SameLoans, free_count};
+ghost use Rattle.btr_walk.specs.Reading.{HasCause};
+ghost use Rattle.btr_walk.specs.Showing.{item_of};
+ghost use Rattle.btr_volume.specs.Looking.{Judges, Looks, SameVolume};
+ghost use Rattle.btr_files.specs.Sums.{is_sums, kind_in, sum_at, sum_found, sum_in, sum_under, tree_behind};
+
+use crate::lookup::{give_back, key_of};
+use btr_base::{Key, Sum, SumKind};
+use btr_items::{SumRun, item};
+use btr_rack::Rack;
+use btr_read::Store;
+use btr_super::Super;
+use btr_volume::{TreeRoot, Volume};
+use btr_walk::{Found, RootPlace, TreeFault, find_le};
+
+/// The objectid of all checksums of data: minus 10.
+const SUMS: u64 = u64::MAX - 9;
+
+// The kind of a filesystem's checksums.
+pub(crate) fn kind_of(sup: &Super) -> SumKind
+    ensures { result ≡ kind_in sup.now }
+{
+    match SumKind::from_type(sup.csum_type) {
+        Some(kind) => kind,
+        None => SumKind::Crc32c,
+    }
+}
+
+// Whether this is the key of checksums of data.
+fn is_sums(key: Key) -> bool
+    ensures { result ≡ is_sums key }
+{
+    key.objectid == SUMS && key.kind == item::EXTENT_CSUM
+}
+
+// The checksum of the sector at an address, if the run in a body covers it.
+fn sum_in(kind: SumKind, addr: u64, body: &[u8], run: &SumRun) -> Option<Sum>
+    requires { run.now.count * sum_size kind ≡ length body.now }
+    ensures { result ≡ sum_in kind addr body.now run.now }
+{
+    if addr < run.start {
+        return None;
+    }
+    let sector = (addr - run.start) / 4096;
+    if sector >= run.count {
+        return None;
+    }
+    Some(run.sum_at(kind, body, sector))
+}
+
+// The checksum in what was found for an address: none where it is another item.
+fn sum_found(kind: SumKind, addr: u64, found: &Found<'_>) -> Result<Option<Sum>, TreeFault>
+    ensures { Judges (sum_found kind addr (Some (item_of found.now))) result }
+{
+    if !is_sums(found.key) {
+        return Ok(None);
+    }
+    match SumRun::read(kind, found.key, found.body) {
+        Ok(run) => Ok(sum_in(kind, addr, found.body, &run)),
+        Err(_) => Err(TreeFault::Malformed(found.block)),
+    }
+}
+
+// The checksum of the sector at an address, in the tree with this root.
+#[tactic(auto, using(btr_volume::proofs::Looked::served_base))]
+fn find_sum<R: Rack>(
+    store: &mut Store,
+    root: &RootPlace,
+    kind: SumKind,
+    addr: u64,
+    rack: &mut R,
+) -> Result<Option<Sum>, TreeFault>
+    requires serves { Serves (R.seen rack.old) store.old }
+    requires room { 4 ≤ free_count store.old }
+    ensures serves { Serves (R.seen rack.new) store.new }
+    ensures reads { OnlyReads (R.seen rack.old) (R.seen rack.new) }
+    ensures loans { SameLoans store.old store.new }
+    ensures cause { HasCause store.old.layout (R.seen rack.old) (R.seen rack.new) result }
+    ensures content { Looks store.old.layout (R.seen rack.old) (R.seen rack.new) (sum_under kind root.now addr) result }
+{
+    let mut loan = None;
+    let key = key_of(SUMS, item::EXTENT_CSUM, addr);
+    let sum = match find_le(store, root, key, rack, &mut loan) {
+        Err(fault) => Err(fault),
+        Ok(None) => Ok(None),
+        Ok(Some(found)) => sum_found(kind, addr, &found),
+    };
+    give_back(store, loan);
+    sum
+}
+
+/// Answers the checksum of the sector at an address, which is a multiple of 4096; `None` exactly where no item of the checksum tree covers it, or there is
+/// no such tree. It takes no memory, and four slots are free.
+///
+/// The faults are those of the blocks that are read, in their order: `Lost`, `Unread`, `Unmapped` and `Crosses` of a block, and `Malformed` where one
+/// breaks a rule, doesn't fit its place, or has an item that breaks its form.
+pub fn sum_of<R: Rack>(
+    sums: Option<&TreeRoot>,
+    addr: u64,
+    rack: &mut R,
+    vol: &mut Volume,
+) -> Result<Option<Sum>, TreeFault>
+    requires serves { Serves (R.seen rack.old) vol.old.store }
+    requires room { 4 ≤ free_count vol.old.store }
+    ensures serves { Serves (R.seen rack.new) vol.new.store }
+    ensures reads { OnlyReads (R.seen rack.old) (R.seen rack.new) }
+    ensures volume { SameVolume vol.old vol.new }
+    ensures cause { HasCause vol.old.store.layout (R.seen rack.old) (R.seen rack.new) result }
+    ensures content { Looks vol.old.store.layout (R.seen rack.old) (R.seen rack.new) (sum_at (kind_in vol.old.sup) (tree_behind sums.entry) addr) result }
+{
+    match sums {
+        None => Ok(None),
+        Some(sums) => find_sum(&mut vol.store, &sums.place, kind_of(&vol.sup), addr, rack),
+    }
+}

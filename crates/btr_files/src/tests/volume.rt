@@ -1,0 +1,126 @@
+// Trees in one image in memory, and the volume that reads them.
+ghost use Rattle.std.specs.Prelude.{◌≡◌, ◌<◌, IfOk, length};
+ghost use Rattle.btr_rack.specs.Memory.{seen_of, slots_of};
+ghost use Rattle.btr_read.specs.Serves.{Serves};
+ghost use Rattle.btr_read.specs.Store.{free_count};
+
+use btr_blocks::{Form, Items, Tree, bodies};
+use btr_chunk::{Chunk, ChunkTable, Stripe};
+use btr_rack::{MemRack, Rack};
+use btr_read::Store;
+use btr_super::Super;
+use btr_volume::{TreeRoot, Volume};
+use btr_walk::RootPlace;
+use std::alloc::Global;
+use std::test::Fail;
+
+/// Where the chunk begins, on the device too, and with it the tree that is tested.
+pub(super) const START: u64 = 1048576;
+
+/// Where the checksum tree begins.
+pub(super) const SUMS: u64 = 2097152;
+
+/// Where data begins.
+pub(super) const DATA: u64 = 3145728;
+
+const CHUNK: u64 = 4194304;
+
+/// Small blocks, of which a leaf has three items and a node three pointers at most.
+pub(super) const FORM: Form = Form {
+    nodesize: 4096,
+    items: 3,
+    pointers: 3,
+    ..Form::DEFAULT
+};
+
+/// The tree of these items that begins at an address.
+pub(super) fn tree_at(alloc: Global, addr: u64, items: Items) -> Result<Tree, Fail> {
+    Ok(Tree::grow(alloc, &FORM, addr, items)?)
+}
+
+/// Its root.
+pub(super) fn root_of(tree: &Tree) -> TreeRoot {
+    TreeRoot {
+        id: 5,
+        offset: 0,
+        place: RootPlace {
+            addr: tree.root(),
+            generation: FORM.generation,
+            level: tree.level(),
+        },
+        dirid: 256,
+        refs: 1,
+    }
+}
+
+/// A rack with the trees and the data in its one image, which is open.
+pub(super) fn rack_of(alloc: Global, trees: &[Tree], data: &[u8]) -> Result<MemRack, Fail>
+    ensures { IfOk result (λ rack. 0 < length (slots_of rack)) }
+{
+    let mut rack = MemRack::new(alloc);
+    rack.add("a", 8388608)?;
+    for tree in trees {
+        tree.put(&mut rack, "a")?;
+    }
+    rack.poke("a", DATA, data)?;
+    rack.open("a", false)?;
+    Ok(rack)
+}
+
+// The superblock of a filesystem whose root tree begins at the chunk's start.
+fn sup_of(root: &RootPlace) -> Super {
+    let fsid = FORM.fsid;
+    Super {
+        fsid,
+        place: 65536,
+        flags: 1,
+        generation: root.generation,
+        root: root.addr,
+        chunk_root: 0,
+        log_root: 0,
+        total_bytes: 8388608,
+        bytes_used: 0,
+        root_dir: 6,
+        num_devices: 1,
+        sectorsize: 4096,
+        nodesize: 4096,
+        leafsize: 4096,
+        stripesize: 4096,
+        sys_chunk_array_size: 0,
+        chunk_root_generation: 0,
+        compat: 0,
+        compat_ro: 0,
+        incompat: 0,
+        csum_type: 0,
+        root_level: root.level,
+        chunk_root_level: 0,
+        log_root_level: 0,
+        devid: 1,
+        dev_uuid: [0; 16],
+        label: [0; 256],
+        metadata_uuid: [0; 16],
+        array: [0; 2048],
+    }
+}
+
+/// The volume that reads the chunk from the first image. The tree is its root tree too.
+pub(super) fn volume_over(alloc: Global, rack: &MemRack, root: &TreeRoot) -> Result<Volume, Fail>
+    requires { 0 < length (slots_of rack.now) }
+    ensures serves { IfOk result (λ vol. Serves (seen_of rack.now) vol.store) }
+    ensures free { IfOk result (λ vol. free_count vol.store ≡ 24) }
+{
+    let stripe = Stripe {
+        devid: 1,
+        offset: START,
+        uuid: [0; 16],
+    };
+    let item = bodies::chunk_item(alloc, CHUNK, 2, &[stripe])?;
+    let mut chunks = ChunkTable::new(alloc);
+    chunks.add(Chunk::read(alloc, START, item.as_slice())?)?;
+    let mut store = Store::new(alloc, FORM.sums, FORM.fsid, 4096, chunks)?;
+    store.add_device(1, 0, rack.len(0))?;
+    Ok(Volume {
+        store,
+        sup: sup_of(&root.place),
+    })
+}
