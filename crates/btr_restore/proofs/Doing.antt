@@ -1,0 +1,63 @@
+-- Calls one after another, each of which does what a program says.
+use Rattle.std.proofs.Common.{◌≡◌, ℕ, Bool, true, false, cond, List, [], ◌∷◌, ◌++◌, Option, Some, None, Result, Ok, Err, refl, sym, ap, ◌∙◌, subst, append-nil, append_assoc}
+use Rattle.std.specs.Prelude.{fold, IfSome, flat_map}
+use Rattle.btr_prog.specs.Answers.{Halt, Follows, no_part}
+use Rattle.btr_prog.specs.Calls.{Sure, First, Any, Calls}
+use Rattle.btr_prog.specs.Goes.{GoesTo, Goes}
+use Rattle.btr_prog.specs.Prog.{Prog, Return, Stop, Need, Emit, Run, run, bind, exec, wants_of}
+use Rattle.btr_prog.specs.Quiet.{quiet}
+use Rattle.btr_prog.proofs.Choices.{goes_then, goes_halt, goes_alone, goes_map}
+use Rattle.btr_prog.proofs.Follow.{follows_as}
+use Rattle.btr_prog.proofs.Quieting.{goes_quiet}
+use Rattle.btr_prog.proofs.Successive.{calls_then, calls_as, calls_none}
+use Rattle.btr_rack.specs.Rack.{Seen, OnlyReads}
+use Rattle.btr_rack.specs.Sink.{Sink}
+use Rattle.btr_read.specs.Fate.{Fault, fate, choices}
+use Rattle.btr_read.specs.Layout.{Layout}
+use Rattle.btr_read.specs.Reading.{AgreedOn, OnMap, shown}
+use Rattle.btr_read.specs.declared.want.Want.{Want}
+use Rattle.btr_walk.specs.Reading.{Map, UnreadBlock, Tells, unread_by, answer_of}
+use Rattle.btr_walk.specs.declared.fault.TreeFault.{TreeFault}
+use Rattle.btr_volume.specs.Looking.{Looks}
+use Rattle.btr_volume.specs.Lookup.{Program, Lookup, looks}
+use Rattle.btr_files.specs.Maps.{maps_by, TellsAll}
+use Rattle.btr_restore.specs.Outcome.{text_in, text_of}
+use Rattle.btr_restore.specs.Restoring.{sink_after, text_after, Scene, Did, Does, Emits}
+use Rattle.btr_restore.specs.Step.{Step, part}
+use Rattle.btr_restore.proofs.Emitting.{text_none}
+use Rattle.btr_restore.proofs.Honests.{choices-zero}
+
+-- the steps of two calls
+pub fold-append : {A B : Type 0} (f : A → B → A) (a : A) (xs ys : List B) → fold f a (xs ++ ys) ≡ fold f (fold f a xs) ys
+fold-append f a [] ys = refl
+fold-append f a (x ∷ xs) ys = fold-append f (f a x) xs ys
+
+text_of-append : (xs ys : List Step) → text_of (xs ++ ys) ≡ text_of xs ++ text_of ys
+text_of-append [] ys = refl
+text_of-append (x ∷ xs) ys = ap (λ t. text_in x ++ t) (text_of-append xs ys) ∙ sym (append_assoc (text_in x) (text_of xs) (text_of ys))
+
+pub text_then : (told : Option (List ℕ)) (xs ys : List Step) → text_after (text_after told xs) ys ≡ text_after told (xs ++ ys)
+text_then None xs ys = refl
+text_then (Some text) xs ys = ap Some (append_assoc text (text_of xs) (text_of ys) ∙ ap (λ t. text ++ t) (sym (text_of-append xs ys)))
+
+-- one run after another, whichever want could not be read
+module _ {W F A C U : Type 0} {I : Type 0} (Bs : I → W → Result (List ℕ) F) (One Is : U → W → Type 0) (p : Prog W F Step A) (k : A → Prog W F Step C) where
+  pub goes_on : (a : A) (done more : List Step) (ans : Result C (Halt F U)) → Goes One part [] Bs p done (Ok a) → Goes Is part [] Bs (k a) more ans → Goes Is part [] Bs (bind p k) (done ++ more) ans
+  goes_on a done more ans h g = goes_then Bs Is part [] p k h.0 a done more ans h.1 h.2 (goes_alone Bs Is part (wants_of h.0.marks) (k a) more ans g)
+
+module _ {A C : Type 0} (p : Program Step A) (k : A → Program Step C) (s s' s'' : Sink) (told told' told'' : Option (List ℕ)) where
+  pub emits_then : (a : A) (answer : Result C (Halt Fault UnreadBlock)) → Emits p s s' told told' (Ok a) → Emits (k a) s' s'' told' told'' answer → Emits (bind p k) s s'' told told'' answer
+  emits_then a answer h g = record {
+    done = h.done ++ g.done;
+    sink = g.sink ∙ (ap (λ x. fold sink_after x g.done) h.sink ∙ sym (fold-append sink_after s h.done g.done));
+    text = g.text ∙ (ap (λ x. text_after x g.done) h.text ∙ text_then told h.done g.done);
+    goes = λ layout old new Bs. goes_on Bs (unread_by layout old new) (unread_by layout old new) p k a h.done g.done answer (h.goes layout old new Bs) (g.goes layout old new Bs);
+  }
+
+  pub emits_halt : (halt : Halt Fault UnreadBlock) → Emits p s s' told told' (Err halt) → Emits (bind p k) s s' told told' (Err halt)
+  emits_halt halt h = record {
+    done = h.done;
+    sink = h.sink;
+    text = h.text;
+    goes = λ layout old new Bs. goes_halt Bs (unread_by layout old new) part [] p k 0 h.done halt (h.goes layout old new Bs);
+  }

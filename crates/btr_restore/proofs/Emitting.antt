@@ -1,0 +1,132 @@
+-- Steps that calls do which read nothing.
+use Rattle.std.proofs.Common.{◌≡◌, ℕ, Bool, true, false, cond, List, [], ◌∷◌, ◌++◌, Option, Some, None, Result, Ok, Err, refl, sym, ap, ◌∙◌, subst, append-nil}
+use Rattle.std.specs.Prelude.{fold, take}
+use Rattle.btr_prog.specs.Answers.{Halt, Broke}
+use Rattle.btr_prog.specs.Goes.{Goes}
+use Rattle.btr_prog.specs.Prog.{Return, Emit, run}
+use Rattle.btr_prog.proofs.Choices.{goes_step, goes_broke, goes_nowhere}
+use Rattle.btr_rack.specs.Out.{Adds}
+use Rattle.btr_rack.specs.Sink.{Sink}
+use Rattle.btr_rack.specs.declared.error.SinkError.{SinkError}
+use Rattle.btr_rack.specs.declared.error.SinkError.TheVariants.{Failed, Memory}
+use Rattle.btr_read.specs.Fate.{Fault}
+use Rattle.btr_read.specs.Layout.{Layout}
+use Rattle.btr_rack.specs.Rack.{Seen}
+use Rattle.btr_walk.specs.Reading.{Map, UnreadBlock, unread_by}
+use Rattle.btr_volume.specs.Lookup.{Program}
+use Rattle.btr_volume.specs.declared.stop.Stop.{Stop}
+use Rattle.btr_restore.specs.Outcome.{text_of}
+use Rattle.btr_restore.specs.Restoring.{sink_after, text_after, Emits, stop_halt, stops_out, stops_sink}
+use Rattle.btr_files.specs.declared.counts.Counts.{Counts}
+use Rattle.btr_restore.specs.Journey.{Treated, Over}
+use Rattle.btr_restore.specs.Lines.{more, with_skip}
+use Rattle.btr_restore.specs.Step.{Step, Line, part}
+
+pub broke_out : (e : SinkError) → stop_halt (stops_out e) ≡ Broke
+broke_out Failed = refl
+broke_out Memory = refl
+
+pub broke_sink : (e : SinkError) → stop_halt (stops_sink e) ≡ Broke
+broke_sink Failed = refl
+broke_sink Memory = refl
+
+-- no step adds nothing, and a line adds its text
+pub text_none : (told : Option (List ℕ)) → told ≡ text_after told []
+text_none None = refl
+text_none (Some text) = ap Some (sym (append-nil text))
+
+pub text_line : (told told' : Option (List ℕ)) (text : List ℕ) → Adds told told' text → told' ≡ text_after told (Line text ∷ [])
+text_line None told' text h = h
+text_line (Some old) told' text h = h ∙ ap (λ t. Some (old ++ t)) (sym (append-nil text))
+
+module _ {A : Type 0} where
+  -- a program that ends at once
+  pub emits_none : (a : A) (s : Sink) (told : Option (List ℕ)) → Emits (Return a) s s told told (Ok a)
+  emits_none a s told = record { done = []; sink = refl; text = text_none told; goes = λ layout old new Bs. (run [] (Ok a), refl, (refl, refl)) }
+
+  -- a line that was put whole, and one that was cut
+  pub emits_line : (text : List ℕ) (a : A) (s : Sink) (told told' : Option (List ℕ)) → Adds told told' text → Emits (Emit (Line text) (Return a)) s s told told' (Ok a)
+  emits_line text a s told told' h = record {
+    done = Line text ∷ [];
+    sink = refl;
+    text = text_line told told' text h;
+    goes = λ layout old new Bs. goes_step Bs (unread_by layout old new) part [] (Line text) (Return a) [] (Ok a) (run [] (Ok a), refl, (refl, refl));
+  }
+
+  pub breaks_line : (text : List ℕ) (p : Program Step A) (s : Sink) (told told' : Option (List ℕ)) → ((n : ℕ) × Adds told told' (take n text)) → Emits (Emit (Line text) p) s s told told' (Err Broke)
+  breaks_line text p s told told' h = record {
+    done = Line (take h.0 text) ∷ [];
+    sink = refl;
+    text = text_line told told' (take h.0 text) h.1;
+    goes = λ layout old new Bs. goes_broke Bs (unread_by layout old new) part [] 0 (Line text) (Line (take h.0 text)) h.0 p refl;
+  }
+
+-- where a test decides, the program is the one branch or the other
+pub if_true : {A : Type 0} (P : Program Step A → Type 0) (b : Bool) (p q : Program Step A) → b ≡ true → P p → P (cond b p q)
+if_true P b p q e h = subst (λ x. P (cond x p q)) (sym e) h
+
+pub if_false : {A : Type 0} (P : Program Step A → Type 0) (b : Bool) (p q : Program Step A) → b ≡ false → P q → P (cond b p q)
+if_false P b p q e h = subst (λ x. P (cond x p q)) (sym e) h
+
+-- a refusal breaks the run off
+pub as_out : {A : Type 0} (P : Result A (Halt Fault UnreadBlock) → Type 0) (stop : Stop) (e : SinkError) → stop ≡ stops_out e → P (Err Broke) → P (Err (stop_halt stop))
+as_out {A} P stop e is h = subst (λ (x : Halt Fault UnreadBlock). P (Err x)) (sym (ap stop_halt is ∙ broke_out e)) h
+
+pub as_sink : {A : Type 0} (P : Result A (Halt Fault UnreadBlock) → Type 0) (stop : Stop) (e : SinkError) → stop ≡ stops_sink e → P (Err Broke) → P (Err (stop_halt stop))
+as_sink {A} P stop e is h = subst (λ (x : Halt Fault UnreadBlock). P (Err x)) (sym (ap stop_halt is ∙ broke_sink e)) h
+
+-- a line that is put only where lines are asked for
+module _ (b : Bool) (text : List ℕ) (s : Sink) where
+  abbrev Told : Program Step (Unit {0})
+  Told = cond b (Emit (Line text) (Return tt)) (Return tt)
+
+  pub untold : (told : Option (List ℕ)) → false ≡ b → Emits Told s s told told (Ok tt)
+  untold told e = subst (λ x. Emits (cond x (Emit (Line text) (Return tt)) (Return tt)) s s told told (Ok tt)) e (emits_none tt s told)
+
+  pub told_whole : (told told' : Option (List ℕ)) → true ≡ b → Adds told told' text → Emits Told s s told told' (Ok tt)
+  told_whole told told' e h = subst (λ x. Emits (cond x (Emit (Line text) (Return tt)) (Return tt)) s s told told' (Ok tt)) e (emits_line text tt s told told' h)
+
+  pub told_broke : (told told' : Option (List ℕ)) (stop : Stop) (error : SinkError) → true ≡ b → stop ≡ stops_out error → ((n : ℕ) × Adds told told' (take n text)) → Emits Told s s told told' (Err (stop_halt stop))
+  told_broke told told' stop error e is h =
+      as_out (λ answer. Emits Told s s told told' answer) stop error is
+      (subst (λ x. Emits (cond x (Emit (Line text) (Return tt)) (Return tt)) s s told told' (Err Broke)) e (breaks_line text (Return tt) s told told' h))
+
+-- the line of an entry that is left out
+module _ (text : List ℕ) (counts : Counts) (s : Sink) (told told' : Option (List ℕ)) where
+  abbrev Skips : Result Treated (Halt Fault UnreadBlock) → Type 0
+  Skips answer = Emits (Emit (Line text) (Return (Over (with_skip counts)))) s s told told' answer
+
+  pub left_out : (n : ℕ) → n ≡ more counts.skipped → Adds told told' text → Skips (Ok (Over (record { dirs = counts.dirs; files = counts.files; skipped = n })))
+  left_out n is h = subst (λ m. Skips (Ok (Over (record { dirs = counts.dirs; files = counts.files; skipped = m })))) (sym is) (emits_line text (Over (with_skip counts)) s told told' h)
+
+  pub left_broke : (stop : Stop) (error : SinkError) → stop ≡ stops_out error → ((n : ℕ) × Adds told told' (take n text)) → Skips (Err (stop_halt stop))
+  left_broke stop error is h = as_out Skips stop error is (breaks_line text (Return (Over (with_skip counts))) s told told' h)
+
+-- a call of the sink, which a dry run leaves out
+module _ (dry : Bool) (step : Step) (silent : text_of (step ∷ []) ≡ []) (s : Sink) (told : Option (List ℕ)) where
+  abbrev Row : Bool → Program Step (Unit {0})
+  Row b = cond b (Return tt) (Emit step (Return tt))
+
+  same_text : (t : Option (List ℕ)) → t ≡ text_after t (step ∷ [])
+  same_text None = refl
+  same_text (Some text) = ap Some (sym (ap (λ x. text ++ x) silent ∙ append-nil text))
+
+  pub row_dry : dry ≡ true → Emits (Row dry) s s told told (Ok tt)
+  row_dry e = subst (λ b. Emits (Row b) s s told told (Ok tt)) (sym e) (emits_none tt s told)
+
+  module _ (s' : Sink) where
+    pub row_whole : dry ≡ false → s' ≡ sink_after s step → Emits (Row dry) s s' told told (Ok tt)
+    row_whole e is = subst (λ b. Emits (Row b) s s' told told (Ok tt)) (sym e) (record {
+      done = step ∷ [];
+      sink = is;
+      text = same_text told;
+      goes = λ layout old new Bs. goes_step Bs (unread_by layout old new) part [] step (Return tt) [] (Ok tt) (run [] (Ok tt), refl, (refl, refl));
+    })
+
+    pub row_broke : (stop : Stop) (error : SinkError) → dry ≡ false → stop ≡ stops_sink error → s' ≡ s → Emits (Row dry) s s' told told (Err (stop_halt stop))
+    row_broke stop error e is same = as_sink (λ answer. Emits (Row dry) s s' told told answer) stop error is (subst (λ b. Emits (Row b) s s' told told (Err Broke)) (sym e) (record {
+      done = [];
+      sink = same;
+      text = text_none told;
+      goes = λ layout old new Bs. goes_nowhere Bs (unread_by layout old new) part [] 0 (Emit step (Return tt));
+    }))

@@ -1,0 +1,15 @@
+mod Extends
+mod Plains
+mod Journeys
+mod Honests
+mod Held
+mod Headlines
+mod Orders
+mod Settling
+mod Leading
+mod Orderlies
+mod Tellings
+pub mod Samples
+mod Names
+mod Emitting
+mod Doing

@@ -1,0 +1,11 @@
+pub mod Step
+pub mod Lines
+pub mod Causes
+pub mod Journey
+pub mod Outcome
+pub mod Committed
+pub mod Headline
+pub mod InOrder
+pub mod Restoring
+pub mod Treating
+pub mod Orderly

@@ -1,0 +1,134 @@
+-- What calls of restore have done and answer, whatever failed.
+use Rattle.std.specs.Prelude.{◌≡◌, ℕ, List, [], ◌++◌, fold, replicate, Option, Some, None, Result, Ok, Err}
+use Rattle.btr_prog.specs.Answers.{Halt, Fault as halt_fault, Broke}
+use Rattle.btr_prog.specs.Goes.{Goes}
+use Rattle.btr_rack.specs.Out.{CallAccount, Counts}
+use Rattle.btr_rack.specs.Rack.{Seen}
+use Rattle.btr_rack.specs.Sink.{Sink, started, entered, left, begun, grown, finished}
+use Rattle.btr_rack.specs.declared.error.SinkError.{SinkError}
+use Rattle.btr_rack.specs.declared.error.SinkError.TheVariants.{Failed, Memory as NoMemory}
+use Rattle.btr_read.specs.Fate as fate
+use Rattle.btr_read.specs.Layout.{Layout}
+use Rattle.btr_read.specs.declared.want.Want.{Want}
+use Rattle.btr_walk.specs.Reading.{Map, UnreadBlock, unread_by, FaultCause, halt_of}
+use Rattle.btr_volume.specs.Lookup.{Program}
+use Rattle.btr_volume.specs.declared.stop.Stop.{Stop}
+use Rattle.btr_volume.specs.declared.stop.Stop.TheVariants.{NoTree, Tree, Deletion, Balance, Missing, Image, Sink as sink_stop, Out as out_stop, Memory}
+use Rattle.btr_files.specs.Maps.{TellsAll}
+use Rattle.btr_restore.specs.Outcome.{text_of}
+use Rattle.btr_restore.specs.Step.{Step, Start, Dir, Up, File, Bytes, Zeros, Done, Line, part}
+
+-- what a step does to a sink
+abbrev pub sink_after : Sink → Step → Sink
+sink_after s (Start name) = started name s
+sink_after s (Dir name) = entered name s
+sink_after s Up = left s
+sink_after s (File name) = begun name s
+sink_after s (Bytes bytes) = grown bytes s
+sink_after s (Zeros count) = grown (replicate count 0) s
+sink_after s Done = finished s
+sink_after s (Line text) = s
+
+-- what some steps do to the text of an output, where it is told
+abbrev pub text_after : Option (List ℕ) → List Step → Option (List ℕ)
+text_after None steps = None
+text_after (Some text) steps = Some (text ++ text_of steps)
+
+-- what is seen of the rack, the sink and the output
+pub record Scene : Type 0 where
+  pub rack : Seen
+  pub sink : Sink
+  pub text : Option (List ℕ)
+
+abbrev pub scene : Seen → Sink → Option (List ℕ) → Scene
+scene rack sink text = record { rack = rack; sink = sink; text = text }
+
+-- Some steps were done in the sink and in the output; so far as the reads were steady, P holds of them, of what a block may come to, and of which want could not be read.
+pub record Did (layout : Layout) (before now : Scene) (P : (UnreadBlock → Want → Type 0) → (ℕ → Map) → List Step → Type 0) : Type 0 where
+  pub done : List Step
+  pub sink : now.sink ≡ fold sink_after before.sink done
+  pub text : now.text ≡ text_after before.text done
+  pub content : TellsAll layout before.rack now.rack (λ Bs. P (unread_by layout before.rack now.rack) Bs done)
+
+-- what was done and answered follows a run of a program
+abbrev pub Does : {A : Type 0} → Layout → Program Step A → Scene → Scene → Result A (Halt fate.Fault UnreadBlock) → Type 0
+Does layout p before now answer = Did layout before now (λ Is Bs done. Goes Is part [] Bs p done answer)
+
+-- how a stop ends a run: by its fault, or at any place
+abbrev pub stop_halt : Stop → Halt fate.Fault UnreadBlock
+stop_halt (NoTree id) = halt_fault (fate.NoTree id)
+stop_halt (Tree f) = halt_of f
+stop_halt (Deletion id) = Broke
+stop_halt Balance = Broke
+stop_halt (Missing id) = Broke
+stop_halt (Image slot) = Broke
+stop_halt sink_stop = Broke
+stop_halt out_stop = Broke
+stop_halt Memory = Broke
+
+abbrev pub ended : {A : Type 0} → Result A Stop → Result A (Halt fate.Fault UnreadBlock)
+ended (Ok a) = Ok a
+ended (Err stop) = Err (stop_halt stop)
+
+-- what lies behind a stop: a tree's fault has its cause; no other stop than these is answered
+abbrev pub StopCause : {A : Type 0} → Layout → Seen → Seen → Result A Stop → Type 0
+StopCause layout old new (Ok a) = Unit {0}
+StopCause layout old new (Err (NoTree id)) = Unit {0}
+StopCause layout old new (Err (Tree f)) = FaultCause layout old new f
+StopCause layout old new (Err (Deletion id)) = ⊥
+StopCause layout old new (Err Balance) = ⊥
+StopCause layout old new (Err (Missing id)) = ⊥
+StopCause layout old new (Err (Image slot)) = ⊥
+StopCause layout old new (Err sink_stop) = Unit {0}
+StopCause layout old new (Err out_stop) = Unit {0}
+StopCause layout old new (Err Memory) = Unit {0}
+
+-- what the sink answered last, as far as its account is concerned
+abbrev pub sink_answer : {A : Type 0} → Result A Stop → Result Unit SinkError
+sink_answer (Ok a) = Ok tt
+sink_answer (Err (NoTree id)) = Ok tt
+sink_answer (Err (Tree f)) = Ok tt
+sink_answer (Err (Deletion id)) = Ok tt
+sink_answer (Err Balance) = Ok tt
+sink_answer (Err (Missing id)) = Ok tt
+sink_answer (Err (Image slot)) = Ok tt
+sink_answer (Err sink_stop) = Err Failed
+sink_answer (Err out_stop) = Ok tt
+sink_answer (Err Memory) = Ok tt
+
+-- .. and what the output did
+abbrev pub out_answer : {A : Type 0} → Result A Stop → Result Unit SinkError
+out_answer (Ok a) = Ok tt
+out_answer (Err (NoTree id)) = Ok tt
+out_answer (Err (Tree f)) = Ok tt
+out_answer (Err (Deletion id)) = Ok tt
+out_answer (Err Balance) = Ok tt
+out_answer (Err (Missing id)) = Ok tt
+out_answer (Err (Image slot)) = Ok tt
+out_answer (Err sink_stop) = Ok tt
+out_answer (Err out_stop) = Err Failed
+out_answer (Err Memory) = Ok tt
+
+-- the account of the sink changed only where a call of it failed, and then that is the answer
+abbrev pub SinkCounts : {A : Type 0} → CallAccount → CallAccount → Result A Stop → Type 0
+SinkCounts old new result = Counts old new (sink_answer result)
+
+-- so did that of the output
+abbrev pub OutCounts : {A : Type 0} → CallAccount → CallAccount → Result A Stop → Type 0
+OutCounts old new result = Counts old new (out_answer result)
+
+-- Calls that read nothing did the steps of a program, whatever a block may come to.
+pub record Emits {A : Type 0} (p : Program Step A) (s s' : Sink) (told told' : Option (List ℕ)) (answer : Result A (Halt fate.Fault UnreadBlock)) : Type 0 where
+  pub done : List Step
+  pub sink : s' ≡ fold sink_after s done
+  pub text : told' ≡ text_after told done
+  pub goes : (layout : Layout) (old new : Seen) (Bs : ℕ → Map) → Goes (unread_by layout old new) part [] Bs p done answer
+
+-- the stops that refusals are
+abbrev pub stops_out : SinkError → Stop
+stops_out Failed = out_stop
+stops_out NoMemory = Memory
+
+abbrev pub stops_sink : SinkError → Stop
+stops_sink Failed = sink_stop
+stops_sink NoMemory = Memory

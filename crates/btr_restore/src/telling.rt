@@ -1,0 +1,90 @@
+// What restore tells, and what it counts.
+ghost use Rattle.std.specs.Prelude.{◌≡◌, ◌||◌, Option};
+ghost use Rattle.btr_rack.specs.Sink.{Sink};
+ghost use Rattle.btr_super.specs.declared.superblock.Super.{Super};
+ghost use Rattle.btr_volume.specs.declared.root.TreeRoot.{TreeRoot as Tree};
+ghost use Rattle.btr_restore.specs.Causes.{cause_text};
+ghost use Rattle.btr_prog.specs.Prog.{Return};
+ghost use Rattle.btr_restore.specs.Journey.{told, skip, unverified};
+ghost use Rattle.btr_restore.specs.Lines.{more};
+ghost use Rattle.btr_restore.specs.Restoring.{Emits, OutCounts, SinkCounts, ended, stops_out, stops_sink};
+ghost use Rattle.btr_restore.specs.Treating.{came};
+
+use crate::cause::Cause;
+use crate::lines::{put_line, put_skip};
+use crate::treated::Treated;
+use btr_files::{Counts, RestorePlan};
+use btr_rack::{Out, SinkError};
+use btr_volume::Stop;
+
+/// A count with one more; it stands still at its last value.
+pub(crate) fn more(n: u64) -> u64
+    ensures { result ≡ more n }
+{
+    n.saturating_add(1)
+}
+
+/// The stop that a refusal of the output is.
+pub(crate) fn out_stop(error: SinkError) -> Stop
+    ensures { result ≡ stops_out error }
+{
+    match error {
+        SinkError::Failed => Stop::Out,
+        SinkError::Memory => Stop::Memory,
+    }
+}
+
+/// The stop that a refusal of the sink is.
+pub(crate) fn sink_stop(error: SinkError) -> Stop
+    ensures { result ≡ stops_sink error }
+{
+    match error {
+        SinkError::Failed => Stop::Sink,
+        SinkError::Memory => Stop::Memory,
+    }
+}
+
+// Whether it is told what was entered or finished.
+fn tells(plan: &RestorePlan) -> bool
+    ensures { result ≡ (plan.now.verbose || plan.now.dry) }
+{
+    plan.verbose || plan.dry
+}
+
+/// Names what was entered or finished, if that is asked for.
+pub(crate) fn tell<O: Out>(
+    plan: &RestorePlan,
+    word: &'static [u8],
+    path: &[u8],
+    out: &mut O,
+) -> Result<(), Stop>
+    ensures did { (s : Super) (sums : Option Tree) (sink : Sink) → Emits (told plan.now s sums word.now path.now (Return tt)) sink sink (O.text out.old) (O.text out.new) (ended result) }
+    ensures account { OutCounts (O.account out.old) (O.account out.new) result }
+{
+    if !tells(plan) {
+        return Ok(());
+    }
+    match put_line(word, path, out) {
+        Ok(()) => Ok(()),
+        Err(error) => Err(out_stop(error)),
+    }
+}
+
+/// Names an entry that is left out, and counts it.
+pub(crate) fn leave_out<O: Out>(
+    cause: Cause,
+    path: &[u8],
+    counts: &mut Counts,
+    out: &mut O,
+) -> Result<Treated, Stop>
+    ensures did { (plan : RestorePlan) (s : Super) (sums : Option Tree) (sink : Sink) → Emits (skip plan s sums (cause_text cause) path.now counts.old) sink sink (O.text out.old) (O.text out.new) (came counts.new result) }
+    ensures account { OutCounts (O.account out.old) (O.account out.new) result }
+{
+    match put_skip(cause, path, out) {
+        Ok(()) => {
+            counts.skipped = more(counts.skipped);
+            Ok(Treated::Over)
+        }
+        Err(error) => Err(out_stop(error)),
+    }
+}

@@ -1,0 +1,82 @@
+// The lines, the names and the rows.
+use crate::cause::Cause;
+use crate::lines::put_counts;
+use crate::name::good_name;
+use crate::path::Path;
+use crate::rows::{close_file, leave_dir, make_dir, make_file, start_in};
+use crate::telling::{leave_out, tell};
+use btr_files::{Counts, RestorePlan};
+use btr_rack::{MemOut, MemTree};
+use std::alloc::AllocError;
+use std::test::Fail;
+
+// What is there with ample memory, over an outside in which nothing fails.
+fn must<T: Drop, E: Drop>(answer: Result<T, E>) -> Result<T, Fail> {
+    match answer {
+        Ok(value) => Ok(value),
+        Err(_) => Err(Fail::from(AllocError)),
+    }
+}
+
+fn plan(verbose: bool, dry: bool) -> RestorePlan {
+    RestorePlan {
+        root: 5,
+        snapshots: false,
+        verbose,
+        dry,
+    }
+}
+
+fn no_counts() -> Counts {
+    Counts {
+        dirs: 0,
+        files: 0,
+        skipped: 0,
+    }
+}
+
+#[test]
+fn lines(rt: HostRuntime) -> Result<(), Fail> {
+    let alloc = rt.alloc();
+    let mut out = MemOut::new(alloc);
+    let mut counts = no_counts();
+    let mut path = must(Path::new(alloc))?;
+    must(path.push(b"sub"))?;
+    must(tell(&plan(true, false), b"dir", path.as_bytes(), &mut out))?;
+    must(tell(&plan(false, false), b"file", path.as_bytes(), &mut out))?;
+    path.cut(0);
+    must(path.push(b"snap\n"))?;
+    let _ = must(leave_out(Cause::Snapshot, path.as_bytes(), &mut counts, &mut out))?;
+    counts.dirs = 1;
+    must(put_counts(&counts, &mut out))?;
+    let text = b"dir /sub\nskip snapshot /snap\\x0a\ndirectories 1 files 0 skipped 1\n";
+    assert_eq!(rt; out.text(), text.as_slice());
+    Ok(())
+}
+
+#[test]
+fn names(rt: HostRuntime) -> Result<(), Fail> {
+    for bad in [b"".as_slice(), b".", b"..", b"a/b", b"a\0", b"\xff"] {
+        assert!(rt; good_name(bad).is_none());
+    }
+    for good in [b"a".as_slice(), b"...", b"a b", b"\xc3\xa4"] {
+        assert!(rt; good_name(good).is_some());
+    }
+    Ok(())
+}
+
+#[test]
+fn rows(rt: HostRuntime) -> Result<(), Fail> {
+    let mut tree = MemTree::new(rt.alloc());
+    let (wet, dry) = (plan(false, false), plan(false, true));
+    must(start_in(&dry, "out", &mut tree))?;
+    assert_eq!(rt; tree.rows().len(), 0);
+    must(start_in(&wet, "out", &mut tree))?;
+    must(make_dir(&wet, "d", &mut tree))?;
+    must(make_file(&wet, "f", &mut tree))?;
+    assert!(rt; tree.part().is_some());
+    must(close_file(&wet, &mut tree))?;
+    must(leave_dir(&wet, &mut tree))?;
+    assert_eq!(rt; tree.rows().len(), 4);
+    Ok(())
+}
