@@ -7,7 +7,7 @@ use Rattle.std.proofs.lemmas.List.{get_or-map, length-map}
 use Rattle.std.proofs.lemmas.Option.{slice_get-get_or}
 use Rattle.btr_rack.specs.Rack.{Slot, Account, Rose, NoneFailed, OneFailed, next_count, range_in, opening_of}
 use Rattle.btr_tool.specs.Words.{Words}
-use Rattle.btr_tool.specs.Causes.{OpeningFailed}
+use Rattle.btr_tool.specs.Opening.{OpeningFailed}
 
 pub none_failed_yet : (account : Account) → NoneFailed account account
 none_failed_yet account = record { faults = omega arith; fresh = refl; missed = refl; last = refl; opening = refl; shut = refl }

@@ -5,4 +5,6 @@ pub mod Openings
 pub mod Causing
 pub mod Readings
 pub mod Showing
+pub mod Coming
+pub mod Carrying
 pub mod Ending

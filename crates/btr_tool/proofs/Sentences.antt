@@ -3,77 +3,125 @@ use Rattle.std.proofs.Common.{◌≡◌, ℕ, suc, ◌<◌, Bool, true, false, c
 use Rattle.std.specs.Prelude.{codes, All}
 use Rattle.std.specs.Option.{option_and_then}
 use Rattle.std.specs.Str.{bytes_eq}
-use Rattle.std.proofs.lemmas.List.{append-nil, take_all}
-use Rattle.std.proofs.lemmas.List.Elements.{All-cons, All-nil}
+use Rattle.std.proofs.lemmas.List.{append_assoc, append-nil, take_all}
+use Rattle.std.proofs.lemmas.List.Elements.{All-append, All-cons, All-nil}
 use Rattle.std.proofs.lemmas.Slice.Eq.{bytes_eq-Decides}
 use Rattle.std.specs.Bool.{Decides}
-use Rattle.btr_tool.specs.Words.{Words, is_name, IsName, IsSentence, Begins, IsUsageAt, next_of, plan_of}
+use Rattle.btr_tool.specs.Words.{Words, is_name, IsName, Asks, IsSentence, Begins, IsUsageAt, plan_for, next_of, plan_of}
 use Rattle.btr_tool.proofs.Machine.{reached, reached_from, reached_stuck}
+use Rattle.btr_tool.specs.declared.plan.Command.{Command}
 use Rattle.btr_tool.specs.declared.plan.Command.TheVariants.{Super}
 use Rattle.btr_tool.specs.declared.plan.Plan.{Plan}
 use Rattle.btr_tool.specs.declared.progress.Progress.{Progress}
 use Rattle.btr_tool.specs.declared.progress.Progress.TheVariants.{Start, FirstImage, Images}
 
-abbrev super_plan : Plan
-super_plan = record { command = Super; images = 1 }
-
 -- the walk from a place over these words ends with this plan
 abbrev Accepts : Progress → Words → Plan → Type 0
 Accepts place words plan = option_and_then plan_of (reached place words) ≡ Some plan
 
-one_name : (plan : Plan) (word : List ℕ) → is_name word ≡ true → next_of (Images plan) word ≡ Some (Images plan)
-one_name plan word e = ap (λ b. cond b (Some (Images plan)) None) e
+-- Each place, by the words that lead there: a case each.
+abbrev Led : Progress → Words → Type 0
+Led Start words = words ≡ []
+Led (FirstImage plan) words = Asks plan.command words × (plan.images ≡ length words)
+Led (Images plan) words = IsSentence plan words
+
+-- a word that a test took
+taken : (b : Bool) (next found : Progress) → cond b (Some next) None ≡ Some found → (b ≡ true) × (next ≡ found)
+taken true next found e = (refl, cc)
+taken false next found e = absurd (cc)
+
+-- a word that is this one
+taken_word : (word word' : List ℕ) (next found : Progress) → cond (bytes_eq word word') (Some next) None ≡ Some found → (word ≡ word') × (next ≡ found)
+taken_word word word' next found = of (bytes_eq word word') (bytes_eq-Decides word word')
+  where
+    of : (b : Bool) → Decides b (word ≡ word') → cond b (Some next) None ≡ Some found → (word ≡ word') × (next ≡ found)
+    of true d e = (d.0 refl, cc)
+    of false d e = absurd (cc)
+
+-- the first image's name behind the words that ask
+first_led : (plan : Plan) (words : Words) (word : List ℕ) → Asks plan.command words → plan.images ≡ length words → is_name word ≡ true → IsSentence plan (words ++ word ∷ [])
+first_led plan words word asks images name =
+    record { head = words; first = word; more = []; asks = asks; images = images; named = All-cons IsName word [] name (All-nil IsName); words_are = refl }
+
+-- one more image's name
+image_led : (plan : Plan) (words : Words) (word : List ℕ) → IsSentence plan words → is_name word ≡ true → IsSentence plan (words ++ word ∷ [])
+image_led plan words word s name = record {
+  head = s.head;
+  first = s.first;
+  more = s.more ++ word ∷ [];
+  asks = s.asks;
+  images = s.images;
+  named = All-append IsName (s.first ∷ s.more) (word ∷ []) s.named (All-cons IsName word [] name (All-nil IsName));
+  words_are = ap (λ l. l ++ word ∷ []) s.words_are ∙ append_assoc s.head (s.first ∷ s.more) (word ∷ []);
+}
+
+-- one more word: a case for each place
+led_more : (place next : Progress) (words : Words) (word : List ℕ) → Led place words → next_of place word ≡ Some next → Led next (words ++ word ∷ [])
+led_more Start next words word led on =
+    let one = taken_word word (codes "super") (FirstImage (plan_for Super 1)) next on in
+    subst (λ p. Led p (words ++ word ∷ [])) one.1 (ap (λ l. l ++ word ∷ []) led ∙ ap (λ w. w ∷ []) one.0, sym (ap (λ (l : Words). length (l ++ word ∷ [])) led))
+led_more (FirstImage plan) next words word led on =
+    let one = taken (is_name word) (Images plan) next on in subst (λ p. Led p (words ++ word ∷ [])) one.1 (first_led plan words word led.0 led.1 one.0)
+led_more (Images plan) next words word led on =
+    let one = taken (is_name word) (Images plan) next on in subst (λ p. Led p (words ++ word ∷ [])) one.1 (image_led plan words word led one.0)
+
+-- the words that lead to a place
+led_by : (words before : Words) (place here : Progress) → Led place before → reached place words ≡ Some here → Led here (before ++ words)
+led_by [] before place here led on = let same : place ≡ here = cc in subst (λ p. Led p (before ++ [])) same (subst (Led place) (sym (append-nil before)) led)
+led_by (word ∷ words) before place here led on =
+    of (next_of place word) refl on
+    (λ next is e. subst (Led here) (append_assoc before (word ∷ []) words) (led_by words (before ++ word ∷ []) next here (led_more place next before word led is) e))
+  where
+    of : (o : Option Progress) → next_of place word ≡ o → option_and_then (λ next. reached next words) o ≡ Some here
+        → ((next : Progress) → next_of place word ≡ Some next → reached next words ≡ Some here → Led here (before ++ word ∷ words)) → Led here (before ++ word ∷ words)
+    of None is e further = absurd (cc)
+    of (Some next) is e further = further next is e
+
+pub sound : (plan : Plan) (words : Words) → Accepts Start words plan → IsSentence plan words
+sound plan words = of (reached Start words) refl
+  where
+    at_end : (here : Progress) → Led here words → plan_of here ≡ Some plan → IsSentence plan words
+    at_end Start led e = absurd (cc)
+    at_end (FirstImage p) led e = absurd (cc)
+    at_end (Images p) led e = let same : p ≡ plan = cc in subst (λ q. IsSentence q words) same led
+
+    of : (o : Option Progress) → reached Start words ≡ o → option_and_then plan_of o ≡ Some plan → IsSentence plan words
+    of None is e = absurd (cc)
+    of (Some here) is e = at_end here (led_by words [] Start here refl is) e
+
+-- the words that ask for a command, and a first name, lead to the images: a case for each command
+asked : (command : Command) (head : Words) (first : List ℕ) → Asks command head → is_name first ≡ true → reached Start (head ++ first ∷ []) ≡ Some (Images (plan_for command (length head)))
+asked Super head first asks name =
+    ap (λ (l : Words). reached Start (l ++ first ∷ [])) asks ∙ ap (λ b. option_and_then (λ p. reached p []) (cond b (Some (Images (plan_for Super 1))) None)) name
+    ∙ ap (λ (l : Words). Some (Images (plan_for Super (length l)))) (sym asks)
 
 names_accepted : (plan : Plan) (names : Words) → All IsName names → Accepts (Images plan) names plan
 names_accepted plan [] all = refl
 names_accepted plan (word ∷ names) all =
-    ap (λ o. option_and_then plan_of (option_and_then (λ p. reached p names) o)) (one_name plan word (all 0 word (omega arith)))
+    ap (λ b. option_and_then plan_of (option_and_then (λ p. reached p names) (cond b (Some (Images plan)) None))) (all 0 word (omega arith))
     ∙ names_accepted plan names (λ k d lt. all (suc k) d (omega arith))
-
--- behind a name that is one, or nowhere
-name_cases : (plan found : Plan) (word : List ℕ) (names : Words) → option_and_then plan_of (option_and_then (λ p. reached p names) (cond (is_name word) (Some (Images plan)) None)) ≡ Some found
-    → (is_name word ≡ true) × Accepts (Images plan) names found
-name_cases plan found word names = of (is_name word)
-  where
-    of : (b : Bool) → option_and_then plan_of (option_and_then (λ p. reached p names) (cond b (Some (Images plan)) None)) ≡ Some found → (b ≡ true) × Accepts (Images plan) names found
-    of true e = (refl, e)
-    of false e = absurd (cc)
-
-accepted_names : (plan found : Plan) (names : Words) → Accepts (Images plan) names found → (found ≡ plan) × All IsName names
-accepted_names plan found [] e = (cc, All-nil IsName)
-accepted_names plan found (word ∷ names) e =
-    let one = name_cases plan found word names e in
-    let rest = accepted_names plan found names one.1 in
-    (rest.0, All-cons IsName word names one.0 rest.1)
 
 pub complete : (plan : Plan) (words : Words) → IsSentence plan words → Accepts Start words plan
 complete plan words s =
-    subst (λ l. Accepts Start l plan) (sym s.1.words_are)
-    (subst (Accepts (FirstImage super_plan) (s.1.first ∷ s.1.more)) (sym s.0) (names_accepted super_plan (s.1.first ∷ s.1.more) s.1.named))
+    ap (λ l. option_and_then plan_of (reached Start l)) (s.words_are ∙ sym (append_assoc s.head (s.first ∷ []) s.more))
+    ∙ ap (option_and_then plan_of) (reached_from (s.head ++ s.first ∷ []) s.more Start (Images plan) (asked plan.command s.head s.first s.asks (s.named 0 s.first (omega arith)) ∙ ap (λ k. Some (Images (plan_for plan.command k))) (sym s.images)))
+    ∙ names_accepted plan s.more (λ k d lt. s.named (suc k) d (omega arith))
 
--- behind `super`, or nowhere
-command_cases : (found : Plan) (word : List ℕ) (words : Words) → Accepts Start (word ∷ words) found → (word ≡ codes "super") × Accepts (FirstImage super_plan) words found
-command_cases found word words = of (bytes_eq word (codes "super")) (bytes_eq-Decides word (codes "super"))
+-- the words have one plan
+pub one_plan : (words : Words) (plan other : Plan) → IsSentence plan words → IsSentence other words → plan ≡ other
+one_plan words plan other a b = same (option_and_then plan_of (reached Start words)) (complete plan words a) (complete other words b)
   where
-    of : (b : Bool) → Decides b (word ≡ codes "super") → option_and_then plan_of (option_and_then (λ p. reached p words) (cond b (Some (FirstImage super_plan)) None)) ≡ Some found
-        → (word ≡ codes "super") × Accepts (FirstImage super_plan) words found
-    of true d e = (d.0 refl, e)
-    of false d e = absurd (cc)
+    same : (o : Option Plan) → o ≡ Some plan → o ≡ Some other → plan ≡ other
+    same o e f = cc
 
-pub sound : (plan : Plan) (words : Words) → Accepts Start words plan → IsSentence plan words
-sound plan [] e = absurd (cc)
-sound plan (word ∷ words) e = let one = command_cases plan word words e in of words one.0 one.1
-  where
-    of : (words : Words) → word ≡ codes "super" → Accepts (FirstImage super_plan) words plan → IsSentence plan (word ∷ words)
-    of [] is e = absurd (cc)
-    of (first ∷ more) is e =
-        let names = accepted_names super_plan plan (first ∷ more) e in
-        (names.0, record { first = first; more = more; named = names.1; words_are = ap (λ w. w ∷ first ∷ more) is })
+-- a name
+abbrev some_name : List ℕ
+some_name = 97 ∷ []
 
--- from each place some words lead on to a sentence
+-- from each place some words lead on to a sentence: a case for each
 live : (place : Progress) → (rest : Words) × (plan : Plan) × Accepts place rest plan
-live Start = (codes "super" ∷ (97 ∷ []) ∷ [], super_plan, refl)
-live (FirstImage plan) = ((97 ∷ []) ∷ [], plan, refl)
+live Start = (codes "super" ∷ some_name ∷ [], plan_for Super 1, refl)
+live (FirstImage plan) = (some_name ∷ [], plan, refl)
 live (Images plan) = ([], plan, refl)
 
 begins : (words : Words) (here : Progress) → reached Start words ≡ Some here → Begins words

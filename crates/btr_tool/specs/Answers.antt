@@ -1,6 +1,8 @@
 -- The answers: their exit statuses and their lines.
-use Rattle.std.specs.Prelude.{ℕ, ◌==◌, if◌then◌else◌, List, [], ◌++◌, codes}
+use Rattle.std.specs.Prelude.{ℕ, ◌==◌, if◌then◌else◌, List, [], ◌++◌, codes, Result, Ok, Err}
 use Rattle.std.specs.Fmt.{decimal}
+use Rattle.btr_rack.specs.declared.error.SinkError.{SinkError}
+use Rattle.btr_rack.specs.declared.error.SinkError.TheVariants.{Failed, Memory as memory_fault}
 use Rattle.btr_tool.specs.declared.answer.Which.{Which}
 use Rattle.btr_tool.specs.declared.answer.Which.TheVariants.{Images}
 use Rattle.btr_tool.specs.declared.answer.Answer.{Answer}
@@ -31,3 +33,13 @@ error_line (SumKind kind) = codes "error: checksum type " ++ decimal kind ++ cod
 error_line (ImageFault slot) = codes "error: image " ++ decimal slot ++ codes " failed\n"
 error_line OutFault = []
 error_line Memory = codes "error: no memory\n"
+
+-- the answer where the output refused a text
+abbrev pub output_answer : SinkError → Answer
+output_answer Failed = OutFault
+output_answer memory_fault = Memory
+
+-- the answer of what was done, or of what stopped it
+abbrev pub answer_of : Result Answer Answer → Answer
+answer_of (Ok answer) = answer
+answer_of (Err answer) = answer

@@ -1,7 +1,12 @@
 pub mod Words
 pub mod Text
 pub mod Answers
+pub mod Outcomes
 pub mod Images
+pub mod Opening
+pub mod Supers
+pub mod Behind
+pub mod Newest
+pub mod Commands
 pub mod Causes
 pub mod Effects
-pub mod Puts

@@ -1,6 +1,7 @@
 -- The sentences of the command line, and where other words go wrong.
 use Rattle.std.specs.Prelude.{◌≡◌, ℕ, ◌<◌, ◌≤◌, Bool, false, IsTrue, not, ◌==◌, if◌then◌else◌, List, [], ◌∷◌, ◌++◌, length, take, drop, codes, All, Option, Some, None}
 use Rattle.std.specs.Str.{bytes_eq}
+use Rattle.btr_tool.specs.declared.plan.Command.{Command}
 use Rattle.btr_tool.specs.declared.plan.Command.TheVariants.{Super}
 use Rattle.btr_tool.specs.declared.plan.Plan.{Plan}
 use Rattle.btr_tool.specs.declared.progress.Progress.{Progress}
@@ -17,16 +18,19 @@ is_name (first ∷ rest) = not (first == 45)
 abbrev pub IsName : List ℕ → Type 0
 IsName word = IsTrue (is_name word)
 
--- `super IMAGES`, for one or more names
-pub record SuperSentence (words : Words) : Type 0 where
+-- these words ask for a command; the names of its images follow
+abbrev pub Asks : Command → Words → Type 0
+Asks Super words = words ≡ codes "super" ∷ []
+
+-- the words ask for a command and name one or more images
+pub record IsSentence (plan : Plan) (words : Words) : Type 0 where
+  pub head : Words
   pub first : List ℕ
   pub more : Words
+  pub asks : Asks plan.command head
+  pub images : plan.images ≡ length head
   pub named : All IsName (first ∷ more)
-  pub words_are : words ≡ codes "super" ∷ first ∷ more
-
--- the words are a sentence, and this is what it asks for
-abbrev pub IsSentence : Plan → Words → Type 0
-IsSentence plan words = (plan ≡ record { command = Super; images = 1 }) × SuperSentence words
+  pub words_are : words ≡ head ++ first ∷ more
 
 -- the names of the images
 abbrev pub images_of : Plan → Words → Words
@@ -45,9 +49,13 @@ pub record IsUsageAt (words : Words) (at : ℕ) : Type 0 where
   pub begins : Begins (take at words)
   pub longest : (n : ℕ) → at < n → n ≤ length words → ¬ Begins (take n words)
 
+-- the plan of a command that so many words ask for
+abbrev pub plan_for : Command → ℕ → Plan
+plan_for command images = record { command = command; images = images }
+
 -- the place behind one more word, where some sentence has it here
 abbrev pub next_of : Progress → List ℕ → Option Progress
-next_of Start word = if bytes_eq word (codes "super") then Some (FirstImage (record { command = Super; images = 1 })) else None
+next_of Start word = if bytes_eq word (codes "super") then Some (FirstImage (plan_for Super 1)) else None
 next_of (FirstImage plan) word = if is_name word then Some (Images plan) else None
 next_of (Images plan) word = if is_name word then Some (Images plan) else None
 

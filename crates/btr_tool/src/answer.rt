@@ -2,6 +2,8 @@
 ghost use Rattle.std.specs.Prelude.{◌≡◌};
 ghost use Rattle.btr_tool.specs.Answers.{code_of};
 
+use btr_rack::SinkError;
+
 /// What there is too much of.
 #[derive(Clone, Copy, Debug, PartialEq, Eq)]
 pub enum Which {
@@ -47,6 +49,21 @@ impl Answer {
             Answer::ImageFault(_) => 4,
             Answer::OutFault => 4,
             Answer::Memory => 5,
+        }
+    }
+}
+
+/// The answer where the output refused a text.
+impl From<SinkError> for Answer {
+    ghost use Rattle.std.specs.Prelude.{◌≡◌};
+    ghost use Rattle.btr_tool.specs.Answers.{output_answer};
+
+    ghost from_gives = { λ fault answer. answer ≡ output_answer fault };
+
+    fn from(fault: SinkError) -> Answer {
+        match fault {
+            SinkError::Failed => Answer::OutFault,
+            SinkError::Memory => Answer::Memory,
         }
     }
 }

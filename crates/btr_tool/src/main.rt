@@ -6,12 +6,15 @@
 #![tactic(auto)]
 
 mod answer;
-mod images;
+mod commands;
+mod newest;
+mod opening;
 mod plan;
 mod progress;
 mod refusal;
 mod run;
 mod standard;
+mod supers;
 #[cfg(test)]
 mod tests;
 mod text;

@@ -1,5 +1,5 @@
 // The words of the command line, as a plan.
-ghost use Rattle.std.specs.Prelude.{◌≡◌, IfOk, IfErr, map};
+ghost use Rattle.std.specs.Prelude.{IfOk, IfErr, map};
 ghost use Rattle.std.specs.String.{string_bytes};
 ghost use Rattle.btr_tool.specs.Words.{IsSentence, IsUsageAt};
 

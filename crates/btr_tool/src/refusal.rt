@@ -1,5 +1,5 @@
 // The line of a refusal.
-ghost use Rattle.std.specs.Prelude.{◌≡◌, ◌++◌, codes};
+ghost use Rattle.std.specs.Prelude.{◌++◌};
 ghost use Rattle.std.specs.Fmt.{decimal};
 ghost use Rattle.btr_rack.specs.Out.{Puts, Counts};
 ghost use Rattle.btr_tool.specs.Answers.{error_line};

@@ -1,12 +1,13 @@
 // The worked rows of `super`, over images and outputs in memory.
-ghost use Rattle.std.specs.Prelude.{◌≡◌, [], ◌<◌, ◌^◌, IfOk};
+ghost use Rattle.std.specs.Prelude.{[], ◌<◌, ◌^◌};
 
 mod wanting;
 
 use crate::answer::Answer;
 use crate::run::run;
-use btr_base::{SumKind, sum};
+use btr_make::{put_super, seal};
 use btr_rack::{MemOut, MemRack, Rack};
+use btr_super::Super;
 use std::alloc::{AllocError, Global};
 use std::process::Abort;
 use std::test::Fail;
@@ -17,48 +18,41 @@ const HEAD: &[u8] =
 const TAIL: &[u8] =
     b"\ncompat 0000000000000000 compat_ro 0000000000000000 incompat 0000000000000361\ndevid 1\n";
 
-fn put(bytes: &mut [u8; 4096], off: usize, n: u64) {
-    if off < 4088 {
-        bytes[off..off + 8].copy_from_slice(&n.to_le_bytes());
-    }
-}
-
-fn put_sum(bytes: &mut [u8; 4096], stored: &[u8; 32]) {
-    bytes[..32].copy_from_slice(stored);
-}
-
-// With its checksum; none for a type that isn't supported.
-fn summed(mut bytes: [u8; 4096], csum_type: u8) -> [u8; 4096] {
-    if let Some(kind) = SumKind::from_type(u16::from(csum_type)) {
-        let stored = sum_behind(&bytes, kind);
-        put_sum(&mut bytes, &stored);
-    }
-    bytes
-}
-
-fn sum_behind(bytes: &[u8; 4096], kind: SumKind) -> [u8; 32] {
-    sum(kind, &bytes[32..]).bytes
-}
-
 // The superblock of a small volume.
-fn sample(place: u64, generation: u64, csum_type: u8) -> [u8; 4096] {
-    let mut bytes = [0u8; 4096];
-    bytes[0x20..0x30].copy_from_slice(&[0x11; 16]);
-    put(&mut bytes, 0x30, place);
-    bytes[0x40..0x48].copy_from_slice(b"_BHRfS_M");
-    put(&mut bytes, 0x48, generation);
-    put(&mut bytes, 0x50, 2097152);
-    put(&mut bytes, 0x58, 1048576);
-    put(&mut bytes, 0x70, 16777216);
-    put(&mut bytes, 0x78, 106496);
-    put(&mut bytes, 0x88, 1);
-    put(&mut bytes, 0x90, 4096 + (16384 << 32));
-    put(&mut bytes, 0xa4, 7);
-    put(&mut bytes, 0xbc, 0x361);
-    bytes[0xc4] = csum_type;
-    put(&mut bytes, 0xc9, 1);
-    bytes[0x12b..0x12f].copy_from_slice(b"rows");
-    summed(bytes, csum_type)
+fn sample(generation: u64, csum_type: u16) -> Super {
+    let mut label = [0; 256];
+    label[..4].copy_from_slice(b"rows");
+    Super {
+        fsid: [0x11; 16],
+        place: 0,
+        flags: 0,
+        generation,
+        root: 2097152,
+        chunk_root: 1048576,
+        log_root: 0,
+        total_bytes: 16777216,
+        bytes_used: 106496,
+        root_dir: 0,
+        num_devices: 1,
+        sectorsize: 4096,
+        nodesize: 16384,
+        leafsize: 0,
+        stripesize: 0,
+        sys_chunk_array_size: 0,
+        chunk_root_generation: 7,
+        compat: 0,
+        compat_ro: 0,
+        incompat: 0x361,
+        csum_type,
+        root_level: 0,
+        chunk_root_level: 0,
+        log_root_level: 0,
+        devid: 1,
+        dev_uuid: [0; 16],
+        label,
+        metadata_uuid: [0; 16],
+        array: [0; 2048],
+    }
 }
 
 fn text(alloc: Global, csum_type: &[u8]) -> Result<Vec<u8>, AllocError> {
@@ -76,12 +70,12 @@ fn words(alloc: Global, all: &[&str]) -> Result<Vec<String>, AllocError> {
     Ok(words)
 }
 
-// An image on the shelf.
-fn add(rack: &mut MemRack, name: &str, len: u64, place: u64, copy: &[u8]) -> Result<(), Fail>
+// An image on the shelf, with one copy of a superblock.
+fn add(rack: &mut MemRack, name: &str, len: u64, place: u64, copy: &Super) -> Result<(), Fail>
     requires { len < 2 ^ 63 }
 {
     rack.add(name, len).map_err(|_| AllocError)?;
-    rack.poke(name, place, copy).map_err(|_| AllocError)?;
+    put_super(rack, name, place, copy).map_err(|_| AllocError)?;
     Ok(())
 }
 
@@ -119,128 +113,107 @@ fn words_that_are_no_sentence(rt: HostRuntime) -> Result<(), Fail> {
     Ok(())
 }
 
-// `super a` over an image of one copy: the text of a checksum type, or this refusal.
-fn answers_one(
-    rt: &impl Abort,
-    alloc: Global,
-    len: u64,
-    copy: &[u8],
-    place: u64,
-    expected: &[u8],
-    code: u8,
-) -> Result<(), Fail>
-    requires { len < 2 ^ 63 }
-{
-    let mut rack = MemRack::new(alloc);
-    add(&mut rack, "a", len, place, copy)?;
-    answers(rt, alloc, &mut rack, &["super", "a"], expected, code)
-}
-
 #[test]
 fn one_image(rt: HostRuntime) -> Result<(), Fail> {
     let alloc = rt.alloc();
-    let shown: [(u64, u8, &[u8]); 4] = [
+    let shown: [(u64, u16, &[u8]); 4] = [
         (16777216, 0, b"0"),
         (69632, 0, b"0"),
         (16777216, 1, b"1"),
         (16777216, 2, b"2"),
     ];
     for (len, csum_type, digit) in shown {
+        let mut rack = MemRack::new(alloc);
+        add(&mut rack, "a", len, 65536, &sample(7, csum_type))?;
         let expected = text(alloc, digit)?;
-        answers_one(
-            &rt,
-            alloc,
-            len,
-            &sample(65536, 7, csum_type),
-            65536,
-            &expected,
-            0,
-        )?;
+        answers(&rt, alloc, &mut rack, &["super", "a"], &expected, 0)?;
     }
     Ok(())
 }
 
-// The bytes of a copy but the last one, which is 0.
-fn without_last(copy: &[u8; 4096]) -> [u8; 4095] {
-    let mut cut = [0; 4095];
-    cut.copy_from_slice(&copy[..4095]);
-    cut
-}
+const NONE: &[u8] = b"error: image 0 has no valid superblock\n";
 
 #[test]
 fn an_image_without_a_superblock(rt: HostRuntime) -> Result<(), Fail> {
     let alloc = rt.alloc();
-    let none: &[u8] = b"error: image 0 has no valid superblock\n";
-    let unknown: &[u8] = b"error: checksum type 3 is not supported\n";
-    let cut = without_last(&sample(65536, 7, 0));
-    answers_one(&rt, alloc, 69631, &cut, 65536, none, 3)?;
-    answers_one(&rt, alloc, 16777216, &sample(65536, 7, 0), 69632, none, 3)?;
-    answers_one(
-        &rt,
-        alloc,
-        16777216,
-        &sample(65536, 7, 3),
-        65536,
-        unknown,
-        3,
-    )
+    let rows: [(u64, u16, &[u8]); 2] = [
+        (69632, 0, NONE),
+        (65536, 3, b"error: checksum type 3 is not supported\n"),
+    ];
+    for (place, csum_type, expected) in rows {
+        let mut rack = MemRack::new(alloc);
+        add(&mut rack, "a", 16777216, place, &sample(7, csum_type))?;
+        answers(&rt, alloc, &mut rack, &["super", "a"], expected, 3)?;
+    }
+    let mut rack = MemRack::new(alloc);
+    add(&mut rack, "a", 69632, 65536, &sample(7, 0))?;
+    assert!(rt; rack.cut("a", 69631));
+    answers(&rt, alloc, &mut rack, &["super", "a"], NONE, 3)
+}
+
+// Asserts that `super` over these images shows a superblock whose text begins so.
+fn shows(
+    rt: &impl Abort,
+    alloc: Global,
+    rack: &mut MemRack,
+    all: &[&str],
+    expected: &[u8],
+) -> Result<(), Fail> {
+    let mut out = MemOut::new(alloc);
+    let words = words(alloc, all)?;
+    assert_eq!(rt; rack.count(), 0);
+    let answer = run(alloc, &words, rack, &mut out);
+    assert_eq!(rt; answer, Answer::Done { skipped: 0 });
+    assert!(rt; out.text().starts_with(expected));
+    Ok(())
 }
 
 #[test]
 fn the_newest_copy(rt: HostRuntime) -> Result<(), Fail> {
     let alloc = rt.alloc();
-    let rows: [(u64, u64, u64, u64, &[u8]); 4] = [
-        (67112960, 67108864, 7, 9, b"slot 0 place 67108864\n"),
-        (67112960, 67108864, 9, 9, b"slot 0 place 65536\n"),
-        (67112960, 67108864, 9, 7, b"slot 0 place 65536\n"),
-        (
-            275951648768,
-            274877906944,
-            7,
-            8,
-            b"slot 0 place 274877906944\n",
-        ),
+    let last: u64 = 274877906944;
+    let rows: [(u64, u64, u64, &[u8]); 4] = [
+        (67108864, 7, 9, b"slot 0 place 67108864\n"),
+        (67108864, 9, 9, b"slot 0 place 65536\n"),
+        (67108864, 9, 7, b"slot 0 place 65536\n"),
+        (last, 7, 8, b"slot 0 place 274877906944\n"),
     ];
-    for (len, place, first, second, expected) in rows {
+    for (place, first, second, expected) in rows {
         let mut rack = MemRack::new(alloc);
-        add(&mut rack, "a", len, 65536, &sample(65536, first, 0))?;
-        let poked = rack.poke("a", place, &sample(place, second, 0));
-        poked.map_err(|_| AllocError)?;
-        let mut out = MemOut::new(alloc);
-        let words = words(alloc, &["super", "a"])?;
-        assert_eq!(rt; rack.count(), 0);
-        let answer = run(alloc, &words, &mut rack, &mut out);
-        assert_eq!(rt; answer, Answer::Done { skipped: 0 });
-        assert!(rt; out.text().starts_with(expected));
+        add(&mut rack, "a", 275951648768, 65536, &sample(first, 0))?;
+        put_super(&mut rack, "a", place, &sample(second, 0)).map_err(|_| AllocError)?;
+        shows(&rt, alloc, &mut rack, &["super", "a"], expected)?;
     }
     Ok(())
-}
-
-// A copy of generation 9 with another byte behind its checksum.
-fn damaged(place: u64) -> [u8; 4096] {
-    let mut copy = sample(place, 9, 0);
-    copy[4095] ^= 1;
-    copy
 }
 
 #[test]
 fn damaged_copies(rt: HostRuntime) -> Result<(), Fail> {
     let alloc = rt.alloc();
-    let none: &[u8] = b"error: image 0 has no valid superblock\n";
-    let elsewhere = sample(65536, 9, 0);
-    answers_one(&rt, alloc, 67112960, &damaged(65536), 65536, none, 3)?;
-    answers_one(&rt, alloc, 67112960, &elsewhere, 67108864, none, 3)?;
     let mut rack = MemRack::new(alloc);
-    add(&mut rack, "a", 67112960, 65536, &damaged(65536))?;
-    let poked = rack.poke("a", 67108864, &sample(67108864, 7, 0));
-    poked.map_err(|_| AllocError)?;
-    let mut out = MemOut::new(alloc);
-    let words = words(alloc, &["super", "a"])?;
-    assert_eq!(rt; rack.count(), 0);
-    let answer = run(alloc, &words, &mut rack, &mut out);
-    assert_eq!(rt; answer, Answer::Done { skipped: 0 });
-    assert!(rt; out.text().starts_with(b"slot 0 place 67108864\n"));
-    Ok(())
+    add(&mut rack, "a", 67112960, 65536, &sample(9, 0))?;
+    rack.poke("a", 69631, &[1]).map_err(|_| AllocError)?;
+    answers(&rt, alloc, &mut rack, &["super", "a"], NONE, 3)?;
+    let mut rack = MemRack::new(alloc);
+    add(&mut rack, "a", 67112960, 65536, &sample(9, 0))?;
+    rack.poke("a", 69631, &[1]).map_err(|_| AllocError)?;
+    put_super(&mut rack, "a", 67108864, &sample(7, 0)).map_err(|_| AllocError)?;
+    let expected = b"slot 0 place 67108864\n";
+    shows(&rt, alloc, &mut rack, &["super", "a"], expected)
+}
+
+#[test]
+fn a_copy_of_another_place(rt: HostRuntime) -> Result<(), Fail> {
+    let alloc = rt.alloc();
+    let mut rack = MemRack::new(alloc);
+    let place: u64 = 67108864;
+    add(&mut rack, "a", 67112960, place, &sample(9, 0))?;
+    let elsewhere: u64 = 65536;
+    let bytenr = elsewhere.to_le_bytes();
+    rack.poke("a", place + 0x30, &bytenr)
+        .map_err(|_| AllocError)?;
+    seal(&mut rack, "a", place, 4096).map_err(|_| AllocError)?;
+    answers(&rt, alloc, &mut rack, &["super", "a"], NONE, 3)
 }
 
 #[test]
@@ -253,18 +226,13 @@ fn several_images(rt: HostRuntime) -> Result<(), Fail> {
     ];
     for (generation, expected) in rows {
         let mut rack = MemRack::new(alloc);
-        add(&mut rack, "a", 69632, 65536, &sample(65536, 7, 0))?;
-        add(&mut rack, "b", 69632, 65536, &sample(65536, generation, 0))?;
-        let mut out = MemOut::new(alloc);
-        let words = words(alloc, &["super", "a", "b"])?;
-        assert_eq!(rt; rack.count(), 0);
-        let answer = run(alloc, &words, &mut rack, &mut out);
-        assert_eq!(rt; answer.code(), 0);
-        assert!(rt; out.text().starts_with(expected));
+        add(&mut rack, "a", 69632, 65536, &sample(7, 0))?;
+        add(&mut rack, "b", 69632, 65536, &sample(generation, 0))?;
+        shows(&rt, alloc, &mut rack, &["super", "a", "b"], expected)?;
     }
     let mut rack = MemRack::new(alloc);
-    add(&mut rack, "a", 69632, 65536, &sample(65536, 7, 0))?;
-    add(&mut rack, "b", 69632, 65536, &[])?;
+    add(&mut rack, "a", 69632, 65536, &sample(7, 0))?;
+    rack.add("b", 69632).map_err(|_| AllocError)?;
     let expected = b"error: image 1 has no valid superblock\n";
     answers(&rt, alloc, &mut rack, &["super", "a", "b"], expected, 3)
 }
@@ -295,8 +263,8 @@ fn failing_images(rt: HostRuntime) -> Result<(), Fail> {
     ];
     for (n, all, expected) in rows {
         let mut rack = MemRack::new(alloc);
-        add(&mut rack, "a", 69632, 65536, &sample(65536, 7, 0))?;
-        add(&mut rack, "b", 69632, 65536, &sample(65536, 7, 0))?;
+        add(&mut rack, "a", 69632, 65536, &sample(7, 0))?;
+        add(&mut rack, "b", 69632, 65536, &sample(7, 0))?;
         rack.fail_call(n).map_err(|_| AllocError)?;
         answers(&rt, alloc, &mut rack, all, expected, 4)?;
     }
@@ -308,7 +276,7 @@ fn a_failing_output(rt: HostRuntime) -> Result<(), Fail> {
     let alloc = rt.alloc();
     for all in [&["super", "a"][..], &["super", "-x"]] {
         let mut rack = MemRack::new(alloc);
-        add(&mut rack, "a", 69632, 65536, &sample(65536, 7, 0))?;
+        add(&mut rack, "a", 69632, 65536, &sample(7, 0))?;
         let mut out = MemOut::new(alloc);
         out.fail_call(1).map_err(|_| AllocError)?;
         let words = words(alloc, all)?;

@@ -3,7 +3,7 @@ use Rattle.std.specs.List.{All}
 use Rattle.std.specs.String.{string_bytes}
 use Rattle.btr_rack.specs.Rack.{NoneFailed}
 use Rattle.btr_tool.proofs.Openings.{OpenSoFar}
-use Rattle.btr_tool.proofs.images.open_images.Given as goal
+use Rattle.btr_tool.proofs.opening.open_images.Given as goal
 
 abbrev pub invariant-loop-slot : goal.invariant-loop-slot
 invariant-loop-slot g l = record {

@@ -1,12 +1,13 @@
-use Rattle.std.proofs.Common.{◌∙◌, ◌<◌, ◌≤◌, ℕ, List, String, length, map, false, refl, sym, arith}
+use Rattle.std.proofs.Common.{◌≡◌, subst, ◌∙◌, ◌<◌, ◌≤◌, ℕ, List, String, length, map, false, refl, sym, arith}
 use Rattle.std.specs.declared.alloc.Global.{Global}
 use Rattle.std.specs.String.{string_bytes}
 use Rattle.std.proofs.lemmas.List.{length-map}
 use Rattle.btr_rack.specs.Rack.{Slot}
 use Rattle.btr_rack.specs.declared.error.RackError.TheVariants.{Failed, Memory}
-use Rattle.btr_tool.proofs.Openings.{open_more, slot_count, slot_names, names_before, closed_more, all_open, so_far_unchanged, refused_unchanged, missing_name}
+use Rattle.btr_tool.specs.Images.{IsMissing}
+use Rattle.btr_tool.proofs.Openings.{open_more, slot_count, slot_names, names_before, closed_more, all_open, so_far_unchanged, refused_unchanged, missing_name, unopened}
 use Rattle.btr_tool.proofs.Causing.{none_failed_twice, name_at}
-use Rattle.btr_tool.proofs.images.open_images.Goals as goal
+use Rattle.btr_tool.proofs.opening.open_images.Goals as goal
 
 omega_within : (xs : List (String Global)) (i : ℕ) → i < length xs → i < length (map string_bytes xs)
 omega_within xs i lt = omega (arith, length-map xs string_bytes)
@@ -60,7 +61,13 @@ returns-in-Err-Failed-clause-sure g c =
     let names = map string_bytes c.args.names.now in
     let name = name_at c.args.names.now c.loop-slot.slot c.index-names-slot.result c.as_str.result.now (omega arith) c.as_str.ensures.value c.index-names-slot.is in
     let fails = rw c.in-Err-Failed.field-0-is at c.in-Err-Failed.ensures.sure in
-    λ sure.
-    missing_name (g.R.Rack.seen c.args.rack.now).shelf (g.R.Rack.seen c.loop-slot.rack).shelf (map (λ s. s.name) (g.R.Rack.seen c.loop-slot.rack).slots) c.as_str.result.now names c.loop-slot.slot
+    λ slot is sure.
+    let same : c.loop-slot.slot ≡ slot = cc in
+    subst (λ k. IsMissing names (g.R.Rack.seen c.args.rack.now).shelf k) same
+    (missing_name (g.R.Rack.seen c.args.rack.now).shelf (g.R.Rack.seen c.loop-slot.rack).shelf (map (λ s. s.name) (g.R.Rack.seen c.loop-slot.rack).slots) c.as_str.result.now names c.loop-slot.slot
     (g.R.Rack.seen c.loop-slot.rack).held c.loop-slot.invariant.images c.loop-slot.invariant.before (omega_within c.args.names.now c.loop-slot.slot c.loop-slot-test.true) name
-    (fails (c.loop-slot.invariant.sure ∙ sure))
+    (fails (c.loop-slot.invariant.sure ∙ sure)))
+
+pub returns-then-names-gt-MOST_IMAGES-clause-unchanged : goal.returns-then-names-gt-MOST_IMAGES-clause-unchanged
+returns-then-names-gt-MOST_IMAGES-clause-unchanged g c =
+    unopened (g.R.Rack.seen c.args.rack.now).shelf (g.R.Rack.seen c.args.rack.now).held (g.R.Rack.seen c.args.rack.now).slots (g.met.R.Rack.sound c.args.rack.now).sized c.requires.empty

@@ -1,0 +1,230 @@
+-- What doing what the words say comes to, by the step that ended it.
+use Rattle.std.proofs.Common.{◌≡◌, ◌≢◌, inl, inr, ⊎_elim, true, false, ltb, cond, ℕ, ◌<◌, ◌≤◌, ◌-◌, List, [], length, map, take, drop, String, Option, Some, None, Ok, Err, refl, sym, ap, ◌∙◌, subst, arith}
+use Rattle.std.specs.Option.{IfSome, option_and_then}
+use Rattle.std.specs.String.{string_bytes}
+use Rattle.std.specs.declared.alloc.Global.{Global}
+use Rattle.std.proofs.lemmas.Bool.{cases_lt}
+use Rattle.std.proofs.lemmas.Bool.Decides.{nat_tests}
+use Rattle.std.proofs.lemmas.List.{drop-map, take_rest}
+use Rattle.btr_rack.specs.Rack.{Seen, Rose, Steady, NoneFailed, Shelf}
+use Rattle.btr_rack.specs.Out.{CallAccount}
+use Rattle.btr_tool.specs.Answers.{error_line}
+use Rattle.btr_tool.specs.Behind.{IsBehind}
+use Rattle.btr_tool.specs.Causes.{IsBehindWords}
+use Rattle.btr_tool.specs.Commands.{command_outcome, MayCome, MayFail}
+use Rattle.btr_tool.specs.Effects.{FollowsWords, IsDecided, IsOutcome, MayFollow, images_outcome}
+use Rattle.btr_tool.specs.Images.{AreUnchanged, IsMissing, most_images, taken}
+use Rattle.btr_tool.specs.Opening.{HasTooMany, OpeningCause, OpeningFailed, OpensAll, opening_answer}
+use Rattle.btr_tool.specs.Outcomes.{Outcome, refused, Comes, OrBare, OrMemory}
+use Rattle.btr_tool.specs.Supers.{ReadFailed}
+use Rattle.btr_tool.specs.Words.{Words, IsSentence, IsUsageAt, images_of}
+use Rattle.btr_tool.specs.declared.plan.Command.{Command}
+use Rattle.btr_tool.specs.declared.plan.Plan.{Plan}
+use Rattle.btr_tool.specs.declared.opening.OpeningFault.{OpeningFault}
+use Rattle.btr_tool.specs.declared.opening.OpeningFault.TheVariants.{TooMany, Failed, Memory as memory_fault}
+use Rattle.btr_tool.specs.declared.answer.Which.TheVariants.{Images as images_limit}
+use Rattle.btr_tool.specs.declared.answer.Answer.{Answer}
+use Rattle.btr_tool.specs.declared.answer.Answer.TheVariants.{Usage, Limit, ImageFault, OutFault}
+use Rattle.btr_tool.proofs.Causing.{none_failed_yet, none_failed_twice}
+use Rattle.btr_tool.proofs.Coming.{comes_bare, comes_also}
+use Rattle.btr_tool.proofs.Openings.{Images}
+use Rattle.btr_tool.proofs.Sentences.{one_plan}
+
+-- a clause on what may be told
+all_told : {X : Type 0} (o : Option X) (Q : X → Type 0) → ((x : X) → Q x) → IfSome o Q
+all_told None Q f = tt
+all_told (Some x) Q f = f x
+
+steady_not_rose : (before now : ℕ) → Steady before now → Rose before now → ⊥
+steady_not_rose before now steady rose = omega (arith, steady.0, steady.1, rose.0, rose.1)
+
+-- the names of the images, as a part of the words
+pub names_are : (xs : List (String Global)) (k : ℕ) → drop k (map string_bytes xs) ≡ map string_bytes (take (length xs - k) (drop k xs))
+names_are xs k = drop-map string_bytes k xs ∙ ap (map string_bytes) (sym (take_rest xs k))
+
+-- words go wrong at one place only
+usage_once : (words : Words) (at other : ℕ) → IsUsageAt words at → IsUsageAt words other → at ≡ other
+usage_once words at other a b = of (le at other a b) (le other at b a)
+  where
+    of : at ≤ other → other ≤ at → at ≡ other
+    of x y = omega arith
+
+    le : (i j : ℕ) → IsUsageAt words i → IsUsageAt words j → i ≤ j
+    le i j x y = ⊎_elim (λ past. absurd (y.longest i past x.within x.begins)) (λ le. le) (cases_lt j i)
+
+-- words that are no sentence
+module _ (words : Words) (at : ℕ) (usage : IsUsageAt words at) where
+  pub usage_effect : (shelf : Option Shelf) (old new : ℕ) (text : Option (List ℕ)) (account : CallAccount) → IfSome shelf (λ s. Steady old new → Comes (OrMemory (IsOutcome words s)) text text account account (Usage at))
+  usage_effect shelf old new text account =
+      all_told shelf _ (λ s steady. comes_bare (OrMemory (IsOutcome words s)) text account (Usage at) (inl (inl (at, usage, refl))) (λ e. cc))
+
+  pub usage_told : (text : Option (List ℕ)) (account : CallAccount) → Comes (OrBare (MayFollow words)) text text account account (Usage at)
+  usage_told text account = comes_bare (OrBare (MayFollow words)) text account (Usage at) (inr (refl, λ e. cc)) (λ e. cc)
+
+  pub usage_decided : (answer : Answer) → IsDecided words answer → Usage at ≡ answer
+  usage_decided answer decided =
+      ⊎_elim (λ other. ap (λ k. Usage k) (usage_once words at other.0 usage other.1) ∙ sym other.2) (λ many. absurd (usage.no_sentence many.0 many.1)) decided
+
+  pub usage_stated : FollowsWords words (Usage at)
+  usage_stated = record { usage = λ other is. inl (at, usage, refl); limit = λ n is. absurd (cc is) }
+
+  pub usage_cause : (seen : Seen) → IsBehindWords words seen seen (Usage at)
+  usage_cause seen = record {
+    image = λ slot is. absurd (cc is);
+    shut = λ more. absurd (omega (arith, more));
+    hidden = inl (none_failed_yet seen.account);
+    sure = λ slot is. absurd (cc is);
+  }
+
+opening_line : (fault : OpeningFault) → error_line (opening_answer fault) ≢ []
+opening_line (TooMany count) e = cc
+opening_line (Failed slot) e = cc
+opening_line memory_fault e = cc
+
+opening_no_fault : (fault : OpeningFault) → opening_answer fault ≢ OutFault
+opening_no_fault (TooMany count) e = cc
+opening_no_fault (Failed slot) e = cc
+opening_no_fault memory_fault e = cc
+
+few : (n m : ℕ) → n ≤ m → ltb m n ≡ false
+few n m le = grind (arith, nat_tests)
+
+too_many : (n m : ℕ) → m < n → ltb m n ≡ true
+too_many n m lt = grind (arith, nat_tests)
+
+-- too many images
+limit_outcome : (command : Command) (names : Words) (shelf : Shelf) → most_images < length names → images_outcome command names shelf ≡ Some (refused (Limit images_limit (length names)))
+limit_outcome command names shelf lt =
+    ap (λ b. cond b (Some (refused (Limit images_limit (length names)))) (option_and_then (command_outcome command) (taken names shelf))) (too_many (length names) most_images lt)
+
+-- images that were taken from the shelf
+taken_outcome : (command : Command) (names : Words) (shelf : Shelf) (images : Images) → length names ≤ most_images → taken names shelf ≡ Some images → images_outcome command names shelf ≡ command_outcome command images
+taken_outcome command names shelf images le opened =
+    ap (λ b. cond b (Some (refused (Limit images_limit (length names)))) (option_and_then (command_outcome command) (taken names shelf))) (few (length names) most_images le)
+    ∙ ap (option_and_then (command_outcome command)) opened
+
+-- words that are a sentence: their images
+module _ (words names : Words) (plan : Plan) (sentence : IsSentence plan words) (named : images_of plan words ≡ names) where
+  outcome_is : (shelf : Shelf) (outcome : Outcome) → images_outcome plan.command names shelf ≡ Some outcome → IsOutcome words shelf outcome
+  outcome_is shelf outcome is = inr (plan, sentence, ap (λ l. images_outcome plan.command l shelf) named ∙ is)
+
+  -- what the words alone decide is that there are too many images
+  too_many_decided : (answer : Answer) → IsDecided words answer → (most_images < length names) × (answer ≡ Limit images_limit (length names))
+  too_many_decided answer decided =
+      ⊎_elim (λ usage. absurd (usage.1.no_sentence plan sentence))
+      (λ many. let same = ap (λ p. length (images_of p words)) (one_plan words many.0 plan many.1 sentence) ∙ ap length named in (subst (λ n. most_images < n) same many.2, many.3 ∙ ap (λ n. Limit images_limit n) same)) decided
+
+  -- the images aren't open
+  module _ (old new : Seen) (fault : OpeningFault) (many : HasTooMany names (Err fault)) (cause : OpeningCause names old new (Err fault)) where
+    opening_comes : (shelf : Shelf) (text : Option (List ℕ)) (account : CallAccount) → Steady old.account.faults new.account.faults → Comes (OrMemory (IsOutcome words shelf)) text text account account (opening_answer fault)
+    opening_comes shelf text account steady = comes_bare (OrMemory (IsOutcome words shelf)) text account (opening_answer fault) (of fault many cause) (opening_no_fault fault)
+      where
+        of : (f : OpeningFault) → HasTooMany names (Err f) → OpeningCause names old new (Err f) → OrMemory (IsOutcome words shelf) (refused (opening_answer f))
+        of (TooMany count) many cause =
+            inl (outcome_is shelf (refused (Limit images_limit count)) (limit_outcome plan.command names shelf (omega (arith, many.0, many.1)) ∙ ap (λ n. Some (refused (Limit images_limit n))) (sym many.0)))
+        of (Failed slot) many cause = absurd (steady_not_rose old.account.faults new.account.faults steady cause.faults)
+        of memory_fault many cause = inr refl
+
+    pub opening_effect : (shelf : Option Shelf) (text : Option (List ℕ)) (account : CallAccount) (result : Answer) → result ≡ opening_answer fault
+        → IfSome shelf (λ s. Steady old.account.faults new.account.faults → Comes (OrMemory (IsOutcome words s)) text text account account result)
+    opening_effect shelf text account result is =
+        all_told shelf _ (λ s steady. subst (λ a. Comes (OrMemory (IsOutcome words s)) text text account account a) (sym is) (opening_comes s text account steady))
+
+    pub opening_told : (text : Option (List ℕ)) (account : CallAccount) (result : Answer) → result ≡ opening_answer fault → Comes (OrBare (MayFollow words)) text text account account result
+    opening_told text account result is =
+        subst (λ a. Comes (OrBare (MayFollow words)) text text account account a) (sym is)
+        (comes_bare (OrBare (MayFollow words)) text account (opening_answer fault) (inr (refl, opening_line fault)) (opening_no_fault fault))
+
+    pub opening_decided : (result answer : Answer) → result ≡ opening_answer fault → IsDecided words answer → (most_images < length names) × (result ≡ answer)
+    opening_decided result answer is decided = let all = too_many_decided answer decided in (all.0, is ∙ of fault many all.0 ∙ sym all.1)
+      where
+        of : (f : OpeningFault) → HasTooMany names (Err f) → most_images < length names → opening_answer f ≡ Limit images_limit (length names)
+        of (TooMany count) many lt = ap (λ n. Limit images_limit n) many.0
+        of (Failed slot) few lt = absurd (omega (arith, few, lt))
+        of memory_fault few lt = absurd (omega (arith, few, lt))
+
+    pub opening_stated : (result : Answer) → result ≡ opening_answer fault → FollowsWords words result
+    opening_stated result is = subst (FollowsWords words) (sym is) (of fault many)
+      where
+        of : (f : OpeningFault) → HasTooMany names (Err f) → FollowsWords words (opening_answer f)
+        of (TooMany count) many = record {
+          usage = λ at is. absurd (cc is);
+          limit = λ n is. let same = many.0 ∙ ap length (sym named) in inr (plan, sentence, subst (λ n. most_images < n) same many.1, ap (λ n. Limit images_limit n) same);
+        }
+        of (Failed slot) few = record { usage = λ at is. absurd (cc is); limit = λ n is. absurd (cc is) }
+        of memory_fault few = record { usage = λ at is. absurd (cc is); limit = λ n is. absurd (cc is) }
+
+    pub opening_cause : (result : Answer) → result ≡ opening_answer fault → ((slot : ℕ) → fault ≡ Failed slot → old.sure ≡ true → IsMissing names old.shelf slot) → IsBehindWords words old new result
+    opening_cause result is sure = subst (IsBehindWords words old new) (sym is) (of fault cause sure)
+      where
+        calm : (f : OpeningFault) → NoneFailed old.account new.account → ((slot : ℕ) → opening_answer f ≢ ImageFault slot) → IsBehindWords words old new (opening_answer f)
+        calm f none other = record {
+          image = λ slot is. absurd (other slot is);
+          shut = λ more. absurd (omega (arith, none.shut, more));
+          hidden = inl none;
+          sure = λ slot is. absurd (other slot is);
+        }
+
+        of : (f : OpeningFault) → OpeningCause names old new (Err f) → ((slot : ℕ) → f ≡ Failed slot → old.sure ≡ true → IsMissing names old.shelf slot) → IsBehindWords words old new (opening_answer f)
+        of (TooMany count) cause sure = calm (TooMany count) cause (λ slot e. cc)
+        of memory_fault cause sure = calm memory_fault cause (λ slot e. cc)
+        of (Failed slot) failed sure =
+            let failed' = subst (λ l. OpeningFailed l new.slots old.account new.account slot) (sym named) failed in record {
+              image = λ other is. record { plan = plan; sentence = sentence; failed = inl (subst (OpeningFailed (images_of plan words) new.slots old.account new.account) (cc) failed') };
+              shut = λ more. (slot, refl, record { plan = plan; sentence = sentence; failed = failed' });
+              hidden = inr (inl (inl (slot, refl)));
+              sure = λ other is certain. record {
+                plan = plan;
+                sentence = sentence;
+                missing = subst (λ l. IsMissing l old.shelf other) (sym named) (sure other (cc) certain);
+              };
+            }
+
+  -- the images are open, and the command was done, or not
+  module _ (old mid new : Seen) (few : length names ≤ most_images) (opened : NoneFailed old.account mid.account) (answer : Answer) (behind : IsBehind (MayFail plan.command) mid new answer) where
+    pub command_effect : (texts texts' : Option (List ℕ)) (before after : CallAccount) → OpensAll names old.shelf mid.held (Ok tt)
+        → IfSome mid.held (λ images. Steady mid.account.faults new.account.faults → Comes (OrMemory (λ outcome. command_outcome plan.command images ≡ Some outcome)) texts texts' before after answer)
+        → IfSome old.shelf (λ shelf. Steady old.account.faults new.account.faults → Comes (OrMemory (IsOutcome words shelf)) texts texts' before after answer)
+    command_effect texts texts' before after = of old.shelf mid.held
+      where
+        of : (shelf : Option Shelf) (held : Option Images) → OpensAll names shelf held (Ok tt)
+            → IfSome held (λ images. Steady mid.account.faults new.account.faults → Comes (OrMemory (λ outcome. command_outcome plan.command images ≡ Some outcome)) texts texts' before after answer)
+            → IfSome shelf (λ shelf. Steady old.account.faults new.account.faults → Comes (OrMemory (IsOutcome words shelf)) texts texts' before after answer)
+        of None held opens effect = tt
+        of (Some at) None opens effect = absurd opens
+        of (Some at) (Some images) opens effect = λ steady.
+            comes_also (OrMemory (λ outcome. command_outcome plan.command images ≡ Some outcome)) (OrMemory (IsOutcome words at)) texts texts' before after answer
+            (λ outcome one. ⊎_elim (λ is. inl (outcome_is at outcome (taken_outcome plan.command names at images few opens ∙ is))) (λ want. inr want) one)
+            (effect (subst (λ n. Steady n new.account.faults) (sym opened.faults) steady))
+
+    pub command_told : (texts texts' : Option (List ℕ)) (before after : CallAccount) → Comes (OrBare (MayCome plan.command)) texts texts' before after answer → Comes (OrBare (MayFollow words)) texts texts' before after answer
+    command_told texts texts' before after comes =
+        comes_also (OrBare (MayCome plan.command)) (OrBare (MayFollow words)) texts texts' before after answer (λ outcome one. ⊎_elim (λ is. inl (plan, sentence, is)) (λ bare. inr bare) one) comes
+
+    pub none_decided : (other : Answer) → IsDecided words other → ⊥
+    none_decided other decided = omega (arith, few, (too_many_decided other decided).0)
+
+    pub command_stated : FollowsWords words answer
+    command_stated = record { usage = λ at is. absurd (behind.no_usage at is); limit = λ n is. absurd (behind.no_limit n is) }
+
+    pub command_cause : mid.sure ≡ old.sure → IsBehindWords words old new answer
+    command_cause kept = record {
+      image = λ slot is. record { plan = plan; sentence = sentence; failed = inr (since (behind.image slot is)) };
+      shut = λ more. absurd (omega (arith, more, behind.reads.same_shut, opened.shut));
+      hidden = ⊎_elim (λ none. inl (none_failed_twice old.account mid.account new.account opened none)) (λ rest. ⊎_elim (λ fault. inr (inl fault)) (λ may. inr (inr (plan, sentence, may))) rest) behind.hidden;
+      sure = λ slot is certain. absurd (cc (sym certain ∙ sym kept ∙ behind.sure slot is));
+    }
+      where
+        since : {slot : ℕ} → ReadFailed mid.account new.account slot → ReadFailed old.account new.account slot
+        since failed = record {
+          place = failed.place;
+          of_super = failed.of_super;
+          last = failed.last;
+          faults = subst (λ n. Rose n new.account.faults) opened.faults failed.faults;
+          fresh = failed.fresh;
+          shut = failed.shut ∙ opened.shut;
+        }
+
+    pub command_unchanged : AreUnchanged old.shelf mid.slots mid.held → AreUnchanged old.shelf new.slots new.held
+    command_unchanged unchanged =
+        subst (λ (s : Seen). AreUnchanged old.shelf s.slots s.held) (sym behind.reads.same) unchanged

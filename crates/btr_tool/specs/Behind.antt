@@ -1,0 +1,25 @@
+-- What lies behind the answer of a command over opened images.
+use Rattle.std.specs.Prelude.{◌≡◌, ◌≢◌, ◌⊎◌, ℕ, false, Option, IfSome}
+use Rattle.btr_rack.specs.Rack.{Seen, Account, Steady, NoneFailed, OnlyReads}
+use Rattle.btr_tool.specs.Supers.{ReadFailed}
+use Rattle.btr_tool.specs.declared.answer.Which.TheVariants.{Images}
+use Rattle.btr_tool.specs.declared.answer.Answer.{Answer}
+use Rattle.btr_tool.specs.declared.answer.Answer.TheVariants.{Usage, Limit, ImageFault, OutFault, Memory}
+
+-- where something is told, and no call on an image failed
+abbrev pub IfSteady : {T : Type 0} → Option T → Account → Account → (T → Type 0) → Type 0
+IfSteady told old new P = IfSome told (λ x. Steady old.faults new.faults → P x)
+
+-- an image or the output failed, or memory was wanted
+abbrev pub IsFault : Answer → Type 0
+IsFault answer = ((slot : ℕ) × (answer ≡ ImageFault slot)) ⊎ (answer ≡ OutFault) ⊎ (answer ≡ Memory)
+
+-- The images were only read. One is at fault only where a read of its superblock failed, which no sure rack does. An answer that is no fault comes behind
+-- a failed call only if it is of some kind. What the words alone decide is not answered.
+pub record IsBehind (MayFail : Answer → Type 0) (old new : Seen) (answer : Answer) : Type 0 where
+  pub reads : OnlyReads old new
+  pub image : (slot : ℕ) → answer ≡ ImageFault slot → ReadFailed old.account new.account slot
+  pub sure : (slot : ℕ) → answer ≡ ImageFault slot → old.sure ≡ false
+  pub hidden : NoneFailed old.account new.account ⊎ IsFault answer ⊎ MayFail answer
+  pub no_usage : (at : ℕ) → answer ≢ Usage at
+  pub no_limit : (n : ℕ) → answer ≢ Limit Images n
