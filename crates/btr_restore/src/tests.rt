@@ -1,12 +1,11 @@
-// The lines, the names and the rows.
+// The lines and the names.
 use crate::cause::Cause;
 use crate::lines::put_counts;
 use crate::name::good_name;
 use crate::path::Path;
-use crate::rows::{close_file, leave_dir, make_dir, make_file, start_in};
 use crate::telling::{leave_out, tell};
 use btr_files::{Counts, RestorePlan};
-use btr_rack::{MemOut, MemTree};
+use btr_rack::MemOut;
 use std::alloc::AllocError;
 use std::test::Fail;
 
@@ -62,21 +61,5 @@ fn names(rt: HostRuntime) -> Result<(), Fail> {
     for good in [b"a".as_slice(), b"...", b"a b", b"\xc3\xa4"] {
         assert!(rt; good_name(good).is_some());
     }
-    Ok(())
-}
-
-#[test]
-fn rows(rt: HostRuntime) -> Result<(), Fail> {
-    let mut tree = MemTree::new(rt.alloc());
-    let (wet, dry) = (plan(false, false), plan(false, true));
-    must(start_in(&dry, "out", &mut tree))?;
-    assert_eq!(rt; tree.rows().len(), 0);
-    must(start_in(&wet, "out", &mut tree))?;
-    must(make_dir(&wet, "d", &mut tree))?;
-    must(make_file(&wet, "f", &mut tree))?;
-    assert!(rt; tree.part().is_some());
-    must(close_file(&wet, &mut tree))?;
-    must(leave_dir(&wet, &mut tree))?;
-    assert_eq!(rt; tree.rows().len(), 4);
     Ok(())
 }
