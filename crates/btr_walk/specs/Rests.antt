@@ -57,6 +57,7 @@ HasMet rest = IsSomeAnd rest.place.leaf (λ frame. (0 < frame.next) × (frame.ne
 
 -- where a scan goes on whose leaf was given back: what is still to come is the same
 pub record Rests (store : Blocks) (scan : Scan) (rest : Rest) : Type 0 where
+  pub root : rest.root ≡ scan.root
   pub lo : rest.lo ≡ scan.lo
   pub hi : rest.hi ≡ scan.hi
   pub rank : rank_left rest ≡ rank_of scan

@@ -1,5 +1,5 @@
 // A scan that keeps no loan.
-ghost use Rattle.std.specs.Prelude.{◌≡◌, ◌≤◌, None, IfSome, []};
+ghost use Rattle.std.specs.Prelude.{◌≡◌, ◌-◌, ◌<◌, ◌≤◌, None, IfSome, []};
 ghost use Rattle.btr_rack.specs.Rack.{Seen, OnlyReads};
 ghost use Rattle.btr_read.specs.Serves.{Serves};
 ghost use Rattle.btr_read.specs.Store.{SameLoans, free_count};
@@ -23,6 +23,7 @@ use btr_read::{Loan, Store};
 /// A scan that keeps no loan: where it goes on. It can be copied, and let go.
 #[derive(Clone, Copy, Debug, PartialEq, Eq)]
 pub struct Rest {
+    pub(crate) root: RootPlace,
     pub(crate) lo: Key,
     pub(crate) hi: Key,
     pub(crate) place: ScanPlace,
@@ -36,6 +37,20 @@ pub struct MetAgain {
     pub at: usize,
 }
 
+// The item before `next` of a leaf in hand.
+fn met_in(hand: LeafAt) -> MetAgain
+    requires { 0 < hand.next }
+    ensures { result ≡ record { loan = hand.loan; at = hand.next - 1 } }
+{
+    let LeafAt {
+        spot: _,
+        next,
+        end: _,
+        loan,
+    } = hand;
+    MetAgain { loan, at: next - 1 }
+}
+
 impl Rest {
     /// A scan of the tree with this root from `lo` to `hi`, both included; nothing is read yet.
     pub fn new(root: &RootPlace, lo: Key, hi: Key) -> Rest
@@ -46,6 +61,7 @@ impl Rest {
         ensures on { (B : Map) → IsOn lo hi B [] result.place }
     {
         Rest {
+            root: *root,
             lo,
             hi,
             place: ScanPlace {
@@ -57,9 +73,10 @@ impl Rest {
 
     /// The scan that goes on there.
     pub fn scan(self) -> Scan
-        ensures { result ≡ record { lo = self.lo; hi = self.hi; place = self.place; leaf = None } }
+        ensures { result ≡ record { root = self.root; lo = self.lo; hi = self.hi; place = self.place; leaf = None } }
     {
         Scan {
+            root: self.root,
             lo: self.lo,
             hi: self.hi,
             place: self.place,
@@ -70,11 +87,7 @@ impl Rest {
     /// Reads the leaf of the item that was met last again. It takes no memory, and four slots are free.
     ///
     /// The faults are those of that one block. Where no read failed since it was read, it is there again.
-    pub fn met_again<R: Rack>(
-        &self,
-        rack: &mut R,
-        store: &mut Store,
-    ) -> Result<MetAgain, TreeFault>
+    pub fn met_again<R: Rack>(&self, rack: &mut R, store: &mut Store) -> Result<MetAgain, TreeFault>
         requires serves { Serves (R.seen rack.old) store.old }
         requires room { 4 ≤ free_count store.old }
         requires met { HasMet self.now }
@@ -87,13 +100,10 @@ impl Rest {
         let Some(frame) = &self.place.leaf else {
             unreachable!();
         };
-        let LeafAt {
-            spot: _,
-            next,
-            end: _,
-            loan,
-        } = read_leaf(frame, rack, store)?;
-        Ok(MetAgain { loan, at: next - 1 })
+        match read_leaf(frame, rack, store) {
+            Err(fault) => Err(fault),
+            Ok(hand) => Ok(met_in(hand)),
+        }
     }
 }
 
@@ -108,13 +118,19 @@ impl Scan {
         let mut scan = self;
         scan.pause(store);
         let Scan {
+            root,
             lo,
             hi,
             place,
             leaf,
         } = scan;
         match leaf {
-            None => Rest { lo, hi, place },
+            None => Rest {
+                root,
+                lo,
+                hi,
+                place,
+            },
             Some(_) => unreachable!(),
         }
     }
