@@ -3,3 +3,8 @@ pub mod Meeting
 pub mod Surveys
 pub mod Lookups
 pub mod Rows
+pub mod Binds
+pub mod Extending
+pub mod Onwards
+pub mod Reaching
+pub mod Passed

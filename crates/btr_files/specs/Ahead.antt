@@ -1,5 +1,5 @@
 -- How a file goes on to its next extent.
-use Rattle.std.specs.Prelude.{◌≡◌, ℕ, ◌+◌, ◌<◌, ◌≤◌, ◌^◌, ◌==◌, nat_le, if◌then◌else◌, List, [], ◌++◌, Option, Some, None, IfSome, IsSomeAnd, Result, Ok, Err}
+use Rattle.std.specs.Prelude.{◌≡◌, ◌≢◌, ℕ, ◌+◌, ◌<◌, ◌≤◌, ◌^◌, ◌==◌, nat_le, if◌then◌else◌, List, [], ◌++◌, Option, Some, None, IfSome, IsSomeAnd, Result, Ok, Err}
 use Rattle.btr_base.specs.declared.kind.SumKind.{SumKind}
 use Rattle.btr_items.specs.FileExtent.{file_extent_of, end_of, inline_data}
 use Rattle.btr_items.specs.declared.fault.ItemFault.{ItemFault}
@@ -37,11 +37,12 @@ todo_at size leaf start (shape.Regular addr disk_len skip len) =
     if addr == 0 then Next else Sectors (record { start = start; addr = addr + skip; count = sector_count size start len })
 todo_at size leaf start (shape.Prealloc addr disk_len skip len) = Next
 
+-- .. of any extent: nothing where it begins at the size or behind it
+abbrev pub todo_of : ℕ → ℕ → ℕ → Shape → Todo
+todo_of size leaf start s = if nat_le size start then Over else todo_at size leaf start s
+
 abbrev pub ahead_at : ℕ → TreeItem → FileExtent → Ahead
-ahead_at size item fields = record {
-  todo = if nat_le size item.key.offset then Over else todo_at size item.leaf item.key.offset fields.shape;
-  end = end_of item.key.offset fields;
-}
+ahead_at size item fields = record { todo = todo_of size item.leaf item.key.offset fields.shape; end = end_of item.key.offset fields }
 
 abbrev pub ahead_clear : ℕ → TreeItem → FileExtent → Survey → Result Ahead TreeFault
 ahead_clear size item fields Clear = Ok (ahead_at size item fields)
@@ -68,12 +69,9 @@ FitsAhead size end (Ok (Some ahead)) = FitsTodo size end ahead.end ahead.todo
 FitsAhead size end (Ok None) = Unit {0}
 FitsAhead size end (Err f) = Unit {0}
 
--- the extent has bytes before the size, or begins behind it
+-- the extent has bytes before the size, or begins at it or behind it
 abbrev pub IsFound : Todo → Type 0
-IsFound Next = ⊥
-IsFound (Inline part) = Unit {0}
-IsFound (Sectors part) = Unit {0}
-IsFound Over = Unit {0}
+IsFound todo = todo ≢ Next
 
 abbrev pub HasFound : Result (Option Ahead) TreeFault → Type 0
 HasFound (Ok (Some ahead)) = IsFound ahead.todo

@@ -6,7 +6,7 @@ ghost use Rattle.btr_read.specs.Store.{SameLoans, free_count};
 ghost use Rattle.btr_walk.specs.Reading.{HasCause, Tells, unread_by};
 ghost use Rattle.btr_walk.specs.ScanEnds.{IsReady, without_leaf};
 ghost use Rattle.btr_walk.specs.Showing.{item_of};
-ghost use Rattle.btr_files.specs.Ahead.{ahead_of, todo_at, AheadNears, FitsAhead, FitsShape, HasFound, IsLooked, IsNextExtent, KeepsItem, LookedAhead};
+ghost use Rattle.btr_files.specs.Ahead.{ahead_of, todo_of, AheadNears, FitsAhead, FitsShape, HasFound, IsLooked, IsNextExtent, KeepsItem, LookedAhead};
 ghost use Rattle.btr_files.specs.Content.{sector_count};
 ghost use Rattle.btr_files.specs.Streaming.{IsUnderway};
 
@@ -33,12 +33,14 @@ fn sector_count(size: u64, start: u64, len: u64) -> u64
     len.min(size - start).div_ceil(4096)
 }
 
-// What is still to come of an extent that begins before the size.
-fn todo_at(size: u64, leaf: u64, start: u64, shape: &Shape) -> Todo
-    requires begun { start < size }
-    requires fits { FitsShape shape.now }
-    ensures { result ≡ todo_at size leaf start shape.now }
+// What is still to come of an extent in a leaf.
+fn todo_of(size: u64, leaf: u64, start: u64, shape: &Shape) -> Todo
+    requires { FitsShape shape.now }
+    ensures { result ≡ todo_of size leaf start shape.now }
 {
+    if size <= start {
+        return Todo::Over;
+    }
     match *shape {
         Shape::Prealloc { .. } => Todo::Next,
         Shape::Inline { len } => {
@@ -75,18 +77,12 @@ fn ahead_of(size: u64, end: u128, found: &Found<'_>) -> Result<Ahead, TreeFault>
         return Err(TreeFault::Malformed(found.block));
     }
     match judge(&extent) {
-        Survey::Compressed | Survey::Encoded => Err(TreeFault::Malformed(found.block)),
-        Survey::Clear => {
-            let todo = if start < size {
-                todo_at(size, found.block, start, &extent.shape)
-            } else {
-                Todo::Over
-            };
-            Ok(Ahead {
-                todo,
-                end: extent.end(start),
-            })
-        }
+        Survey::Clear => Ok(Ahead {
+            todo: todo_of(size, found.block, start, &extent.shape),
+            end: extent.end(start),
+        }),
+        Survey::Compressed => Err(TreeFault::Malformed(found.block)),
+        Survey::Encoded => Err(TreeFault::Malformed(found.block)),
     }
 }
 
@@ -149,7 +145,7 @@ fn find_extent<R: Rack>(
             Ok(None) => return Ok(None),
             Ok(Some(ahead)) => match ahead.todo {
                 Todo::Next => end = ahead.end,
-                Todo::Inline(_) | Todo::Sectors(_) | Todo::Over => return Ok(Some(ahead)),
+                _ => return Ok(Some(ahead)),
             },
         }
     }
