@@ -8,3 +8,6 @@ pub mod Extending
 pub mod Onwards
 pub mod Reaching
 pub mod Passed
+pub mod Nextward
+pub mod AllMaps
+pub mod Sectors

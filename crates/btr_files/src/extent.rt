@@ -151,7 +151,52 @@ fn find_extent<R: Rack>(
     }
 }
 
-// Goes on to the next extent that has bytes before the size, where nothing is left of the one that was met last.
+// Goes on to the next extent that has bytes before the size, behind the one that was met last.
+fn find_next<R: Rack>(
+    source: &Source,
+    progress: &Progress,
+    rack: &mut R,
+    store: &mut Store,
+) -> Result<Progress, TreeFault>
+    requires serves { Serves (R.seen rack.old) store.old }
+    requires room { 4 ≤ free_count store.old }
+    requires underway { IsUnderway source.now progress.now }
+    requires next { progress.now.todo ≡ Todo.Next }
+    ensures serves { Serves (R.seen rack.new) store.new }
+    ensures reads { OnlyReads (R.seen rack.old) (R.seen rack.new) }
+    ensures loans { SameLoans store.old store.new }
+    ensures ahead { IfOk result (LookedAhead source.now progress.now) }
+    ensures cause { HasCause store.old.layout (R.seen rack.old) (R.seen rack.new) result }
+    ensures content { Tells store.old.layout (R.seen rack.old) (R.seen rack.new) (λ B. IsLooked source.now (unread_by store.old.layout (R.seen rack.old) (R.seen rack.new)) B progress.now result) }
+{
+    let mut scan = progress.rest.scan();
+    match find_extent(source, progress.end, &mut scan, rack, store) {
+        Err(fault) => {
+            scan.finish(store);
+            Err(fault)
+        }
+        Ok(None) => {
+            scan.finish(store);
+            Ok(Progress {
+                rest: progress.rest,
+                at: progress.at,
+                end: progress.end,
+                todo: Todo::Over,
+            })
+        }
+        Ok(Some(ahead)) => {
+            let rest = scan.rest(store);
+            Ok(Progress {
+                rest,
+                at: progress.at,
+                end: ahead.end,
+                todo: ahead.todo,
+            })
+        }
+    }
+}
+
+// .. where nothing is left of that one.
 pub(crate) fn look_ahead<R: Rack>(
     source: &Source,
     progress: &Progress,
@@ -169,33 +214,7 @@ pub(crate) fn look_ahead<R: Rack>(
     ensures content { Tells store.old.layout (R.seen rack.old) (R.seen rack.new) (λ B. IsLooked source.now (unread_by store.old.layout (R.seen rack.old) (R.seen rack.new)) B progress.now result) }
 {
     match progress.todo {
-        Todo::Inline(_) | Todo::Sectors(_) | Todo::Over => Ok(*progress),
-        Todo::Next => {
-            let mut scan = progress.rest.scan();
-            match find_extent(source, progress.end, &mut scan, rack, store) {
-                Err(fault) => {
-                    scan.finish(store);
-                    Err(fault)
-                }
-                Ok(None) => {
-                    scan.finish(store);
-                    Ok(Progress {
-                        rest: progress.rest,
-                        at: progress.at,
-                        end: progress.end,
-                        todo: Todo::Over,
-                    })
-                }
-                Ok(Some(ahead)) => {
-                    let rest = scan.rest(store);
-                    Ok(Progress {
-                        rest,
-                        at: progress.at,
-                        end: ahead.end,
-                        todo: ahead.todo,
-                    })
-                }
-            }
-        }
+        Todo::Next => find_next(source, progress, rack, store),
+        _ => Ok(*progress),
     }
 }
