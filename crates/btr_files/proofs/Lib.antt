@@ -11,3 +11,5 @@ pub mod Passed
 pub mod Nextward
 pub mod AllMaps
 pub mod Sectors
+pub mod Stepping
+pub mod Sectoring

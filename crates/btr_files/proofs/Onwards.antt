@@ -146,6 +146,12 @@ module _ (kind : SumKind) (source : Source) (Bs : ℕ → Map) where
   behind_after items ms (Ok y) = ((some_behind items y).0, refl, (some_behind items y).1)
   behind_after items ms (Err f) = refl
 
+  -- what is left has a run
+  pub then_some : (p : Program Piece (Result Given ℕ)) (items : Items) → (q : Pieces) × Then kind source Bs p items q
+  then_some p items =
+      let r = exec (Bs 0) p in
+      (and_then r (λ y. (some_behind items y).0), (r, goes_map Bs 0 p, behind_after items r.marks r.ending))
+
   -- ---- what is answered without a piece
   module _ (Is : UnreadBlock → Want → Type 0) (seen : List Want) where
     -- the items came to no value

@@ -3,10 +3,11 @@ use Rattle.std.proofs.Common.{◌≡◌, ℕ, ◌≤◌, List, [], ◌∷◌, �
 use Rattle.btr_base.specs.declared.key.Key.{Key}
 use Rattle.btr_base.specs.declared.kind.SumKind.{SumKind}
 use Rattle.btr_items.specs.FileExtent.{inline_data}
-use Rattle.btr_prog.specs.Prog.{prepend, exec, want_marks}
+use Rattle.btr_prog.specs.Prog.{Run, prepend, exec, want_marks}
 use Rattle.btr_prog.specs.Answers.{no_part}
 use Rattle.btr_prog.proofs.Follow.{follows_as}
 use Rattle.btr_prog.proofs.Runs.{prepend-prepend}
+use Rattle.btr_read.specs.Fate as fate
 use Rattle.btr_read.specs.Store.{Blocks}
 use Rattle.btr_read.specs.declared.want.Want.{Want}
 use Rattle.btr_walk.specs.declared.fault.TreeFault.{TreeFault}
@@ -18,12 +19,13 @@ use Rattle.btr_files.specs.declared.extent.Ahead.{Ahead}
 use Rattle.btr_files.specs.declared.progress.Source.{Source}
 use Rattle.btr_files.specs.declared.progress.Todo.{Todo}
 use Rattle.btr_files.specs.declared.progress.Todo.TheVariants.{Next, Inline, Sectors, Over}
+use Rattle.btr_files.specs.Content.{Piece}
 use Rattle.btr_files.specs.Streaming.{todo_prog, Then, FitsTodo}
 use Rattle.btr_files.specs.Ahead.{Onward, LeadsOn, FitsAhead, IsNextExtent}
 use Rattle.btr_files.proofs.Onwards.{Items, Pieces, marks-append, follows_past}
 
 -- two parts of the wants that are past
-pub past_both : (xs ys : List Want) (q : Pieces) → prepend (want_marks xs) (prepend (want_marks ys) q) ≡ prepend (want_marks (xs ++ ys)) q
+pub past_both : {A : Type 0} (xs ys : List Want) (q : Run Want fate.Fault Piece A) → prepend (want_marks xs) (prepend (want_marks ys) q) ≡ prepend (want_marks (xs ++ ys)) q
 past_both xs ys q = prepend-prepend (want_marks xs) (want_marks ys) q ∙ ap (λ ms. prepend ms q) (sym (marks-append xs ys))
 
 -- what is left behind an extent leads on to what is left behind a later one

@@ -152,7 +152,7 @@ fn give_inline<R: Rack>(
         vol.store.give(loan);
         return Err(TreeFault::Malformed(part.leaf));
     }
-    let len = part.len.min(source.size - part.start) as usize;
+    let len = (source.size - part.start).min(part.len) as usize;
     Ok(Step {
         progress: behind_end(source.size, progress),
         shown: Shown::Bytes(loan, Span::Inline { at, len }),
@@ -182,13 +182,12 @@ fn give_sector<R: Rack>(
 {
     let want = want_of(source, part.addr, rack, vol)?;
     let loan = read_sector(&want, rack, &mut vol.store)?;
-    let span = Span::Sector {
-        len: (source.size - part.start).min(4096) as usize,
-        verified: is_tested(&want),
-    };
+    let left = source.size - part.start;
+    let len = left.min(vol.store.bytes(&loan).len() as u64) as usize;
+    let verified = is_tested(&want);
     Ok(Step {
         progress: behind_sector(source.size, progress, part),
-        shown: Shown::Bytes(loan, span),
+        shown: Shown::Bytes(loan, Span::Sector { len, verified }),
     })
 }
 
