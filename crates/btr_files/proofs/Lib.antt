@@ -13,3 +13,5 @@ pub mod AllMaps
 pub mod Sectors
 pub mod Stepping
 pub mod Sectoring
+pub mod Following
+pub mod Streamed
