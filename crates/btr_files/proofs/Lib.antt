@@ -15,3 +15,4 @@ pub mod Stepping
 pub mod Sectoring
 pub mod Following
 pub mod Streamed
+pub mod Beginning
