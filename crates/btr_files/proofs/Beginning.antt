@@ -1,5 +1,5 @@
 -- What a file that begins has to give is its content.
-use Rattle.std.proofs.Common.{◌≡◌, ℕ, ◌-◌, ◌<◌, Bool, true, false, cond, List, [], Result, Ok, Err, refl, sym, ap, ◌∙◌, subst, arith}
+use Rattle.std.proofs.Common.{◌≡◌, ℕ, ◌-◌, Bool, true, false, cond, [], Result, Ok, Err, refl, sym, ap, ◌∙◌, subst, arith}
 use Rattle.std.proofs.Math.Path.{fun_ext}
 use Rattle.std.specs.Prelude.{◌==◌, nat_le}
 use Rattle.std.proofs.lemmas.Bool.Decides.{nat_tests}
@@ -14,7 +14,6 @@ use Rattle.btr_prog.specs.Thread.{thread, go_on}
 use Rattle.btr_prog.proofs.Choices.{goes_map, goes_bind}
 use Rattle.btr_prog.proofs.ChoiceThreads.{goes_thread}
 use Rattle.btr_read.specs.Fate.{Malformed}
-use Rattle.btr_read.specs.declared.want.Want.{Want}
 use Rattle.btr_walk.specs.declared.rest.Rest.{Rest}
 use Rattle.btr_walk.specs.Going.{IsOn}
 use Rattle.btr_walk.specs.Le.{TreeItem}

@@ -1,5 +1,5 @@
 -- What an item of a file's extents comes to.
-use Rattle.std.proofs.Common.{◌≡◌, ◌⊎◌, ℕ, ◌+◌, ◌-◌, ◌*◌, ◌/◌, ◌%◌, ◌^◌, ◌<◌, ◌≤◌, Bool, true, false, cond, not, List, length, Option, Some, None, Result, Ok, Err, refl, sym, ap, ◌∙◌, subst, arith}
+use Rattle.std.proofs.Common.{◌≡◌, ℕ, ◌+◌, ◌-◌, ◌*◌, ◌/◌, ◌%◌, ◌^◌, ◌<◌, ◌≤◌, Bool, true, false, cond, not, List, length, Some, Result, Ok, Err, refl, sym, ap, ◌∙◌, subst, arith}
 use Rattle.std.specs.Prelude.{◌==◌, ◌&&◌, ◌||◌, nat_le, nat_lt, take, min, slice_index}
 use Rattle.std.proofs.lemmas.Bool.Decides.{nat_tests}
 use Rattle.btr_base.specs.Field.{number_at}
@@ -21,11 +21,10 @@ use Rattle.btr_files.specs.declared.clearness.Survey.{Survey}
 use Rattle.btr_files.specs.declared.clearness.Survey.TheVariants.{Clear, Compressed, Encoded}
 use Rattle.btr_files.specs.declared.extent.Ahead.{Ahead}
 use Rattle.btr_files.specs.declared.progress.Source.{Source}
-use Rattle.btr_files.specs.declared.progress.Todo.{Todo}
 use Rattle.btr_files.specs.declared.progress.Todo.TheVariants.{Next, Inline, Sectors, Over}
 use Rattle.btr_files.specs.Content.{Piece, Bytes, gap, on_at, sectors, sector_count, if_clear, piece, shaped}
-use Rattle.btr_files.specs.Extents.{Extent, extent, judged}
-use Rattle.btr_files.specs.Streaming.{Given, given, on_behind, extent_pieces, item_pieces, behind_bytes, todo_prog, FitsTodo, IsInline}
+use Rattle.btr_files.specs.Extents.{extent, judged}
+use Rattle.btr_files.specs.Streaming.{Given, given, on_behind, extent_pieces, item_pieces, todo_prog, FitsTodo, IsInline}
 use Rattle.btr_files.specs.Ahead.{todo_at, ahead_at, ahead_clear, ahead_formed, ahead_of, FitsShape}
 use Rattle.btr_files.proofs.Binds.{bind_assoc, gap_bind}
 

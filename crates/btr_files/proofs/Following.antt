@@ -1,5 +1,5 @@
 -- A file goes on to its next extent, and gives a piece.
-use Rattle.std.proofs.Common.{◌≡◌, ℕ, List, [], ◌++◌, Option, Some, None, Result, Ok, Err, sym, ap, ◌∙◌, subst, append_assoc}
+use Rattle.std.proofs.Common.{ℕ, List, [], ◌++◌, Option, Some, None, Result, Ok, Err, subst, append_assoc}
 use Rattle.btr_base.specs.declared.kind.SumKind.{SumKind}
 use Rattle.btr_prog.specs.Answers.{Halt, no_part}
 use Rattle.btr_prog.specs.Prog.{Does, first, prepend, want_marks}

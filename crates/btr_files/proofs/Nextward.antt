@@ -1,5 +1,5 @@
 -- A file goes on to its next extent.
-use Rattle.std.proofs.Common.{◌≡◌, ℕ, ◌+◌, ◌<◌, ◌≤◌, List, [], ◌++◌, Option, Some, None, IfSome, IsSomeAnd, Result, Ok, Err, refl, sym, ap, ◌∙◌, subst, get_or}
+use Rattle.std.proofs.Common.{◌≡◌, ℕ, ◌+◌, ◌<◌, ◌≤◌, List, [], ◌++◌, Option, Some, None, IfSome, IsSomeAnd, Ok, Err, sym, ap, ◌∙◌, subst, get_or}
 use Rattle.std.proofs.lemmas.List.Elements.{Contains-append_left}
 use Rattle.btr_base.specs.declared.key.Key.{Key}
 use Rattle.btr_base.specs.declared.kind.SumKind.{SumKind}
@@ -12,13 +12,13 @@ use Rattle.btr_walk.specs.declared.frame.Frame.{Frame}
 use Rattle.btr_walk.specs.declared.rest.Rest.{Rest}
 use Rattle.btr_walk.specs.declared.scan.Scan.{Scan}
 use Rattle.btr_walk.specs.declared.scan_place.ScanPlace.{ScanPlace}
-use Rattle.btr_walk.specs.Going.{IsAlong, IsOn}
+use Rattle.btr_walk.specs.Going.{IsOn}
 use Rattle.btr_walk.specs.Le.{TreeItem, want_of}
 use Rattle.btr_walk.specs.Range.{RangeProg}
 use Rattle.btr_walk.specs.Reading.{Map, UnreadBlock}
 use Rattle.btr_walk.specs.Rests.{rest_left, IsRestOn, met_last, Rests}
 use Rattle.btr_walk.specs.Scans.{IsFrame, IsKept}
-use Rattle.btr_walk.specs.ScanEnds.{left_of, HoldsLeaf, WasMet}
+use Rattle.btr_walk.specs.ScanEnds.{left_of, HoldsLeaf}
 use Rattle.btr_files.specs.declared.extent.Ahead.{Ahead}
 use Rattle.btr_files.specs.declared.progress.Progress.{Progress}
 use Rattle.btr_files.specs.declared.progress.Source.{Source}

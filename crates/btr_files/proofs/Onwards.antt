@@ -1,9 +1,9 @@
 -- The runs of what is left of a file.
-use Rattle.std.proofs.Common.{◌≡◌, ℕ, ◌-◌, List, [], ◌∷◌, ◌++◌, Option, Some, None, Result, Ok, Err, refl, sym, ap, ◌∙◌, subst, append-nil, append_assoc}
+use Rattle.std.proofs.Common.{◌≡◌, ℕ, List, [], ◌∷◌, ◌++◌, Result, Ok, Err, refl, sym, ap, ◌∙◌, subst, append-nil}
 use Rattle.btr_base.specs.declared.kind.SumKind.{SumKind}
-use Rattle.btr_prog.specs.Prog.{Mark, Wants, Does, Return, Stop, Emit, Run, run, first, prepend, exec, after, and_then, bind, steps_of, wants_of, want_marks}
-use Rattle.btr_prog.specs.Thread.{go_on_run, thread_run, end_of}
-use Rattle.btr_prog.specs.Answers.{Halt, Fault, Follows, no_part}
+use Rattle.btr_prog.specs.Prog.{Mark, Wants, Does, Return, Run, run, first, prepend, exec, after, and_then, steps_of, wants_of, want_marks}
+use Rattle.btr_prog.specs.Thread.{go_on_run, thread_run}
+use Rattle.btr_prog.specs.Answers.{Halt, Follows, no_part}
 use Rattle.btr_prog.specs.Goes.{GoesTo, Goes, AfterTo, GoOnTo, ThreadsTo}
 use Rattle.btr_prog.proofs.Choices.{goes_map}
 use Rattle.btr_prog.proofs.Cursors.{cursor_halts}

@@ -1,5 +1,5 @@
 -- How far a scan of a file's items has come, past extents that have no bytes.
-use Rattle.std.proofs.Common.{◌≡◌, ℕ, ◌≤◌, List, [], ◌∷◌, ◌++◌, Option, Some, None, Result, Ok, Err, refl, sym, ap, ◌∙◌, subst, append-nil, append_assoc, arith}
+use Rattle.std.proofs.Common.{◌≡◌, ℕ, ◌≤◌, List, [], ◌++◌, Some, None, Ok, Err, sym, ap, ◌∙◌, subst, append-nil, append_assoc, arith}
 use Rattle.btr_base.specs.declared.key.Key.{Key}
 use Rattle.btr_base.specs.declared.kind.SumKind.{SumKind}
 use Rattle.btr_items.specs.FileExtent.{inline_data}
@@ -21,8 +21,8 @@ use Rattle.btr_files.specs.declared.progress.Todo.{Todo}
 use Rattle.btr_files.specs.declared.progress.Todo.TheVariants.{Next, Inline, Sectors, Over}
 use Rattle.btr_files.specs.Content.{Piece}
 use Rattle.btr_files.specs.Streaming.{todo_prog, Then, FitsTodo}
-use Rattle.btr_files.specs.Ahead.{Onward, LeadsOn, FitsAhead, IsNextExtent}
-use Rattle.btr_files.proofs.Onwards.{Items, Pieces, marks-append, follows_past}
+use Rattle.btr_files.specs.Ahead.{Onward, IsNextExtent}
+use Rattle.btr_files.proofs.Onwards.{Pieces, marks-append, follows_past}
 
 -- two parts of the wants that are past
 pub past_both : {A : Type 0} (xs ys : List Want) (q : Run Want fate.Fault Piece A) → prepend (want_marks xs) (prepend (want_marks ys) q) ≡ prepend (want_marks (xs ++ ys)) q

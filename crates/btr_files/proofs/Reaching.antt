@@ -1,12 +1,8 @@
 -- A scan of a file's items goes on to the next extent.
-use Rattle.std.proofs.Common.{◌≡◌, ℕ, ◌<◌, List, [], ◌∷◌, ◌++◌, Option, Some, None, Result, Ok, Err, refl, sym, ap, ◌∙◌, subst, append-nil, append_assoc}
-use Rattle.btr_base.specs.declared.key.Key.{Key}
+use Rattle.std.proofs.Common.{◌≡◌, ℕ, List, [], ◌∷◌, ◌++◌, Some, None, Result, Ok, Err, refl, sym, ap, ◌∙◌, subst, append-nil}
 use Rattle.btr_base.specs.declared.kind.SumKind.{SumKind}
-use Rattle.btr_items.specs.FileExtent.{inline_data}
-use Rattle.btr_prog.specs.Prog.{Mark, Wants, Does, Stop, Run, run, first, prepend, exec, steps_of, wants_of, want_marks}
+use Rattle.btr_prog.specs.Prog.{Mark, Wants, Does, run, first, prepend, exec, steps_of, wants_of, want_marks}
 use Rattle.btr_prog.specs.Answers.{Follows, no_part}
-use Rattle.btr_prog.proofs.Follow.{follows_as}
-use Rattle.btr_prog.proofs.Runs.{prepend-prepend}
 use Rattle.btr_rack.specs.Rack.{Seen}
 use Rattle.btr_read.specs.Fate as fate
 use Rattle.btr_read.specs.Layout.{Layout}
@@ -16,19 +12,15 @@ use Rattle.btr_walk.specs.declared.fault.TreeFault.{TreeFault}
 use Rattle.btr_walk.specs.declared.fault.TreeFault.TheVariants.{Malformed}
 use Rattle.btr_walk.specs.declared.found.Found.{Found}
 use Rattle.btr_walk.specs.declared.scan.Scan.{Scan}
-use Rattle.btr_walk.specs.Going.{IsOn}
 use Rattle.btr_walk.specs.Le.{TreeItem}
-use Rattle.btr_walk.specs.Reading.{Map, UnreadBlock, HasCause, FaultCause, halt_of}
+use Rattle.btr_walk.specs.Reading.{Map, UnreadBlock, FaultCause, halt_of}
 use Rattle.btr_walk.specs.Scans.{wants}
-use Rattle.btr_walk.specs.ScanEnds.{left_of, HoldsLeaf, Gives, IsNextOn}
+use Rattle.btr_walk.specs.ScanEnds.{left_of, Gives, IsNextOn}
 use Rattle.btr_walk.specs.Showing.{item_of}
 use Rattle.btr_files.specs.declared.extent.Ahead.{Ahead}
 use Rattle.btr_files.specs.declared.progress.Source.{Source}
-use Rattle.btr_files.specs.declared.progress.Todo.{Todo}
-use Rattle.btr_files.specs.declared.progress.Todo.TheVariants.{Next}
-use Rattle.btr_files.specs.Content.{Piece}
-use Rattle.btr_files.specs.Streaming.{given, item_pieces, todo_prog, EndsAt, Then, FitsTodo}
-use Rattle.btr_files.specs.Ahead.{ahead_of, Onward, LeadsOn, LeadsOut, HaltsAt, IsNextExtent}
+use Rattle.btr_files.specs.Streaming.{given, Then}
+use Rattle.btr_files.specs.Ahead.{ahead_of, Onward, LeadsOn, HaltsAt, IsNextExtent}
 use Rattle.btr_files.proofs.Extending.{ahead_prog, pieces_are, found_good, found_fault}
 use Rattle.btr_files.proofs.Onwards.{Items, Pieces, no_steps, treats_past, treats_item, treats_end, treats_halts, then_of}
 

@@ -1,11 +1,11 @@
 -- A file gives its next sector.
-use Rattle.std.proofs.Common.{◌≡◌, ℕ, zero, suc, ◌+◌, ◌-◌, ◌*◌, ◌<◌, ◌≤◌, Bool, true, false, cond, not, List, [], ◌∷◌, ◌++◌, length, Option, Some, IsSomeAnd, Result, Ok, Err, refl, sym, ap, ◌∙◌, subst, arith}
+use Rattle.std.proofs.Common.{◌≡◌, ℕ, suc, ◌+◌, ◌-◌, ◌<◌, ◌≤◌, Bool, true, false, cond, not, List, [], ◌∷◌, ◌++◌, length, Option, Some, IsSomeAnd, Result, Ok, Err, refl, sym, ap, ◌∙◌, subst, arith}
 use Rattle.std.specs.Prelude.{nat_le, take, min, unwrap_or}
 use Rattle.std.proofs.lemmas.Bool.Decides.{nat_tests}
 use Rattle.std.proofs.lemmas.List.{take_min}
 use Rattle.btr_base.specs.declared.kind.SumKind.{SumKind}
-use Rattle.btr_prog.specs.Prog.{Prog, Mark, Wants, Does, Return, Need, Emit, Run, run, first, prepend, exec, bind, wants_of, want_marks}
-use Rattle.btr_prog.specs.Answers.{Halt, Follows, no_part}
+use Rattle.btr_prog.specs.Prog.{Mark, Wants, Does, Need, Emit, Run, first, prepend, exec, bind, wants_of, want_marks}
+use Rattle.btr_prog.specs.Answers.{Follows, no_part}
 use Rattle.btr_prog.specs.Goes.{goes_given, GoesTo, Goes, AfterTo}
 use Rattle.btr_prog.specs.Quiet.{quiet, quiet_marks, quiet_run}
 use Rattle.btr_prog.proofs.Choices.{goes_map, goes_bind, goes_then, goes_halt, goes_alone, goes_faults, goes_unread}
@@ -16,18 +16,17 @@ use Rattle.btr_read.specs.Store.{Blocks, Lent, block_of}
 use Rattle.btr_read.specs.declared.want.Want.{Want}
 use Rattle.btr_walk.specs.declared.fault.TreeFault.{TreeFault}
 use Rattle.btr_walk.specs.declared.fault.TreeFault.TheVariants as tree
-use Rattle.btr_walk.specs.Reading.{Map, UnreadBlock, halt_of, answer_of}
+use Rattle.btr_walk.specs.Reading.{Map, UnreadBlock, halt_of}
 use Rattle.btr_volume.specs.Lookup.{Program, Lookup, looks}
 use Rattle.btr_files.specs.declared.progress.Progress.{Progress}
 use Rattle.btr_files.specs.declared.progress.SectorPart.{SectorPart}
 use Rattle.btr_files.specs.declared.progress.Source.{Source}
-use Rattle.btr_files.specs.declared.progress.Todo.{Todo}
 use Rattle.btr_files.specs.declared.progress.Todo.TheVariants.{Sectors}
 use Rattle.btr_files.specs.declared.streaming.Shown.TheVariants as shown
 use Rattle.btr_files.specs.declared.streaming.Span.TheVariants as span
-use Rattle.btr_files.specs.Content.{Piece, Bytes, gap, sector_want, sectors}
+use Rattle.btr_files.specs.Content.{Piece, Bytes, sector_want, sectors}
 use Rattle.btr_files.specs.Streaming.{Given, behind_bytes, todo_prog, Then, LeftBy, IsGoing}
-use Rattle.btr_files.specs.Giving.{given_to, behind_end, behind_sector, SectorComes, EndsIn, IsGiven}
+use Rattle.btr_files.specs.Giving.{given_to, behind_end, behind_sector, SectorComes, IsGiven}
 use Rattle.btr_files.proofs.Binds.{bind_assoc}
 use Rattle.btr_files.proofs.Nextward.{rest_more}
 use Rattle.btr_files.proofs.Onwards.{Pieces, then_past, then_halts}

@@ -1,7 +1,7 @@
 -- The sectors of a file.
-use Rattle.std.proofs.Common.{◌≡◌, ℕ, ◌<◌, ◌%◌, Bool, true, false, cond, ltb, List, [], length, get_or, Option, Some, None, IfSome, IsSome, IsSomeAnd, Result, Ok, Err, refl, sym, ap, ◌∙◌, subst, arith}
+use Rattle.std.proofs.Common.{◌≡◌, ℕ, ◌<◌, Bool, true, false, cond, ltb, List, [], length, Option, Some, None, IfSome, IsSomeAnd, Result, Ok, Err, refl, sym, ap, ◌∙◌, subst, arith}
 use Rattle.std.specs.Borrow.{Bor}
-use Rattle.std.specs.Prelude.{Contains, slice_get, is_some}
+use Rattle.std.specs.Prelude.{Contains, slice_get}
 use Rattle.std.specs.Option.{option_copied}
 use Rattle.std.proofs.lemmas.Bool.Decides.{nat_tests}
 use Rattle.std.proofs.lemmas.Option.{slice_get-get_or}
@@ -10,7 +10,7 @@ use Rattle.btr_base.specs.declared.stored.Sum.{Sum}
 use Rattle.btr_prog.specs.Answers.{Follows, no_part}
 use Rattle.btr_prog.specs.Calls as calls
 use Rattle.btr_prog.specs.Calls.{Sure, First, Any}
-use Rattle.btr_prog.specs.Prog.{Prog, Return, exec, bind}
+use Rattle.btr_prog.specs.Prog.{Return, exec, bind}
 use Rattle.btr_prog.proofs.Follow.{follows_halt, follows_value}
 use Rattle.btr_prog.proofs.Runs.{exec-bind}
 use Rattle.btr_rack.specs.Rack.{Seen, OnlyReads}
@@ -28,7 +28,7 @@ use Rattle.btr_read.specs.declared.want.Want.{Want}
 use Rattle.btr_read.specs.declared.want.Want.TheVariants as want
 use Rattle.btr_read.proofs.Lent.{given_back}
 use Rattle.btr_walk.specs.declared.fault.TreeFault.{TreeFault}
-use Rattle.btr_walk.specs.Reading.{Map, unread_by, FaultCause, HasCause, tree_fault, halt_of, answer_of}
+use Rattle.btr_walk.specs.Reading.{Map, unread_by, FaultCause, tree_fault, halt_of, answer_of}
 use Rattle.btr_volume.specs.declared.root.TreeRoot.{TreeRoot}
 use Rattle.btr_volume.specs.Looking.{Looks}
 use Rattle.btr_volume.specs.Lookup.{Lookup}
@@ -37,7 +37,7 @@ use Rattle.btr_files.specs.Content.{want_by, sector_want}
 use Rattle.btr_files.specs.Giving.{IsSectorWant, IsSectorLent, SectorComes}
 use Rattle.btr_files.specs.Maps.{maps_by, TellsAll}
 use Rattle.btr_files.specs.Sums.{tree_behind, sum_at}
-use Rattle.btr_files.proofs.AllMaps.{choices-zero, maps-zero}
+use Rattle.btr_files.proofs.AllMaps.{maps-zero}
 
 -- ---- the want of a sector, by the checksum that was looked up
 copied_is : (o : Option (Bor TreeRoot)) → tree_behind o ≡ option_copied o

@@ -1,14 +1,14 @@
 -- A file gives its next piece.
-use Rattle.std.proofs.Common.{◌≡◌, ◌≢◌, ℕ, zero, suc, ◌+◌, ◌-◌, ◌*◌, ◌<◌, ◌≤◌, Bool, true, false, cond, not, List, [], ◌∷◌, ◌++◌, length, get_or, Option, Some, None, IfSome, IsSomeAnd, Result, Ok, Err, refl, sym, ap, ◌∙◌, subst, append-nil, append_assoc, arith}
+use Rattle.std.proofs.Common.{◌≡◌, ℕ, ◌+◌, ◌-◌, ◌<◌, ◌≤◌, Bool, true, false, cond, List, [], ◌∷◌, ◌++◌, length, get_or, Option, Some, None, IsSomeAnd, Result, Ok, Err, refl, sym, ap, ◌∙◌, subst, arith}
 use Rattle.std.specs.Prelude.{◌==◌, nat_le, take, min, unwrap_or}
 use Rattle.std.proofs.lemmas.Bool.Decides.{nat_tests}
 use Rattle.std.proofs.lemmas.List.{take_min, length-drop}
 use Rattle.btr_base.specs.declared.kind.SumKind.{SumKind}
 use Rattle.btr_items.specs.FileExtent.{inline_data}
 use Rattle.btr_node.specs.Block.{Item, items}
-use Rattle.btr_prog.specs.Prog.{Mark, Wants, Does, Return, Need, Emit, Run, run, first, prepend, exec, bind, wants_of, want_marks}
-use Rattle.btr_prog.specs.Answers.{Halt, Fault, Unread, Names, Follows, no_part}
-use Rattle.btr_prog.specs.Goes.{GoesTo, Goes}
+use Rattle.btr_prog.specs.Prog.{Does, Return, Emit, Run, run, first, exec}
+use Rattle.btr_prog.specs.Answers.{Unread, no_part}
+use Rattle.btr_prog.specs.Goes.{GoesTo}
 use Rattle.btr_prog.proofs.Choices.{goes_map}
 use Rattle.btr_prog.proofs.Follow.{unread_here}
 use Rattle.btr_read.specs.Fate as fate
@@ -16,26 +16,22 @@ use Rattle.btr_read.specs.Store.{Blocks, Lent, block_of}
 use Rattle.btr_read.specs.declared.want.Want.{Want}
 use Rattle.btr_walk.specs.declared.fault.TreeFault.{TreeFault}
 use Rattle.btr_walk.specs.declared.fault.TreeFault.TheVariants as tree
-use Rattle.btr_walk.specs.declared.rest.MetAgain.{MetAgain}
-use Rattle.btr_walk.specs.declared.rest.Rest.{Rest}
 use Rattle.btr_walk.specs.Le.{TreeItem}
-use Rattle.btr_walk.specs.Reading.{Map, UnreadBlock, halt_of}
+use Rattle.btr_walk.specs.Reading.{Map, UnreadBlock}
 use Rattle.btr_walk.specs.Rests.{rest_left, met_last, IsMetAgain}
 use Rattle.btr_volume.specs.Lookup.{Program}
 use Rattle.btr_files.specs.declared.progress.InlinePart.{InlinePart}
 use Rattle.btr_files.specs.declared.progress.Progress.{Progress}
-use Rattle.btr_files.specs.declared.progress.SectorPart.{SectorPart}
 use Rattle.btr_files.specs.declared.progress.Source.{Source}
 use Rattle.btr_files.specs.declared.progress.Todo.{Todo}
 use Rattle.btr_files.specs.declared.progress.Todo.TheVariants.{Next, Inline, Sectors, Over}
 use Rattle.btr_files.specs.declared.streaming.Shown.TheVariants as shown
 use Rattle.btr_files.specs.declared.streaming.Span.TheVariants as span
-use Rattle.btr_files.specs.declared.streaming.Step.{Step}
-use Rattle.btr_files.specs.Content.{Piece, Bytes, Gap, gap, on_at}
-use Rattle.btr_files.specs.Streaming.{Given, on_behind, inline_of, behind_bytes, todo_prog, zeros_to_end, EndsAt, Then, LeftBy, IsInline, IsGoing}
-use Rattle.btr_files.specs.Giving.{zeros_at, given_to, behind_zeros, behind_end, body_at, GivesStep, EndsIn, IsGiven, IsNextStep}
+use Rattle.btr_files.specs.Content.{Piece, Bytes, Gap, gap}
+use Rattle.btr_files.specs.Streaming.{Given, on_behind, inline_of, behind_bytes, todo_prog, zeros_to_end, Then, LeftBy, IsInline, IsGoing}
+use Rattle.btr_files.specs.Giving.{zeros_at, given_to, behind_zeros, behind_end, body_at, IsGiven, IsNextStep}
 use Rattle.btr_files.proofs.Nextward.{rest_more}
-use Rattle.btr_files.proofs.Onwards.{Items, Pieces, then_of, of_then, then_past, then_some, then_halts}
+use Rattle.btr_files.proofs.Onwards.{Items, Pieces, then_of, of_then, then_past, then_halts}
 
 -- ---- zeros, if there are any
 pub no_zeros : {A : Type 0} (n : ℕ) (p : Program Piece A) → n ≡ 0 → gap n p ≡ p

@@ -1,5 +1,5 @@
 -- A file and its volume after a piece.
-use Rattle.std.proofs.Common.{◌≡◌, ℕ, ◌-◌, ◌<◌, ◌≤◌, List, [], ◌++◌, Option, Some, None, IfSome, IsSomeAnd, Result, Ok, Err, refl, sym, ap, ◌∙◌, subst, arith}
+use Rattle.std.proofs.Common.{◌≡◌, ℕ, ◌-◌, ◌<◌, List, [], Option, Some, None, IfSome, Result, Ok, sym, ap, ◌∙◌, subst, arith}
 use Rattle.std.specs.Prelude.{unwrap_or}
 use Rattle.btr_base.specs.declared.kind.SumKind.{SumKind}
 use Rattle.btr_rack.specs.Rack.{Seen}
@@ -14,17 +14,15 @@ use Rattle.btr_walk.proofs.Turns.{base_layout}
 use Rattle.btr_volume.specs.declared.volume.Volume.{Volume}
 use Rattle.btr_files.specs.declared.file.FileBytes.{FileBytes}
 use Rattle.btr_files.specs.declared.piece.Piece.{Piece as Lending}
-use Rattle.btr_files.specs.declared.piece.Piece.TheVariants as lending
 use Rattle.btr_files.specs.declared.progress.Progress.{Progress}
 use Rattle.btr_files.specs.declared.progress.Source.{Source}
-use Rattle.btr_files.specs.declared.streaming.Shown.{Shown}
 use Rattle.btr_files.specs.declared.streaming.Shown.TheVariants as shown
 use Rattle.btr_files.specs.declared.streaming.Span.{Span}
 use Rattle.btr_files.specs.declared.streaming.Step.{Step}
 use Rattle.btr_files.specs.Content.{Piece}
-use Rattle.btr_files.specs.Giving.{span_piece, shown_piece, IsSpan, IsSpanLent, LendsShown, LendsNext, StepsOn, NextStepsOn, IsShown, IsNextStep, GivesStep}
+use Rattle.btr_files.specs.Giving.{span_piece, shown_piece, IsSpanLent, LendsShown, LendsNext, StepsOn, NextStepsOn, IsNextStep}
 use Rattle.btr_files.specs.Maps.{TellsAll}
-use Rattle.btr_files.specs.Streaming.{piece_of, IsPiece, IsUnderway, IsReading, GivesPiece, IsNextPiece, Streamed}
+use Rattle.btr_files.specs.Streaming.{piece_of, GivesPiece, IsNextPiece, Streamed}
 use Rattle.btr_files.specs.Sums.{kind_in}
 use Rattle.btr_files.proofs.AllMaps.{all_drawn}
 

@@ -1,8 +1,8 @@
 -- How a file gives its next piece.
-use Rattle.std.specs.Prelude.{◌≡◌, ℕ, ◌+◌, ◌-◌, ◌%◌, ◌<◌, ◌≤◌, Bool, not, true, nat_le, if◌then◌else◌, List, [], ◌++◌, length, take, slice_index_or, Option, Some, None, IsSomeAnd, IsTrue, unwrap_or, Result, Ok, Err}
+use Rattle.std.specs.Prelude.{◌≡◌, ℕ, ◌+◌, ◌-◌, ◌%◌, ◌<◌, ◌≤◌, true, nat_le, if◌then◌else◌, List, [], ◌++◌, length, take, slice_index_or, Option, Some, None, IsSomeAnd, IsTrue, unwrap_or, Result, Ok, Err}
 use Rattle.btr_base.specs.declared.kind.SumKind.{SumKind}
 use Rattle.btr_items.specs.FileExtent.{inline_data}
-use Rattle.btr_node.specs.Block.{Item, items, is_leaf}
+use Rattle.btr_node.specs.Block.{items, is_leaf}
 use Rattle.btr_prog.specs.Prog.{Run, Does, first, prepend, want_marks}
 use Rattle.btr_prog.specs.Answers.{Halt, Follows, no_part}
 use Rattle.btr_read.specs.Fate as fate

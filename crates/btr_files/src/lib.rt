@@ -1,9 +1,10 @@
-//! Directories and files of a tree: the entries of a directory, the names of an inode and of a subvolume, what the extents of a file come to, and the
-//! checksum of a sector.
+//! Directories and files of a tree: the entries of a directory, the names of an inode and of a subvolume, what the extents of a file come to, the
+//! checksum of a sector, and the bytes of a file, piece by piece.
 //!
-//! It is promised to the layer above that entries come in ascending index, and that a lookup answers what stands in the tree, whatever reads failed.
-//! Nothing takes memory. The definitions are in `specs/`: `Names`, `Entries`, `Extents` and `Sums` are the lookups and the cursor as programs over wants.
-//! `Content` has the pieces of a file, which no code reads yet, and `FileAt` the byte at a position.
+//! It is promised to the layer above that entries come in ascending index, that a lookup answers what stands in the tree, and that the pieces of a file are
+//! those of its content, whatever reads failed. Nothing takes memory. The definitions are in `specs/`: `Names`, `Entries`, `Extents` and `Sums` are the
+//! lookups and the cursor as programs over wants, `Content` has the pieces of a file, and `Listing` and `Streaming` what a directory and a file have still
+//! to give. `FileAt` has the byte at a position.
 #![tactic(auto)]
 
 mod clearness;

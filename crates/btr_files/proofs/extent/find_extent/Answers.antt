@@ -1,7 +1,6 @@
-use Rattle.std.proofs.Common.{Result, Ok, Err, Option, Some, None, refl, subst, sym, ◌∙◌, arith}
+use Rattle.std.proofs.Common.{Ok, Err, Option, Some, None, refl, subst, ◌∙◌, arith}
 use Rattle.btr_rack.proofs.Reading.{reads_none, reads_more}
-use Rattle.btr_walk.specs.declared.fault.TreeFault.{TreeFault}
-use Rattle.btr_walk.specs.Reading.{Map, unread_by}
+use Rattle.btr_walk.specs.Reading.{unread_by}
 use Rattle.btr_walk.proofs.Fetched.{since}
 use Rattle.btr_walk.proofs.Joined.{joined, unread_on}
 use Rattle.btr_walk.proofs.Lending.{same_none, same_then}

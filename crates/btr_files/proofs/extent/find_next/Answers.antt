@@ -1,5 +1,5 @@
-use Rattle.std.proofs.Common.{Result, Ok, Err, Option, Some, None, subst}
-use Rattle.btr_walk.specs.Reading.{Map, unread_by}
+use Rattle.std.proofs.Common.{Ok, Err, Option, subst}
+use Rattle.btr_walk.specs.Reading.{unread_by}
 use Rattle.btr_volume.proofs.Looked.{drawn}
 use Rattle.btr_files.specs.declared.extent.Ahead.{Ahead}
 use Rattle.btr_files.specs.declared.progress.Todo.TheVariants.{Over}

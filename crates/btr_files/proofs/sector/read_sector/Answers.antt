@@ -1,10 +1,10 @@
-use Rattle.std.proofs.Common.{Result, Ok, Err, subst}
+use Rattle.std.proofs.Common.{subst}
 use Rattle.btr_read.specs.Fetch.{FitsFetch}
-use Rattle.btr_walk.specs.Reading.{HasCause, unread_by, tree_fault}
+use Rattle.btr_walk.specs.Reading.{unread_by}
 use Rattle.btr_walk.proofs.Fetched.{by_fault}
 use Rattle.btr_files.specs.Giving.{SectorComes}
 use Rattle.btr_files.specs.Maps.{TellsAll}
-use Rattle.btr_files.proofs.Sectors.{sector_came, sector_failed, sector_cause, sector_lent}
+use Rattle.btr_files.proofs.Sectors.{sector_came, sector_failed, sector_lent}
 use Rattle.btr_files.proofs.sector.read_sector.Goals as goal
 
 pub returns-in_err-fetch-clause-content : goal.returns-in_err-fetch-clause-content

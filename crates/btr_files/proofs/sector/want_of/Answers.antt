@@ -1,4 +1,4 @@
-use Rattle.std.proofs.Common.{Ok, Err, Some, None, sym, ap, ◌∙◌}
+use Rattle.std.proofs.Common.{Ok, Err, sym, ap, ◌∙◌}
 use Rattle.btr_read.specs.declared.want.Want.TheVariants.{Plain, Sector}
 use Rattle.btr_files.specs.Sums.{kind_in}
 use Rattle.btr_files.proofs.Sectors.{want_with, want_summed}

@@ -1,5 +1,5 @@
-use Rattle.std.proofs.Common.{ℕ, ◌<◌, Ok, Some, None, subst, sym, ap, ◌∙◌, arith}
-use Rattle.btr_walk.specs.Reading.{Map, unread_by}
+use Rattle.std.proofs.Common.{Ok, Some, None, subst, sym, ap, ◌∙◌, arith}
+use Rattle.btr_walk.specs.Reading.{unread_by}
 use Rattle.btr_files.specs.declared.progress.Progress.{Progress}
 use Rattle.btr_files.specs.declared.streaming.Shown.TheVariants as shown
 use Rattle.btr_files.specs.declared.streaming.Step.{Step}

@@ -2,7 +2,7 @@ use Rattle.std.proofs.Common.{◌≡◌, Result, Ok, Err, true, false, subst, sy
 use Rattle.btr_walk.specs.declared.rest.MetAgain.{MetAgain}
 use Rattle.btr_walk.specs.declared.fault.TreeFault.{TreeFault}
 use Rattle.btr_walk.specs.declared.fault.TreeFault.TheVariants.{Malformed}
-use Rattle.btr_walk.specs.Reading.{Map, unread_by}
+use Rattle.btr_walk.specs.Reading.{unread_by}
 use Rattle.btr_walk.specs.Rests.{IsMetAgain}
 use Rattle.btr_walk.proofs.Fetched.{passed_on}
 use Rattle.btr_walk.proofs.Lending.{served_back}

@@ -4,10 +4,9 @@ use Rattle.btr_prog.specs.Prog.{exec}
 use Rattle.btr_read.specs.Store.{Lent}
 use Rattle.btr_read.specs.declared.want.Want.{Want}
 use Rattle.btr_walk.specs.declared.fault.TreeFault.{TreeFault}
-use Rattle.btr_walk.specs.Reading.{Map, Tells, unread_by, answer_of}
+use Rattle.btr_walk.specs.Reading.{Map, unread_by, answer_of}
 use Rattle.btr_walk.proofs.Fetched.{passed_on, since}
 use Rattle.btr_files.specs.declared.progress.Progress.{Progress}
-use Rattle.btr_files.specs.declared.progress.Todo.TheVariants.{Sectors}
 use Rattle.btr_files.specs.declared.streaming.Shown.TheVariants as shown
 use Rattle.btr_files.specs.declared.streaming.Span.TheVariants as span
 use Rattle.btr_files.specs.declared.streaming.Step.{Step}

@@ -1,10 +1,8 @@
-use Rattle.std.proofs.Common.{Option, Ok, Some, refl, subst, sym, ap, ◌∙◌}
+use Rattle.std.proofs.Common.{Option, Ok, refl, subst, sym, ap, ◌∙◌}
 use Rattle.btr_read.specs.Serves.{Serves}
-use Rattle.btr_walk.specs.Lending.{base}
 use Rattle.btr_volume.proofs.Looked.{served_base}
 use Rattle.btr_files.specs.declared.piece.Piece.TheVariants as lending
 use Rattle.btr_files.specs.declared.streaming.Step.{Step}
-use Rattle.btr_files.specs.declared.streaming.Shown.{Shown}
 use Rattle.btr_files.specs.Giving.{IsShown, IsNextStep, shown_piece}
 use Rattle.btr_files.specs.Maps.{TellsAll}
 use Rattle.btr_files.specs.Sums.{kind_in}

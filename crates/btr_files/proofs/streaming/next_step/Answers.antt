@@ -1,8 +1,6 @@
-use Rattle.std.proofs.Common.{ℕ, Result, Ok, Err, subst, sym}
-use Rattle.btr_walk.specs.declared.fault.TreeFault.{TreeFault}
-use Rattle.btr_walk.specs.Reading.{Map, unread_by}
+use Rattle.std.proofs.Common.{Ok, Err}
+use Rattle.btr_walk.specs.Reading.{unread_by}
 use Rattle.btr_walk.proofs.Fetched.{since}
-use Rattle.btr_files.specs.declared.progress.Progress.{Progress}
 use Rattle.btr_files.specs.Ahead.{IsLooked}
 use Rattle.btr_files.specs.Giving.{IsNextStep}
 use Rattle.btr_files.specs.Sums.{kind_in}
