@@ -3,3 +3,16 @@ pub mod Meeting
 pub mod Surveys
 pub mod Lookups
 pub mod Rows
+pub mod Binds
+pub mod Extending
+pub mod Onwards
+pub mod Reaching
+pub mod Passed
+pub mod Nextward
+pub mod AllMaps
+pub mod Sectors
+pub mod Stepping
+pub mod Sectoring
+pub mod Following
+pub mod Streamed
+pub mod Beginning

@@ -221,7 +221,7 @@ left_is : (B : Map) (store : Blocks) (kept : Option Frame) (p : RangeProg) → k
 left_is B store None p = refl
 left_is B store (Some frame) p = refl
 
-rest_is : (B : Map) (store : Blocks) (rest : Rest) → rest_left B rest ≡ left_of B store (scan_of rest)
+pub rest_is : (B : Map) (store : Blocks) (rest : Rest) → rest_left B rest ≡ left_of B store (scan_of rest)
 rest_is B store rest = left_is B store rest.place.leaf (place_prog rest.lo rest.hi B rest.place.rest)
 
 pub ready_is : (rack : Seen) (store : Blocks) (scan : Scan) (rest : Rest) → scan ≡ scan_of rest → Serves rack store → IsShaped rest.place.rest → IsReady rack store scan

@@ -7,3 +7,6 @@ pub mod FileAt
 pub mod Steps
 pub mod Listing
 pub mod Maps
+pub mod Streaming
+pub mod Ahead
+pub mod Giving

@@ -1,21 +1,28 @@
-//! Directories and files of a tree: the entries of a directory, the names of an inode and of a subvolume, what the extents of a file come to, and the
-//! checksum of a sector.
+//! Directories and files of a tree: the entries of a directory, the names of an inode and of a subvolume, what the extents of a file come to, the
+//! checksum of a sector, and the bytes of a file, piece by piece.
 //!
-//! It is promised to the layer above that entries come in ascending index, and that a lookup answers what stands in the tree, whatever reads failed.
-//! Nothing takes memory. The definitions are in `specs/`: `Names`, `Entries`, `Extents` and `Sums` are the lookups and the cursor as programs over wants.
-//! `Content` has the pieces of a file, which no code reads yet, and `FileAt` the byte at a position.
+//! It is promised to the layer above that entries come in ascending index, that a lookup answers what stands in the tree, and that the pieces of a file are
+//! those of its content, whatever reads failed. Nothing takes memory. The definitions are in `specs/`: `Names`, `Entries`, `Extents` and `Sums` are the
+//! lookups and the cursor as programs over wants, `Content` has the pieces of a file, and `Listing` and `Streaming` what a directory and a file have still
+//! to give. `FileAt` has the byte at a position.
 #![tactic(auto)]
 
 mod clearness;
 mod counts;
 mod dir;
 mod dir_row;
+mod extent;
+mod file;
 mod finding;
 mod lookup;
 mod met;
 mod name;
 mod naming;
+mod piece;
 mod plan;
+mod progress;
+mod sector;
+mod streaming;
 mod sums;
 mod surveying;
 #[cfg(test)]
@@ -25,9 +32,12 @@ pub use clearness::Survey;
 pub use counts::Counts;
 pub use dir::Dir;
 pub use dir_row::DirRow;
+pub use file::FileBytes;
 pub use finding::inode;
 pub use name::NameBuf;
 pub use naming::{linked, mounted};
+pub use piece::Piece;
 pub use plan::RestorePlan;
+pub use streaming::next_piece;
 pub use sums::sum_of;
 pub use surveying::survey;

@@ -1,5 +1,5 @@
 // A lookup by the items from one key to another.
-ghost use Rattle.std.specs.Prelude.{◌≡◌, ◌≤◌, IfSome};
+ghost use Rattle.std.specs.Prelude.{◌≡◌, ◌≤◌, IfSome, None, Some};
 ghost use Rattle.btr_rack.specs.Rack.{OnlyReads};
 ghost use Rattle.btr_read.specs.Serves.{Serves};
 ghost use Rattle.btr_read.specs.Store.{IsLiveIn, free_count};
@@ -34,6 +34,17 @@ pub(crate) fn give_back(store: &mut Store, loan: Option<Loan>)
 {
     if let Some(loan) = loan {
         store.give(loan);
+    }
+}
+
+// Puts a loan into an empty place.
+pub(crate) fn keep(place: &mut Option<Loan>, loan: Loan)
+    requires { place.old ≡ None }
+    ensures { place.new ≡ Some loan }
+{
+    match place.replace(loan) {
+        None => {}
+        Some(_) => unreachable!(),
     }
 }
 

@@ -1,0 +1,93 @@
+-- A file and its volume after a piece.
+use Rattle.std.proofs.Common.{◌≡◌, ℕ, ◌-◌, ◌<◌, List, [], Option, Some, None, IfSome, Result, Ok, sym, ap, ◌∙◌, subst, arith}
+use Rattle.std.specs.Prelude.{unwrap_or}
+use Rattle.btr_base.specs.declared.kind.SumKind.{SumKind}
+use Rattle.btr_rack.specs.Rack.{Seen}
+use Rattle.btr_read.specs.Layout.{Layout}
+use Rattle.btr_read.specs.Serves.{Serves}
+use Rattle.btr_read.specs.Store.{Blocks, Lent, SameLoans, block_of, IsLiveIn}
+use Rattle.btr_read.specs.declared.want.Want.{Want}
+use Rattle.btr_walk.specs.declared.fault.TreeFault.{TreeFault}
+use Rattle.btr_walk.specs.Lending.{base}
+use Rattle.btr_walk.specs.Reading.{Map, UnreadBlock, unread_by}
+use Rattle.btr_walk.proofs.Turns.{base_layout}
+use Rattle.btr_volume.specs.declared.volume.Volume.{Volume}
+use Rattle.btr_files.specs.declared.file.FileBytes.{FileBytes}
+use Rattle.btr_files.specs.declared.piece.Piece.{Piece as Lending}
+use Rattle.btr_files.specs.declared.progress.Progress.{Progress}
+use Rattle.btr_files.specs.declared.progress.Source.{Source}
+use Rattle.btr_files.specs.declared.streaming.Shown.TheVariants as shown
+use Rattle.btr_files.specs.declared.streaming.Span.{Span}
+use Rattle.btr_files.specs.declared.streaming.Step.{Step}
+use Rattle.btr_files.specs.Content.{Piece}
+use Rattle.btr_files.specs.Giving.{span_piece, shown_piece, IsSpanLent, LendsShown, LendsNext, StepsOn, NextStepsOn, IsNextStep}
+use Rattle.btr_files.specs.Maps.{TellsAll}
+use Rattle.btr_files.specs.Streaming.{piece_of, GivesPiece, IsNextPiece, Streamed}
+use Rattle.btr_files.specs.Sums.{kind_in}
+use Rattle.btr_files.proofs.AllMaps.{all_drawn}
+
+abbrev pub file_at : FileBytes → Progress → Option Lent → FileBytes
+file_at file p loan = record { source = file.source; progress = p; loan = loan }
+
+-- a step with its piece
+gives : (kind : SumKind) (Is : UnreadBlock → Want → Type 0) (Bs : ℕ → Map) (file : FileBytes) (store : Blocks) (step : Step) (loan : Option Lent) (piece : Lending) → shown_piece store step.shown ≡ piece_of piece → IsNextStep kind file.source Is Bs file.progress store (Ok (Some step)) → IsNextPiece kind Is Bs file (file_at file step.progress loan) (Ok (Some piece))
+gives kind Is Bs file store step loan piece e h seen on =
+    let s = h seen on in
+    subst (GivesPiece kind Bs seen file (file_at file step.progress loan)) e (record { past = s.past; goes = s.goes; on = s.on })
+
+module _ (old new : Volume) (mid : Blocks) (file : FileBytes) (taken : Option Lent) (is_taken : taken ≡ file.loan) (back : mid ≡ base old.store taken) (before now : Seen) where
+  layout_is : mid.layout ≡ old.store.layout
+  layout_is = ap (λ (s : Blocks). s.layout) back ∙ base_layout old.store taken
+
+  abbrev Told : Layout → Result (Option Step) TreeFault → Type 0
+  Told l r = TellsAll l before now (λ Bs. IsNextStep (kind_in old.sup) file.source (unread_by l before now) Bs file.progress new.store r)
+
+  -- after a step that gives a piece
+  pub streamed : (step : Step) (loan : Option Lent) (piece : Lending) → shown_piece new.store step.shown ≡ piece_of piece → new.sup ≡ old.sup → SameLoans mid (base new.store loan) → IfSome loan (IsLiveIn new.store) → Serves now new.store → StepsOn file.source file.progress step → Told mid.layout (Ok (Some step)) → Streamed old new file (file_at file step.progress loan) before now (Ok (Some piece))
+  streamed step loan piece e sup others live serves on told = record {
+    sup = sup;
+    others = subst (λ (s : Blocks). SameLoans s (base new.store loan)) (back ∙ ap (base old.store) is_taken) others;
+    reading = record { serves = serves; held = live; underway = on.underway };
+    content = all_drawn old.store.layout (λ Bs. IsNextStep (kind_in old.sup) file.source (unread_by old.store.layout before now) Bs file.progress new.store (Ok (Some step)))
+        (λ Bs. IsNextPiece (kind_in old.sup) (unread_by old.store.layout before now) Bs file (file_at file step.progress loan) (Ok (Some piece)))
+        (λ Bs h. gives (kind_in old.sup) (unread_by old.store.layout before now) Bs file new.store step loan piece e h)
+        (subst (λ l. Told l (Ok (Some step))) layout_is told);
+  }
+
+-- less is left of the file
+pub nearer : (file : FileBytes) (step : Step) → StepsOn file.source file.progress step → file.source.size - step.progress.at < file.source.size - file.progress.at
+nearer file step on = omega (arith, on.further, on.underway.within)
+
+-- what is known of a step, by its piece
+module _ (old new : Blocks) (step : Step) (o : Option Step) (is : o ≡ Some step) where
+  lent_is : LendsNext old new (Ok o) → LendsShown old new step.shown
+  lent_is h = subst (λ x. LendsNext old new (Ok x)) is h
+
+  pub gap_lent : (count : ℕ) → step.shown ≡ shown.Gap count → LendsNext old new (Ok o) → SameLoans old new
+  gap_lent count e h = subst (LendsShown old new) e (lent_is h)
+
+  pub span_lent : (loan : Lent) (place : Span) → step.shown ≡ shown.Bytes loan place → LendsNext old new (Ok o) → IsSpanLent old new loan place
+  span_lent loan place e h = subst (LendsShown old new) e (lent_is h)
+
+  pub steps_on : (source : Source) (p : Progress) → NextStepsOn source p (Ok o) → StepsOn source p step
+  steps_on source p h = subst (λ x. NextStepsOn source p (Ok x)) is h
+
+-- the loan that is kept is none, or the piece's
+pub none_back : (mid new : Blocks) (loan : Option Lent) → loan ≡ None → SameLoans mid new → SameLoans mid (base new loan)
+none_back mid new loan e h = subst (λ l. SameLoans mid (base new l)) (sym e) h
+
+pub none_live : (new : Blocks) (loan : Option Lent) → loan ≡ None → IfSome loan (IsLiveIn new)
+none_live new loan e = subst (λ l. IfSome l (IsLiveIn new)) (sym e) tt
+
+pub some_back : (mid new : Blocks) (place : Option Lent) (loan : Lent) → place ≡ Some loan → SameLoans mid (base new (Some loan)) → SameLoans mid (base new place)
+some_back mid new place loan e h = subst (λ l. SameLoans mid (base new l)) (sym e) h
+
+pub some_live : (new : Blocks) (place : Option Lent) (loan : Lent) → place ≡ Some loan → IsLiveIn new loan → IfSome place (IsLiveIn new)
+some_live new place loan e h = subst (λ l. IfSome l (IsLiveIn new)) (sym e) h
+
+pub same_loan : (place : Option Lent) (held loan : Lent) → place ≡ Some held → place ≡ Some loan → held ≡ loan
+same_loan place held loan e f = cc
+
+pub span_shown : (store : Blocks) (loan held : Lent) (place : Span) (bytes : List ℕ) (piece : Piece) → held ≡ loan → block_of store held ≡ Some bytes → piece ≡ span_piece bytes place → shown_piece store (shown.Bytes loan place) ≡ piece
+span_shown store loan held place bytes piece e is p =
+    ap (λ l. span_piece (unwrap_or (block_of store l) []) place) (sym e) ∙ ap (λ o. span_piece (unwrap_or o []) place) is ∙ sym p

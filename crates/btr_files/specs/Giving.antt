@@ -1,0 +1,159 @@
+-- How a file gives its next piece.
+use Rattle.std.specs.Prelude.{◌≡◌, ℕ, ◌+◌, ◌-◌, ◌%◌, ◌<◌, ◌≤◌, true, nat_le, if◌then◌else◌, List, [], ◌++◌, length, take, slice_index_or, Option, Some, None, IsSomeAnd, IsTrue, unwrap_or, Result, Ok, Err}
+use Rattle.btr_base.specs.declared.kind.SumKind.{SumKind}
+use Rattle.btr_items.specs.FileExtent.{inline_data}
+use Rattle.btr_node.specs.Block.{items, is_leaf}
+use Rattle.btr_prog.specs.Prog.{Run, Does, first, prepend, want_marks}
+use Rattle.btr_prog.specs.Answers.{Halt, Follows, no_part}
+use Rattle.btr_read.specs.Fate as fate
+use Rattle.btr_read.specs.Fate.{Fault}
+use Rattle.btr_read.specs.Store.{Blocks, Lent, SameLoans, block_of, IsLiveIn}
+use Rattle.btr_read.specs.declared.want.Want.{Want}
+use Rattle.btr_read.specs.declared.want.Want.TheVariants as want
+use Rattle.btr_walk.specs.declared.fault.TreeFault.{TreeFault}
+use Rattle.btr_walk.specs.declared.fault.TreeFault.TheVariants as tree
+use Rattle.btr_walk.specs.Lending.{base}
+use Rattle.btr_walk.specs.Reading.{Map, UnreadBlock, halt_of}
+use Rattle.btr_volume.specs.Tree.{key}
+use Rattle.btr_files.specs.declared.progress.Progress.{Progress}
+use Rattle.btr_files.specs.declared.progress.SectorPart.{SectorPart}
+use Rattle.btr_files.specs.declared.progress.Source.{Source}
+use Rattle.btr_files.specs.declared.progress.Todo.{Todo}
+use Rattle.btr_files.specs.declared.progress.Todo.TheVariants.{Next, Inline, Sectors, Over}
+use Rattle.btr_files.specs.declared.streaming.Shown.{Shown}
+use Rattle.btr_files.specs.declared.streaming.Shown.TheVariants as shown
+use Rattle.btr_files.specs.declared.streaming.Span.{Span}
+use Rattle.btr_files.specs.declared.streaming.Span.TheVariants as span
+use Rattle.btr_files.specs.declared.streaming.Step.{Step}
+use Rattle.btr_files.specs.Content.{Piece, Bytes, Gap}
+use Rattle.btr_files.specs.Streaming.{LeftBy, IsGoing, IsUnderway}
+
+-- how many zeros come before anything else
+abbrev pub zeros_at : ℕ → ℕ → Todo → ℕ
+zeros_at size at Next = 0
+zeros_at size at (Inline part) = part.start - at
+zeros_at size at (Sectors part) = part.start - at
+zeros_at size at Over = size - at
+
+-- a file that was given up to another position, and what is still to come then
+abbrev pub given_to : Progress → ℕ → Todo → Progress
+given_to p at todo = record { rest = p.rest; at = at; end = p.end; todo = todo }
+
+-- .. behind some zeros
+abbrev pub behind_zeros : Progress → ℕ → Progress
+behind_zeros p zeros = given_to p (p.at + zeros) p.todo
+
+-- .. behind all bytes of the extent that was met last
+abbrev pub behind_end : ℕ → Progress → Progress
+behind_end size p = if nat_le size p.end then given_to p size Over else given_to p p.end Next
+
+-- .. and behind the first of some sectors
+abbrev pub behind_sector : ℕ → Progress → SectorPart → Progress
+behind_sector size p part =
+    if nat_le part.count 1 then behind_end size p
+    else given_to p (part.start + 4096) (Sectors (record { start = part.start + 4096; addr = part.addr + 4096; count = part.count - 1 }))
+
+-- the bytes of item `at` of a leaf's block
+abbrev pub body_at : List ℕ → ℕ → List ℕ
+body_at block at = (slice_index_or (items block) at (record { key = key 0 0 0; offset = 0; size = 0; body = [] })).body
+
+-- a block has the bytes of a piece
+abbrev pub IsSpan : List ℕ → Span → Type 0
+IsSpan block (span.Inline at len) = (101 ≤ length block) × IsTrue (is_leaf block) × (at < length (items block)) × (0 < len) × (21 + len ≤ length (body_at block at))
+IsSpan block (span.Sector len verified) = (0 < len) × (len ≤ length block)
+
+abbrev pub span_piece : List ℕ → Span → Piece
+span_piece block (span.Inline at len) = Bytes (take len (inline_data (body_at block at))) true
+span_piece block (span.Sector len verified) = Bytes (take len block) verified
+
+-- the piece that is given
+abbrev pub shown_piece : Blocks → Shown → Piece
+shown_piece store (shown.Gap count) = Gap count
+shown_piece store (shown.Bytes loan place) = span_piece (unwrap_or (block_of store loan) []) place
+
+-- a sector is wanted, at a sector's address where it is tested
+abbrev pub IsSectorWant : Want → Type 0
+IsSectorWant (want.Tree addr generation level) = ⊥
+IsSectorWant (want.Block addr) = ⊥
+IsSectorWant (want.Sector addr sum) = addr % 4096 ≡ 0
+IsSectorWant (want.Plain addr) = Unit {0}
+
+-- the loan of a sector is new and live, and the other loans are as before
+pub record IsSectorLent (old new : Blocks) (loan : Lent) : Type 0 where
+  pub others : SameLoans old (base new (Some loan))
+  pub live : IsLiveIn new loan
+  pub len : loan.len ≡ 4096
+
+abbrev pub LendsSector : Blocks → Blocks → Result Lent TreeFault → Type 0
+LendsSector old new (Ok loan) = IsSectorLent old new loan
+LendsSector old new (Err f) = SameLoans old new
+
+-- a sector came, or why it didn't, as one of some maps says
+abbrev pub SectorComes : (UnreadBlock → Want → Type 0) → (ℕ → Map) → Want → Blocks → Result Lent TreeFault → Type 0
+SectorComes Is Bs w store (Ok loan) = (n : ℕ) × IsSomeAnd (block_of store loan) (λ block. Bs n w ≡ Ok block)
+SectorComes Is Bs w store (Err (tree.Lost a)) = (n : ℕ) × (Bs n w ≡ Err (fate.Lost a))
+SectorComes Is Bs w store (Err (tree.Unread a slot)) = Is (record { addr = a; slot = slot }) w
+SectorComes Is Bs w store (Err (tree.Unmapped a)) = (n : ℕ) × (Bs n w ≡ Err (fate.Unmapped a))
+SectorComes Is Bs w store (Err (tree.Crosses a)) = (n : ℕ) × (Bs n w ≡ Err (fate.Crosses a))
+SectorComes Is Bs w store (Err (tree.Malformed a)) = ⊥
+
+-- the loan of a piece's bytes is new and live, and its block has them
+pub record IsSpanLent (old new : Blocks) (loan : Lent) (place : Span) : Type 0 where
+  pub others : SameLoans old (base new (Some loan))
+  pub live : IsLiveIn new loan
+  pub there : IsSomeAnd (block_of new loan) (λ block. IsSpan block place)
+
+abbrev pub LendsShown : Blocks → Blocks → Shown → Type 0
+LendsShown old new (shown.Gap count) = SameLoans old new
+LendsShown old new (shown.Bytes loan place) = IsSpanLent old new loan place
+
+abbrev pub LendsStep : Blocks → Blocks → Result Step TreeFault → Type 0
+LendsStep old new (Ok step) = LendsShown old new step.shown
+LendsStep old new (Err f) = SameLoans old new
+
+abbrev pub LendsNext : Blocks → Blocks → Result (Option Step) TreeFault → Type 0
+LendsNext old new (Ok (Some step)) = LendsShown old new step.shown
+LendsNext old new (Ok None) = SameLoans old new
+LendsNext old new (Err f) = SameLoans old new
+
+abbrev pub IsShown : Shown → Type 0
+IsShown (shown.Gap count) = 0 < count
+IsShown (shown.Bytes loan place) = Unit {0}
+
+-- a step gives more of a file, which can go on then
+pub record StepsOn (source : Source) (p : Progress) (step : Step) : Type 0 where
+  pub underway : IsUnderway source step.progress
+  pub further : p.at < step.progress.at
+  pub shown : IsShown step.shown
+
+abbrev pub NextStepsOn : Source → Progress → Result (Option Step) TreeFault → Type 0
+NextStepsOn source p (Ok (Some step)) = StepsOn source p step
+NextStepsOn source p (Ok None) = p.at ≡ source.size
+NextStepsOn source p (Err f) = Unit {0}
+
+module _ (kind : SumKind) (source : Source) (Is : UnreadBlock → Want → Type 0) (Bs : ℕ → Map) where
+  -- some wants, and then the piece; what is left comes behind
+  pub record GivesStep (seen : List Want) (p : Progress) (store : Blocks) (step : Step) : Type 0 where
+    pub past : List Want
+    pub goes : (q : Run Want Fault Piece (Unit {0}))
+        → LeftBy kind source Bs (Bs 0) step.progress q → LeftBy kind source Bs (Bs 0) p (prepend (want_marks past) (first (Does (shown_piece store step.shown)) q))
+    pub on : IsGoing (Bs 0) (seen ++ past) step.progress
+
+  -- what was answered without a piece follows a run of what was still to come
+  abbrev pub EndsIn : List Want → Progress → Result (Unit {0}) (Halt Fault UnreadBlock) → Type 0
+  EndsIn seen p answer = (q : Run Want Fault Piece (Unit {0})) × LeftBy kind source Bs (Bs 0) p q × Follows Is no_part seen q [] answer
+
+  abbrev pub GivenBy : List Want → Progress → Blocks → Result Step TreeFault → Type 0
+  GivenBy seen p store (Ok step) = GivesStep seen p store step
+  GivenBy seen p store (Err f) = EndsIn seen p (Err (halt_of f))
+
+  abbrev pub IsGiven : Progress → Blocks → Result Step TreeFault → Type 0
+  IsGiven p store result = (seen : List Want) → IsGoing (Bs 0) seen p → GivenBy seen p store result
+
+  abbrev pub NextStepBy : List Want → Progress → Blocks → Result (Option Step) TreeFault → Type 0
+  NextStepBy seen p store (Ok (Some step)) = GivesStep seen p store step
+  NextStepBy seen p store (Ok None) = EndsIn seen p (Ok tt)
+  NextStepBy seen p store (Err f) = EndsIn seen p (Err (halt_of f))
+
+  abbrev pub IsNextStep : Progress → Blocks → Result (Option Step) TreeFault → Type 0
+  IsNextStep p store result = (seen : List Want) → IsGoing (Bs 0) seen p → NextStepBy seen p store result

@@ -1,0 +1,74 @@
+// The sectors of a file.
+ghost use Rattle.std.specs.Prelude.{◌≡◌, ◌≤◌, ◌%◌, not, IfOk};
+ghost use Rattle.btr_rack.specs.Rack.{OnlyReads};
+ghost use Rattle.btr_read.specs.Fate.{is_plain};
+ghost use Rattle.btr_read.specs.Serves.{Serves};
+ghost use Rattle.btr_read.specs.Store.{free_count};
+ghost use Rattle.btr_walk.specs.Reading.{HasCause, unread_by};
+ghost use Rattle.btr_volume.specs.Looking.{Looks, SameVolume};
+ghost use Rattle.btr_files.specs.Content.{sector_want};
+ghost use Rattle.btr_files.specs.Giving.{IsSectorWant, LendsSector, SectorComes};
+ghost use Rattle.btr_files.specs.Maps.{TellsAll};
+ghost use Rattle.btr_files.specs.Sums.{kind_in};
+
+use crate::progress::Source;
+use crate::sums::sum_of;
+use btr_rack::Rack;
+use btr_read::{Loan, Store, Want, fetch};
+use btr_volume::Volume;
+use btr_walk::TreeFault;
+
+// Whether the bytes of a want are tested.
+pub(crate) fn is_tested(want: &Want) -> bool
+    ensures { result ≡ not (is_plain want.now) }
+{
+    match want {
+        Want::Tree { .. } | Want::Block { .. } | Want::Sector { .. } => true,
+        Want::Plain { .. } => false,
+    }
+}
+
+// The want of the sector at an address: by its checksum, if it has one.
+pub(crate) fn want_of<R: Rack>(
+    source: &Source,
+    addr: u64,
+    rack: &mut R,
+    vol: &mut Volume,
+) -> Result<Want, TreeFault>
+    requires serves { Serves (R.seen rack.old) vol.old.store }
+    requires room { 4 ≤ free_count vol.old.store }
+    requires aligned { addr % 4096 ≡ 0 }
+    ensures serves { Serves (R.seen rack.new) vol.new.store }
+    ensures reads { OnlyReads (R.seen rack.old) (R.seen rack.new) }
+    ensures volume { SameVolume vol.old vol.new }
+    ensures sector { IfOk result IsSectorWant }
+    ensures cause { HasCause vol.old.store.layout (R.seen rack.old) (R.seen rack.new) result }
+    ensures content { Looks vol.old.store.layout (R.seen rack.old) (R.seen rack.new) (sector_want (kind_in vol.old.sup) source.now.sums source.now.nosum addr) result }
+{
+    if source.nosum {
+        return Ok(Want::Plain { addr });
+    }
+    match sum_of(source.sums.as_ref(), addr, rack, vol) {
+        Err(fault) => Err(fault),
+        Ok(None) => Ok(Want::Plain { addr }),
+        Ok(Some(sum)) => Ok(Want::Sector { addr, sum }),
+    }
+}
+
+// Reads a sector.
+pub(crate) fn read_sector<R: Rack>(
+    want: &Want,
+    rack: &mut R,
+    store: &mut Store,
+) -> Result<Loan, TreeFault>
+    requires serves { Serves (R.seen rack.old) store.old }
+    requires room { 4 ≤ free_count store.old }
+    requires sector { IsSectorWant want.now }
+    ensures serves { Serves (R.seen rack.new) store.new }
+    ensures reads { OnlyReads (R.seen rack.old) (R.seen rack.new) }
+    ensures lent { LendsSector store.old store.new result }
+    ensures cause { HasCause store.old.layout (R.seen rack.old) (R.seen rack.new) result }
+    ensures content { TellsAll store.old.layout (R.seen rack.old) (R.seen rack.new) (λ Bs. SectorComes (unread_by store.old.layout (R.seen rack.old) (R.seen rack.new)) Bs want.now store.new result) }
+{
+    Ok(fetch(want, rack, store)?)
+}

@@ -1,0 +1,320 @@
+// The next piece of a file.
+ghost use Rattle.std.specs.Prelude.{◌≡◌, ◌↔◌, ◌+◌, ◌<◌, ◌≤◌, ◌^◌, length, IsTrue, IfOk, IfSome};
+ghost use Rattle.std.specs.Borrow.{sem};
+ghost use Rattle.btr_node.specs.Block.{items, is_leaf};
+ghost use Rattle.btr_rack.specs.Rack.{OnlyReads};
+ghost use Rattle.btr_read.specs.Serves.{Serves};
+ghost use Rattle.btr_read.specs.Store.{free_count};
+ghost use Rattle.btr_walk.specs.Reading.{HasCause, unread_by};
+ghost use Rattle.btr_walk.specs.Rests.{HasMet};
+ghost use Rattle.btr_files.specs.Giving.{behind_end, behind_sector, behind_zeros, body_at, span_piece, zeros_at, IsGiven, IsNextStep, IsSpan, LendsNext, LendsStep, StepsOn, NextStepsOn};
+ghost use Rattle.btr_files.specs.Ahead.{IsFound};
+ghost use Rattle.btr_files.specs.Maps.{TellsAll};
+ghost use Rattle.btr_files.specs.Streaming.{piece_of, without_file, FitsTodo, IsPiece, IsReading, IsUnderway, PieceNears, SameFile, StreamEnds};
+ghost use Rattle.btr_files.specs.Sums.{kind_in};
+
+use crate::extent::look_ahead;
+use crate::lookup::{give_back, keep};
+use crate::progress::{InlinePart, Progress, SectorPart, Source, Todo};
+use crate::sector::{is_tested, read_sector, want_of};
+use crate::{FileBytes, Piece};
+use btr_items::FileExtent;
+use btr_node::Leaf;
+use btr_rack::Rack;
+use btr_read::Loan;
+use btr_volume::Volume;
+use btr_walk::{MetAgain, TreeFault};
+
+/// Where the bytes of a piece stand in the block of a loan.
+#[derive(Clone, Copy, Debug)]
+pub(crate) enum Span {
+    /// The first `len` bytes of the inline extent that item `at` of the leaf holds.
+    Inline { at: usize, len: usize },
+    /// The first `len` bytes of the sector; it may have been tested.
+    Sector { len: usize, verified: bool },
+}
+
+/// A piece that is given, with the loan of its bytes.
+pub(crate) enum Shown {
+    Gap(u64),
+    Bytes(Loan, Span),
+}
+
+/// A piece, and how far the file has been given then.
+pub(crate) struct Step {
+    pub(crate) progress: Progress,
+    pub(crate) shown: Shown,
+}
+
+// How many zeros come before anything else.
+fn zeros_at(size: u64, progress: &Progress) -> u64
+    requires within { progress.now.at ≤ size }
+    requires fits { FitsTodo size progress.now.at progress.now.end progress.now.todo }
+    ensures { result ≡ zeros_at size progress.now.at progress.now.todo }
+{
+    match &progress.todo {
+        Todo::Next => 0,
+        Todo::Inline(part) => part.start - progress.at,
+        Todo::Sectors(part) => part.start - progress.at,
+        Todo::Over => size - progress.at,
+    }
+}
+
+// How far a file has been given behind some zeros.
+fn behind_zeros(progress: &Progress, zeros: u64) -> Progress
+    requires { progress.now.at + zeros < 2 ^ 64 }
+    ensures { result ≡ behind_zeros progress.now zeros }
+{
+    Progress {
+        rest: progress.rest,
+        at: progress.at + zeros,
+        end: progress.end,
+        todo: progress.todo,
+    }
+}
+
+// .. and behind all bytes of the extent that was met last.
+fn behind_end(size: u64, progress: &Progress) -> Progress
+    ensures { result ≡ behind_end size progress.now }
+{
+    if u128::from(size) <= progress.end {
+        return Progress {
+            rest: progress.rest,
+            at: size,
+            end: progress.end,
+            todo: Todo::Over,
+        };
+    }
+    Progress {
+        rest: progress.rest,
+        at: progress.end as u64,
+        end: progress.end,
+        todo: Todo::Next,
+    }
+}
+
+// .. and behind the first of some sectors.
+fn behind_sector(size: u64, progress: &Progress, part: &SectorPart) -> Progress
+    requires { FitsTodo size progress.now.at progress.now.end (Todo.Sectors part.now) }
+    ensures { result ≡ behind_sector size progress.now part.now }
+{
+    if part.count <= 1 {
+        return behind_end(size, progress);
+    }
+    let start = part.start + 4096;
+    let part = SectorPart {
+        start,
+        addr: part.addr + 4096,
+        count: part.count - 1,
+    };
+    Progress {
+        rest: progress.rest,
+        at: start,
+        end: progress.end,
+        todo: Todo::Sectors(part),
+    }
+}
+
+// Whether an item of a leaf is an inline extent of so many bytes.
+fn has_inline(block: &[u8], at: usize, len: u64) -> bool
+    requires header { 101 ≤ length block.now }
+    requires good { IsTrue (is_leaf block.now) }
+    requires there { at < length (items block.now) }
+    ensures { IsTrue result ↔ (length (body_at block.now at) ≡ 21 + len) }
+{
+    let body = Leaf::of(block).body(at);
+    body.len() >= 21 && (body.len() - 21) as u64 == len
+}
+
+// Gives the bytes of an inline extent, which is read again.
+fn give_inline<R: Rack>(
+    source: &Source,
+    progress: &Progress,
+    part: &InlinePart,
+    rack: &mut R,
+    vol: &mut Volume,
+) -> Result<Step, TreeFault>
+    requires serves { Serves (R.seen rack.old) vol.old.store }
+    requires room { 4 ≤ free_count vol.old.store }
+    requires underway { IsUnderway source.now progress.now }
+    requires todo { progress.now.todo ≡ Todo.Inline part.now }
+    requires begun { progress.now.at ≡ part.now.start }
+    ensures serves { Serves (R.seen rack.new) vol.new.store }
+    ensures reads { OnlyReads (R.seen rack.old) (R.seen rack.new) }
+    ensures sup { vol.new.sup ≡ vol.old.sup }
+    ensures lent { LendsStep vol.old.store vol.new.store result }
+    ensures on { IfOk result (StepsOn source.now progress.now) }
+    ensures cause { HasCause vol.old.store.layout (R.seen rack.old) (R.seen rack.new) result }
+    ensures content { TellsAll vol.old.store.layout (R.seen rack.old) (R.seen rack.new) (λ Bs. IsGiven (kind_in vol.old.sup) source.now (unread_by vol.old.store.layout (R.seen rack.old) (R.seen rack.new)) Bs progress.now vol.new.store result) }
+{
+    let MetAgain { loan, at } = progress.rest.met_again(rack, &mut vol.store)?;
+    if !has_inline(vol.store.bytes(&loan), at, part.len) {
+        vol.store.give(loan);
+        return Err(TreeFault::Malformed(part.leaf));
+    }
+    let len = (source.size - part.start).min(part.len) as usize;
+    Ok(Step {
+        progress: behind_end(source.size, progress),
+        shown: Shown::Bytes(loan, Span::Inline { at, len }),
+    })
+}
+
+// Gives the first of some sectors.
+fn give_sector<R: Rack>(
+    source: &Source,
+    progress: &Progress,
+    part: &SectorPart,
+    rack: &mut R,
+    vol: &mut Volume,
+) -> Result<Step, TreeFault>
+    requires serves { Serves (R.seen rack.old) vol.old.store }
+    requires room { 4 ≤ free_count vol.old.store }
+    requires underway { IsUnderway source.now progress.now }
+    requires todo { progress.now.todo ≡ Todo.Sectors part.now }
+    requires begun { progress.now.at ≡ part.now.start }
+    ensures serves { Serves (R.seen rack.new) vol.new.store }
+    ensures reads { OnlyReads (R.seen rack.old) (R.seen rack.new) }
+    ensures sup { vol.new.sup ≡ vol.old.sup }
+    ensures lent { LendsStep vol.old.store vol.new.store result }
+    ensures on { IfOk result (StepsOn source.now progress.now) }
+    ensures cause { HasCause vol.old.store.layout (R.seen rack.old) (R.seen rack.new) result }
+    ensures content { TellsAll vol.old.store.layout (R.seen rack.old) (R.seen rack.new) (λ Bs. IsGiven (kind_in vol.old.sup) source.now (unread_by vol.old.store.layout (R.seen rack.old) (R.seen rack.new)) Bs progress.now vol.new.store result) }
+{
+    let want = want_of(source, part.addr, rack, vol)?;
+    let loan = read_sector(&want, rack, &mut vol.store)?;
+    let left = source.size - part.start;
+    let len = left.min(vol.store.bytes(&loan).len() as u64) as usize;
+    let verified = is_tested(&want);
+    Ok(Step {
+        progress: behind_sector(source.size, progress, part),
+        shown: Shown::Bytes(loan, Span::Sector { len, verified }),
+    })
+}
+
+// Gives the next piece of what is at hand.
+fn give<R: Rack>(
+    source: &Source,
+    progress: &Progress,
+    rack: &mut R,
+    vol: &mut Volume,
+) -> Result<Option<Step>, TreeFault>
+    requires serves { Serves (R.seen rack.old) vol.old.store }
+    requires room { 4 ≤ free_count vol.old.store }
+    requires underway { IsUnderway source.now progress.now }
+    requires found { IsFound progress.now.todo }
+    ensures serves { Serves (R.seen rack.new) vol.new.store }
+    ensures reads { OnlyReads (R.seen rack.old) (R.seen rack.new) }
+    ensures sup { vol.new.sup ≡ vol.old.sup }
+    ensures lent { LendsNext vol.old.store vol.new.store result }
+    ensures on { NextStepsOn source.now progress.now result }
+    ensures cause { HasCause vol.old.store.layout (R.seen rack.old) (R.seen rack.new) result }
+    ensures content { TellsAll vol.old.store.layout (R.seen rack.old) (R.seen rack.new) (λ Bs. IsNextStep (kind_in vol.old.sup) source.now (unread_by vol.old.store.layout (R.seen rack.old) (R.seen rack.new)) Bs progress.now vol.new.store result) }
+{
+    let zeros = zeros_at(source.size, progress);
+    if zeros > 0 {
+        return Ok(Some(Step {
+            progress: behind_zeros(progress, zeros),
+            shown: Shown::Gap(zeros),
+        }));
+    }
+    match &progress.todo {
+        Todo::Next => unreachable!(),
+        Todo::Over => Ok(None),
+        Todo::Inline(part) => match give_inline(source, progress, part, rack, vol) {
+            Err(fault) => Err(fault),
+            Ok(step) => Ok(Some(step)),
+        },
+        Todo::Sectors(part) => match give_sector(source, progress, part, rack, vol) {
+            Err(fault) => Err(fault),
+            Ok(step) => Ok(Some(step)),
+        },
+    }
+}
+
+// Gives the next piece.
+fn next_step<R: Rack>(
+    source: &Source,
+    progress: &Progress,
+    rack: &mut R,
+    vol: &mut Volume,
+) -> Result<Option<Step>, TreeFault>
+    requires serves { Serves (R.seen rack.old) vol.old.store }
+    requires room { 4 ≤ free_count vol.old.store }
+    requires underway { IsUnderway source.now progress.now }
+    ensures serves { Serves (R.seen rack.new) vol.new.store }
+    ensures reads { OnlyReads (R.seen rack.old) (R.seen rack.new) }
+    ensures sup { vol.new.sup ≡ vol.old.sup }
+    ensures lent { LendsNext vol.old.store vol.new.store result }
+    ensures on { NextStepsOn source.now progress.now result }
+    ensures cause { HasCause vol.old.store.layout (R.seen rack.old) (R.seen rack.new) result }
+    ensures content { TellsAll vol.old.store.layout (R.seen rack.old) (R.seen rack.new) (λ Bs. IsNextStep (kind_in vol.old.sup) source.now (unread_by vol.old.store.layout (R.seen rack.old) (R.seen rack.new)) Bs progress.now vol.new.store result) }
+{
+    match look_ahead(source, progress, rack, &mut vol.store) {
+        Err(fault) => Err(fault),
+        Ok(ahead) => give(source, &ahead, rack, vol),
+    }
+}
+
+// The piece whose bytes stand in a block.
+fn piece_in(block: &[u8], span: Span) -> Piece<'_>
+    requires { IsSpan block.now span }
+    ensures piece { piece_of result ≡ span_piece block.now span }
+    ensures some { IsPiece result }
+{
+    match span {
+        Span::Inline { at, len } => {
+            let body = Leaf::of(block).body(at);
+            Piece::Bytes {
+                bytes: &FileExtent::inline_data(body)[..len],
+                verified: true,
+            }
+        }
+        Span::Sector { len, verified } => Piece::Bytes {
+            bytes: &block[..len],
+            verified,
+        },
+    }
+}
+
+/// Answers the next piece of a file, whose bytes stand in the slot of the file's loan; `None` exactly after the last. It takes no memory. Five slots are
+/// free besides that of the piece before, which is given back.
+///
+/// The faults are those of the blocks that are wanted, in their order: of the leaves of the file's extents, of the checksum tree, and of the sectors.
+/// `Lost`, `Unread`, `Unmapped` and `Crosses` of a block, and `Malformed` where a tree's block breaks a rule, doesn't fit its place, or has an item that
+/// breaks its form, an extent that begins before the end of the one before, or one that is compressed or encoded. After a fault and after the last
+/// piece no loan is kept; after a fault the next call goes on from the same place.
+pub fn next_piece<'e, R: Rack>(
+    vol: &'e mut Volume,
+    file: &mut FileBytes,
+    rack: &mut R,
+) -> Result<Option<Piece<'e>>, TreeFault>
+    requires ready { IsReading (R.seen rack.old) vol.old.store file.old }
+    requires room { 5 ≤ free_count (without_file vol.old.store file.old) }
+    ensures* after { sem 𝓛 (StreamEnds vol.entry file.old file.new (R.seen rack.old) (R.seen rack.new) result) }
+    ensures reads { OnlyReads (R.seen rack.old) (R.seen rack.new) }
+    ensures same { SameFile file.old file.new }
+    ensures nears { PieceNears file.old file.new result }
+    ensures some { IfOk result (λ found. IfSome found IsPiece) }
+    ensures cause { HasCause vol.old.store.layout (R.seen rack.old) (R.seen rack.new) result }
+{
+    let loan = file.loan.take();
+    give_back(&mut vol.store, loan);
+    match next_step(&file.source, &file.progress, rack, vol) {
+        Err(fault) => Err(fault),
+        Ok(None) => Ok(None),
+        Ok(Some(given)) => {
+            let Step { progress, shown } = given;
+            file.progress = progress;
+            match shown {
+                Shown::Gap(count) => Ok(Some(Piece::Gap(count))),
+                Shown::Bytes(loan, span) => {
+                    keep(&mut file.loan, loan);
+                    let Some(held) = &file.loan else {
+                        unreachable!();
+                    };
+                    Ok(Some(piece_in(vol.store.bytes(held), span)))
+                }
+            }
+        }
+    }
+}
