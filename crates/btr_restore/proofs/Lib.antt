@@ -13,3 +13,8 @@ pub mod Samples
 mod Names
 mod Emitting
 mod Doing
+mod Rans
+mod Listings
+mod Treats
+mod Cycles
+mod Writings

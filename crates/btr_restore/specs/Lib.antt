@@ -9,3 +9,6 @@ pub mod InOrder
 pub mod Restoring
 pub mod Treating
 pub mod Orderly
+pub mod Running
+pub mod Listing
+pub mod Writing

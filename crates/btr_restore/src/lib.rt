@@ -3,8 +3,15 @@
 #![tactic(auto)]
 
 mod cause;
+mod entering;
+mod entry;
+mod filing;
+mod folders;
+mod job;
 mod laws;
 mod lines;
+mod listing;
+mod lookups;
 mod name;
 mod path;
 mod rows;
@@ -12,5 +19,7 @@ mod telling;
 #[cfg(test)]
 mod tests;
 mod treated;
+mod treating;
+mod writing;
 
 pub use laws::{committed_order, each_told, headline, opened_then, orderly, settled};

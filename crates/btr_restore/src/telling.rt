@@ -1,5 +1,6 @@
 // What restore tells, and what it counts.
 ghost use Rattle.std.specs.Prelude.{◌≡◌, ◌||◌, Option};
+ghost use Rattle.btr_rack.specs.Out.{CallAccount};
 ghost use Rattle.btr_rack.specs.Sink.{Sink};
 ghost use Rattle.btr_super.specs.declared.superblock.Super.{Super};
 ghost use Rattle.btr_volume.specs.declared.root.TreeRoot.{TreeRoot as Tree};
@@ -7,8 +8,9 @@ ghost use Rattle.btr_restore.specs.Causes.{cause_text};
 ghost use Rattle.btr_prog.specs.Prog.{Return};
 ghost use Rattle.btr_restore.specs.Journey.{told, skip, unverified};
 ghost use Rattle.btr_restore.specs.Lines.{more};
-ghost use Rattle.btr_restore.specs.Restoring.{Emits, OutCounts, SinkCounts, ended, stops_out, stops_sink};
-ghost use Rattle.btr_restore.specs.Treating.{came};
+ghost use Rattle.btr_restore.specs.Restoring.{stops_out, stops_sink};
+ghost use Rattle.btr_restore.specs.Running.{Wrote, outside};
+ghost use Rattle.btr_restore.specs.Treating.{IsOver, came};
 
 use crate::cause::Cause;
 use crate::lines::{put_line, put_skip};
@@ -58,8 +60,7 @@ pub(crate) fn tell<O: Out>(
     path: &[u8],
     out: &mut O,
 ) -> Result<(), Stop>
-    ensures did { (s : Super) (sums : Option Tree) (sink : Sink) → Emits (told plan.now s sums word.now path.now (Return tt)) sink sink (O.text out.old) (O.text out.new) (ended result) }
-    ensures account { OutCounts (O.account out.old) (O.account out.new) result }
+    ensures { (s : Super) (sums : Option Tree) (sink : Sink) (calls : CallAccount) → Wrote (told plan.now s sums word.now path.now (Return tt)) (outside sink calls (O.text out.old) (O.account out.old)) (outside sink calls (O.text out.new) (O.account out.new)) result }
 {
     if !tells(plan) {
         return Ok(());
@@ -77,14 +78,27 @@ pub(crate) fn leave_out<O: Out>(
     counts: &mut Counts,
     out: &mut O,
 ) -> Result<Treated, Stop>
-    ensures did { (plan : RestorePlan) (s : Super) (sums : Option Tree) (sink : Sink) → Emits (skip plan s sums (cause_text cause) path.now counts.old) sink sink (O.text out.old) (O.text out.new) (came counts.new result) }
-    ensures account { OutCounts (O.account out.old) (O.account out.new) result }
+    ensures wrote { (plan : RestorePlan) (s : Super) (sums : Option Tree) (sink : Sink) (calls : CallAccount) → Wrote (skip plan s sums (cause_text cause) path.now counts.old) (outside sink calls (O.text out.old) (O.account out.old)) (outside sink calls (O.text out.new) (O.account out.new)) (came counts.new result) }
+    ensures over { IsOver result }
 {
     match put_skip(cause, path, out) {
         Ok(()) => {
             counts.skipped = more(counts.skipped);
             Ok(Treated::Over)
         }
+        Err(error) => Err(out_stop(error)),
+    }
+}
+
+/// Names a file of which some sector was read without a checksum.
+pub(crate) fn tell_unverified<O: Out>(plain: bool, path: &[u8], out: &mut O) -> Result<(), Stop>
+    ensures { (plan : RestorePlan) (s : Super) (sums : Option Tree) (sink : Sink) (calls : CallAccount) → Wrote (unverified plan s sums plain path.now (Return tt)) (outside sink calls (O.text out.old) (O.account out.old)) (outside sink calls (O.text out.new) (O.account out.new)) result }
+{
+    if !plain {
+        return Ok(());
+    }
+    match put_line(b"unverified", path, out) {
+        Ok(()) => Ok(()),
         Err(error) => Err(out_stop(error)),
     }
 }

@@ -1,0 +1,105 @@
+-- How far the listing of a directory has come.
+use Rattle.std.specs.Prelude.{◌≡◌, ℕ, zero, suc, Bool, true, false, List, fold, Option, IfSome, Result, Ok, Err}
+use Rattle.btr_prog.specs.Calls.{Sure, Calls}
+use Rattle.btr_prog.specs.Goes.{GoesTo, ThreadsTo}
+use Rattle.btr_prog.specs.Prog.{Prog, Return, Does, Run, bind, exec, first}
+use Rattle.btr_prog.proofs.SoFars.{SoFar}
+use Rattle.btr_rack.specs.Rack.{Seen, OnlyReads}
+use Rattle.btr_rack.specs.Sink.{Sink}
+use Rattle.btr_read.specs.Fate.{Fault, fate}
+use Rattle.btr_read.specs.Layout.{Layout}
+use Rattle.btr_read.specs.Reading.{AgreedOn, shown}
+use Rattle.btr_read.specs.declared.want.Want.{Want}
+use Rattle.btr_super.specs.declared.superblock.Super.{Super}
+use Rattle.btr_walk.specs.Reading.{Map}
+use Rattle.btr_volume.specs.Lookup.{Program, each}
+use Rattle.btr_volume.specs.declared.stop.Stop.{Stop}
+use Rattle.btr_volume.specs.Looking.{SameVolume}
+use Rattle.btr_volume.specs.declared.root.TreeRoot.{TreeRoot}
+use Rattle.btr_files.specs.declared.counts.Counts.{Counts}
+use Rattle.btr_files.specs.declared.dir.Dir.{Dir}
+use Rattle.btr_files.specs.declared.plan.RestorePlan.{RestorePlan}
+use Rattle.btr_files.specs.Entries.{DirEntry, entries}
+use Rattle.btr_files.specs.Listing.{dir_left, IsDir, IsDirOn}
+use Rattle.btr_files.specs.Maps.{maps_by}
+use Rattle.btr_restore.specs.Journey.{Listing, directory, treat}
+use Rattle.btr_restore.specs.Restoring.{sink_after, text_after}
+use Rattle.btr_restore.specs.Running.{World, IsReady, Stands}
+use Rattle.btr_restore.specs.Step.{Step}
+
+-- whether directories are too deep, below which so many more may be entered
+abbrev pub is_deep : ℕ → Bool
+is_deep zero = true
+is_deep (suc n) = false
+
+module _ (plan : RestorePlan) (s : Super) (sums : Option TreeRoot) where
+  -- the listing of a directory that has one of so many places: none is listed that has no place
+  abbrev pub listing_in : ℕ → Listing
+  listing_in zero = λ tree dirid path counts. Return counts
+  listing_in (suc n) = directory plan s sums n
+
+  -- what is done with an entry of a directory, below which so many more may be entered
+  abbrev pub treat_in : ℕ → TreeRoot → ℕ → List ℕ → Counts → DirEntry → Program Step Counts
+  treat_in n = treat plan s sums (is_deep n) (listing_in n)
+
+-- how a listing ended, with the counts then
+abbrev pub ended_with : Counts → Result (Unit {0}) Stop → Result Counts Stop
+ended_with counts (Ok u) = Ok counts
+ended_with counts (Err stop) = Err stop
+
+-- a sink stands as deep as before, if the listing came to its end
+abbrev pub StandsIf : Bool → ℕ → Sink → Result (Unit {0}) Stop → Type 0
+StandsIf dry n sink (Ok u) = Stands dry n sink
+StandsIf dry n sink (Err stop) = Unit {0}
+
+-- the maps of some images, so surely known
+abbrev pub maps_of : Layout → Sure → List (List ℕ) → ℕ → Map
+maps_of layout sure images n = maps_by sure images n layout
+
+-- so far as the calls were steady, P holds of the block map of the images, and of what a block may come to
+abbrev pub TellsBoth : Layout → Seen → Seen → (Map → (ℕ → Map) → Type 0) → Type 0
+TellsBoth layout old new P = Calls (AgreedOn layout) (shown old) (shown new) (λ sure held. IfSome held (λ images. P (fate images layout) (maps_of layout sure images)))
+
+module _ (treat : Counts → DirEntry → Program Step Counts) where
+  abbrev pub body_of : Counts → DirEntry → Program Step (Result Counts Counts)
+  body_of counts entry = bind (treat counts entry) (λ after. Return (Ok after))
+
+  abbrev pub last_of : Counts → Unit {0} → Counts
+  last_of counts u = counts
+
+  -- the runs that treat the entries of a run
+  abbrev pub Left : (ℕ → Map) → Counts → Run Want Fault DirEntry (Unit {0}) → Run Want Fault Step Counts → Type 0
+  Left Bs counts r = ThreadsTo (λ st entry. GoesTo Bs (body_of st entry)) last_of counts r.marks r.ending
+
+  -- of the runs of a whole listing these steps are done, and what is left are the entries of a directory
+  pub record LeftOf (whole : Program Step Counts) (B : Map) (Bs : ℕ → Map) (counts : Counts) (dir : Dir) (done : List Step) : Type 0 where
+    pub seen : List Want
+    pub so_far : SoFar (GoesTo Bs whole) (Left Bs counts (exec B (dir_left B dir))) seen done
+    pub on : IsDirOn B seen dir
+
+  -- .. after an entry was met
+  pub record MetOf (whole : Program Step Counts) (B : Map) (Bs : ℕ → Map) (counts : Counts) (entry : DirEntry) (dir : Dir) (done : List Step) : Type 0 where
+    pub seen : List Want
+    pub so_far : SoFar (GoesTo Bs whole) (Left Bs counts (first (Does entry) (exec B (dir_left B dir)))) seen done
+    pub on : IsDirOn B seen dir
+
+  -- a listing has come so far: its calls did some steps, and the entries of a directory are left
+  pub record Listed (whole : Program Step Counts) (x y : World) (counts : Counts) (dir : Dir) : Type 0 where
+    pub reads : OnlyReads x.rack y.rack
+    pub volume : SameVolume x.vol y.vol
+    pub ready : IsReady y.rack y.vol
+    pub done : List Step
+    pub sink : y.out.sink ≡ fold sink_after x.out.sink done
+    pub text : y.out.text ≡ text_after x.out.text done
+    pub content : TellsBoth x.vol.store.layout x.rack y.rack (λ B Bs. LeftOf whole B Bs counts dir done)
+    pub sink_calls : y.out.sink_calls ≡ x.out.sink_calls
+    pub out_calls : y.out.out_calls ≡ x.out.out_calls
+
+-- a listing is under way: its directory can be read on, its path is as it began, and the sink stands where it stood
+pub record IsUnderway (plan : RestorePlan) (sums : Option TreeRoot) (deeper : ℕ) (tree : TreeRoot) (dirid : ℕ) (path : List ℕ) (first : Counts) (x y : World) (counts : Counts) (dir : Dir) (here : List ℕ) (below : ℕ) : Type 0 where
+  pub ready : IsReady y.rack y.vol
+  pub reads_on : IsDir dir
+  pub same_path : here ≡ path
+  pub same_below : below ≡ deeper
+  pub stands : (n : ℕ) → Stands plan.dry n x.out.sink → Stands plan.dry n y.out.sink
+  pub listed : (s : Super) → s ≡ x.vol.sup → Listed (treat_in plan s sums deeper tree dirid path) (each (treat_in plan s sums deeper tree dirid path) first (entries tree dirid)) x y counts dir

@@ -1,0 +1,86 @@
+-- How far the bytes of a file have been written.
+use Rattle.std.specs.Prelude.{◌≡◌, ℕ, Bool, List, fold, Option, Some, None, Result, Ok, Err}
+use Rattle.btr_base.specs.declared.kind.SumKind.{SumKind}
+use Rattle.btr_prog.specs.Goes.{GoesTo, ThreadsTo}
+use Rattle.btr_prog.specs.Prog.{Prog, Return, Does, Run, bind, first}
+use Rattle.btr_prog.proofs.SoFars.{SoFar}
+use Rattle.btr_rack.specs.Rack.{OnlyReads}
+use Rattle.btr_read.specs.Fate.{Fault}
+use Rattle.btr_read.specs.Store.{SameLoans}
+use Rattle.btr_read.specs.declared.want.Want.{Want}
+use Rattle.btr_super.specs.declared.superblock.Super.{Super}
+use Rattle.btr_walk.specs.Reading.{Map}
+use Rattle.btr_volume.specs.Lookup.{Program}
+use Rattle.btr_volume.specs.declared.root.TreeRoot.{TreeRoot}
+use Rattle.btr_volume.specs.declared.stop.Stop.{Stop}
+use Rattle.btr_files.specs.declared.file.FileBytes.{FileBytes}
+use Rattle.btr_files.specs.declared.plan.RestorePlan.{RestorePlan}
+use Rattle.btr_files.specs.Content.{Piece}
+use Rattle.btr_files.specs.Maps.{TellsAll}
+use Rattle.btr_files.specs.Streaming.{FileGoes, IsFileOn, IsReading, without_file}
+use Rattle.btr_files.specs.Sums.{kind_in}
+use Rattle.btr_restore.specs.Journey.{put}
+use Rattle.btr_restore.specs.Restoring.{sink_after, text_after, Does as Did, StopCause, SinkCounts, OutCounts, ended}
+use Rattle.btr_restore.specs.Running.{World, scene_of}
+use Rattle.btr_restore.specs.Step.{Step}
+
+module _ (plan : RestorePlan) (s : Super) (sums : Option TreeRoot) where
+  abbrev pub put_of : Bool → Piece → Program Step (Result Bool Bool)
+  put_of plain piece = bind (put plan s sums plain piece) (λ after. Return (Ok after))
+
+  abbrev pub last_plain : Bool → Unit {0} → Bool
+  last_plain plain u = plain
+
+  -- the runs that put the pieces of a run
+  abbrev pub Puts : (ℕ → Map) → Bool → Run Want Fault Piece (Unit {0}) → Run Want Fault Step Bool → Type 0
+  Puts Bs plain q = ThreadsTo (λ st piece. GoesTo Bs (put_of st piece)) last_plain plain q.marks q.ending
+
+  -- .. that a file has still to give
+  abbrev pub PutsLeft : SumKind → (ℕ → Map) → Bool → FileBytes → Run Want Fault Step Bool → Type 0
+  PutsLeft kind Bs plain file r = (q : Run Want Fault Piece (Unit {0})) × FileGoes kind Bs file q × Puts Bs plain q r
+
+  -- .. behind a piece that was given
+  abbrev pub PutsFrom : SumKind → (ℕ → Map) → Bool → Piece → FileBytes → Run Want Fault Step Bool → Type 0
+  PutsFrom kind Bs plain piece file r = (q : Run Want Fault Piece (Unit {0})) × FileGoes kind Bs file q × Puts Bs plain (first (Does piece) q) r
+
+  -- of the runs of a whole program these steps are done, and what is left are the pieces of a file
+  pub record LeftToPut (whole : Program Step Bool) (kind : SumKind) (Bs : ℕ → Map) (plain : Bool) (file : FileBytes) (done : List Step) : Type 0 where
+    pub seen : List Want
+    pub so_far : SoFar (GoesTo Bs whole) (PutsLeft kind Bs plain file) seen done
+    pub on : IsFileOn (Bs 0) seen file
+
+  -- .. after a piece was given
+  pub record PieceToPut (whole : Program Step Bool) (kind : SumKind) (Bs : ℕ → Map) (plain : Bool) (piece : Piece) (file : FileBytes) (done : List Step) : Type 0 where
+    pub seen : List Want
+    pub so_far : SoFar (GoesTo Bs whole) (PutsFrom kind Bs plain piece file) seen done
+    pub on : IsFileOn (Bs 0) seen file
+
+  -- a file is being written: the volume is as before but for the file's loan
+  pub record IsWriting (whole : Program Step Bool) (x y : World) (plain : Bool) (file : FileBytes) : Type 0 where
+    pub reads : OnlyReads x.rack y.rack
+    pub sup : y.vol.sup ≡ x.vol.sup
+    pub others : SameLoans x.vol.store (without_file y.vol.store file)
+    pub reading : IsReading y.rack y.vol.store file
+    pub done : List Step
+    pub sink : y.out.sink ≡ fold sink_after x.out.sink done
+    pub text : y.out.text ≡ text_after x.out.text done
+    pub content : TellsAll x.vol.store.layout x.rack y.rack (λ Bs. LeftToPut whole (kind_in x.vol.sup) Bs plain file done)
+    pub sink_calls : y.out.sink_calls ≡ x.out.sink_calls
+    pub out_calls : y.out.out_calls ≡ x.out.out_calls
+
+  -- a file was written, or it ended before
+  pub record WasWritten (whole : Program Step Bool) (x y : World) (file : FileBytes) (answer : Result Bool Stop) : Type 0 where
+    pub reads : OnlyReads x.rack y.rack
+    pub sup : y.vol.sup ≡ x.vol.sup
+    pub others : SameLoans x.vol.store (without_file y.vol.store file)
+    pub reading : IsReading y.rack y.vol.store file
+    pub did : Did x.vol.store.layout whole (scene_of x) (scene_of y) (ended answer)
+    pub cause : StopCause x.vol.store.layout x.rack y.rack answer
+    pub sink_calls : SinkCounts x.out.sink_calls y.out.sink_calls answer
+    pub out_calls : OutCounts x.out.out_calls y.out.out_calls answer
+
+  -- a step of writing: on, the end, or a stop
+  abbrev pub WritesOn : Program Step Bool → World → World → Bool → FileBytes → Result (Option Bool) Stop → Type 0
+  WritesOn whole x y plain file (Ok (Some after)) = IsWriting whole x y after file
+  WritesOn whole x y plain file (Ok None) = WasWritten whole x y file (Ok plain)
+  WritesOn whole x y plain file (Err stop) = WasWritten whole x y file (Err stop)

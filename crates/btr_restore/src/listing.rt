@@ -1,0 +1,140 @@
+// The listing of directories, from the top directory of a tree down.
+ghost use Rattle.std.specs.Prelude.{◌≡◌, ◌<◌, ◌+◌, false, ℕ, List, OnOk, length, take};
+ghost use Rattle.btr_rack.specs.Sink.{BetweenFiles};
+ghost use Rattle.btr_super.specs.declared.superblock.Super.{Super};
+ghost use Rattle.btr_files.specs.Listing.{named_row};
+ghost use Rattle.btr_restore.specs.Journey.{directory, listed_in};
+ghost use Rattle.btr_restore.specs.Journey as journey;
+ghost use Rattle.btr_restore.specs.Lines.{path_in};
+ghost use Rattle.btr_restore.specs.Listing.{StandsIf, ended_with, listing_in, treat_in};
+ghost use Rattle.btr_restore.specs.Running.{IsReady, Ran, Stands, outside, world};
+
+use crate::entry::Entry;
+use crate::job::Job;
+use crate::path::Path;
+use crate::rows::leave_dir;
+use crate::treated::Treated;
+use crate::treating::treat;
+use btr_files::{Counts, Dir, DirRow, NameBuf};
+use btr_rack::{Out, Rack, TreeSink};
+use btr_volume::{Stop, TreeRoot, Volume};
+
+/// Where a directory is listed: how far that has come, and a place for the name of an entry.
+#[derive(Clone, Copy, Debug)]
+pub(crate) struct Frame {
+    pub(crate) dir: Dir,
+    pub(crate) name: NameBuf,
+}
+
+// What is in a directory that was entered, and the way up. The first frame is its own.
+#[cycle(listing)]
+fn list_within<R: Rack, T: TreeSink, O: Out>(
+    job: &Job,
+    inner: TreeRoot,
+    dirid: u64,
+    frames: &mut [Frame],
+    path: &mut Path,
+    counts: &mut Counts,
+    rack: &mut R,
+    vol: &mut Volume,
+    tree: &mut T,
+    out: &mut O,
+) -> Result<(), Stop>
+    requires ready { IsReady (R.seen rack.old) vol.old }
+    requires between { job.now.plan.dry ≡ false → (T.sink tree.old).stage ≡ BetweenFiles }
+    requires some { 0 < length frames.old }
+    requires below { job.now.plan.dry ≡ false → 0 < (T.sink tree.old).depth }
+    ensures ran { (s : Super) → s ≡ vol.old.sup → Ran (listed_in job.now.plan s job.now.sums (listing_in job.now.plan s job.now.sums (length frames.old)) path.old (journey.Within inner dirid counts.old)) (world (R.seen rack.old) vol.old (outside (T.sink tree.old) (T.account tree.old) (O.text out.old) (O.account out.old))) (world (R.seen rack.new) vol.new (outside (T.sink tree.new) (T.account tree.new) (O.text out.new) (O.account out.new))) (ended_with counts.new result) }
+    ensures path { OnOk result (path.new ≡ path.old) }
+    ensures stands { (n : ℕ) → Stands job.now.plan.dry (n + 1) (T.sink tree.old) → StandsIf job.now.plan.dry n (T.sink tree.new) result }
+{
+    let Some((here, below)) = frames.split_first_mut() else {
+        unreachable!();
+    };
+    match list(job, inner, dirid, here, below, path, counts, rack, vol, tree, out) {
+        Err(stop) => Err(stop),
+        Ok(()) => leave_dir(&job.plan, tree),
+    }
+}
+
+// An entry of a directory, and what is in it. There is a frame for each directory that may be entered.
+#[cycle(listing)]
+fn list_entry<R: Rack, T: TreeSink, O: Out>(
+    job: &Job,
+    root: &TreeRoot,
+    dirid: u64,
+    row: DirRow,
+    name: &NameBuf,
+    below: &mut [Frame],
+    path: &mut Path,
+    counts: &mut Counts,
+    rack: &mut R,
+    vol: &mut Volume,
+    tree: &mut T,
+    out: &mut O,
+) -> Result<(), Stop>
+    requires ready { IsReady (R.seen rack.old) vol.old }
+    requires between { job.now.plan.dry ≡ false → (T.sink tree.old).stage ≡ BetweenFiles }
+    ensures ran { (s : Super) → s ≡ vol.old.sup → Ran (treat_in job.now.plan s job.now.sums (length below.old) root.now dirid path.old counts.old (named_row row name.now)) (world (R.seen rack.old) vol.old (outside (T.sink tree.old) (T.account tree.old) (O.text out.old) (O.account out.old))) (world (R.seen rack.new) vol.new (outside (T.sink tree.new) (T.account tree.new) (O.text out.new) (O.account out.new))) (ended_with counts.new result) }
+    ensures path { OnOk result (take (length path.old) path.new ≡ path.old) }
+    ensures stands { (n : ℕ) → Stands job.now.plan.dry n (T.sink tree.old) → StandsIf job.now.plan.dry n (T.sink tree.new) result }
+{
+    match path.push(name.as_bytes()) {
+        Ok(()) => {}
+        Err(_) => return Err(Stop::Memory),
+    }
+    let entry = Entry {
+        tree: *root,
+        dirid,
+        deep: below.is_empty(),
+        row,
+        name,
+        path: path.as_bytes(),
+    };
+    match treat(job, &entry, counts, rack, vol, tree, out) {
+        Err(stop) => Err(stop),
+        Ok(Treated::Over) => Ok(()),
+        Ok(Treated::Within { tree: inner, dirid }) => {
+            list_within(job, inner, dirid, below, path, counts, rack, vol, tree, out)
+        }
+    }
+}
+
+/// Lists a directory and all that is entered below it. `here` is its frame, and there is one for each directory that may be entered below.
+#[cycle(listing)]
+pub(crate) fn list<R: Rack, T: TreeSink, O: Out>(
+    job: &Job,
+    root: TreeRoot,
+    dirid: u64,
+    here: &mut Frame,
+    below: &mut [Frame],
+    path: &mut Path,
+    counts: &mut Counts,
+    rack: &mut R,
+    vol: &mut Volume,
+    tree: &mut T,
+    out: &mut O,
+) -> Result<(), Stop>
+    requires ready { IsReady (R.seen rack.old) vol.old }
+    requires between { job.now.plan.dry ≡ false → (T.sink tree.old).stage ≡ BetweenFiles }
+    ensures ran { (s : Super) → s ≡ vol.old.sup → Ran (directory job.now.plan s job.now.sums (length below.old) root dirid path.old counts.old) (world (R.seen rack.old) vol.old (outside (T.sink tree.old) (T.account tree.old) (O.text out.old) (O.account out.old))) (world (R.seen rack.new) vol.new (outside (T.sink tree.new) (T.account tree.new) (O.text out.new) (O.account out.new))) (ended_with counts.new result) }
+    ensures path { OnOk result (path.new ≡ path.old) }
+    ensures stands { (n : ℕ) → Stands job.now.plan.dry n (T.sink tree.old) → StandsIf job.now.plan.dry n (T.sink tree.new) result }
+{
+    here.dir = Dir::new(root, dirid);
+    let len = path.len();
+    loop {
+        match here.dir.next(rack, vol, &mut here.name) {
+            Err(fault) => return Err(Stop::Tree(fault)),
+            Ok(None) => return Ok(()),
+            Ok(Some(row)) => {
+                match list_entry(
+                    job, &root, dirid, row, &here.name, below, path, counts, rack, vol, tree, out,
+                ) {
+                    Ok(()) => path.cut(len),
+                    Err(stop) => return Err(stop),
+                }
+            }
+        }
+    }
+}

@@ -1,0 +1,110 @@
+// The lookups of a listing, whose fault ends it.
+ghost use Rattle.std.specs.Prelude.{◌≡◌, ℕ, List};
+ghost use Rattle.btr_prog.specs.Quiet.{quiet};
+ghost use Rattle.btr_files.specs.Entries.{name_in};
+ghost use Rattle.btr_files.specs.Extents.{survey};
+ghost use Rattle.btr_files.specs.Names.{inode_in, link, linked, mount, mounted};
+ghost use Rattle.btr_super.specs.declared.superblock.Super.{Super};
+ghost use Rattle.btr_volume.specs.Tree.{tree_of};
+ghost use Rattle.btr_restore.specs.Running.{IsReady, Outside, Ran, world};
+
+use crate::entry::Entry;
+use btr_files::{Survey, inode, linked, mounted, survey};
+use btr_items::Inode;
+use btr_rack::Rack;
+use btr_volume::{Stop, TreeRoot, Volume};
+
+/// The inode of a number in a tree, if it is there.
+pub(crate) fn find_inode<R: Rack>(
+    tree: &TreeRoot,
+    ino: u64,
+    rack: &mut R,
+    vol: &mut Volume,
+) -> Result<Option<Inode>, Stop>
+    requires { IsReady (R.seen rack.old) vol.old }
+    ensures { (x : Outside) → Ran (quiet (inode_in tree.now ino)) (world (R.seen rack.old) vol.old x) (world (R.seen rack.new) vol.new x) result }
+{
+    match inode(tree, ino, rack, vol) {
+        Ok(found) => Ok(found),
+        Err(fault) => Err(Stop::Tree(fault)),
+    }
+}
+
+/// What the extents of a file come to.
+pub(crate) fn survey_file<R: Rack>(
+    tree: &TreeRoot,
+    ino: u64,
+    rack: &mut R,
+    vol: &mut Volume,
+) -> Result<Survey, Stop>
+    requires { IsReady (R.seen rack.old) vol.old }
+    ensures { (x : Outside) → Ran (quiet (survey tree.now ino)) (world (R.seen rack.old) vol.old x) (world (R.seen rack.new) vol.new x) result }
+{
+    match survey(tree, ino, rack, vol) {
+        Ok(found) => Ok(found),
+        Err(fault) => Err(Stop::Tree(fault)),
+    }
+}
+
+/// Whether an entry is the one name of its directory.
+pub(crate) fn is_linked<R: Rack>(
+    entry: &Entry<'_>,
+    rack: &mut R,
+    vol: &mut Volume,
+) -> Result<bool, Stop>
+    requires { IsReady (R.seen rack.old) vol.old }
+    ensures { (x : Outside) (n : List ℕ) → n ≡ name_in entry.now.name.now → Ran (quiet (linked (link entry.now.dirid entry.now.row.index n) entry.now.tree entry.now.row.location.objectid)) (world (R.seen rack.old) vol.old x) (world (R.seen rack.new) vol.new x) result }
+{
+    let ino = entry.row.location.objectid;
+    match linked(
+        &entry.tree,
+        ino,
+        entry.dirid,
+        entry.row.index,
+        entry.name,
+        rack,
+        vol,
+    ) {
+        Ok(found) => Ok(found),
+        Err(fault) => Err(Stop::Tree(fault)),
+    }
+}
+
+/// Whether an entry is the one name of its subvolume.
+pub(crate) fn is_mounted<R: Rack>(
+    entry: &Entry<'_>,
+    rack: &mut R,
+    vol: &mut Volume,
+) -> Result<bool, Stop>
+    requires { IsReady (R.seen rack.old) vol.old }
+    ensures { (x : Outside) (s : Super) (n : List ℕ) → s ≡ vol.old.sup → n ≡ name_in entry.now.name.now → Ran (quiet (mounted (mount entry.now.tree.id (link entry.now.dirid entry.now.row.index n)) s entry.now.row.location.objectid)) (world (R.seen rack.old) vol.old x) (world (R.seen rack.new) vol.new x) result }
+{
+    let id = entry.row.location.objectid;
+    match mounted(
+        id,
+        entry.tree.id,
+        entry.dirid,
+        entry.row.index,
+        entry.name,
+        rack,
+        vol,
+    ) {
+        Ok(found) => Ok(found),
+        Err(fault) => Err(Stop::Tree(fault)),
+    }
+}
+
+/// The root of the tree of an id, if there is one.
+pub(crate) fn find_tree<R: Rack>(
+    id: u64,
+    rack: &mut R,
+    vol: &mut Volume,
+) -> Result<Option<TreeRoot>, Stop>
+    requires { IsReady (R.seen rack.old) vol.old }
+    ensures { (x : Outside) (s : Super) → s ≡ vol.old.sup → Ran (quiet (tree_of s id)) (world (R.seen rack.old) vol.old x) (world (R.seen rack.new) vol.new x) result }
+{
+    match vol.tree(id, rack) {
+        Ok(found) => Ok(found),
+        Err(fault) => Err(Stop::Tree(fault)),
+    }
+}

@@ -1,0 +1,133 @@
+// The bytes of a file.
+ghost use Rattle.std.specs.Prelude.{◌≡◌, ◌≤◌, ◌<◌, ◌||◌, not, false, ℕ, Bool, IfOk, IfSome, List, Option};
+ghost use Rattle.btr_rack.specs.Out.{CallAccount};
+ghost use Rattle.btr_rack.specs.Sink.{InFile};
+ghost use Rattle.btr_read.specs.Store.{SameLoans, free_count};
+ghost use Rattle.btr_super.specs.declared.superblock.Super.{Super};
+ghost use Rattle.btr_volume.specs.Lookup.{Program};
+ghost use Rattle.btr_volume.specs.declared.root.TreeRoot.{TreeRoot as Tree};
+ghost use Rattle.btr_files.specs.Streaming.{bytes_left, IsPiece, IsReading, piece_of, without_file};
+ghost use Rattle.btr_restore.specs.Journey.{has_no_sums, pieces, put};
+ghost use Rattle.btr_restore.specs.Running.{IsReady, Outside, Ran, World, Wrote, outside, world};
+ghost use Rattle.btr_restore.specs.Step.{Step};
+ghost use Rattle.btr_restore.specs.Writing.{IsWriting, WasWritten, WritesOn};
+
+use crate::job::Job;
+use crate::telling::sink_stop;
+use btr_files::{FileBytes, Piece, RestorePlan, next_piece};
+use btr_items::Inode;
+use btr_rack::{Rack, TreeSink};
+use btr_volume::{Stop, TreeRoot, Volume};
+
+// Whether some piece was read without a checksum, this one included.
+fn is_plain(plain: bool, verified: bool) -> bool
+    ensures { result ≡ (plain || not verified) }
+{
+    plain || !verified
+}
+
+// Puts a piece of a file. Answers whether some piece was read without a checksum, as `plain` says of those before.
+fn put_piece<T: TreeSink>(piece: Piece<'_>, plain: bool, tree: &mut T) -> Result<bool, Stop>
+    requires begun { (T.sink tree.old).stage ≡ InFile }
+    requires some { IsPiece piece }
+    ensures wrote { (plan : RestorePlan) (s : Super) (sums : Option Tree) (text : Option (List ℕ)) (calls : CallAccount) → Wrote (put plan s sums plain (piece_of piece.entry)) (outside (T.sink tree.old) (T.account tree.old) text calls) (outside (T.sink tree.new) (T.account tree.new) text calls) result }
+    ensures stage { (T.sink tree.new).stage ≡ InFile }
+    ensures depth { (T.sink tree.new).depth ≡ (T.sink tree.old).depth }
+{
+    match piece {
+        Piece::Gap(count) => match tree.gap(count) {
+            Ok(()) => Ok(plain),
+            Err(error) => Err(sink_stop(error)),
+        },
+        Piece::Bytes { bytes, verified } => match tree.put(bytes) {
+            Ok(()) => Ok(is_plain(plain, verified)),
+            Err(error) => Err(sink_stop(error)),
+        },
+    }
+}
+
+// Gives the next piece of a file, and puts it: whether some piece was read without a checksum, or `None` exactly after the last.
+fn put_next<R: Rack, T: TreeSink>(
+    file: &mut FileBytes,
+    plain: bool,
+    rack: &mut R,
+    vol: &mut Volume,
+    tree: &mut T,
+) -> Result<Option<bool>, Stop>
+    requires ready { IsReading (R.seen rack.old) vol.old.store file.old }
+    requires room { 5 ≤ free_count (without_file vol.old.store file.old) }
+    requires begun { (T.sink tree.old).stage ≡ InFile }
+    ensures writes { (plan : RestorePlan) (s : Super) (sums : Option Tree) (whole : Program Step Bool) (x : World) (text : Option (List ℕ)) (calls : CallAccount) → IsWriting plan s sums whole x (world (R.seen rack.old) vol.old (outside (T.sink tree.old) (T.account tree.old) text calls)) plain file.old → WritesOn plan s sums whole x (world (R.seen rack.new) vol.new (outside (T.sink tree.new) (T.account tree.new) text calls)) plain file.new result }
+    ensures ready { IsReading (R.seen rack.new) vol.new.store file.new }
+    ensures room { SameLoans (without_file vol.old.store file.old) (without_file vol.new.store file.new) }
+    ensures nears { IfOk result (λ on. IfSome on (λ after. bytes_left file.new < bytes_left file.old)) }
+    ensures stage { (T.sink tree.new).stage ≡ InFile }
+    ensures depth { (T.sink tree.new).depth ≡ (T.sink tree.old).depth }
+{
+    match next_piece(vol, file, rack) {
+        Err(fault) => Err(Stop::Tree(fault)),
+        Ok(None) => Ok(None),
+        Ok(Some(piece)) => match put_piece(piece, plain, tree) {
+            Ok(after) => Ok(Some(after)),
+            Err(stop) => Err(stop),
+        },
+    }
+}
+
+// Puts the pieces of a file that are still to come. Answers whether some piece was read without a checksum.
+fn put_pieces<R: Rack, T: TreeSink>(
+    file: &mut FileBytes,
+    rack: &mut R,
+    vol: &mut Volume,
+    tree: &mut T,
+) -> Result<bool, Stop>
+    requires ready { IsReading (R.seen rack.old) vol.old.store file.old }
+    requires room { 5 ≤ free_count (without_file vol.old.store file.old) }
+    requires begun { (T.sink tree.old).stage ≡ InFile }
+    ensures writes { (plan : RestorePlan) (s : Super) (sums : Option Tree) (whole : Program Step Bool) (x : World) (text : Option (List ℕ)) (calls : CallAccount) → IsWriting plan s sums whole x (world (R.seen rack.old) vol.old (outside (T.sink tree.old) (T.account tree.old) text calls)) false file.old → WasWritten plan s sums whole x (world (R.seen rack.new) vol.new (outside (T.sink tree.new) (T.account tree.new) text calls)) file.new result }
+    ensures ready { IsReading (R.seen rack.new) vol.new.store file.new }
+    ensures stage { (T.sink tree.new).stage ≡ InFile }
+    ensures depth { (T.sink tree.new).depth ≡ (T.sink tree.old).depth }
+{
+    let mut plain = false;
+    loop {
+        match put_next(file, plain, rack, vol, tree) {
+            Err(stop) => return Err(stop),
+            Ok(None) => return Ok(plain),
+            Ok(Some(after)) => plain = after,
+        }
+    }
+}
+
+// Whether the sectors of a file have no checksums.
+fn has_no_sums(inode: &Inode) -> bool
+    ensures { result ≡ has_no_sums inode.now }
+{
+    inode.flags & 1 != 0
+}
+
+/// Writes the bytes of a file, unless the run is dry. Answers whether some piece was read without a checksum.
+pub(crate) fn write_bytes<R: Rack, T: TreeSink>(
+    job: &Job,
+    root: &TreeRoot,
+    ino: u64,
+    inode: &Inode,
+    rack: &mut R,
+    vol: &mut Volume,
+    tree: &mut T,
+) -> Result<bool, Stop>
+    requires ready { IsReady (R.seen rack.old) vol.old }
+    requires begun { job.now.plan.dry ≡ false → (T.sink tree.old).stage ≡ InFile }
+    ensures ran { (s : Super) (text : Option (List ℕ)) (calls : CallAccount) → s ≡ vol.old.sup → Ran (pieces job.now.plan s job.now.sums root.now ino inode.now) (world (R.seen rack.old) vol.old (outside (T.sink tree.old) (T.account tree.old) text calls)) (world (R.seen rack.new) vol.new (outside (T.sink tree.new) (T.account tree.new) text calls)) result }
+    ensures stage { job.now.plan.dry ≡ false → (T.sink tree.new).stage ≡ InFile }
+    ensures depth { job.now.plan.dry ≡ false → (T.sink tree.new).depth ≡ (T.sink tree.old).depth }
+{
+    if job.plan.dry {
+        return Ok(false);
+    }
+    let nosum = has_no_sums(inode);
+    let mut file = FileBytes::new(*root, ino, inode.size, nosum, job.sums);
+    let plain = put_pieces(&mut file, rack, vol, tree);
+    file.finish(vol);
+    plain
+}
