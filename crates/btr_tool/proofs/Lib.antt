@@ -1,3 +1,4 @@
+pub mod Numerals
 pub mod Machine
 pub mod Sentences
 pub mod Labels
@@ -6,5 +7,9 @@ pub mod Causing
 pub mod Readings
 pub mod Showing
 pub mod Coming
+pub mod Faulting
+pub mod Filesystems
+pub mod Shows
 pub mod Carrying
 pub mod Ending
+pub mod TreesShown

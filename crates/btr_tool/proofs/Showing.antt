@@ -19,11 +19,12 @@ use Rattle.btr_tool.specs.Outcomes.{Outcome, due_after, Comes, OrBare, OrMemory}
 use Rattle.btr_tool.specs.Supers.{supers_of, supers_answer, Reads, ReadFailed, ReadingCause}
 use Rattle.btr_tool.specs.Text.{super_text}
 use Rattle.btr_tool.specs.declared.answer.Answer.{Answer}
-use Rattle.btr_tool.specs.declared.answer.Which.TheVariants.{Images as images_limit}
+use Rattle.btr_volume.specs.declared.which.Which.TheVariants.{Images as images_limit}
 use Rattle.btr_tool.specs.declared.answer.Answer.TheVariants.{Done, Usage, Limit, OutFault, ImageFault}
 use Rattle.btr_tool.specs.declared.supers.SupersFault.{SupersFault}
 use Rattle.btr_tool.specs.declared.supers.SupersFault.TheVariants.{Failed, NoSuper, SumKind, Memory}
 use Rattle.btr_tool.proofs.Coming.{comes_bare}
+use Rattle.btr_tool.proofs.Faulting.{tree_in, untreed}
 use Rattle.btr_tool.proofs.Openings.{Images}
 
 -- the superblock at the index of the newest is the newest
@@ -96,13 +97,14 @@ module _ (old new : Seen) (fault : SupersFault) (cause : ReadingCause {T = Vec S
         reads = reads;
         image = λ other is. subst (ReadFailed old.account new.account) (cc) failed;
         sure = λ other is. sure slot refl;
+        tree = untreed old new (ImageFault slot) refl;
         hidden = inr (inl (inl (slot, refl)));
         no_usage = λ at is. cc;
         no_limit = λ n is. cc;
       }
-      of (NoSuper slot) none sure = record { reads = reads; image = λ other is. absurd (cc is); sure = λ other is. absurd (cc is); hidden = inl none; no_usage = λ at is. cc; no_limit = λ n is. cc }
-      of (SumKind kind) none sure = record { reads = reads; image = λ other is. absurd (cc is); sure = λ other is. absurd (cc is); hidden = inl none; no_usage = λ at is. cc; no_limit = λ n is. cc }
-      of Memory none sure = record { reads = reads; image = λ other is. absurd (cc is); sure = λ other is. absurd (cc is); hidden = inl none; no_usage = λ at is. cc; no_limit = λ n is. cc }
+      of (NoSuper slot) none sure = record { reads = reads; image = λ other is. absurd (cc is); sure = λ other is. absurd (cc is); tree = untreed old new (supers_answer (NoSuper slot)) refl; hidden = inl none; no_usage = λ at is. cc; no_limit = λ n is. cc }
+      of (SumKind kind) none sure = record { reads = reads; image = λ other is. absurd (cc is); sure = λ other is. absurd (cc is); tree = untreed old new (supers_answer (SumKind kind)) refl; hidden = inl none; no_usage = λ at is. cc; no_limit = λ n is. cc }
+      of Memory none sure = record { reads = reads; image = λ other is. absurd (cc is); sure = λ other is. absurd (cc is); tree = untreed old new (supers_answer Memory) refl; hidden = inl none; no_usage = λ at is. cc; no_limit = λ n is. cc }
 
 -- where a superblock's text was put, wholly or in part
 pub shown_behind : (MayFail : Answer → Type 0) (old new : Seen) (put : Result Unit SinkError) → OnlyReads old new → NoneFailed old.account new.account → (result : Answer) → result ≡ due_after put (Done 0)
@@ -111,11 +113,17 @@ shown_behind MayFail old new put reads none result due = subst (IsBehind MayFail
   reads = reads;
   image = λ slot is. absurd (no_image put slot is);
   sure = λ slot is. absurd (no_image put slot is);
+  tree = untreed old new (due_after put (Done 0)) (put_no_tree put);
   hidden = inl none;
   no_usage = no_usage put;
   no_limit = no_limit put;
 })
   where
+    put_no_tree : (r : Result Unit SinkError) → tree_in (due_after r (Done 0)) ≡ None
+    put_no_tree (Ok x) = refl
+    put_no_tree (Err failed_fault) = refl
+    put_no_tree (Err memory_fault) = refl
+
     no_image : (r : Result Unit SinkError) (slot : ℕ) → due_after r (Done 0) ≢ ImageFault slot
     no_image (Ok x) slot is = cc
     no_image (Err failed_fault) slot is = cc

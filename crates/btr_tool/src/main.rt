@@ -7,6 +7,7 @@
 
 mod answer;
 mod commands;
+mod filesystem;
 mod newest;
 mod opening;
 mod plan;
@@ -18,6 +19,7 @@ mod supers;
 #[cfg(test)]
 mod tests;
 mod text;
+mod trees;
 mod words;
 
 use answer::Answer;
