@@ -39,11 +39,11 @@ steps_behind : (ws : List Want) (ms : List (Mark Want Text)) → steps_of (want_
 steps_behind ws ms = steps_of-append (want_marks ws) ms ∙ ap (λ x. x ++ steps_of ms) (steps_back Text ws)
 
 -- a run after another has the first one's marks in front
-marks_after : (ms : List (Mark Want Text)) (e : Result (Unit {0}) fate.Fault) (k : Unit {0} → TextRun (Unit {0})) → (more : List (Mark Want Text)) × ((after ms e k).marks ≡ ms ++ more)
+pub marks_after : (ms : List (Mark Want Text)) (e : Result (Unit {0}) fate.Fault) (k : Unit {0} → TextRun (Unit {0})) → (more : List (Mark Want Text)) × ((after ms e k).marks ≡ ms ++ more)
 marks_after ms (Ok a) k = ((k a).marks, refl)
 marks_after ms (Err f) k = ([], sym (append-nil ms))
 
-value_then : (ms : List (Mark Want Text)) (e : Result (Unit {0}) fate.Fault) (k : Unit {0} → TextRun (Unit {0})) → e ≡ Ok tt → after ms e k ≡ prepend ms (k tt)
+pub value_then : (ms : List (Mark Want Text)) (e : Result (Unit {0}) fate.Fault) (k : Unit {0} → TextRun (Unit {0})) → e ≡ Ok tt → after ms e k ≡ prepend ms (k tt)
 value_then ms e k is = ap (λ x. after ms x k) is
 
 abbrev gone_on : Unit {0} → Run Want fate.Fault Text (Result (Unit {0}) (Unit {0}))
@@ -124,16 +124,22 @@ module _ {X : Type 0} (show : X → Shown) (B : Map) where
     met : exec B (shown_all p) ≡ prepend (want_marks past) (and_then item rest)
     met = exec_all p ∙ ap run_all is ∙ all_past past (first (Does x) (exec B q)) ∙ ap (prepend (want_marks past)) (all_does x (exec B q) ∙ ap (λ z. and_then item (λ u. z)) (sym (exec_all q)))
 
-    pub turn_goes : (On : List Want → Type 0) (Is : UnreadBlock → Want → Type 0) (seen ws : List Want) (old new : Option Text) (waited waits : Text) → wants_of item.marks ≡ [] → On (seen ++ past) → WroteAll Is ws item old new waited waits (Ok tt)
+    pub turn_moves : (On : List Want → Type 0) (Is : UnreadBlock → Want → Type 0) (seen ws : List Want) (old new : Option Text) (waited waits : Text) → On (seen ++ (past ++ wants_of item.marks)) → WroteAll Is ws item old new waited waits (Ok tt)
         → GoesOn On (exec B (shown_all p)) (exec B (shown_all q)) seen old new waited waits
-    turn_goes On Is seen ws old new waited waits none on w = record {
+    turn_moves On Is seen ws old new waited waits on w = record {
       past = record {
         marks = want_marks past ++ item.marks;
         is = met ∙ ap (prepend (want_marks past)) (value_then item.marks item.ending rest w.follows.1) ∙ ap (λ ms. run ms (rest tt).ending) (sym (append_assoc (want_marks past) item.marks (rest tt).marks));
         wrote = wrote_as (whole (steps_of (want_marks past ++ item.marks))) (ap whole (w.follows.0 ∙ sym (steps_behind past item.marks))) w.wrote;
       };
-      on = subst (λ (x : List Want). On (seen ++ x)) (sym (wants_of-append (want_marks past) item.marks ∙ ap (λ y. wants_of (want_marks {S = Text} past) ++ y) none ∙ append-nil (wants_of (want_marks {S = Text} past)) ∙ wants_back Text past)) on;
+      on = subst (λ (x : List Want). On (seen ++ x)) (sym (wants_of-append (want_marks past) item.marks ∙ ap (λ y. y ++ wants_of item.marks) (wants_back Text past))) on;
     }
+
+    -- the same where the item wants nothing more
+    pub turn_goes : (On : List Want → Type 0) (Is : UnreadBlock → Want → Type 0) (seen ws : List Want) (old new : Option Text) (waited waits : Text) → wants_of item.marks ≡ [] → On (seen ++ past) → WroteAll Is ws item old new waited waits (Ok tt)
+        → GoesOn On (exec B (shown_all p)) (exec B (shown_all q)) seen old new waited waits
+    turn_goes On Is seen ws old new waited waits none on w =
+        turn_moves On Is seen ws old new waited waits (subst (λ (x : List Want). On (seen ++ x)) (sym (ap (λ (y : List Want). past ++ y) none ∙ append-nil past)) on) w
 
     behind : (Is : UnreadBlock → Want → Type 0) (seen : List Want) (old new : Option Text) (waited waits : Text) (h : Halt fate.Fault UnreadBlock) → WroteAll Is (seen ++ past) item old new waited waits (Err h) → WroteAll Is seen (exec B (shown_all p)) old new waited waits (Err h)
     behind Is seen old new waited waits h w = record {

@@ -22,11 +22,10 @@ use Rattle.btr_tool.specs.declared.plan.Command.{Command}
 use Rattle.btr_tool.specs.declared.plan.Plan.{Plan}
 use Rattle.btr_tool.specs.declared.opening.OpeningFault.{OpeningFault}
 use Rattle.btr_tool.specs.declared.opening.OpeningFault.TheVariants.{TooMany, Failed, Memory as memory_fault}
-use Rattle.btr_volume.proofs.Opened.{same_seen}
 use Rattle.btr_volume.specs.declared.which.Which.TheVariants.{Images as images_limit}
 use Rattle.btr_tool.specs.declared.answer.Answer.{Answer}
 use Rattle.btr_tool.specs.declared.answer.Answer.TheVariants.{Usage, Limit, ImageFault, OutFault}
-use Rattle.btr_tool.proofs.Causing.{none_failed_yet, none_failed_twice}
+use Rattle.btr_tool.proofs.Causing.{none_failed_yet, none_failed_twice, opened_again}
 use Rattle.btr_tool.proofs.Coming.{comes_bare, comes_also}
 use Rattle.btr_tool.proofs.Faulting.{tree_in, untreed}
 use Rattle.btr_tool.proofs.Openings.{Images}
@@ -223,7 +222,7 @@ module _ (words names : Words) (plan : Plan) (sentence : IsSentence plan words) 
       shut = λ more. absurd (omega (arith, more, behind.reads.same_shut, opened.shut));
       hidden = ⊎_elim (λ none. inl (none_failed_twice old.account mid.account new.account opened none)) (λ rest. ⊎_elim (λ fault. inr (inl fault)) (λ may. inr (inr (plan, sentence, may))) rest) behind.hidden;
       sure = λ slot is certain. absurd (cc (sym certain ∙ sym kept ∙ behind.sure slot is));
-      tree = subst (λ s. HasTreeCause s new answer) (same_seen (opened_with old.account new) mid (sym (ap (λ (s : Seen). record s { account = mid.account }) behind.reads.same)) opened) behind.tree;
+      tree = subst (λ s. HasTreeCause s new answer) (opened_again old mid new opened behind.reads.same) behind.tree;
     }
       where
         since : {slot : ℕ} → ReadFailed mid.account new.account slot → ReadFailed old.account new.account slot
