@@ -10,7 +10,7 @@ use Rattle.btr_walk.specs.Reading.{Map, UnreadBlock}
 use Rattle.btr_volume.specs.declared.stop.Stop.{Stop}
 use Rattle.btr_volume.specs.declared.stop.Stop.TheVariants.{NoTree, Tree, Deletion, Balance, Missing, Image, Sink, Out, Memory}
 use Rattle.btr_dump.specs.Pieces.{Text}
-use Rattle.btr_dump.specs.Showing.{Grows, TextRun, CutIn, WroteAll, Writes, whole}
+use Rattle.btr_dump.specs.Showing.{Grows, TextRun, CutIn, Writes}
 
 pub grows_none : (text : Option Text) → Grows text text
 grows_none text = record { more = []; adds = adds_nothing text }

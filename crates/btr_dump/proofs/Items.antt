@@ -1,5 +1,5 @@
 -- A scan between whose items other blocks are read.
-use Rattle.std.proofs.Common.{◌≡◌, ◌≤◌, ◌+◌, ℕ, List, [], ◌++◌, Option, Some, None, get_or, set, take, count_by, is_none, length, Result, Ok, Err, refl, sym, ap, ◌∙◌, subst, arith}
+use Rattle.std.proofs.Common.{◌≡◌, ◌≤◌, ◌+◌, ℕ, List, ◌++◌, Option, Some, None, get_or, set, take, count_by, is_none, length, refl, sym, ap, subst, arith}
 use Rattle.std.specs.Option.{IfSome, IsSome, IsSomeAnd, option_map}
 use Rattle.std.specs.Bool.{IsTrue}
 use Rattle.std.proofs.lemmas.List.Elements.{Contains-append_left}
@@ -8,11 +8,11 @@ use Rattle.btr_node.specs.Block.{is_leaf, items}
 use Rattle.btr_rack.specs.Rack.{Seen}
 use Rattle.btr_read.specs.Layout.{Layout}
 use Rattle.btr_read.specs.Serves.{Serves}
-use Rattle.btr_read.specs.Store.{Blocks, Lent, SameLoans, IsLiveIn, block_of, free_count, loan_in, with_loan}
+use Rattle.btr_read.specs.Store.{Blocks, Lent, SameLoans, free_count}
 use Rattle.btr_read.specs.declared.want.Want.{Want}
 use Rattle.btr_read.proofs.Lent.{one_more_free}
 use Rattle.btr_walk.specs.Advancing.{IsInHand, hand_items, leaf_prog, loan_of}
-use Rattle.btr_walk.specs.Going.{IsAlong, IsOn}
+use Rattle.btr_walk.specs.Going.{IsOn}
 use Rattle.btr_walk.specs.Lending.{base}
 use Rattle.btr_walk.specs.Range.{RangeProg, emit_all}
 use Rattle.btr_walk.specs.Reading.{Map}

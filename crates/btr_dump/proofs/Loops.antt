@@ -1,10 +1,10 @@
 -- The items of a cursor, each shown before the next is wanted.
-use Rattle.std.proofs.Common.{◌≡◌, ℕ, true, false, List, [], ◌∷◌, ◌++◌, Option, Result, Ok, Err, refl, sym, ap, ◌∙◌, subst}
+use Rattle.std.proofs.Common.{◌≡◌, List, [], ◌∷◌, ◌++◌, Option, Result, Ok, Err, refl, sym, ap, ◌∙◌, subst}
 use Rattle.std.proofs.lemmas.List.{append-nil, append_assoc}
 use Rattle.std.proofs.lemmas.Grind.{flat_map-append}
 use Rattle.btr_prog.specs.Prog.{Prog, Return, Mark, Wants, Does, Run, run, first, prepend, exec, bind, after, and_then, steps_of, wants_of, want_marks}
 use Rattle.btr_prog.specs.Thread.{go_on_run, thread_run, end_of}
-use Rattle.btr_prog.specs.Answers.{Halt, Fault, Follows, no_part}
+use Rattle.btr_prog.specs.Answers.{Halt, Follows, no_part}
 use Rattle.btr_prog.specs.Goes.{AfterTo, GoOnTo, ThreadsTo}
 use Rattle.btr_prog.proofs.Runs.{exec-bind, steps_of-append, wants_of-append}
 use Rattle.btr_prog.proofs.Threads.{exec-thread}
@@ -13,7 +13,6 @@ use Rattle.btr_prog.proofs.Cursors.{cursor_halts}
 use Rattle.btr_prog.proofs.Follow.{follows_behind, follows_halt, follows_as}
 use Rattle.btr_read.specs.Fate as fate
 use Rattle.btr_read.specs.declared.want.Want.{Want}
-use Rattle.btr_text.specs.Text.{Wrote, WasCut}
 use Rattle.btr_text.proofs.Writing.{wrote_nothing, wrote_then, wrote_as, cut_then, cut_as}
 use Rattle.btr_walk.specs.declared.fault.TreeFault.{TreeFault}
 use Rattle.btr_walk.specs.Reading.{Map, UnreadBlock, halt_of}
@@ -21,7 +20,7 @@ use Rattle.btr_volume.specs.Lookup.{Program, each}
 use Rattle.btr_volume.specs.declared.stop.Stop.{Stop}
 use Rattle.btr_volume.specs.declared.stop.Stop.TheVariants.{NoTree, Tree, Deletion, Balance, Missing, Image, Sink, Out, Memory}
 use Rattle.btr_dump.specs.Pieces.{Text, Shown}
-use Rattle.btr_dump.specs.Showing.{part, whole, TextRun, CutIn, WroteAll, Writes, Past, GoesOn, Turns}
+use Rattle.btr_dump.specs.Showing.{part, whole, TextRun, CutIn, WroteAll, Writes, GoesOn}
 
 whole-append : (a b : List Text) → whole (a ++ b) ≡ whole a ++ whole b
 whole-append a b = flat_map-append (λ (piece : Text). piece) a b

@@ -11,7 +11,6 @@ use Rattle.btr_read.specs.declared.want.Want.{Want}
 use Rattle.btr_text.proofs.Writing.{wrote_nothing}
 use Rattle.btr_walk.specs.Going.{IsOn}
 use Rattle.btr_walk.specs.Le.{TreeItem}
-use Rattle.btr_walk.specs.Range.{RangeProg}
 use Rattle.btr_walk.specs.Reading.{Map, UnreadBlock}
 use Rattle.btr_walk.specs.ScanEnds.{left_of}
 use Rattle.btr_walk.specs.declared.scan.Scan.{Scan}

@@ -168,14 +168,7 @@ fn show_tops<R: Rack, O: Out>(
     let kind = kind_in(s);
     match show_tree(kind, &named_root(1, root_root(s)), rack, store, text, out) {
         Err(stop) => Err(stop),
-        Ok(()) => show_tree(
-            kind,
-            &named_root(3, chunk_root(s)),
-            rack,
-            store,
-            text,
-            out,
-        ),
+        Ok(()) => show_tree(kind, &named_root(3, chunk_root(s)), rack, store, text, out),
     }
 }
 

@@ -16,12 +16,12 @@ use Rattle.btr_tool.specs.Effects.{FollowsWords, IsDecided, IsOutcome, MayFollow
 use Rattle.btr_tool.specs.Images.{AreUnchanged, IsMissing, most_images, taken}
 use Rattle.btr_tool.specs.Opening.{HasTooMany, OpeningCause, OpeningFailed, OpensAll, opening_answer}
 use Rattle.btr_tool.specs.Outcomes.{Outcome, refused, Comes, OrBare, OrMemory}
-use Rattle.btr_tool.specs.Supers.{ReadFailed}
 use Rattle.btr_tool.specs.Words.{Words, IsSentence, IsUsageAt, images_of}
 use Rattle.btr_tool.specs.declared.plan.Command.{Command}
 use Rattle.btr_tool.specs.declared.plan.Plan.{Plan}
 use Rattle.btr_tool.specs.declared.opening.OpeningFault.{OpeningFault}
 use Rattle.btr_tool.specs.declared.opening.OpeningFault.TheVariants.{TooMany, Failed, Memory as memory_fault}
+use Rattle.btr_volume.specs.Opening.{SuperUnread}
 use Rattle.btr_volume.specs.declared.which.Which.TheVariants.{Images as images_limit}
 use Rattle.btr_tool.specs.declared.answer.Answer.{Answer}
 use Rattle.btr_tool.specs.declared.answer.Answer.TheVariants.{Usage, Limit, ImageFault, OutFault}
@@ -221,14 +221,15 @@ module _ (words names : Words) (plan : Plan) (sentence : IsSentence plan words) 
       image = λ slot is. record { plan = plan; sentence = sentence; failed = inr (since (behind.image slot is)) };
       shut = λ more. absurd (omega (arith, more, behind.reads.same_shut, opened.shut));
       hidden = ⊎_elim (λ none. inl (none_failed_twice old.account mid.account new.account opened none)) (λ rest. ⊎_elim (λ fault. inr (inl fault)) (λ may. inr (inr (plan, sentence, may))) rest) behind.hidden;
-      sure = λ slot is certain. absurd (cc (sym certain ∙ sym kept ∙ behind.sure slot is));
+      sure = λ slot is certain. absurd (cc (sym certain ∙ sym kept ∙ (behind.image slot is).unsure));
       tree = subst (λ s. HasTreeCause s new answer) (opened_again old mid new opened behind.reads.same) behind.tree;
     }
       where
-        since : {slot : ℕ} → ReadFailed mid.account new.account slot → ReadFailed old.account new.account slot
+        since : {slot : ℕ} → SuperUnread mid new slot → SuperUnread old new slot
         since failed = record {
           place = failed.place;
           of_super = failed.of_super;
+          unsure = sym kept ∙ failed.unsure;
           last = failed.last;
           faults = subst (λ n. Rose n new.account.faults) opened.faults failed.faults;
           fresh = failed.fresh;

@@ -4,10 +4,10 @@ pub mod Sentences
 pub mod Labels
 pub mod Openings
 pub mod Causing
-pub mod Readings
 pub mod Showing
 pub mod Coming
 pub mod Faulting
+pub mod Refusals
 pub mod Filesystems
 pub mod Shows
 pub mod Carrying

@@ -1,20 +1,21 @@
 -- What the commands that show trees come to.
-use Rattle.std.proofs.Common.{◌≡◌, ◌≢◌, false, ◌⊎◌, inl, inr, ⊎_elim, ℕ, ◌≤◌, List, [], ◌∷◌, ◌++◌, length, take, Option, Some, None, Result, Ok, Err, refl, sym, ap, ◌∙◌, subst, arith}
+use Rattle.std.proofs.Common.{◌≡◌, ◌≢◌, ◌⊎◌, inl, inr, ⊎_elim, ℕ, List, [], ◌∷◌, length, take, Option, Some, None, Result, Ok, Err, refl, sym, ap, ◌∙◌, subst, arith}
 use Rattle.std.specs.Option.{IfSome}
 use Rattle.std.proofs.lemmas.List.{take_all}
-use Rattle.btr_dump.specs.Pieces.{Text, block_shown}
+use Rattle.btr_dump.specs.Pieces.{Text}
 use Rattle.btr_dump.specs.Showing.{Grows, TextRun, TellsBlock, Puts, PutsAsked}
 use Rattle.btr_dump.specs.Stops.{StopCause, StopCounts}
 use Rattle.btr_dump.proofs.Telling.{cause_since}
 use Rattle.btr_prog.specs.Answers.{Names}
 use Rattle.btr_prog.specs.Calls.{First}
 use Rattle.btr_rack.specs.Rack.{Account, Seen, NoneFailed, OnlyReads, Rose, Steady}
-use Rattle.btr_rack.specs.Out.{Adds, CallAccount, Counts}
+use Rattle.btr_rack.specs.Out.{Adds, CallAccount}
 use Rattle.btr_rack.specs.declared.error.SinkError.TheVariants as sink
 use Rattle.btr_rack.proofs.Reading.{reads_more}
 use Rattle.btr_read.specs.Fate.{fate}
 use Rattle.btr_read.specs.Layout.{Layout}
 use Rattle.btr_read.specs.declared.want.Want.{Want}
+use Rattle.btr_volume.specs.Opening.{SuperUnread}
 use Rattle.btr_volume.specs.Start.{Images}
 use Rattle.btr_volume.specs.declared.fault.OpenFault.{OpenFault}
 use Rattle.btr_volume.specs.declared.fault.OpenFault.TheVariants as opening
@@ -27,17 +28,17 @@ use Rattle.btr_walk.specs.declared.fault.TreeFault.{TreeFault}
 use Rattle.btr_walk.specs.declared.fault.TreeFault.TheVariants as tree
 use Rattle.btr_tool.specs.Answers.{error_line}
 use Rattle.btr_tool.specs.Behind.{IfSteady, IsBehind, IsFault, HasTreeCause}
-use Rattle.btr_tool.specs.Faults.{open_answer, stop_answer, tree_answer}
-use Rattle.btr_tool.specs.Filesystem.{Filesystem, OpensFilesystem, IsBySupers, IsRefusal, MayMend, filesystem_in, filesystem_of}
-use Rattle.btr_tool.specs.Supers.{ReadFailed}
-use Rattle.btr_tool.specs.Outcomes.{Outcome, Comes, OrBare, OrMemory, refused}
+use Rattle.btr_tool.specs.Faults.{open_answer, tree_answer}
+use Rattle.btr_tool.specs.Filesystem.{OpensFilesystem, IsBySupers, IsRefusal, MayMend, filesystem_in, filesystem_of}
+use Rattle.btr_tool.specs.Outcomes.{Comes, OrBare, OrMemory, refused}
 use Rattle.btr_tool.specs.Trees.{IsTreesOutcome, asked_answer, call_answer, shown_outcome, trees_in, trees_outcome, trees_shown, whole_answer}
 use Rattle.btr_tool.specs.declared.plan.DumpChoice.{DumpChoice}
 use Rattle.btr_tool.specs.declared.answer.Answer.{Answer}
-use Rattle.btr_tool.specs.declared.answer.Answer.TheVariants.{Done, Lost, Malformed, Unmapped, Crosses, Usage, NoSuper, SumKind, Foreign, Twin, Unsupported, Geometry, LogPending, BadArray, BadChunk, Limit, NoTree, Unread, ImageFault, OutFault, Memory}
+use Rattle.btr_tool.specs.declared.answer.Answer.TheVariants.{Done, Usage, NoSuper, SumKind, Foreign, Twin, Unsupported, Geometry, LogPending, BadArray, Limit, NoTree, ImageFault, OutFault}
 use Rattle.btr_tool.proofs.Coming.{comes_bare, comes_also}
 use Rattle.btr_tool.proofs.Ending.{when_told}
 use Rattle.btr_tool.proofs.Faulting.{tree_in, tree_back}
+use Rattle.btr_tool.proofs.Refusals.{open_line, open_no_out, open_no_usage}
 use Rattle.btr_tool.proofs.Shows.{asked_come, puts_come}
 
 steady_not_rose : (before now : ℕ) → Steady before now → Rose before now → ⊥
@@ -87,45 +88,6 @@ module _ (layout : Layout) (old new : Seen) where
         (λ images. Steady old.account.faults new.account.faults → Comes (λ outcome. outcome ≡ shown_outcome asked_answer (run (fate images layout))) text text' before after (call_answer result))
         (λ images puts steady. asked_come Is (run (fate images layout)) text text' before after result (none_unread layout old new steady) (puts steady) counts) (steadily (λ B. PutsAsked Is (run B) text text' result) tells)
 
--- a refusal of opening is no fault of the output, and has a line
-open_no_out : (refusal : OpenFault) → open_answer refusal ≢ OutFault
-open_no_out (opening.ImageFault slot) e = cc
-open_no_out (opening.NoSuper slot) e = cc
-open_no_out (opening.SumKind kind) e = cc
-open_no_out (opening.Foreign slot) e = cc
-open_no_out (opening.Twin slot) e = cc
-open_no_out (opening.Unsupported bits) e = cc
-open_no_out opening.Geometry e = cc
-open_no_out opening.LogPending e = cc
-open_no_out opening.BadArray e = cc
-open_no_out (opening.BadChunk start) e = cc
-open_no_out (opening.Limit which count) e = cc
-open_no_out (opening.Tree (tree.Lost a)) e = cc
-open_no_out (opening.Tree (tree.Unread a slot)) e = cc
-open_no_out (opening.Tree (tree.Unmapped a)) e = cc
-open_no_out (opening.Tree (tree.Crosses a)) e = cc
-open_no_out (opening.Tree (tree.Malformed a)) e = cc
-open_no_out opening.Memory e = cc
-
-open_line : (refusal : OpenFault) → error_line (open_answer refusal) ≢ []
-open_line (opening.ImageFault slot) e = cc
-open_line (opening.NoSuper slot) e = cc
-open_line (opening.SumKind kind) e = cc
-open_line (opening.Foreign slot) e = cc
-open_line (opening.Twin slot) e = cc
-open_line (opening.Unsupported bits) e = cc
-open_line opening.Geometry e = cc
-open_line opening.LogPending e = cc
-open_line opening.BadArray e = cc
-open_line (opening.BadChunk start) e = cc
-open_line (opening.Limit which count) e = cc
-open_line (opening.Tree (tree.Lost a)) e = cc
-open_line (opening.Tree (tree.Unread a slot)) e = cc
-open_line (opening.Tree (tree.Unmapped a)) e = cc
-open_line (opening.Tree (tree.Crosses a)) e = cc
-open_line (opening.Tree (tree.Malformed a)) e = cc
-open_line opening.Memory e = cc
-
 -- the filesystem isn't opened
 module _ (answer result : Answer) (is : result ≡ answer) (refusal : IsRefusal answer) where
   no_out : answer ≢ OutFault
@@ -145,37 +107,14 @@ module _ (answer result : Answer) (is : result ≡ answer) (refusal : IsRefusal 
       subst (λ a. Comes (OrBare IsTreesOutcome) text text account account a) (sym is)
       (comes_bare (OrBare IsTreesOutcome) text account answer (inr (refl, λ e. open_line refusal.refusal (ap error_line (sym refusal.is) ∙ e))) no_out)
 
-  pub unopened_no_usage : (at : ℕ) → result ≢ Usage at
-  unopened_no_usage at e = of refusal.refusal (sym refusal.is ∙ sym is ∙ e)
-    where
-      of : (r : OpenFault) → open_answer r ≢ Usage at
-      of (opening.ImageFault slot) e = cc
-      of (opening.NoSuper slot) e = cc
-      of (opening.SumKind kind) e = cc
-      of (opening.Foreign slot) e = cc
-      of (opening.Twin slot) e = cc
-      of (opening.Unsupported bits) e = cc
-      of opening.Geometry e = cc
-      of opening.LogPending e = cc
-      of opening.BadArray e = cc
-      of (opening.BadChunk start) e = cc
-      of (opening.Limit which count) e = cc
-      of (opening.Tree (tree.Lost a)) e = cc
-      of (opening.Tree (tree.Unread a slot)) e = cc
-      of (opening.Tree (tree.Unmapped a)) e = cc
-      of (opening.Tree (tree.Crosses a)) e = cc
-      of (opening.Tree (tree.Malformed a)) e = cc
-      of opening.Memory e = cc
-
-  pub unopened_behind : (old new : Seen) → OnlyReads old new → ((slot : ℕ) → answer ≡ ImageFault slot → ReadFailed old.account new.account slot × (old.sure ≡ false)) → HasTreeCause old new answer
+  pub unopened_behind : (old new : Seen) → OnlyReads old new → ((slot : ℕ) → answer ≡ ImageFault slot → SuperUnread old new slot) → HasTreeCause old new answer
       → NoneFailed old.account new.account ⊎ IsFault answer ⊎ MayMend answer → ((n : ℕ) → answer ≢ Limit images_limit n) → IsBehind MayMend old new result
   unopened_behind old new reads image cause hidden counted = record {
     reads = reads;
-    image = λ slot e. (image slot (sym is ∙ e)).0;
-    sure = λ slot e. (image slot (sym is ∙ e)).1;
+    image = λ slot e. image slot (sym is ∙ e);
     tree = λ fault e. cause fault (sym is ∙ e);
     hidden = subst (λ a. NoneFailed old.account new.account ⊎ IsFault a ⊎ MayMend a) (sym is) hidden;
-    no_usage = unopened_no_usage;
+    no_usage = λ at e. open_no_usage refusal.refusal at (sym refusal.is ∙ sym is ∙ e);
     no_limit = λ n e. counted n (sym is ∙ e);
   }
 
@@ -313,7 +252,6 @@ module _ (old mid new : Seen) (first : OnlyReads old mid) (second : OnlyReads mi
   shown_behind layout cause = subst (IsBehind MayMend old new) (sym is) (record {
     reads = reads_more first second;
     image = λ slot is. absurd (no_image slot is);
-    sure = λ slot is. absurd (no_image slot is);
     tree = tree_cause layout cause;
     hidden = inr (inr mends);
     no_usage = λ at e. subst NoneOf e none_of;

@@ -1,11 +1,11 @@
 -- What lies behind an answer: which call on an image failed.
 use Rattle.std.specs.Prelude.{◌≡◌, ◌⊎◌, ℕ, ◌<◌, true, Option}
 use Rattle.btr_rack.specs.Rack.{Account, Seen, Shelf, NoneFailed}
+use Rattle.btr_volume.specs.Opening.{SuperUnread}
 use Rattle.btr_tool.specs.Behind.{IsFault, HasTreeCause}
 use Rattle.btr_tool.specs.Commands.{MayFail}
 use Rattle.btr_tool.specs.Images.{IsMissing}
 use Rattle.btr_tool.specs.Opening.{OpeningFailed}
-use Rattle.btr_tool.specs.Supers.{ReadFailed}
 use Rattle.btr_tool.specs.Words.{Words, IsSentence, images_of}
 use Rattle.btr_tool.specs.declared.plan.Plan.{Plan}
 use Rattle.btr_tool.specs.declared.answer.Answer.{Answer}
@@ -21,7 +21,7 @@ pub record IsUnopened (words : Words) (old new : Seen) (slot : ℕ) : Type 0 whe
 pub record ImageCause (words : Words) (old new : Seen) (slot : ℕ) : Type 0 where
   pub plan : Plan
   pub sentence : IsSentence plan words
-  pub failed : OpeningFailed (images_of plan words) new.slots old.account new.account slot ⊎ ReadFailed old.account new.account slot
+  pub failed : OpeningFailed (images_of plan words) new.slots old.account new.account slot ⊎ SuperUnread old new slot
 
 -- the image that couldn't be opened is answered, or a failure of the output, or want of memory
 abbrev pub IsShut : Words → Seen → Seen → Answer → Type 0

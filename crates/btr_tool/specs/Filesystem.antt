@@ -1,5 +1,5 @@
 -- The filesystem of the images.
-use Rattle.std.specs.Prelude.{◌≡◌, ◌≢◌, ◌⊎◌, ℕ, List, Result, Ok, Err, ⊤}
+use Rattle.std.specs.Prelude.{◌≡◌, ◌≢◌, ◌⊎◌, Result, Ok, Err, ⊤}
 use Rattle.btr_prog.specs.Prog.{exec}
 use Rattle.btr_read.specs.Fate.{Fault, fate}
 use Rattle.btr_read.specs.Fate as fault

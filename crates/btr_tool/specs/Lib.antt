@@ -7,7 +7,6 @@ pub mod Faults
 pub mod Outcomes
 pub mod Images
 pub mod Opening
-pub mod Supers
 pub mod Behind
 pub mod Newest
 pub mod Filesystem

@@ -1,6 +1,6 @@
 -- The commands that show trees of a filesystem.
-use Rattle.std.specs.Prelude.{◌≡◌, ◌⊎◌, ℕ, List, Option, Some, None, Result, Ok, Err}
-use Rattle.btr_dump.specs.Pieces.{Text, all_trees, asked_tree, block_shown, kind_in, roots_shown}
+use Rattle.std.specs.Prelude.{◌≡◌, ◌⊎◌, ℕ, Option, Some, None, Result, Ok, Err}
+use Rattle.btr_dump.specs.Pieces.{all_trees, asked_tree, block_shown, kind_in, roots_shown}
 use Rattle.btr_dump.specs.Showing.{TextRun, whole}
 use Rattle.btr_prog.specs.Prog.{exec, steps_of}
 use Rattle.btr_read.specs.Fate.{Fault, fate}

@@ -1,11 +1,10 @@
 // Opening the filesystem of the open images.
-ghost use Rattle.std.specs.Prelude.{◌≡◌, ◌≢◌, ◌⊎◌, ◌<◌, false, ℕ, length, IfErr, IfOk};
+ghost use Rattle.std.specs.Prelude.{◌≡◌, ◌≢◌, ◌⊎◌, ◌<◌, ℕ, length, IfErr, IfOk};
 ghost use Rattle.btr_rack.specs.Rack.{NoneFailed, OnlyReads};
-ghost use Rattle.btr_volume.specs.Opening.{IsFresh};
+ghost use Rattle.btr_volume.specs.Opening.{IsFresh, SuperUnread};
 ghost use Rattle.btr_volume.specs.declared.which.Which.TheVariants.{Images};
 ghost use Rattle.btr_tool.specs.Behind.{HasTreeCause, IfSteady, IsFault};
 ghost use Rattle.btr_tool.specs.Filesystem.{IsRefusal, MayMend, OpensFilesystem};
-ghost use Rattle.btr_tool.specs.Supers.{ReadFailed};
 
 use crate::answer::Answer;
 use btr_rack::Rack;
@@ -26,7 +25,7 @@ pub(crate) fn open_filesystem<R: Rack>(alloc: Global, rack: &mut R) -> Result<Vo
 
     // An image is at fault only where a read of its superblock failed, which no sure rack does.
     ensures image { IfErr result (λ answer. (slot : ℕ) → answer ≡ Answer.ImageFault slot
-        → ReadFailed (R.seen rack.old).account (R.seen rack.new).account slot × ((R.seen rack.old).sure ≡ false)) }
+        → SuperUnread (R.seen rack.old) (R.seen rack.new) slot) }
     ensures tree { IfErr result (HasTreeCause (R.seen rack.old) (R.seen rack.new)) }
     ensures hidden { IfErr result (λ answer.
         NoneFailed (R.seen rack.old).account (R.seen rack.new).account ⊎ IsFault answer ⊎ MayMend answer) }

@@ -15,7 +15,6 @@ mod progress;
 mod refusal;
 mod run;
 mod standard;
-mod supers;
 #[cfg(test)]
 mod tests;
 mod text;

@@ -4,8 +4,6 @@ use Rattle.btr_walk.specs.Reading.{unread_by}
 use Rattle.btr_dump.specs.Pieces.{kind_in, block_shown}
 use Rattle.btr_dump.specs.Showing.{Puts, Writes}
 use Rattle.btr_dump.proofs.Blocks.{tells_drawn}
-use Rattle.btr_dump.proofs.Loops.{goes_none, goes_more, goes_ends, turn_goes, turn_stops, turn_halts, turn_ends}
-use Rattle.btr_dump.proofs.Telling.{since, joined, told_none, drawn, cause_since}
 use Rattle.btr_dump.proofs.Growing.{grows_twice}
 use Rattle.btr_dump.proofs.block.dump_block.Goals as goal
 

@@ -1,4 +1,4 @@
-use Rattle.std.proofs.Common.{◌∙◌, [], Ok, Err, sym, ap, subst}
+use Rattle.std.proofs.Common.{[], Err, sym, subst}
 use Rattle.btr_read.specs.declared.want.Want.TheVariants.{Block}
 use Rattle.btr_read.proofs.Serving.{serves_given}
 use Rattle.btr_read.specs.Serves.{Serves}

@@ -1,9 +1,9 @@
-use Rattle.std.proofs.Common.{◌∙◌, ◌++◌, List, [], true, false, Ok, Err, Some, None, refl, sym, ap, subst}
-use Rattle.btr_prog.specs.Prog.{exec, wants_of}
+use Rattle.std.proofs.Common.{◌∙◌, ◌++◌, List, [], true, false, Ok, Err, ap, subst}
+use Rattle.btr_prog.specs.Prog.{exec}
 use Rattle.btr_read.specs.declared.want.Want.{Want}
 use Rattle.btr_volume.specs.declared.stop.Stop.TheVariants.{Tree}
 use Rattle.btr_walk.specs.Going.{IsOn}
-use Rattle.btr_walk.specs.Reading.{Tells, unread_by}
+use Rattle.btr_walk.specs.Reading.{unread_by}
 use Rattle.btr_walk.specs.ScanEnds.{left_of, IsNextOn}
 use Rattle.btr_walk.specs.Showing.{item_of}
 use Rattle.btr_dump.specs.Pieces.{item_line, item_lines}

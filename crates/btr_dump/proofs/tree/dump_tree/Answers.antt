@@ -1,15 +1,13 @@
-use Rattle.std.proofs.Common.{◌∙◌, [], Ok, Err, Some, None, sym, ap, subst}
+use Rattle.std.proofs.Common.{◌∙◌, [], Ok, Err, ap, subst}
 use Rattle.btr_prog.specs.Prog.{exec}
 use Rattle.btr_prog.specs.Answers.{Follows, no_part}
-use Rattle.btr_super.specs.declared.superblock.Super.{Super}
-use Rattle.btr_volume.specs.Looking.{Looks}
 use Rattle.btr_volume.specs.Tree.{tree_of}
 use Rattle.btr_volume.specs.declared.stop.Stop.TheVariants.{NoTree, Tree}
 use Rattle.btr_walk.specs.Reading.{unread_by, answer_of}
 use Rattle.btr_dump.specs.Pieces.{kind_in, asked_tree, tree_shown}
 use Rattle.btr_dump.specs.Showing.{Puts, PutsAsked}
 use Rattle.btr_dump.proofs.Asking.{asked_fault, asked_none, asked_some}
-use Rattle.btr_dump.proofs.Telling.{drawn, joined, since, stop_cause_since}
+use Rattle.btr_dump.proofs.Telling.{drawn, joined, since}
 use Rattle.btr_dump.proofs.Growing.{grows_none}
 use Rattle.btr_dump.proofs.tree.dump_tree.Goals as goal
 

@@ -1,9 +1,8 @@
-use Rattle.std.proofs.Common.{◌≡◌, ◌∙◌, List, Bool, true, false, Ok, Err, Result, refl, sym, ap, subst}
+use Rattle.std.proofs.Common.{◌∙◌, List, Bool, Ok, Err, refl, subst}
 use Rattle.btr_prog.specs.Prog.{exec}
 use Rattle.btr_rack.proofs.Reading.{reads_none, reads_more}
 use Rattle.btr_read.specs.declared.want.Want.{Want}
-use Rattle.btr_volume.specs.declared.stop.Stop.{Stop}
-use Rattle.btr_walk.specs.Reading.{Map, unread_by}
+use Rattle.btr_walk.specs.Reading.{unread_by}
 use Rattle.btr_walk.specs.Preorder.{IsAmong, blocks_left, blocks_rank}
 use Rattle.btr_dump.specs.Pieces.{blocks_shown}
 use Rattle.btr_dump.specs.Showing.{Writes, GoesOn, Turns, TurnNears}

@@ -1,4 +1,4 @@
-use Rattle.std.proofs.Common.{◌∙◌, [], List, Ok, Err, sym, ap, subst}
+use Rattle.std.proofs.Common.{[], List, Ok, Err, sym, subst}
 use Rattle.btr_prog.specs.Prog.{exec}
 use Rattle.btr_read.specs.declared.want.Want.{Want}
 use Rattle.btr_text.specs.Pieces.{text_of}

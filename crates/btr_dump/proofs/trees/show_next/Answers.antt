@@ -1,19 +1,17 @@
-use Rattle.std.proofs.Common.{◌∙◌, ◌++◌, List, [], ◌≤◌, Bool, true, false, Ok, Err, subst}
+use Rattle.std.proofs.Common.{◌++◌, List, [], Bool, true, false, Ok, Err, subst}
 use Rattle.btr_prog.specs.Prog.{exec}
-use Rattle.btr_read.specs.Store.{free_count}
 use Rattle.btr_read.specs.declared.want.Want.{Want}
 use Rattle.btr_volume.specs.declared.stop.Stop.TheVariants.{Tree}
 use Rattle.btr_walk.specs.Going.{IsOn}
 use Rattle.btr_walk.specs.Reading.{unread_by}
-use Rattle.btr_walk.specs.ScanEnds.{left_of, without_leaf}
+use Rattle.btr_walk.specs.ScanEnds.{left_of}
 use Rattle.btr_dump.specs.Pieces.{item_root, item_trees, tree_if, tree_shown}
 use Rattle.btr_dump.specs.Showing.{GoesOn, Turns, Writes}
 use Rattle.btr_dump.specs.Trees.{NextItemBy}
-use Rattle.btr_dump.specs.declared.trees.NextItem.TheVariants as item
-use Rattle.btr_dump.proofs.Items.{base_same, ready_same, room_beside, room_same}
+use Rattle.btr_dump.proofs.Items.{room_beside, room_same}
 use Rattle.btr_dump.proofs.Loops.{turn_halts, turn_ends}
 use Rattle.btr_dump.proofs.Parts.{writes_behind}
-use Rattle.btr_dump.proofs.Telling.{drawn, joined, same_layout, same_then, since, stop_cause_since}
+use Rattle.btr_dump.proofs.Telling.{drawn, joined, same_layout, since, stop_cause_since}
 use Rattle.btr_dump.proofs.Turning.{other_goes, tree_goes, tree_stops}
 use Rattle.btr_dump.proofs.trees.show_next.Goals as goal
 
