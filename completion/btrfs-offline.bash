@@ -1,12 +1,17 @@
 # Completes the words, options and files of btrfs-offline in bash.
 
+_btrfs_offline_images() {
+    compopt -o filenames 2>/dev/null
+    mapfile -t COMPREPLY < <(compgen -f -- "$1")
+}
+
 _btrfs_offline() {
     local current=${COMP_WORDS[COMP_CWORD]} first=1 command
     COMPREPLY=()
     [[ ${COMP_WORDS[1]-} == --build ]] && first=2
     if ((COMP_CWORD <= first)); then
-        local words='super help --help -h --version --build'
-        ((first == 2)) && words='super'
+        local words='super inspect-internal restore help --help -h --version --build'
+        ((first == 2)) && words='super inspect-internal restore'
         mapfile -t COMPREPLY < <(compgen -W "$words" -- "$current")
         return
     fi
@@ -17,8 +22,25 @@ _btrfs_offline() {
             ((COMP_CWORD == first + 1)) && mapfile -t COMPREPLY < <(compgen -W '--help -h' -- "$current")
             return
         fi
-        compopt -o filenames 2>/dev/null
-        mapfile -t COMPREPLY < <(compgen -f -- "$current")
+        _btrfs_offline_images "$current"
+        ;;
+    inspect-internal)
+        if ((COMP_CWORD == first + 1)); then
+            mapfile -t COMPREPLY < <(compgen -W 'dump-tree --help -h' -- "$current")
+        elif [[ ${COMP_WORDS[COMP_CWORD - 1]} == -[bt] ]]; then
+            return
+        elif [[ $current == -* ]]; then
+            ((COMP_CWORD == first + 2)) && mapfile -t COMPREPLY < <(compgen -W '-b -t -r --help -h' -- "$current")
+        else
+            _btrfs_offline_images "$current"
+        fi
+        ;;
+    restore)
+        if ((COMP_CWORD == first + 1)); then
+            mapfile -t COMPREPLY < <(compgen -W '-l --help -h' -- "$current")
+        else
+            _btrfs_offline_images "$current"
+        fi
         ;;
     esac
 }

@@ -1,7 +1,7 @@
 -- A tree that was asked for.
-use Rattle.std.proofs.Common.{◌≡◌, ℕ, List, [], ◌++◌, Option, Some, None, Result, Ok, Err, refl, sym, ap, ◌∙◌, subst}
+use Rattle.std.proofs.Common.{◌≡◌, ℕ, List, [], Option, Some, None, Result, Ok, Err, refl, sym, subst}
 use Rattle.btr_base.specs.declared.kind.SumKind.{SumKind}
-use Rattle.btr_prog.specs.Prog.{Prog, Return, Run, run, exec, bind, and_then, wants_of}
+use Rattle.btr_prog.specs.Prog.{Return, run, exec, and_then, wants_of}
 use Rattle.btr_prog.specs.Quiet.{quiet}
 use Rattle.btr_prog.specs.Answers.{Halt, Broke, Follows, no_part}
 use Rattle.btr_prog.proofs.Follow.{follows_then, follows_halt, follows_value, follows_alone, follows_as}
@@ -9,7 +9,6 @@ use Rattle.btr_prog.proofs.Quieting.{follows_quiet}
 use Rattle.btr_prog.proofs.Runs.{exec-bind}
 use Rattle.btr_read.specs.Fate as fate
 use Rattle.btr_read.specs.declared.want.Want.{Want}
-use Rattle.btr_super.specs.declared.superblock.Super.{Super}
 use Rattle.btr_text.proofs.Writing.{adds_nothing}
 use Rattle.btr_walk.specs.declared.fault.TreeFault.{TreeFault}
 use Rattle.btr_walk.specs.Reading.{Map, UnreadBlock, halt_of}

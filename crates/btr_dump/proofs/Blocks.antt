@@ -1,7 +1,7 @@
 -- One block, and its text.
 use Rattle.std.proofs.Common.{◌≡◌, ℕ, ◌≤◌, leb, true, cond, length, List, [], ◌∷◌, ◌++◌, Option, Some, None, IfSome, IsSomeAnd, set, Result, Ok, Err, refl, sym, ap, ◌∙◌, subst, arith}
-use Rattle.btr_prog.specs.Prog.{Prog, Need, Wants, Does, given, exec, steps_of, wants_of}
-use Rattle.btr_prog.specs.Answers.{Halt, Fault, Follows}
+use Rattle.btr_prog.specs.Prog.{Prog, Need, Wants, Does, given, exec, wants_of}
+use Rattle.btr_prog.specs.Answers.{Halt, Follows}
 use Rattle.btr_prog.specs.Calls as calls
 use Rattle.btr_prog.specs.Calls.{Sure, First, Any}
 use Rattle.btr_prog.proofs.Successive.{calls_as}
@@ -36,7 +36,7 @@ use Rattle.btr_walk.specs.Reading.{Map, UnreadBlock, FaultCause, unread_by, tree
 use Rattle.btr_volume.specs.declared.stop.Stop.{Stop}
 use Rattle.btr_volume.specs.declared.stop.Stop.TheVariants.{NoTree, Tree, Deletion, Balance, Missing, Image, Sink, Out, Memory}
 use Rattle.btr_dump.specs.Pieces.{Text, held_block, held_in, block_shown, met_block}
-use Rattle.btr_dump.specs.Showing.{part, TextRun, BlockAgreed, TellsBlock, CutIn, WroteAll, Writes}
+use Rattle.btr_dump.specs.Showing.{part, BlockAgreed, TellsBlock, CutIn, WroteAll, Writes}
 
 map_some : (held : Option (List (List ℕ))) (P Q : List (List ℕ) → Type 0) → ((images : List (List ℕ)) → P images → Q images) → IfSome held P → IfSome held Q
 map_some None P Q f p = tt

@@ -1,5 +1,5 @@
 -- How a text ends.
-use Rattle.std.proofs.Common.{◌≡◌, ℕ, ◌+◌, true, false, List, [], ◌++◌, length, take, Option, Result, Ok, Err, refl, sym, ap, ◌∙◌, subst}
+use Rattle.std.proofs.Common.{◌≡◌, ℕ, ◌+◌, true, false, List, [], ◌++◌, length, take, Option, Result, Ok, Err, sym, ap, ◌∙◌, subst}
 use Rattle.std.proofs.lemmas.Bool.{false≢true}
 use Rattle.std.proofs.Math.Seq.{take-append-add}
 use Rattle.btr_prog.specs.Prog.{steps_of}
@@ -9,13 +9,12 @@ use Rattle.btr_rack.specs.declared.error.SinkError.{SinkError}
 use Rattle.btr_rack.specs.declared.error.SinkError.TheVariants as sink
 use Rattle.btr_read.specs.Fate as fate
 use Rattle.btr_read.specs.declared.want.Want.{Want}
-use Rattle.btr_text.specs.Text.{Wrote}
 use Rattle.btr_text.proofs.Writing.{adds_twice}
 use Rattle.btr_walk.specs.Reading.{UnreadBlock, halt_of}
 use Rattle.btr_volume.specs.declared.stop.Stop.{Stop}
 use Rattle.btr_volume.specs.declared.stop.Stop.TheVariants.{NoTree, Tree, Deletion, Balance, Missing, Image, Sink, Out, Memory}
 use Rattle.btr_dump.specs.Pieces.{Text}
-use Rattle.btr_dump.specs.Showing.{part, whole, TextRun, StopFollows, Puts, CutIn, WroteAll, Writes}
+use Rattle.btr_dump.specs.Showing.{part, whole, TextRun, Puts, WroteAll, Writes}
 use Rattle.btr_dump.specs.Stops.{stop_of, is_cut, StopCounts}
 use Rattle.btr_dump.proofs.Writing.{IsDone, done_value, done_fault, broke_in}
 

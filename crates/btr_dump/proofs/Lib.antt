@@ -1,7 +1,11 @@
 pub mod Asking
 pub mod Blocks
 pub mod Endings
+pub mod Growing
+pub mod Items
 pub mod Loops
+pub mod Parts
 pub mod Rooting
 pub mod Telling
+pub mod Turning
 pub mod Writing

@@ -1,10 +1,10 @@
 -- The items of a cursor, each shown before the next is wanted.
-use Rattle.std.proofs.Common.{◌≡◌, ℕ, true, false, List, [], ◌∷◌, ◌++◌, Option, Result, Ok, Err, refl, sym, ap, ◌∙◌, subst}
+use Rattle.std.proofs.Common.{◌≡◌, List, [], ◌∷◌, ◌++◌, Option, Result, Ok, Err, refl, sym, ap, ◌∙◌, subst}
 use Rattle.std.proofs.lemmas.List.{append-nil, append_assoc}
 use Rattle.std.proofs.lemmas.Grind.{flat_map-append}
 use Rattle.btr_prog.specs.Prog.{Prog, Return, Mark, Wants, Does, Run, run, first, prepend, exec, bind, after, and_then, steps_of, wants_of, want_marks}
 use Rattle.btr_prog.specs.Thread.{go_on_run, thread_run, end_of}
-use Rattle.btr_prog.specs.Answers.{Halt, Fault, Follows, no_part}
+use Rattle.btr_prog.specs.Answers.{Halt, Follows, no_part}
 use Rattle.btr_prog.specs.Goes.{AfterTo, GoOnTo, ThreadsTo}
 use Rattle.btr_prog.proofs.Runs.{exec-bind, steps_of-append, wants_of-append}
 use Rattle.btr_prog.proofs.Threads.{exec-thread}
@@ -13,7 +13,6 @@ use Rattle.btr_prog.proofs.Cursors.{cursor_halts}
 use Rattle.btr_prog.proofs.Follow.{follows_behind, follows_halt, follows_as}
 use Rattle.btr_read.specs.Fate as fate
 use Rattle.btr_read.specs.declared.want.Want.{Want}
-use Rattle.btr_text.specs.Text.{Wrote, WasCut}
 use Rattle.btr_text.proofs.Writing.{wrote_nothing, wrote_then, wrote_as, cut_then, cut_as}
 use Rattle.btr_walk.specs.declared.fault.TreeFault.{TreeFault}
 use Rattle.btr_walk.specs.Reading.{Map, UnreadBlock, halt_of}
@@ -21,7 +20,7 @@ use Rattle.btr_volume.specs.Lookup.{Program, each}
 use Rattle.btr_volume.specs.declared.stop.Stop.{Stop}
 use Rattle.btr_volume.specs.declared.stop.Stop.TheVariants.{NoTree, Tree, Deletion, Balance, Missing, Image, Sink, Out, Memory}
 use Rattle.btr_dump.specs.Pieces.{Text, Shown}
-use Rattle.btr_dump.specs.Showing.{part, whole, TextRun, CutIn, WroteAll, Writes, Past, GoesOn, Turns}
+use Rattle.btr_dump.specs.Showing.{part, whole, TextRun, CutIn, WroteAll, Writes, GoesOn}
 
 whole-append : (a b : List Text) → whole (a ++ b) ≡ whole a ++ whole b
 whole-append a b = flat_map-append (λ (piece : Text). piece) a b
@@ -39,11 +38,11 @@ steps_behind : (ws : List Want) (ms : List (Mark Want Text)) → steps_of (want_
 steps_behind ws ms = steps_of-append (want_marks ws) ms ∙ ap (λ x. x ++ steps_of ms) (steps_back Text ws)
 
 -- a run after another has the first one's marks in front
-marks_after : (ms : List (Mark Want Text)) (e : Result (Unit {0}) fate.Fault) (k : Unit {0} → TextRun (Unit {0})) → (more : List (Mark Want Text)) × ((after ms e k).marks ≡ ms ++ more)
+pub marks_after : (ms : List (Mark Want Text)) (e : Result (Unit {0}) fate.Fault) (k : Unit {0} → TextRun (Unit {0})) → (more : List (Mark Want Text)) × ((after ms e k).marks ≡ ms ++ more)
 marks_after ms (Ok a) k = ((k a).marks, refl)
 marks_after ms (Err f) k = ([], sym (append-nil ms))
 
-value_then : (ms : List (Mark Want Text)) (e : Result (Unit {0}) fate.Fault) (k : Unit {0} → TextRun (Unit {0})) → e ≡ Ok tt → after ms e k ≡ prepend ms (k tt)
+pub value_then : (ms : List (Mark Want Text)) (e : Result (Unit {0}) fate.Fault) (k : Unit {0} → TextRun (Unit {0})) → e ≡ Ok tt → after ms e k ≡ prepend ms (k tt)
 value_then ms e k is = ap (λ x. after ms x k) is
 
 abbrev gone_on : Unit {0} → Run Want fate.Fault Text (Result (Unit {0}) (Unit {0}))
@@ -124,16 +123,22 @@ module _ {X : Type 0} (show : X → Shown) (B : Map) where
     met : exec B (shown_all p) ≡ prepend (want_marks past) (and_then item rest)
     met = exec_all p ∙ ap run_all is ∙ all_past past (first (Does x) (exec B q)) ∙ ap (prepend (want_marks past)) (all_does x (exec B q) ∙ ap (λ z. and_then item (λ u. z)) (sym (exec_all q)))
 
-    pub turn_goes : (On : List Want → Type 0) (Is : UnreadBlock → Want → Type 0) (seen ws : List Want) (old new : Option Text) (waited waits : Text) → wants_of item.marks ≡ [] → On (seen ++ past) → WroteAll Is ws item old new waited waits (Ok tt)
+    pub turn_moves : (On : List Want → Type 0) (Is : UnreadBlock → Want → Type 0) (seen ws : List Want) (old new : Option Text) (waited waits : Text) → On (seen ++ (past ++ wants_of item.marks)) → WroteAll Is ws item old new waited waits (Ok tt)
         → GoesOn On (exec B (shown_all p)) (exec B (shown_all q)) seen old new waited waits
-    turn_goes On Is seen ws old new waited waits none on w = record {
+    turn_moves On Is seen ws old new waited waits on w = record {
       past = record {
         marks = want_marks past ++ item.marks;
         is = met ∙ ap (prepend (want_marks past)) (value_then item.marks item.ending rest w.follows.1) ∙ ap (λ ms. run ms (rest tt).ending) (sym (append_assoc (want_marks past) item.marks (rest tt).marks));
         wrote = wrote_as (whole (steps_of (want_marks past ++ item.marks))) (ap whole (w.follows.0 ∙ sym (steps_behind past item.marks))) w.wrote;
       };
-      on = subst (λ (x : List Want). On (seen ++ x)) (sym (wants_of-append (want_marks past) item.marks ∙ ap (λ y. wants_of (want_marks {S = Text} past) ++ y) none ∙ append-nil (wants_of (want_marks {S = Text} past)) ∙ wants_back Text past)) on;
+      on = subst (λ (x : List Want). On (seen ++ x)) (sym (wants_of-append (want_marks past) item.marks ∙ ap (λ y. y ++ wants_of item.marks) (wants_back Text past))) on;
     }
+
+    -- the same where the item wants nothing more
+    pub turn_goes : (On : List Want → Type 0) (Is : UnreadBlock → Want → Type 0) (seen ws : List Want) (old new : Option Text) (waited waits : Text) → wants_of item.marks ≡ [] → On (seen ++ past) → WroteAll Is ws item old new waited waits (Ok tt)
+        → GoesOn On (exec B (shown_all p)) (exec B (shown_all q)) seen old new waited waits
+    turn_goes On Is seen ws old new waited waits none on w =
+        turn_moves On Is seen ws old new waited waits (subst (λ (x : List Want). On (seen ++ x)) (sym (ap (λ (y : List Want). past ++ y) none ∙ append-nil past)) on) w
 
     behind : (Is : UnreadBlock → Want → Type 0) (seen : List Want) (old new : Option Text) (waited waits : Text) (h : Halt fate.Fault UnreadBlock) → WroteAll Is (seen ++ past) item old new waited waits (Err h) → WroteAll Is seen (exec B (shown_all p)) old new waited waits (Err h)
     behind Is seen old new waited waits h w = record {

@@ -1,5 +1,5 @@
 -- Lines of roots.
-use Rattle.std.proofs.Common.{◌≡◌, ℕ, Bool, eqb, cond, true, false, List, [], ◌∷◌, ◌++◌, Option, Result, Ok, Err, refl, sym, ap, ◌∙◌, subst}
+use Rattle.std.proofs.Common.{◌≡◌, Bool, eqb, cond, true, false, List, [], ◌∷◌, ◌++◌, Option, Result, Ok, Err, refl, sym, ap, ◌∙◌, subst}
 use Rattle.std.proofs.Common.{eq-eqb}
 use Rattle.std.proofs.lemmas.Bool.{ne_eqb}
 use Rattle.std.proofs.lemmas.List.{append-nil}
@@ -22,7 +22,7 @@ use Rattle.btr_walk.specs.declared.fault.TreeFault.TheVariants.{Malformed}
 use Rattle.btr_volume.specs.declared.stop.Stop.{Stop}
 use Rattle.btr_volume.specs.declared.stop.Stop.TheVariants.{Tree}
 use Rattle.btr_dump.specs.Pieces.{Text, Shown, piece, root_line, item_line}
-use Rattle.btr_dump.specs.Showing.{TextRun, CutIn, Writes}
+use Rattle.btr_dump.specs.Showing.{CutIn, Writes}
 use Rattle.btr_dump.specs.Stops.{stop_of}
 
 -- the output refused within a piece

@@ -1,5 +1,5 @@
 -- What calls in a row tell.
-use Rattle.std.proofs.Common.{◌≡◌, ◌≤◌, ℕ, List, All, Any, length, Option, Some, None, IfSome, Ok, Err, refl, sym, ap, ◌∙◌, subst, arith, count_by, is_none}
+use Rattle.std.proofs.Common.{◌≡◌, ◌≤◌, ℕ, List, All, Any, length, Option, Some, None, IfSome, Err, refl, sym, ap, ◌∙◌, subst, arith, count_by, is_none}
 use Rattle.btr_prog.specs.Calls.{Sure}
 use Rattle.btr_prog.proofs.Successive.{calls_as, calls_then, calls_none}
 use Rattle.btr_rack.specs.Rack.{Seen, OnlyReads}

@@ -1,11 +1,11 @@
 -- Texts that follow runs.
-use Rattle.std.proofs.Common.{◌≡◌, ℕ, zero, suc, ◌+◌, ◌-◌, ◌<◌, ◌≤◌, Bool, true, false, ltb, List, [], ◌∷◌, ◌++◌, length, take, Option, Some, None, Result, Ok, Err, refl, sym, ap, ◌∙◌, subst, arith}
+use Rattle.std.proofs.Common.{◌≡◌, ℕ, zero, suc, ◌+◌, ◌-◌, true, false, ltb, List, [], ◌∷◌, ◌++◌, length, take, Option, Some, None, Result, Ok, Err, refl, sym, ap, ◌∙◌, subst, arith}
 use Rattle.std.proofs.lemmas.Bool.{ltb-true, ltb-false}
-use Rattle.std.proofs.lemmas.List.{append_assoc, append-nil, take-append-le}
+use Rattle.std.proofs.lemmas.List.{append-nil, take-append-le}
 use Rattle.std.proofs.Math.Seq.{take-append-add}
 use Rattle.std.specs.Option.{option_to_list}
-use Rattle.btr_prog.specs.Prog.{Mark, Wants, Does, Run, run, steps_of}
-use Rattle.btr_prog.specs.Answers.{Halt, Fault, Unread, Broke, Leaves, Breaks, Follows, no_part}
+use Rattle.btr_prog.specs.Prog.{Mark, Wants, Does, run, steps_of}
+use Rattle.btr_prog.specs.Answers.{Broke, Leaves, Breaks, Follows, no_part}
 use Rattle.btr_rack.specs.Out.{Adds}
 use Rattle.btr_read.specs.Fate as fate
 use Rattle.btr_read.specs.declared.want.Want.{Want}

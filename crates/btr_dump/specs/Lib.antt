@@ -1,3 +1,4 @@
 pub mod Showing
 pub mod Pieces
 pub mod Stops
+pub mod Trees

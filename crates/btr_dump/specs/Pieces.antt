@@ -1,12 +1,14 @@
 -- What `dump-tree` shows, as programs over wants whose steps are pieces of a text.
-use Rattle.std.specs.Prelude.{ℕ, ◌==◌, nat_le, if◌then◌else◌, List, ◌++◌, length, codes, Option, Some, None, Ok, Err}
+use Rattle.std.specs.Prelude.{ℕ, ◌==◌, nat_le, if◌then◌else◌, List, ◌++◌, length, codes, Option, Some, None, Result, Ok, Err}
 use Rattle.std.specs.Fmt.{decimal}
 use Rattle.std.specs.Option.{unwrap_or}
 use Rattle.btr_base.specs.Sum.{kind_of_type}
 use Rattle.btr_base.specs.Key.{last_key}
 use Rattle.btr_base.specs.declared.kind.SumKind.{SumKind}
 use Rattle.btr_base.specs.declared.kind.SumKind.TheVariants.{Crc32c}
+use Rattle.btr_items.specs.Form.{map_ok}
 use Rattle.btr_items.specs.RootItem.{root_item_of}
+use Rattle.btr_items.specs.declared.fault.ItemFault.{ItemFault}
 use Rattle.btr_items.specs.Types.{root_item}
 use Rattle.btr_node.specs.Node.{node_of}
 use Rattle.btr_node.specs.declared.node.Node.{Node}
@@ -99,3 +101,29 @@ found_tree sums id (Some root) = bind (tree_shown sums root) (λ u. Return None)
 -- the tree of an id
 abbrev pub asked_tree : Super → ℕ → Asked
 asked_tree s id = looks (tree_of s id) (found_tree (kind_in s) id)
+
+-- the root that was read of an item, if it keeps its form
+abbrev pub if_formed : Result TreeRoot ItemFault → Option TreeRoot
+if_formed (Ok root) = Some root
+if_formed (Err fault) = None
+
+-- the root that an item describes, if it is a ROOT_ITEM and keeps its form
+unfoldable pub item_root : TreeItem → Option TreeRoot
+item_root item = if item.key.kind == root_item then if_formed (map_ok (described item.key) (root_item_of item.body)) else None
+
+-- a tree, if there is one
+abbrev pub tree_if : SumKind → Option TreeRoot → Shown
+tree_if sums None = Return tt
+tree_if sums (Some root) = tree_shown sums root
+
+-- the trees that items describe, one after another
+abbrev pub item_trees : SumKind → RangeProg → Shown
+item_trees sums items = each (λ u item. tree_if sums (item_root item)) tt items
+
+-- the trees whose roots the superblock names: the root tree, and then the chunk tree
+abbrev pub top_trees : Super → Shown
+top_trees s = bind (tree_shown (kind_in s) (named_root 1 (root_root s))) (λ u. tree_shown (kind_in s) (named_root 3 (chunk_root s)))
+
+-- all trees: those, and then the tree of each ROOT_ITEM in the order of the keys
+abbrev pub all_trees : Super → Shown
+all_trees s = bind (top_trees s) (λ u. item_trees (kind_in s) (range first_key last_key (root_root s)))

@@ -28,6 +28,11 @@ whole pieces = flat_map (λ piece. piece) pieces
 abbrev pub TextRun : Type 0 → Type 0
 TextRun A = Run Want Fault Text A
 
+-- what stood in the output stays, and some bytes come behind it, or none
+pub record Grows (old new : Option Text) : Type 0 where
+  pub more : Text
+  pub adds : Adds old new more
+
 -- pieces were put, and these and the answer follow a run; a refusal of the output may come at any place
 abbrev pub StopFollows : (UnreadBlock → Want → Type 0) → TextRun (Unit {0}) → List Text → Result (Unit {0}) Stop → Type 0
 StopFollows Is r done (Ok u) = Follows Is part [] r done (Ok tt)

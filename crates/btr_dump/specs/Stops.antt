@@ -1,5 +1,5 @@
 -- The causes of answers.
-use Rattle.std.specs.Prelude.{◌≡◌, ℕ, Bool, true, false, Result, Ok, Err, ⊤}
+use Rattle.std.specs.Prelude.{◌≡◌, Bool, true, false, Result, Ok, Err, ⊤}
 use Rattle.btr_rack.specs.Out.{CallAccount, Counts}
 use Rattle.btr_rack.specs.Rack.{Seen}
 use Rattle.btr_rack.specs.declared.error.SinkError.{SinkError}

@@ -9,7 +9,7 @@ ghost use Rattle.btr_read.specs.declared.want.Want.{Want};
 ghost use Rattle.btr_walk.specs.Reading.{Map, unread_by};
 ghost use Rattle.btr_volume.specs.Looking.{SameVolume};
 ghost use Rattle.btr_dump.specs.Pieces.{kind_in, held_block, held_in, block_shown};
-ghost use Rattle.btr_dump.specs.Showing.{Writes, Puts, TellsBlock};
+ghost use Rattle.btr_dump.specs.Showing.{Grows, Writes, Puts, TellsBlock};
 ghost use Rattle.btr_dump.specs.Stops.{StopCounts, StopCause};
 
 use crate::ending::{finish, stop_of};
@@ -67,6 +67,7 @@ fn show_block<R: Rack, O: Out>(
     ensures loans { SameLoans store.old store.new }
     ensures account { StopCounts (O.account out.old) (O.account out.new) result }
     ensures cause { StopCause store.old.layout (R.seen rack.old) (R.seen rack.new) result }
+    ensures grows { Grows (O.text out.old) (O.text out.new) }
     ensures content { TellsBlock store.old.layout addr (R.seen rack.old) (R.seen rack.new) (λ B. Writes (unread_by store.old.layout (R.seen rack.old) (R.seen rack.new)) [] (exec B (block_shown kind addr)) (O.text out.old) (O.text out.new) text.old text.new result) }
 {
     let loan = match fetch(&Want::Block { addr }, rack, store) {
@@ -96,6 +97,7 @@ pub fn dump_block<R: Rack, O: Out>(
     ensures same { SameVolume vol.old vol.new }
     ensures account { StopCounts (O.account out.old) (O.account out.new) result }
     ensures cause { StopCause vol.old.store.layout (R.seen rack.old) (R.seen rack.new) result }
+    ensures grows { Grows (O.text out.old) (O.text out.new) }
     ensures content { TellsBlock vol.old.store.layout addr (R.seen rack.old) (R.seen rack.new) (λ B. Puts (unread_by vol.old.store.layout (R.seen rack.old) (R.seen rack.new)) (exec B (block_shown (kind_in vol.old.sup) addr)) (O.text out.old) (O.text out.new) result) }
 {
     let mut text = TextBuffer::new();

@@ -13,7 +13,9 @@ mod roots;
 #[cfg(test)]
 mod tests;
 mod tree;
+mod trees;
 
 pub use block::dump_block;
 pub use roots::list_roots;
 pub use tree::dump_tree;
+pub use trees::dump_all;

@@ -15,7 +15,7 @@ ghost use Rattle.btr_volume.specs.Looking.{SameVolume};
 ghost use Rattle.btr_volume.specs.Tree.{root_root, named_root};
 ghost use Rattle.btr_volume.specs.Table.{chunk_root};
 ghost use Rattle.btr_dump.specs.Pieces as spec;
-ghost use Rattle.btr_dump.specs.Showing.{Writes, Turns, TurnNears, Puts};
+ghost use Rattle.btr_dump.specs.Showing.{Grows, Writes, Turns, TurnNears, Puts};
 ghost use Rattle.btr_dump.specs.Stops.{StopCounts, StopCause};
 
 use crate::ending::{finish, stop_of};
@@ -29,13 +29,13 @@ use btr_volume::{Stop, Volume, chunk_root, root_root};
 use btr_walk::{RootPlace, Scan, next};
 
 // The first and the last key that there are.
-const FIRST_KEY: Key = Key {
+pub(crate) const FIRST_KEY: Key = Key {
     objectid: 0,
     kind: 0,
     offset: 0,
 };
 
-const LAST_KEY: Key = Key {
+pub(crate) const LAST_KEY: Key = Key {
     objectid: u64::MAX,
     kind: u8::MAX,
     offset: u64::MAX,
@@ -74,6 +74,7 @@ fn show_next<R: Rack, O: Out>(
     ensures nears { TurnNears (rank_of scan.old) (rank_of scan.new) result }
     ensures account { StopCounts (O.account out.old) (O.account out.new) result }
     ensures cause { StopCause store.old.layout (R.seen rack.old) (R.seen rack.new) result }
+    ensures grows { Grows (O.text out.old) (O.text out.new) }
     ensures content { Tells store.old.layout (R.seen rack.old) (R.seen rack.new)
         (λ B. (seen : List Want) → IsOn scan.old.lo scan.old.hi B seen scan.old.place
         → Turns (unread_by store.old.layout (R.seen rack.old) (R.seen rack.new)) (λ ws. IsOn scan.old.lo scan.old.hi B ws scan.new.place) (exec B (spec.item_lines (left_of B store.old scan.old))) (exec B (spec.item_lines (left_of B store.new scan.new))) seen (O.text out.old) (O.text out.new) text.old text.new result) }
@@ -103,6 +104,7 @@ fn show_items<R: Rack, O: Out>(
     ensures others { SameLoans (without_leaf store.old scan.old) (without_leaf store.new scan.new) }
     ensures account { StopCounts (O.account out.old) (O.account out.new) result }
     ensures cause { StopCause store.old.layout (R.seen rack.old) (R.seen rack.new) result }
+    ensures grows { Grows (O.text out.old) (O.text out.new) }
     ensures content { Tells store.old.layout (R.seen rack.old) (R.seen rack.new)
         (λ B. (seen : List Want) → IsOn scan.old.lo scan.old.hi B seen scan.old.place
         → Writes (unread_by store.old.layout (R.seen rack.old) (R.seen rack.new)) seen (exec B (spec.item_lines (left_of B store.old scan.old))) (O.text out.old) (O.text out.new) text.old text.new result) }
@@ -131,6 +133,7 @@ fn show_roots<R: Rack, O: Out>(
     ensures loans { SameLoans store.old store.new }
     ensures account { StopCounts (O.account out.old) (O.account out.new) result }
     ensures cause { StopCause store.old.layout (R.seen rack.old) (R.seen rack.new) result }
+    ensures grows { Grows (O.text out.old) (O.text out.new) }
     ensures content { Tells store.old.layout (R.seen rack.old) (R.seen rack.new) (λ B. Writes (unread_by store.old.layout (R.seen rack.old) (R.seen rack.new)) [] (exec B (spec.roots_shown s.now)) (O.text out.old) (O.text out.new) text.old text.new result) }
 {
     match write_tops(s, text, out) {
@@ -158,6 +161,7 @@ pub fn list_roots<R: Rack, O: Out>(rack: &mut R, vol: &mut Volume, out: &mut O) 
     ensures same { SameVolume vol.old vol.new }
     ensures account { StopCounts (O.account out.old) (O.account out.new) result }
     ensures cause { StopCause vol.old.store.layout (R.seen rack.old) (R.seen rack.new) result }
+    ensures grows { Grows (O.text out.old) (O.text out.new) }
     ensures content { Tells vol.old.store.layout (R.seen rack.old) (R.seen rack.new) (λ B. Puts (unread_by vol.old.store.layout (R.seen rack.old) (R.seen rack.new)) (exec B (spec.roots_shown vol.old.sup)) (O.text out.old) (O.text out.new) result) }
 {
     let mut text = TextBuffer::new();

@@ -1,5 +1,5 @@
 // Texts of volumes in memory.
-use crate::{dump_block, dump_tree, list_roots};
+use crate::{dump_all, dump_block, dump_tree, list_roots};
 use btr_make::{RowVolume, row};
 use btr_rack::{MemOut, MemRack, Rack};
 use btr_volume::{Stop, Volume};
@@ -22,6 +22,7 @@ enum Asked {
     Block(u64),
     Tree(u64),
     Roots,
+    All,
 }
 
 // What a call answers over a volume with one image; `None` where the volume doesn't open.
@@ -42,6 +43,7 @@ fn answer(
         Asked::Block(addr) => dump_block(addr, rack, &mut volume, out),
         Asked::Tree(id) => dump_tree(id, rack, &mut volume, out),
         Asked::Roots => list_roots(rack, &mut volume, out),
+        Asked::All => dump_all(rack, &mut volume, out),
     };
     assert_eq!(rt; volume.store.free(), 24);
     Some(answer)
@@ -90,7 +92,7 @@ fn blocks_that_cannot_be_had(rt: HostRuntime) -> Result<(), Fail> {
     Ok(())
 }
 
-// A damaged copy is passed over, and a failed read is made good by the other copy or told.
+// A damaged copy is passed over.
 #[test]
 fn second_copies(rt: HostRuntime) -> Result<(), Fail> {
     let alloc = rt.alloc();
@@ -103,35 +105,68 @@ fn second_copies(rt: HostRuntime) -> Result<(), Fail> {
     let second = answer(&rt, alloc, &mut rack, Asked::Tree(5), &mut out);
     assert_eq!(rt; second, Some(Ok(())));
     assert_eq!(rt; out.text(), whole.text());
-    for n in 1..12 {
-        let mut rack = opened(alloc, RowVolume::V1d)?;
-        rack.fail_call(n)?;
-        let mut out = MemOut::new(alloc);
-        match answer(&rt, alloc, &mut rack, Asked::Tree(5), &mut out) {
-            None => {}
-            Some(Ok(())) => {
-                assert_eq!(rt; out.text(), whole.text());
-            }
-            Some(Err(stop)) => {
-                assert!(rt; matches!(stop, Stop::Tree(TreeFault::Unread(_, 0))));
-                assert!(rt; whole.text().starts_with(out.text()));
-            }
+    Ok(())
+}
+
+// Call n on the rack fails: the other copy makes it good, or it is told behind a first part of the text.
+fn failing_call(rt: &impl Abort, alloc: Global, n: u64, whole: &[u8]) -> Result<(), Fail> {
+    let mut rack = opened(alloc, RowVolume::V1d)?;
+    rack.fail_call(n)?;
+    let mut out = MemOut::new(alloc);
+    match answer(rt, alloc, &mut rack, Asked::Tree(7), &mut out) {
+        None => {}
+        Some(Ok(())) => {
+            assert_eq!(rt; out.text(), whole);
+        }
+        Some(Err(_)) => {
+            assert!(rt; whole.starts_with(out.text()));
         }
     }
     Ok(())
 }
 
-// The output's refusal is answered, and a first part of the text stands there.
+#[test]
+fn calls_that_fail(rt: HostRuntime) -> Result<(), Fail> {
+    for n in 1..12 {
+        failing_call(&rt, rt.alloc(), n, SUMS_TREE)?;
+    }
+    Ok(())
+}
+
+// The output's refusal is answered; where the text waited, nothing stands there.
 #[test]
 fn outputs_that_fail(rt: HostRuntime) -> Result<(), Fail> {
     let alloc = rt.alloc();
-    for asked in [Asked::Block(2162688), Asked::Tree(7), Asked::Roots] {
+    for asked in [
+        Asked::Block(2162688),
+        Asked::Tree(7),
+        Asked::Roots,
+        Asked::All,
+    ] {
         let mut rack = opened(alloc, RowVolume::V1)?;
         let mut out = MemOut::new(alloc);
         out.fail_call(1)?;
         let found = answer(&rt, alloc, &mut rack, asked, &mut out);
         assert_eq!(rt; found, Some(Err(Stop::Out)));
-        assert!(rt; out.text().len() < 400);
+        assert!(rt; out.text().is_empty());
     }
+    Ok(())
+}
+
+// All trees one after another: those of the superblock, and then those of the ROOT_ITEMs, in the order of their keys.
+#[test]
+fn all_trees(rt: HostRuntime) -> Result<(), Fail> {
+    let alloc = rt.alloc();
+    let mut rack = opened(alloc, RowVolume::V1)?;
+    let mut one_by_one = MemOut::new(alloc);
+    for id in [1, 3, 2, 4, 5, 7] {
+        let found = answer(&rt, alloc, &mut rack, Asked::Tree(id), &mut one_by_one);
+        assert_eq!(rt; found, Some(Ok(())));
+    }
+    let mut all = MemOut::new(alloc);
+    let found = answer(&rt, alloc, &mut rack, Asked::All, &mut all);
+    assert_eq!(rt; found, Some(Ok(())));
+    assert_eq!(rt; all.text(), one_by_one.text());
+    assert!(rt; all.text().ends_with(SUMS_TREE));
     Ok(())
 }

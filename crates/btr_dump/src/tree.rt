@@ -10,7 +10,7 @@ ghost use Rattle.btr_volume.specs.Looking.{SameVolume};
 ghost use Rattle.btr_walk.specs.Preorder.{IsAmong, IsReadyFor, blocks_left, without_block, blocks_rank};
 ghost use Rattle.btr_walk.specs.Reading.{Tells, unread_by};
 ghost use Rattle.btr_dump.specs.Pieces.{tree_text, blocks_shown, tree_shown, asked_tree};
-ghost use Rattle.btr_dump.specs.Showing.{Writes, Turns, TurnNears, Puts, PutsAsked};
+ghost use Rattle.btr_dump.specs.Showing.{Grows, Writes, Turns, TurnNears, Puts, PutsAsked};
 ghost use Rattle.btr_dump.specs.Stops.{StopCounts, StopCause};
 
 use crate::block::write_held;
@@ -53,6 +53,7 @@ fn show_next<R: Rack, O: Out>(
     ensures nears { TurnNears (blocks_rank scan.old) (blocks_rank scan.new) result }
     ensures account { StopCounts (O.account out.old) (O.account out.new) result }
     ensures cause { StopCause store.old.layout (R.seen rack.old) (R.seen rack.new) result }
+    ensures grows { Grows (O.text out.old) (O.text out.new) }
     ensures content { Tells store.old.layout (R.seen rack.old) (R.seen rack.new)
         (λ B. (seen : List Want) → IsAmong B seen scan.old.place
         → Turns (unread_by store.old.layout (R.seen rack.old) (R.seen rack.new)) (λ ws. IsAmong B ws scan.new.place) (exec B (blocks_shown kind (blocks_left B scan.old))) (exec B (blocks_shown kind (blocks_left B scan.new))) seen (O.text out.old) (O.text out.new) text.old text.new result) }
@@ -83,6 +84,7 @@ fn show_blocks<R: Rack, O: Out>(
     ensures others { SameLoans (without_block store.old scan.old) (without_block store.new scan.new) }
     ensures account { StopCounts (O.account out.old) (O.account out.new) result }
     ensures cause { StopCause store.old.layout (R.seen rack.old) (R.seen rack.new) result }
+    ensures grows { Grows (O.text out.old) (O.text out.new) }
     ensures content { Tells store.old.layout (R.seen rack.old) (R.seen rack.new)
         (λ B. (seen : List Want) → IsAmong B seen scan.old.place
         → Writes (unread_by store.old.layout (R.seen rack.old) (R.seen rack.new)) seen (exec B (blocks_shown kind (blocks_left B scan.old))) (O.text out.old) (O.text out.new) text.old text.new result) }
@@ -96,8 +98,8 @@ fn show_blocks<R: Rack, O: Out>(
     }
 }
 
-// Shows a tree.
-fn show_tree<R: Rack, O: Out>(
+/// Writes a tree: its line, and the text of each of its blocks.
+pub(crate) fn show_tree<R: Rack, O: Out>(
     kind: SumKind,
     root: &TreeRoot,
     rack: &mut R,
@@ -112,6 +114,7 @@ fn show_tree<R: Rack, O: Out>(
     ensures loans { SameLoans store.old store.new }
     ensures account { StopCounts (O.account out.old) (O.account out.new) result }
     ensures cause { StopCause store.old.layout (R.seen rack.old) (R.seen rack.new) result }
+    ensures grows { Grows (O.text out.old) (O.text out.new) }
     ensures content { Tells store.old.layout (R.seen rack.old) (R.seen rack.new) (λ B. Writes (unread_by store.old.layout (R.seen rack.old) (R.seen rack.new)) [] (exec B (tree_shown kind root.now)) (O.text out.old) (O.text out.new) text.old text.new result) }
 {
     match text.push_all(&tree_line(root.id, root.offset), out) {
@@ -139,6 +142,7 @@ fn put_tree<R: Rack, O: Out>(
     ensures loans { SameLoans store.old store.new }
     ensures account { StopCounts (O.account out.old) (O.account out.new) result }
     ensures cause { StopCause store.old.layout (R.seen rack.old) (R.seen rack.new) result }
+    ensures grows { Grows (O.text out.old) (O.text out.new) }
     ensures content { Tells store.old.layout (R.seen rack.old) (R.seen rack.new) (λ B. Puts (unread_by store.old.layout (R.seen rack.old) (R.seen rack.new)) (exec B (tree_shown kind root.now)) (O.text out.old) (O.text out.new) result) }
 {
     let mut text = TextBuffer::new();
@@ -167,6 +171,7 @@ pub fn dump_tree<R: Rack, O: Out>(
     ensures same { SameVolume vol.old vol.new }
     ensures account { StopCounts (O.account out.old) (O.account out.new) result }
     ensures cause { StopCause vol.old.store.layout (R.seen rack.old) (R.seen rack.new) result }
+    ensures grows { Grows (O.text out.old) (O.text out.new) }
     ensures content { Tells vol.old.store.layout (R.seen rack.old) (R.seen rack.new) (λ B. PutsAsked (unread_by vol.old.store.layout (R.seen rack.old) (R.seen rack.new)) (exec B (asked_tree vol.old.sup id)) (O.text out.old) (O.text out.new) result) }
 {
     match vol.tree(id, rack) {

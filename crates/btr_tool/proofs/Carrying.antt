@@ -9,24 +9,25 @@ use Rattle.std.proofs.lemmas.List.{drop-map, take_rest}
 use Rattle.btr_rack.specs.Rack.{Seen, Rose, Steady, NoneFailed, Shelf}
 use Rattle.btr_rack.specs.Out.{CallAccount}
 use Rattle.btr_tool.specs.Answers.{error_line}
-use Rattle.btr_tool.specs.Behind.{IsBehind}
-use Rattle.btr_tool.specs.Causes.{IsBehindWords}
+use Rattle.btr_tool.specs.Behind.{IsBehind, HasTreeCause}
+use Rattle.btr_tool.specs.Causes.{IsBehindWords, opened_with}
 use Rattle.btr_tool.specs.Commands.{command_outcome, MayCome, MayFail}
 use Rattle.btr_tool.specs.Effects.{FollowsWords, IsDecided, IsOutcome, MayFollow, images_outcome}
 use Rattle.btr_tool.specs.Images.{AreUnchanged, IsMissing, most_images, taken}
 use Rattle.btr_tool.specs.Opening.{HasTooMany, OpeningCause, OpeningFailed, OpensAll, opening_answer}
 use Rattle.btr_tool.specs.Outcomes.{Outcome, refused, Comes, OrBare, OrMemory}
-use Rattle.btr_tool.specs.Supers.{ReadFailed}
 use Rattle.btr_tool.specs.Words.{Words, IsSentence, IsUsageAt, images_of}
 use Rattle.btr_tool.specs.declared.plan.Command.{Command}
 use Rattle.btr_tool.specs.declared.plan.Plan.{Plan}
 use Rattle.btr_tool.specs.declared.opening.OpeningFault.{OpeningFault}
 use Rattle.btr_tool.specs.declared.opening.OpeningFault.TheVariants.{TooMany, Failed, Memory as memory_fault}
-use Rattle.btr_tool.specs.declared.answer.Which.TheVariants.{Images as images_limit}
+use Rattle.btr_volume.specs.Opening.{SuperUnread}
+use Rattle.btr_volume.specs.declared.which.Which.TheVariants.{Images as images_limit}
 use Rattle.btr_tool.specs.declared.answer.Answer.{Answer}
 use Rattle.btr_tool.specs.declared.answer.Answer.TheVariants.{Usage, Limit, ImageFault, OutFault}
-use Rattle.btr_tool.proofs.Causing.{none_failed_yet, none_failed_twice}
+use Rattle.btr_tool.proofs.Causing.{none_failed_yet, none_failed_twice, opened_again}
 use Rattle.btr_tool.proofs.Coming.{comes_bare, comes_also}
+use Rattle.btr_tool.proofs.Faulting.{tree_in, untreed}
 use Rattle.btr_tool.proofs.Openings.{Images}
 use Rattle.btr_tool.proofs.Sentences.{one_plan}
 
@@ -74,6 +75,7 @@ module _ (words : Words) (at : ℕ) (usage : IsUsageAt words at) where
     shut = λ more. absurd (omega (arith, more));
     hidden = inl (none_failed_yet seen.account);
     sure = λ slot is. absurd (cc is);
+    tree = untreed (opened_with seen.account seen) seen (Usage at) refl;
   }
 
 opening_line : (fault : OpeningFault) → error_line (opening_answer fault) ≢ []
@@ -85,6 +87,11 @@ opening_no_fault : (fault : OpeningFault) → opening_answer fault ≢ OutFault
 opening_no_fault (TooMany count) e = cc
 opening_no_fault (Failed slot) e = cc
 opening_no_fault memory_fault e = cc
+
+opening_no_tree : (fault : OpeningFault) → tree_in (opening_answer fault) ≡ None
+opening_no_tree (TooMany count) = refl
+opening_no_tree (Failed slot) = refl
+opening_no_tree memory_fault = refl
 
 few : (n m : ℕ) → n ≤ m → ltb m n ≡ false
 few n m le = grind (arith, nat_tests)
@@ -163,6 +170,7 @@ module _ (words names : Words) (plan : Plan) (sentence : IsSentence plan words) 
           shut = λ more. absurd (omega (arith, none.shut, more));
           hidden = inl none;
           sure = λ slot is. absurd (other slot is);
+          tree = untreed (opened_with old.account new) new (opening_answer f) (opening_no_tree f);
         }
 
         of : (f : OpeningFault) → OpeningCause names old new (Err f) → ((slot : ℕ) → f ≡ Failed slot → old.sure ≡ true → IsMissing names old.shelf slot) → IsBehindWords words old new (opening_answer f)
@@ -178,6 +186,7 @@ module _ (words names : Words) (plan : Plan) (sentence : IsSentence plan words) 
                 sentence = sentence;
                 missing = subst (λ l. IsMissing l old.shelf other) (sym named) (sure other (cc) certain);
               };
+              tree = untreed (opened_with old.account new) new (ImageFault slot) refl;
             }
 
   -- the images are open, and the command was done, or not
@@ -212,13 +221,15 @@ module _ (words names : Words) (plan : Plan) (sentence : IsSentence plan words) 
       image = λ slot is. record { plan = plan; sentence = sentence; failed = inr (since (behind.image slot is)) };
       shut = λ more. absurd (omega (arith, more, behind.reads.same_shut, opened.shut));
       hidden = ⊎_elim (λ none. inl (none_failed_twice old.account mid.account new.account opened none)) (λ rest. ⊎_elim (λ fault. inr (inl fault)) (λ may. inr (inr (plan, sentence, may))) rest) behind.hidden;
-      sure = λ slot is certain. absurd (cc (sym certain ∙ sym kept ∙ behind.sure slot is));
+      sure = λ slot is certain. absurd (cc (sym certain ∙ sym kept ∙ (behind.image slot is).unsure));
+      tree = subst (λ s. HasTreeCause s new answer) (opened_again old mid new opened behind.reads.same) behind.tree;
     }
       where
-        since : {slot : ℕ} → ReadFailed mid.account new.account slot → ReadFailed old.account new.account slot
+        since : {slot : ℕ} → SuperUnread mid new slot → SuperUnread old new slot
         since failed = record {
           place = failed.place;
           of_super = failed.of_super;
+          unsure = sym kept ∙ failed.unsure;
           last = failed.last;
           faults = subst (λ n. Rose n new.account.faults) opened.faults failed.faults;
           fresh = failed.fresh;

@@ -5,7 +5,8 @@ use Rattle.std.specs.String.{string_bytes}
 use Rattle.std.specs.declared.alloc.Global.{Global}
 use Rattle.std.proofs.lemmas.List.{get_or-map, length-map}
 use Rattle.std.proofs.lemmas.Option.{slice_get-get_or}
-use Rattle.btr_rack.specs.Rack.{Slot, Account, Rose, NoneFailed, OneFailed, next_count, range_in, opening_of}
+use Rattle.btr_rack.specs.Rack.{Seen, Slot, Account, Rose, NoneFailed, OneFailed, OnlyCounts, next_count, range_in, opening_of}
+use Rattle.btr_tool.specs.Causes.{opened_with}
 use Rattle.btr_tool.specs.Words.{Words}
 use Rattle.btr_tool.specs.Opening.{OpeningFailed}
 
@@ -21,6 +22,12 @@ none_failed_twice old mid new a b = record {
   opening = b.opening ∙ a.opening;
   shut = b.shut ∙ a.shut;
 }
+
+-- a rack after calls of which none failed, and then some that only read, is as it is with the account from before
+pub opened_again : (old mid new : Seen) → NoneFailed old.account mid.account → OnlyCounts mid new → mid ≡ opened_with old.account new
+opened_again old mid new none same =
+    ap {A = Account} (λ a. record mid { account = a }) (λ i. record { faults = none.faults i; fresh = none.fresh i; missed = none.missed i; last = none.last i; opening = none.opening i; shut = none.shut i })
+    ∙ sym (ap (λ (s : Seen). record s { account = old.account }) same)
 
 pub rose_behind : (old mid new : ℕ) → old ≤ mid → Rose mid new → Rose old new
 rose_behind old mid new le rose = (omega (arith, rose.0), omega (arith, rose.1))

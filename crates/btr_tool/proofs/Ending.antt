@@ -1,17 +1,18 @@
 -- How a run ends: what holds of an answer before its line is put holds of the run's.
-use Rattle.std.proofs.Common.{◌≡◌, ◌≢◌, ◌⊎◌, inl, inr, ⊎_elim, true, ℕ, ◌<◌, List, length, Option, Some, None, sym, ◌∙◌, subst, arith}
+use Rattle.std.proofs.Common.{◌≡◌, ◌≢◌, ◌⊎◌, inl, inr, ⊎_elim, true, ℕ, ◌<◌, List, length, Option, Some, None, sym, ap, ◌∙◌, subst, arith}
 use Rattle.std.specs.Option.{IfSome}
 use Rattle.std.proofs.lemmas.List.{take_all}
 use Rattle.btr_rack.specs.Rack.{Seen, Rose, Steady, Shelf}
 use Rattle.btr_rack.specs.Out.{Adds, CallAccount}
 use Rattle.btr_tool.specs.Answers.{error_line}
-use Rattle.btr_tool.specs.Causes.{HidesNone, ImageCause, IsBehindWords, IsMissingImage, IsShut}
+use Rattle.btr_tool.specs.Causes.{HidesNone, ImageCause, IsBehindWords, IsMissingImage, IsShut, TreeCause, opened_with}
 use Rattle.btr_tool.specs.Effects.{FollowsWords, HasEffect, HasPart, IsOutcome, IsTold, MayFollow}
 use Rattle.btr_tool.specs.Outcomes.{Outcome, refused, printed, Comes, HasFirstPart, IsPrinted, IsPut, OrBare, OrMemory, OutFailed}
 use Rattle.btr_tool.specs.Words.{Words}
 use Rattle.btr_tool.specs.declared.answer.Answer.{Answer}
 use Rattle.btr_tool.specs.declared.answer.Answer.TheVariants.{ImageFault, OutFault, Memory}
 use Rattle.btr_tool.proofs.Coming.{comes_printed, put_ends}
+use Rattle.btr_tool.proofs.Faulting.{tree_in, untreed}
 
 -- where something is told, a clause on it
 pub when_told : {X : Type 0} (o : Option X) (P Q : X → Type 0) → ((x : X) → P x → Q x) → IfSome o P → IfSome o Q
@@ -78,6 +79,11 @@ module _ (old mid new : Option (List ℕ)) (before between after : CallAccount) 
 
     pub shut : seen.account.shut < seen'.account.shut → IsShut words seen seen' result
     shut more = let failed = behind.shut more in ⊎_elim (λ same. inl (failed.0, same ∙ failed.1, failed.2)) (λ rest. inr rest) ends
+
+    pub tree : TreeCause seen seen' result
+    tree =
+        ⊎_elim (λ same. subst (TreeCause seen seen') (sym same) behind.tree)
+        (λ rest. ⊎_elim (λ out. untreed (opened_with seen.account seen') seen' result (ap tree_in out)) (λ want. untreed (opened_with seen.account seen') seen' result (ap tree_in want)) rest) ends
 
     pub hidden : HidesNone words seen.account seen'.account result
     hidden = ⊎_elim (λ same. subst (HidesNone words seen.account seen'.account) (sym same) behind.hidden) (λ rest. inr (inl (inr rest))) ends

@@ -1,10 +1,15 @@
+pub mod Numerals
 pub mod Machine
 pub mod Sentences
 pub mod Labels
 pub mod Openings
 pub mod Causing
-pub mod Readings
 pub mod Showing
 pub mod Coming
+pub mod Faulting
+pub mod Refusals
+pub mod Filesystems
+pub mod Shows
 pub mod Carrying
 pub mod Ending
+pub mod TreesShown

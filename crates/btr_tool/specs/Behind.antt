@@ -1,8 +1,12 @@
 -- What lies behind the answer of a command over opened images.
-use Rattle.std.specs.Prelude.{◌≡◌, ◌≢◌, ◌⊎◌, ℕ, false, Option, IfSome}
+use Rattle.std.specs.Prelude.{◌≡◌, ◌≢◌, ◌⊎◌, ℕ, Option, IfSome}
 use Rattle.btr_rack.specs.Rack.{Seen, Account, Steady, NoneFailed, OnlyReads}
-use Rattle.btr_tool.specs.Supers.{ReadFailed}
-use Rattle.btr_tool.specs.declared.answer.Which.TheVariants.{Images}
+use Rattle.btr_read.specs.Layout.{Layout}
+use Rattle.btr_tool.specs.Faults.{tree_answer}
+use Rattle.btr_volume.specs.Opening.{SuperUnread}
+use Rattle.btr_walk.specs.Reading.{FaultCause}
+use Rattle.btr_walk.specs.declared.fault.TreeFault.{TreeFault}
+use Rattle.btr_volume.specs.declared.which.Which.TheVariants.{Images}
 use Rattle.btr_tool.specs.declared.answer.Answer.{Answer}
 use Rattle.btr_tool.specs.declared.answer.Answer.TheVariants.{Usage, Limit, ImageFault, OutFault, Memory}
 
@@ -14,12 +18,16 @@ IfSteady told old new P = IfSome told (λ x. Steady old.faults new.faults → P 
 abbrev pub IsFault : Answer → Type 0
 IsFault answer = ((slot : ℕ) × (answer ≡ ImageFault slot)) ⊎ (answer ≡ OutFault) ⊎ (answer ≡ Memory)
 
+-- a fault of a tree has its cause: by some layout some block was lost, has no position, or could not be read
+abbrev pub HasTreeCause : Seen → Seen → Answer → Type 0
+HasTreeCause old new answer = (fault : TreeFault) → answer ≡ tree_answer fault → (layout : Layout) × FaultCause layout old new fault
+
 -- The images were only read. One is at fault only where a read of its superblock failed, which no sure rack does. An answer that is no fault comes behind
 -- a failed call only if it is of some kind. What the words alone decide is not answered.
 pub record IsBehind (MayFail : Answer → Type 0) (old new : Seen) (answer : Answer) : Type 0 where
   pub reads : OnlyReads old new
-  pub image : (slot : ℕ) → answer ≡ ImageFault slot → ReadFailed old.account new.account slot
-  pub sure : (slot : ℕ) → answer ≡ ImageFault slot → old.sure ≡ false
+  pub image : (slot : ℕ) → answer ≡ ImageFault slot → SuperUnread old new slot
+  pub tree : HasTreeCause old new answer
   pub hidden : NoneFailed old.account new.account ⊎ IsFault answer ⊎ MayFail answer
   pub no_usage : (at : ℕ) → answer ≢ Usage at
   pub no_limit : (n : ℕ) → answer ≢ Limit Images n

@@ -1,11 +1,11 @@
 -- What lies behind an answer: which call on an image failed.
 use Rattle.std.specs.Prelude.{◌≡◌, ◌⊎◌, ℕ, ◌<◌, true, Option}
 use Rattle.btr_rack.specs.Rack.{Account, Seen, Shelf, NoneFailed}
-use Rattle.btr_tool.specs.Behind.{IsFault}
+use Rattle.btr_volume.specs.Opening.{SuperUnread}
+use Rattle.btr_tool.specs.Behind.{IsFault, HasTreeCause}
 use Rattle.btr_tool.specs.Commands.{MayFail}
 use Rattle.btr_tool.specs.Images.{IsMissing}
 use Rattle.btr_tool.specs.Opening.{OpeningFailed}
-use Rattle.btr_tool.specs.Supers.{ReadFailed}
 use Rattle.btr_tool.specs.Words.{Words, IsSentence, images_of}
 use Rattle.btr_tool.specs.declared.plan.Plan.{Plan}
 use Rattle.btr_tool.specs.declared.answer.Answer.{Answer}
@@ -21,7 +21,7 @@ pub record IsUnopened (words : Words) (old new : Seen) (slot : ℕ) : Type 0 whe
 pub record ImageCause (words : Words) (old new : Seen) (slot : ℕ) : Type 0 where
   pub plan : Plan
   pub sentence : IsSentence plan words
-  pub failed : OpeningFailed (images_of plan words) new.slots old.account new.account slot ⊎ ReadFailed old.account new.account slot
+  pub failed : OpeningFailed (images_of plan words) new.slots old.account new.account slot ⊎ SuperUnread old new slot
 
 -- the image that couldn't be opened is answered, or a failure of the output, or want of memory
 abbrev pub IsShut : Words → Seen → Seen → Answer → Type 0
@@ -31,6 +31,14 @@ IsShut words old new answer = ((slot : ℕ) × (answer ≡ ImageFault slot) × I
 -- what else the command may answer then
 abbrev pub HidesNone : Words → Account → Account → Answer → Type 0
 HidesNone words old new answer = NoneFailed old new ⊎ IsFault answer ⊎ ((plan : Plan) × IsSentence plan words × MayFail plan.command answer)
+
+-- a rack as it is with its images open, and the account from before
+abbrev pub opened_with : Account → Seen → Seen
+opened_with account seen = record seen { account = account }
+
+-- a fault of a tree has its cause, in the images that are open
+abbrev pub TreeCause : Seen → Seen → Answer → Type 0
+TreeCause old new answer = HasTreeCause (opened_with old.account new) new answer
 
 -- the words are a sentence, and one of its images isn't on the shelf
 pub record IsMissingImage (words : Words) (shelf : Option Shelf) (slot : ℕ) : Type 0 where
@@ -44,3 +52,4 @@ pub record IsBehindWords (words : Words) (old new : Seen) (answer : Answer) : Ty
   pub shut : old.account.shut < new.account.shut → (slot : ℕ) × (answer ≡ ImageFault slot) × IsUnopened words old new slot
   pub hidden : HidesNone words old.account new.account answer
   pub sure : (slot : ℕ) → answer ≡ ImageFault slot → old.sure ≡ true → IsMissingImage words old.shelf slot
+  pub tree : TreeCause old new answer

@@ -9,7 +9,7 @@ use Rattle.btr_tool.specs.Outcomes.{Outcome, refused, printed, OrBare, OrMemory,
 use Rattle.btr_tool.specs.Words.{Words, IsSentence, IsUsageAt, images_of}
 use Rattle.btr_tool.specs.declared.plan.Command.{Command}
 use Rattle.btr_tool.specs.declared.plan.Plan.{Plan}
-use Rattle.btr_tool.specs.declared.answer.Which.TheVariants.{Images}
+use Rattle.btr_volume.specs.declared.which.Which.TheVariants.{Images}
 use Rattle.btr_tool.specs.declared.answer.Answer.{Answer}
 use Rattle.btr_tool.specs.declared.answer.Answer.TheVariants.{Usage, Limit}
 

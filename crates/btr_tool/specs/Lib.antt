@@ -1,12 +1,16 @@
+pub mod Numbers
 pub mod Words
 pub mod Text
 pub mod Answers
+pub mod Lines
+pub mod Faults
 pub mod Outcomes
 pub mod Images
 pub mod Opening
-pub mod Supers
 pub mod Behind
 pub mod Newest
+pub mod Filesystem
+pub mod Trees
 pub mod Commands
 pub mod Causes
 pub mod Effects

@@ -3,7 +3,7 @@ use Rattle.std.specs.Prelude.{◌≡◌, ℕ, ◌<◌, ◌≤◌, false, List, l
 use Rattle.btr_rack.specs.Rack.{Slot, Seen, Account, Shelf, Rose, NoneFailed, next_count, range_in, opening_of}
 use Rattle.btr_tool.specs.Images.{taken, most_images}
 use Rattle.btr_tool.specs.Words.{Words}
-use Rattle.btr_tool.specs.declared.answer.Which.TheVariants.{Images}
+use Rattle.btr_volume.specs.declared.which.Which.TheVariants.{Images}
 use Rattle.btr_tool.specs.declared.answer.Answer.{Answer}
 use Rattle.btr_tool.specs.declared.answer.Answer.TheVariants.{Limit, ImageFault, Memory}
 use Rattle.btr_tool.specs.declared.opening.OpeningFault.{OpeningFault}

@@ -1,11 +1,14 @@
 -- The sentences of the command line, and where other words go wrong.
 use Rattle.std.specs.Prelude.{◌≡◌, ℕ, ◌<◌, ◌≤◌, Bool, false, IsTrue, not, ◌==◌, if◌then◌else◌, List, [], ◌∷◌, ◌++◌, length, take, drop, codes, All, Option, Some, None}
+use Rattle.std.specs.Option.{option_map}
 use Rattle.std.specs.Str.{bytes_eq}
+use Rattle.btr_tool.specs.Numbers.{IsNumber, number_of}
 use Rattle.btr_tool.specs.declared.plan.Command.{Command}
-use Rattle.btr_tool.specs.declared.plan.Command.TheVariants.{Super}
+use Rattle.btr_tool.specs.declared.plan.Command.TheVariants.{Super, Dump, Roots}
+use Rattle.btr_tool.specs.declared.plan.DumpChoice.TheVariants.{All as all_trees, Block, Tree, RootLines}
 use Rattle.btr_tool.specs.declared.plan.Plan.{Plan}
 use Rattle.btr_tool.specs.declared.progress.Progress.{Progress}
-use Rattle.btr_tool.specs.declared.progress.Progress.TheVariants.{Start, FirstImage, Images}
+use Rattle.btr_tool.specs.declared.progress.Progress.TheVariants.{Start, Inspect, DumpTree, Address, TreeId, Restore, FirstImage, Images}
 
 abbrev pub Words : Type 0
 Words = List (List ℕ)
@@ -18,9 +21,18 @@ is_name (first ∷ rest) = not (first == 45)
 abbrev pub IsName : List ℕ → Type 0
 IsName word = IsTrue (is_name word)
 
+-- the words that ask for a dump, with an option
+abbrev pub dump_words : Words → Words
+dump_words option = codes "inspect-internal" ∷ codes "dump-tree" ∷ option
+
 -- these words ask for a command; the names of its images follow
 abbrev pub Asks : Command → Words → Type 0
 Asks Super words = words ≡ codes "super" ∷ []
+Asks (Dump all_trees) words = words ≡ dump_words []
+Asks (Dump (Block addr)) words = (word : List ℕ) × IsNumber addr word × (words ≡ dump_words (codes "-b" ∷ word ∷ []))
+Asks (Dump (Tree id)) words = (word : List ℕ) × IsNumber id word × (words ≡ dump_words (codes "-t" ∷ word ∷ []))
+Asks (Dump RootLines) words = words ≡ dump_words (codes "-r" ∷ [])
+Asks Roots words = words ≡ codes "restore" ∷ codes "-l" ∷ []
 
 -- the words ask for a command and name one or more images
 pub record IsSentence (plan : Plan) (words : Words) : Type 0 where
@@ -53,14 +65,37 @@ pub record IsUsageAt (words : Words) (at : ℕ) : Type 0 where
 abbrev pub plan_for : Command → ℕ → Plan
 plan_for command images = record { command = command; images = images }
 
+-- the place behind all the words that ask for a command, so many
+abbrev pub behind_all : Command → ℕ → Progress
+behind_all command images = FirstImage (plan_for command images)
+
 -- the place behind one more word, where some sentence has it here
 abbrev pub next_of : Progress → List ℕ → Option Progress
-next_of Start word = if bytes_eq word (codes "super") then Some (FirstImage (plan_for Super 1)) else None
+next_of Start word =
+    if bytes_eq word (codes "super") then Some (behind_all Super 1)
+    else if bytes_eq word (codes "inspect-internal") then Some Inspect
+    else if bytes_eq word (codes "restore") then Some Restore
+    else None
+next_of Inspect word = if bytes_eq word (codes "dump-tree") then Some DumpTree else None
+next_of DumpTree word =
+    if bytes_eq word (codes "-b") then Some Address
+    else if bytes_eq word (codes "-t") then Some TreeId
+    else if bytes_eq word (codes "-r") then Some (behind_all (Dump RootLines) 3)
+    else if is_name word then Some (Images (plan_for (Dump all_trees) 2))
+    else None
+next_of Address word = option_map (λ addr. behind_all (Dump (Block addr)) 4) (number_of word)
+next_of TreeId word = option_map (λ id. behind_all (Dump (Tree id)) 4) (number_of word)
+next_of Restore word = if bytes_eq word (codes "-l") then Some (behind_all Roots 2) else None
 next_of (FirstImage plan) word = if is_name word then Some (Images plan) else None
 next_of (Images plan) word = if is_name word then Some (Images plan) else None
 
 -- the plan of the words that led here, where they are a sentence
 abbrev pub plan_of : Progress → Option Plan
 plan_of Start = None
+plan_of Inspect = None
+plan_of DumpTree = None
+plan_of Address = None
+plan_of TreeId = None
+plan_of Restore = None
 plan_of (FirstImage plan) = None
 plan_of (Images plan) = Some plan

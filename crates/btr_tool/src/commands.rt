@@ -7,7 +7,8 @@ ghost use Rattle.btr_tool.specs.Outcomes.{Comes, OrBare, OrMemory};
 
 use crate::answer::Answer;
 use crate::newest::show_newest;
-use crate::plan::Command;
+use crate::plan::{Command, DumpChoice};
+use crate::trees::show_trees;
 use btr_rack::{Out, Rack};
 use std::alloc::Global;
 
@@ -30,5 +31,7 @@ pub(crate) fn perform<R: Rack, O: Out>(
 {
     match command {
         Command::Super => show_newest(alloc, rack, out),
+        Command::Dump(choice) => show_trees(alloc, choice, rack, out),
+        Command::Roots => show_trees(alloc, DumpChoice::RootLines, rack, out),
     }
 }

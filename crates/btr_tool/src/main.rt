@@ -7,6 +7,7 @@
 
 mod answer;
 mod commands;
+mod filesystem;
 mod newest;
 mod opening;
 mod plan;
@@ -14,10 +15,10 @@ mod progress;
 mod refusal;
 mod run;
 mod standard;
-mod supers;
 #[cfg(test)]
 mod tests;
 mod text;
+mod trees;
 mod words;
 
 use answer::Answer;

@@ -8,15 +8,15 @@ ghost use Rattle.btr_tool.specs.Outcomes.{Comes, OrBare, OrMemory};
 
 use crate::answer::Answer;
 use crate::plan::Command;
-use crate::supers::read_supers;
 use crate::text::put_super;
 use btr_rack::{Out, Rack};
 use btr_super::choose;
+use btr_volume::read_supers;
 use std::alloc::Global;
 
 /// Puts the text of the newest superblock of the open images.
 ///
-/// An error is the answer of what went wrong: that of `read_supers`, before anything is put, or the output's.
+/// An error is the answer of what went wrong: that an image has no superblock, before anything is put, or the output's.
 pub(crate) fn show_newest<R: Rack, O: Out>(
     alloc: Global,
     rack: &mut R,

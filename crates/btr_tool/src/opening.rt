@@ -4,8 +4,9 @@ ghost use Rattle.std.specs.String.{string_bytes};
 ghost use Rattle.btr_tool.specs.Images.{AreUnchanged, IsMissing, most_images};
 ghost use Rattle.btr_tool.specs.Opening.{HasTooMany, OpeningCause, OpensAll};
 
-use crate::answer::{Answer, Which};
+use crate::answer::Answer;
 use btr_rack::{Rack, RackError};
+use btr_volume::Which;
 
 const MOST_IMAGES: usize = 64;
 

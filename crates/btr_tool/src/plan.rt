@@ -10,6 +10,23 @@ use crate::progress::Progress;
 pub enum Command {
     /// `super`: print the newest valid superblock.
     Super,
+    /// `inspect-internal dump-tree`: print trees.
+    Dump(DumpChoice),
+    /// `restore -l`: print the roots of all trees.
+    Roots,
+}
+
+/// What `inspect-internal dump-tree` prints.
+#[derive(Clone, Copy, Debug, PartialEq, Eq)]
+pub enum DumpChoice {
+    /// The root tree, the chunk tree, and the tree of each ROOT_ITEM.
+    All,
+    /// `-b`: the block at this logical address.
+    Block(u64),
+    /// `-t`: the tree of this id.
+    Tree(u64),
+    /// `-r`: a line for each tree.
+    RootLines,
 }
 
 /// A command, and the number of the first word that names an image.

@@ -1,14 +1,25 @@
 // How far words have come along a sentence.
-ghost use Rattle.std.specs.Prelude.{◌≡◌, Option, ◌↔◌, IsTrue};
-ghost use Rattle.btr_tool.specs.Words.{IsName, next_of, plan_of};
+ghost use Rattle.std.specs.Prelude.{◌≡◌, ◌↔◌, IsTrue};
+ghost use Rattle.btr_tool.specs.Numbers.{number_of};
+ghost use Rattle.btr_tool.specs.Words.{IsName, behind_all, next_of, plan_of};
 
-use crate::plan::{Command, Plan};
+use crate::plan::{Command, DumpChoice, Plan};
 
 /// A place in the sentences, behind some words.
 #[derive(Clone, Copy, Debug, PartialEq, Eq)]
 pub(crate) enum Progress {
     /// No word was read.
     Start,
+    /// Behind `inspect-internal`.
+    Inspect,
+    /// Behind `dump-tree`: an option or the first image is next.
+    DumpTree,
+    /// Behind `-b`: an address is next.
+    Address,
+    /// Behind `-t`: the id of a tree is next.
+    TreeId,
+    /// Behind `restore`.
+    Restore,
     /// The first image is next.
     FirstImage(Plan),
     /// The words so far are a sentence, and another image may follow.
@@ -22,6 +33,11 @@ impl Progress {
     {
         match self {
             Progress::Start => command(word),
+            Progress::Inspect => dump_tree(word),
+            Progress::DumpTree => dump_option(word),
+            Progress::Address => address(word),
+            Progress::TreeId => tree_id(word),
+            Progress::Restore => restore_option(word),
             Progress::FirstImage(plan) => image(plan, word),
             Progress::Images(plan) => image(plan, word),
         }
@@ -32,9 +48,14 @@ impl Progress {
         ensures { result ≡ plan_of self }
     {
         match self {
-            Progress::Start => None,
-            Progress::FirstImage(_) => None,
             Progress::Images(plan) => Some(plan),
+            Progress::Start => None,
+            Progress::Inspect => None,
+            Progress::DumpTree => None,
+            Progress::Address => None,
+            Progress::TreeId => None,
+            Progress::Restore => None,
+            Progress::FirstImage(_) => None,
         }
     }
 }
@@ -42,13 +63,68 @@ impl Progress {
 fn command(word: &str) -> Option<Progress>
     ensures { result ≡ next_of Progress.Start word.now }
 {
-    if word != "super" {
-        return None;
+    match word {
+        "super" => Some(behind_words(Command::Super, 1)),
+        "inspect-internal" => Some(Progress::Inspect),
+        "restore" => Some(Progress::Restore),
+        _ => None,
     }
-    Some(Progress::FirstImage(Plan {
-        command: Command::Super,
-        images: 1,
-    }))
+}
+
+fn dump_tree(word: &str) -> Option<Progress>
+    ensures { result ≡ next_of Progress.Inspect word.now }
+{
+    match word {
+        "dump-tree" => Some(Progress::DumpTree),
+        _ => None,
+    }
+}
+
+fn dump_option(word: &str) -> Option<Progress>
+    ensures { result ≡ next_of Progress.DumpTree word.now }
+{
+    match word {
+        "-b" => Some(Progress::Address),
+        "-t" => Some(Progress::TreeId),
+        "-r" => Some(behind_words(Command::Dump(DumpChoice::RootLines), 3)),
+        _ => image(
+            Plan {
+                command: Command::Dump(DumpChoice::All),
+                images: 2,
+            },
+            word,
+        ),
+    }
+}
+
+fn address(word: &str) -> Option<Progress>
+    ensures { result ≡ next_of Progress.Address word.now }
+{
+    let addr = number(word)?;
+    Some(behind_words(Command::Dump(DumpChoice::Block(addr)), 4))
+}
+
+fn tree_id(word: &str) -> Option<Progress>
+    ensures { result ≡ next_of Progress.TreeId word.now }
+{
+    let id = number(word)?;
+    Some(behind_words(Command::Dump(DumpChoice::Tree(id)), 4))
+}
+
+fn restore_option(word: &str) -> Option<Progress>
+    ensures { result ≡ next_of Progress.Restore word.now }
+{
+    match word {
+        "-l" => Some(behind_words(Command::Roots, 2)),
+        _ => None,
+    }
+}
+
+// Behind so many words that ask for a command.
+fn behind_words(command: Command, images: usize) -> Progress
+    ensures { result ≡ behind_all command images }
+{
+    Progress::FirstImage(Plan { command, images })
 }
 
 fn image(plan: Plan, word: &str) -> Option<Progress>
@@ -68,5 +144,20 @@ fn is_name(word: &str) -> bool
     match word.as_bytes() {
         [] => false,
         [first, ..] => *first != b'-',
+    }
+}
+
+// The number of 64 bits whose decimal digits a word is.
+fn number(word: &str) -> Option<u64>
+    ensures { result ≡ number_of word.now }
+{
+    let Ok(n) = word.parse::<u64>() else {
+        return None;
+    };
+    let mut digits = itoa::Buffer::new();
+    if digits.format(n) == word {
+        Some(n)
+    } else {
+        None
     }
 }

@@ -4,7 +4,7 @@ ghost use Rattle.std.specs.String.{string_bytes};
 ghost use Rattle.btr_rack.specs.Rack.{Steady};
 ghost use Rattle.btr_tool.specs.Answers.{answer_of, error_line};
 ghost use Rattle.btr_tool.specs.Behind.{IfSteady};
-ghost use Rattle.btr_tool.specs.Causes.{HidesNone, ImageCause, IsBehindWords, IsMissingImage, IsShut};
+ghost use Rattle.btr_tool.specs.Causes.{HidesNone, ImageCause, IsBehindWords, IsMissingImage, IsShut, TreeCause};
 ghost use Rattle.btr_tool.specs.Effects.{FollowsWords, HasEffect, HasPart, IsDecided, IsOutcome, IsTold, MayFollow};
 ghost use Rattle.btr_tool.specs.Images.{AreUnchanged};
 ghost use Rattle.btr_tool.specs.Outcomes.{Comes, IsPut, OrBare, OrMemory, OutFailed};
@@ -46,6 +46,9 @@ pub fn run<R: Rack, O: Out>(alloc: Global, words: &[String], rack: &mut R, out: 
     ensures shut { (R.seen rack.old).account.shut < (R.seen rack.new).account.shut
         → IsShut (map string_bytes words.now) (R.seen rack.old) (R.seen rack.new) result }
     ensures out { result ≡ Answer.OutFault → OutFailed (O.account out.old) (O.account out.new) }
+
+    // A fault of a tree is answered only with its cause, whatever failed.
+    ensures tree { TreeCause (R.seen rack.old) (R.seen rack.new) result }
 
     // Nothing is answered in place of a failed call on an image, whatever failed before.
     ensures hidden { HidesNone (map string_bytes words.now) (R.seen rack.old).account (R.seen rack.new).account result }

@@ -1,6 +1,8 @@
-// The worked rows of `super`, over images and outputs in memory.
+// The worked rows of the commands, over images and outputs in memory; here those of `super`.
 ghost use Rattle.std.specs.Prelude.{[], ◌<◌, ◌^◌};
 
+mod dumping;
+mod opening;
 mod wanting;
 
 use crate::answer::Answer;

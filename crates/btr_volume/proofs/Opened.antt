@@ -190,7 +190,7 @@ module _ (old new : Seen) where
   refused_early LogPending T h = h
   refused_early BadArray T h = h
   refused_early (bad_chunk start) T h = tt
-  refused_early (Limit which n) T h = tt
+  refused_early (Limit which n) T h = h.0
 
   opens_early : (images : Images) (refusal : OpenFault) → Prepares images (Err refusal) → Opens images old new (Err refusal)
   opens_early images Memory h = tt
@@ -216,7 +216,7 @@ module _ (old new : Seen) where
   refused_late layout Memory T U h = tt
   refused_late layout (Tree fault) T U h = (layout, h)
   refused_late layout (bad_chunk start) T U h = tt
-  refused_late layout (Limit which n) T U h = tt
+  refused_late layout (Limit which n) T U h = h
   refused_late layout (ImageFault slot) T U h = absurd h
   refused_late layout (NoSuper slot) T U h = absurd h
   refused_late layout (kind_fault n) T U h = absurd h

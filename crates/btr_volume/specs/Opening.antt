@@ -22,6 +22,8 @@ use Rattle.btr_walk.specs.Folds.{folded}
 use Rattle.btr_walk.specs.declared.fault.TreeFault.{TreeFault}
 use Rattle.btr_volume.specs.Start.{Images, Start, start_of, start_by, supers_from, layout_by, no_array, with_kind}
 use Rattle.btr_volume.specs.declared.fault.TableFault.{TableFault}
+use Rattle.btr_volume.specs.declared.which.Which.{Which}
+use Rattle.btr_volume.specs.declared.which.Which.TheVariants as limit
 use Rattle.btr_volume.specs.Table.{TableResult, refusal_of, table_scan, table_step, whole_table, first_key, chunk_root}
 use Rattle.btr_volume.specs.Maps.{array_layout}
 use Rattle.btr_volume.specs.declared.fault.OpenFault.{OpenFault}
@@ -45,16 +47,24 @@ ReadsSupers images (Err (ImageFault slot)) = ⊤
 ReadsSupers images (Err Memory) = ⊤
 ReadsSupers images (Err refusal) = supers_from 0 images ≡ Err refusal
 
+-- what opening may find too much of; the images are counted by who opens them
+abbrev pub IsCounted : Which → Type 0
+IsCounted limit.Images = ⊥
+IsCounted limit.Stripes = ⊤
+IsCounted limit.Chunks = ⊤
+
 -- what reading the superblocks did to the account
 abbrev pub SupersCause : {T : Type 0} → Seen → Seen → Result T OpenFault → Type 0
 SupersCause old new (Err (ImageFault slot)) = SuperUnread old new slot
 SupersCause old new (Err (Tree fault)) = ⊥
+SupersCause old new (Err (Limit which n)) = IsCounted which × NoneFailed old.account new.account
 SupersCause old new result = NoneFailed old.account new.account
 
--- neither an image nor a tree is at fault
+-- neither an image nor a tree is at fault, nor are the images too many
 abbrev pub NoneAtFault : {T : Type 0} → Result T OpenFault → Type 0
 NoneAtFault (Err (ImageFault slot)) = ⊥
 NoneAtFault (Err (Tree fault)) = ⊥
+NoneAtFault (Err (Limit which n)) = IsCounted which
 NoneAtFault result = ⊤
 
 -- the chunks of a system array, or why there are none
@@ -129,7 +139,7 @@ abbrev pub TableCause : {T : Type 0} → Layout → Seen → Seen → Result T O
 TableCause layout old new (Ok chunks) = ⊤
 TableCause layout old new (Err (Tree fault)) = FaultCause layout old new fault
 TableCause layout old new (Err (BadChunk start)) = ⊤
-TableCause layout old new (Err (Limit which n)) = ⊤
+TableCause layout old new (Err (Limit which n)) = IsCounted which
 TableCause layout old new (Err Memory) = ⊤
 TableCause layout old new (Err refusal) = ⊥
 
@@ -142,13 +152,13 @@ Opens images old new (Err (Tree fault)) = Starts images old new (Err (halt_of fa
 Opens images old new (Err refusal) = (start_of images ≡ Err refusal) ⊎ ((fault : TableFault) × (refusal_of fault ≡ refusal) × Starts images old new (Ok (Err fault)))
 
 -- What lies behind a refusal: a superblock that could not be read; a block of the chunk tree that could not be had, found by some layout; for the refusals
--- by the superblocks no call failed.
+-- by the superblocks no call failed. There are never too many images.
 abbrev pub OpenCause : {T : Type 0} → Seen → Seen → Result T OpenFault → Type 0
 OpenCause old new (Ok volume) = ⊤
 OpenCause old new (Err (ImageFault slot)) = SuperUnread old new slot
 OpenCause old new (Err (Tree fault)) = (layout : Layout) × FaultCause layout old new fault
 OpenCause old new (Err (BadChunk start)) = ⊤
-OpenCause old new (Err (Limit which n)) = ⊤
+OpenCause old new (Err (Limit which n)) = IsCounted which
 OpenCause old new (Err Memory) = ⊤
 OpenCause old new (Err refusal) = NoneFailed old.account new.account
 

@@ -65,8 +65,8 @@ pub fn chunk_root(s: &Super) -> RootPlace
     }
 }
 
-// A tree whose root the superblock names.
-fn named_root(id: u64, place: RootPlace) -> TreeRoot
+/// A tree whose root the superblock names: 1, the root tree, or 3, the chunk tree.
+pub fn named_root(id: u64, place: RootPlace) -> TreeRoot
     ensures { result ≡ named_root id place }
 {
     TreeRoot {
@@ -85,8 +85,8 @@ fn is_root_of(id: u64, key: Key) -> bool
     key.objectid == id && key.kind == ROOT_ITEM
 }
 
-// The root that a ROOT_ITEM describes.
-fn root_at(key: Key, body: &[u8]) -> Result<TreeRoot, ItemFault>
+/// The root that a ROOT_ITEM of this key and body describes. `ItemFault`: the body breaks its form.
+pub fn root_at(key: Key, body: &[u8]) -> Result<TreeRoot, ItemFault>
     ensures { result ≡ map_ok (described key) (root_item_of body.now) }
 {
     match RootItem::read(body) {

@@ -4,8 +4,7 @@ use Rattle.btr_walk.specs.Reading.{unread_by}
 use Rattle.btr_dump.specs.Pieces.{kind_in, block_shown}
 use Rattle.btr_dump.specs.Showing.{Puts, Writes}
 use Rattle.btr_dump.proofs.Blocks.{tells_drawn}
-use Rattle.btr_dump.proofs.Loops.{goes_none, goes_more, goes_ends, turn_goes, turn_stops, turn_halts, turn_ends}
-use Rattle.btr_dump.proofs.Telling.{since, joined, told_none, drawn, cause_since}
+use Rattle.btr_dump.proofs.Growing.{grows_twice}
 use Rattle.btr_dump.proofs.block.dump_block.Goals as goal
 
 pub returns-clause-account : goal.returns-clause-account
@@ -29,3 +28,6 @@ returns-clause-content g c =
     (subst (λ kind. Writes is [] (exec B (block_shown kind c.args.addr)) begun mid [] c.show_block-shown.new.text c.show_block-shown.result) c.kind_in-kind.ensures
     (subst (λ waited. Writes is [] (exec B (block_shown c.kind_in-kind.result c.args.addr)) begun mid waited c.show_block-shown.new.text c.show_block-shown.result) c.new-text.ensures h)))
     c.show_block-shown.ensures.content
+
+pub returns-clause-grows : goal.returns-clause-grows
+returns-clause-grows g c = grows_twice c.show_block-shown.ensures.grows c.finish.ensures.grows

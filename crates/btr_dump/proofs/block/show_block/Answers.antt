@@ -1,14 +1,15 @@
-use Rattle.std.proofs.Common.{◌∙◌, [], Ok, Err, sym, ap, subst}
+use Rattle.std.proofs.Common.{[], Err, sym, subst}
 use Rattle.btr_read.specs.declared.want.Want.TheVariants.{Block}
 use Rattle.btr_read.proofs.Serving.{serves_given}
 use Rattle.btr_read.specs.Serves.{Serves}
 use Rattle.btr_volume.specs.declared.stop.Stop.TheVariants.{Tree}
 use Rattle.btr_walk.specs.Reading.{unread_by}
 use Rattle.btr_prog.specs.Prog.{exec}
-use Rattle.btr_dump.specs.Pieces.{block_shown}
+use Rattle.btr_dump.specs.Pieces.{block_shown, held_block, held_in}
 use Rattle.btr_dump.specs.Showing.{TellsBlock, Writes}
 use Rattle.btr_dump.specs.Stops.{StopCause}
 use Rattle.btr_dump.proofs.Blocks.{block_failed, block_came, block_cause, lent_back}
+use Rattle.btr_dump.proofs.Growing.{grows_none, run_grows, no_block}
 use Rattle.btr_dump.proofs.block.show_block.Goals as goal
 
 pub returns-in-Err-clause-content : goal.returns-in-Err-clause-content
@@ -43,3 +44,15 @@ returns-clause-content g c =
     let new = g.R.Rack.seen c.fetch.new.rack in
     block_came layout old new c.args.kind c.args.addr c.in-Ok.ensures.reads (g.O.Out.text c.args.out.now) (g.O.Out.text c.write_held-shown.new.out) c.args.text.now c.write_held-shown.new.text c.fetch.new.store c.in-Ok.loan c.bytes.result.now c.write_held-shown.result c.in-Ok.ensures.answer
     c.bytes.ensures.value (c.write_held-shown.ensures.text layout old new [])
+
+pub returns-in-Err-clause-grows : goal.returns-in-Err-clause-grows
+returns-in-Err-clause-grows g c = grows_none (g.O.Out.text c.args.out.now)
+
+pub returns-clause-grows : goal.returns-clause-grows
+returns-clause-grows g c =
+    let layout = c.args.store.now.layout in
+    let old = g.R.Rack.seen c.args.rack.now in
+    let new = g.R.Rack.seen c.fetch.new.rack in
+    let block = c.bytes.result.now in
+    run_grows (unread_by layout old new) [] (exec no_block (held_block c.args.kind c.args.addr block (held_in block))) (g.O.Out.text c.args.out.now) (g.O.Out.text c.write_held-shown.new.out) c.args.text.now c.write_held-shown.new.text c.write_held-shown.result
+    (c.write_held-shown.ensures.text layout old new [] no_block)

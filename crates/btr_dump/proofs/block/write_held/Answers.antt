@@ -1,6 +1,4 @@
-use Rattle.std.proofs.Common.{◌≡◌, ◌≤◌, ◌∙◌, Err, Some, None, true, leb, cond, length, sym, ap, subst, arith}
-use Rattle.std.proofs.lemmas.Bool.Decides.{nat_tests}
-use Rattle.btr_node.specs.Node.{node_of}
+use Rattle.std.proofs.Common.{◌≤◌, Err, length, sym, subst, arith}
 use Rattle.btr_prog.specs.Prog.{exec}
 use Rattle.btr_walk.specs.Reading.{unread_by}
 use Rattle.btr_dump.specs.Pieces.{held_block, held_in}

@@ -1,15 +1,15 @@
-use Rattle.std.proofs.Common.{◌≡◌, ◌∙◌, List, Bool, true, false, Ok, Err, Result, refl, sym, ap, subst}
+use Rattle.std.proofs.Common.{◌∙◌, List, Bool, Ok, Err, refl, sym, subst}
 use Rattle.btr_prog.specs.Prog.{exec}
 use Rattle.btr_rack.proofs.Reading.{reads_none, reads_more}
 use Rattle.btr_read.specs.declared.want.Want.{Want}
-use Rattle.btr_volume.specs.declared.stop.Stop.{Stop}
 use Rattle.btr_walk.specs.Going.{IsOn}
-use Rattle.btr_walk.specs.Reading.{Map, unread_by}
+use Rattle.btr_walk.specs.Reading.{unread_by}
 use Rattle.btr_walk.specs.ScanEnds.{left_of, rank_of}
 use Rattle.btr_dump.specs.Pieces.{item_lines}
 use Rattle.btr_dump.specs.Showing.{Writes, GoesOn, Turns, TurnNears}
 use Rattle.btr_dump.proofs.Loops.{goes_none, goes_more, goes_ends}
 use Rattle.btr_dump.proofs.Telling.{joined, told_none, since, same_then, same_layout, same_room, on_as, stop_cause_since, counts_since}
+use Rattle.btr_dump.proofs.Growing.{grows_none, grows_twice}
 use Rattle.btr_dump.proofs.roots.show_items.Goals as goal
 
 pub loop-stop-init : goal.loop-stop-init
@@ -25,6 +25,7 @@ loop-stop-init g c =
       lo = refl;
       hi = refl;
       account = refl;
+      grows = grows_none (g.O.Out.text c.args.out.now);
       tells = told_none store.layout (λ B. (seen : List Want) → IsOn scan.lo scan.hi B seen scan.place → GoesOn (λ ws. IsOn scan.lo scan.hi B ws scan.place) (exec B (item_lines (left_of B store scan))) (exec B (item_lines (left_of B store scan))) seen (g.O.Out.text c.args.out.now) (g.O.Out.text c.args.out.now) c.args.text.now c.args.text.now)
           (λ B seen on. goes_none (λ ws. IsOn scan.lo scan.hi B ws scan.place) (exec B (item_lines (left_of B store scan))) seen (g.O.Out.text c.args.out.now) c.args.text.now on);
     }
@@ -115,6 +116,7 @@ loop-stop-preserved g c =
       lo = s.lo ∙ f.invariant.lo;
       hi = s.hi ∙ f.invariant.hi;
       account = s.account ∙ f.invariant.account;
+      grows = grows_twice f.invariant.grows s.grows;
       tells = joined (λ B. (seen : List Want) → IsOn scan.lo scan.hi B seen scan.place → GoesOn (λ ws. IsOn scan.lo scan.hi B ws f.scan.place) (exec B (item_lines (left_of B c.args.store.now scan))) (exec B (item_lines (left_of B f.store f.scan))) seen begun mid c.args.text.now f.text)
           (λ B. (seen : List Want) → IsOn f.scan.lo f.scan.hi B seen f.scan.place → Turns was (λ ws. IsOn f.scan.lo f.scan.hi B ws c.show_next.new.scan.place) (exec B (item_lines (left_of B f.store f.scan))) (exec B (item_lines (left_of B c.show_next.new.store c.show_next.new.scan))) seen mid text f.text c.show_next.new.text (Ok c.in-Ok-true.field-0))
           (λ B. (seen : List Want) → IsOn scan.lo scan.hi B seen scan.place → GoesOn (λ ws. IsOn scan.lo scan.hi B ws c.show_next.new.scan.place) (exec B (item_lines (left_of B c.args.store.now scan))) (exec B (item_lines (left_of B c.show_next.new.store c.show_next.new.scan))) seen begun text c.args.text.now c.show_next.new.text) f.invariant.layout
@@ -126,3 +128,9 @@ loop-stop-preserved g c =
           record { past = turned.past; on = on_as f.scan.lo f.scan.hi scan.lo scan.hi B _ c.show_next.new.scan.place f.invariant.lo f.invariant.hi turned.on }))
           f.invariant.tells s.content;
     }
+
+pub returns-in-Err-clause-grows : goal.returns-in-Err-clause-grows
+returns-in-Err-clause-grows g c = grows_twice c.loop-stop.invariant.grows c.in-Err.ensures.grows
+
+pub returns-in-Ok-false-clause-grows : goal.returns-in-Ok-false-clause-grows
+returns-in-Ok-false-clause-grows g c = grows_twice c.loop-stop.invariant.grows c.in-Ok-false.ensures.grows

@@ -7,7 +7,7 @@ use Rattle.btr_walk.specs.Going.{IsOn}
 use Rattle.btr_walk.specs.Reading.{Tells}
 use Rattle.btr_walk.specs.ScanEnds.{IsReady, without_leaf, left_of, rank_of}
 use Rattle.btr_dump.specs.Pieces.{item_lines}
-use Rattle.btr_dump.specs.Showing.{GoesOn}
+use Rattle.btr_dump.specs.Showing.{GoesOn, Grows}
 use Rattle.btr_dump.proofs.roots.show_items.Given as goal
 
 abbrev pub invariant-loop-stop : goal.invariant-loop-stop
@@ -20,6 +20,7 @@ invariant-loop-stop g l = record {
   lo : l.scan.lo ≡ l.fn.scan.lo;
   hi : l.scan.hi ≡ l.fn.scan.hi;
   account : g.O.Out.account l.out ≡ g.O.Out.account l.fn.out;
+  grows : Grows (g.O.Out.text l.fn.out) (g.O.Out.text l.out);
   tells : Tells l.fn.store.layout (g.R.Rack.seen l.fn.rack) (g.R.Rack.seen l.rack) (λ B. (seen : List Want) → IsOn l.fn.scan.lo l.fn.scan.hi B seen l.fn.scan.place
       → GoesOn (λ ws. IsOn l.fn.scan.lo l.fn.scan.hi B ws l.scan.place) (exec B (item_lines (left_of B l.fn.store l.fn.scan))) (exec B (item_lines (left_of B l.store l.scan))) seen (g.O.Out.text l.fn.out) (g.O.Out.text l.out) l.fn.text l.text);
 }

@@ -1,9 +1,9 @@
-use Rattle.std.proofs.Common.{◌∙◌, ◌++◌, List, true, false, Ok, Err, Some, None, refl, sym, ap, subst}
-use Rattle.btr_prog.specs.Prog.{exec, wants_of}
+use Rattle.std.proofs.Common.{◌∙◌, ◌++◌, List, [], true, false, Ok, Err, ap, subst}
+use Rattle.btr_prog.specs.Prog.{exec}
 use Rattle.btr_read.specs.declared.want.Want.{Want}
 use Rattle.btr_volume.specs.declared.stop.Stop.TheVariants.{Tree}
 use Rattle.btr_walk.specs.Going.{IsOn}
-use Rattle.btr_walk.specs.Reading.{Tells, unread_by}
+use Rattle.btr_walk.specs.Reading.{unread_by}
 use Rattle.btr_walk.specs.ScanEnds.{left_of, IsNextOn}
 use Rattle.btr_walk.specs.Showing.{item_of}
 use Rattle.btr_dump.specs.Pieces.{item_line, item_lines}
@@ -11,6 +11,7 @@ use Rattle.btr_dump.specs.Showing.{Turns}
 use Rattle.btr_dump.proofs.Loops.{turn_halts, turn_ends, turn_goes, turn_stops}
 use Rattle.btr_dump.proofs.Rooting.{no_wants}
 use Rattle.btr_dump.proofs.Telling.{drawn}
+use Rattle.btr_dump.proofs.Growing.{grows_none, run_grows, no_block}
 use Rattle.btr_dump.proofs.roots.show_next.Goals as goal
 
 pub returns-in-Err-clause-content : goal.returns-in-Err-clause-content
@@ -73,3 +74,25 @@ returns-in-Ok-clause-content g c =
     turn_goes item_line B (left_of B c.args.store.now scan) (left_of B new c.next.new.scan) (item_of found) gives.past gives.is (λ ws. IsOn scan.lo scan.hi B ws c.next.new.scan.place) is seen (seen ++ gives.past) old_text new_text c.args.text.now c.write_item.new.text (no_wants B (item_of found))
     gives.on (c.in-Ok.ensures.text layout (g.R.Rack.seen c.args.rack.now) (g.R.Rack.seen c.next.new.rack) (seen ++ gives.past) B))
     c.next.follows.holds-at-none.content
+
+pub returns-in-Err-clause-grows : goal.returns-in-Err-clause-grows
+returns-in-Err-clause-grows g c = grows_none (g.O.Out.text c.args.out.now)
+
+pub returns-in-Ok-None-clause-grows : goal.returns-in-Ok-None-clause-grows
+returns-in-Ok-None-clause-grows g c = grows_none (g.O.Out.text c.args.out.now)
+
+pub returns-in-Err-write_item-clause-grows : goal.returns-in-Err-write_item-clause-grows
+returns-in-Err-write_item-clause-grows g c =
+    let layout = c.args.store.now.layout in
+    let old = g.R.Rack.seen c.args.rack.now in
+    let new = g.R.Rack.seen c.next.new.rack in
+    run_grows (unread_by layout old new) [] (exec no_block (item_line (item_of c.in-Ok-Some.found))) (g.O.Out.text c.args.out.now) (g.O.Out.text c.write_item.new.out) c.args.text.now c.write_item.new.text (Err c.in-Err-write_item.stop)
+    (c.in-Err-write_item.ensures.text layout old new [] no_block)
+
+pub returns-in-Ok-clause-grows : goal.returns-in-Ok-clause-grows
+returns-in-Ok-clause-grows g c =
+    let layout = c.args.store.now.layout in
+    let old = g.R.Rack.seen c.args.rack.now in
+    let new = g.R.Rack.seen c.next.new.rack in
+    run_grows (unread_by layout old new) [] (exec no_block (item_line (item_of c.in-Ok-Some.found))) (g.O.Out.text c.args.out.now) (g.O.Out.text c.write_item.new.out) c.args.text.now c.write_item.new.text (Ok tt)
+    (c.in-Ok.ensures.text layout old new [] no_block)

@@ -1,4 +1,4 @@
-use Rattle.std.proofs.Common.{◌∙◌, [], List, Err, sym, ap, subst}
+use Rattle.std.proofs.Common.{◌∙◌, [], ◌++◌, List, Ok, Err, sym, ap, subst}
 use Rattle.btr_prog.specs.Prog.{exec}
 use Rattle.btr_read.specs.declared.want.Want.{Want}
 use Rattle.btr_walk.specs.Going.{IsOn}
@@ -12,6 +12,7 @@ use Rattle.btr_dump.specs.Pieces.{root_line, item_lines, roots_shown}
 use Rattle.btr_dump.specs.Showing.{Writes}
 use Rattle.btr_dump.proofs.Rooting.{two_cut, two_then}
 use Rattle.btr_dump.proofs.Telling.{drawn, told_none, on_as}
+use Rattle.btr_dump.proofs.Growing.{grows_twice, text_grows}
 use Rattle.btr_dump.proofs.roots.show_roots.Goals as goal
 
 pub returns-in-Err-clause-content : goal.returns-in-Err-clause-content
@@ -41,3 +42,13 @@ returns-clause-content g c =
     (subst (λ p. Writes is [] (exec B (item_lines p)) mid new c.write_tops.new.text c.show_items-shown.new.text c.show_items-shown.result) (c.new-scan.ensures.program B c.args.store.now ∙ ap (range first_key last_key) c.root_root.ensures)
     (h [] (on_as first_key last_key scan.lo scan.hi B [] scan.place (sym c.new-scan.ensures.lo) (sym c.new-scan.ensures.hi) (c.new-scan.ensures.on B)))))
     c.show_items-shown.ensures.content
+
+pub returns-in-Err-clause-grows : goal.returns-in-Err-clause-grows
+returns-in-Err-clause-grows g c =
+    let s = c.args.s.now in
+    text_grows (Unit {0}) (g.O.Out.text c.args.out.now) (g.O.Out.text c.write_tops.new.out) c.args.text.now c.write_tops.new.text (root_line (named_root 1 (root_root s)) ++ root_line (named_root 3 (chunk_root s))) (Err c.in-Err.refusal) c.in-Err.ensures.text
+
+pub returns-clause-grows : goal.returns-clause-grows
+returns-clause-grows g c =
+    let s = c.args.s.now in
+    grows_twice (text_grows (Unit {0}) (g.O.Out.text c.args.out.now) (g.O.Out.text c.write_tops.new.out) c.args.text.now c.write_tops.new.text (root_line (named_root 1 (root_root s)) ++ root_line (named_root 3 (chunk_root s))) (Ok tt) c.in-Ok.ensures.text) c.show_items-shown.ensures.grows

@@ -1,15 +1,14 @@
-use Rattle.std.proofs.Common.{◌∙◌, [], Ok, Err, Some, None, sym, ap, subst}
+use Rattle.std.proofs.Common.{◌∙◌, [], Ok, Err, ap, subst}
 use Rattle.btr_prog.specs.Prog.{exec}
 use Rattle.btr_prog.specs.Answers.{Follows, no_part}
-use Rattle.btr_super.specs.declared.superblock.Super.{Super}
-use Rattle.btr_volume.specs.Looking.{Looks}
 use Rattle.btr_volume.specs.Tree.{tree_of}
 use Rattle.btr_volume.specs.declared.stop.Stop.TheVariants.{NoTree, Tree}
 use Rattle.btr_walk.specs.Reading.{unread_by, answer_of}
 use Rattle.btr_dump.specs.Pieces.{kind_in, asked_tree, tree_shown}
 use Rattle.btr_dump.specs.Showing.{Puts, PutsAsked}
 use Rattle.btr_dump.proofs.Asking.{asked_fault, asked_none, asked_some}
-use Rattle.btr_dump.proofs.Telling.{drawn, joined, since, stop_cause_since}
+use Rattle.btr_dump.proofs.Telling.{drawn, joined, since}
+use Rattle.btr_dump.proofs.Growing.{grows_none}
 use Rattle.btr_dump.proofs.tree.dump_tree.Goals as goal
 
 pub returns-in-Err-clause-content : goal.returns-in-Err-clause-content
@@ -52,3 +51,9 @@ returns-in-Ok-Some-clause-content g c =
     (subst (λ o. Follows {S = ⊥} is no_part [] (exec B (tree_of s c.args.id)) [] (Ok o)) c.in-Ok-Some.field-0-is h)
     (subst (λ k. Puts later (exec B (tree_shown k c.in-Ok-Some.root)) begun text c.put_tree.result) kind p))
     c.in-Ok-Some.ensures.content c.put_tree.ensures.content
+
+pub returns-in-Err-clause-grows : goal.returns-in-Err-clause-grows
+returns-in-Err-clause-grows g c = grows_none (g.O.Out.text c.args.out.now)
+
+pub returns-in-Ok-None-clause-grows : goal.returns-in-Ok-None-clause-grows
+returns-in-Ok-None-clause-grows g c = grows_none (g.O.Out.text c.args.out.now)

@@ -1,14 +1,14 @@
-use Rattle.std.proofs.Common.{◌≡◌, ◌∙◌, List, Bool, true, false, Ok, Err, Result, refl, sym, ap, subst}
+use Rattle.std.proofs.Common.{◌∙◌, List, Bool, Ok, Err, refl, subst}
 use Rattle.btr_prog.specs.Prog.{exec}
 use Rattle.btr_rack.proofs.Reading.{reads_none, reads_more}
 use Rattle.btr_read.specs.declared.want.Want.{Want}
-use Rattle.btr_volume.specs.declared.stop.Stop.{Stop}
-use Rattle.btr_walk.specs.Reading.{Map, unread_by}
+use Rattle.btr_walk.specs.Reading.{unread_by}
 use Rattle.btr_walk.specs.Preorder.{IsAmong, blocks_left, blocks_rank}
 use Rattle.btr_dump.specs.Pieces.{blocks_shown}
 use Rattle.btr_dump.specs.Showing.{Writes, GoesOn, Turns, TurnNears}
 use Rattle.btr_dump.proofs.Loops.{goes_none, goes_more, goes_ends}
 use Rattle.btr_dump.proofs.Telling.{joined, told_none, since, same_then, same_layout, same_room, stop_cause_since, counts_since}
+use Rattle.btr_dump.proofs.Growing.{grows_none, grows_twice}
 use Rattle.btr_dump.proofs.tree.show_blocks.Goals as goal
 
 pub loop-stop-init : goal.loop-stop-init
@@ -23,6 +23,7 @@ loop-stop-init g c =
       room = c.requires.room;
       layout = refl;
       account = refl;
+      grows = grows_none (g.O.Out.text c.args.out.now);
       tells = told_none store.layout (λ B. (seen : List Want) → IsAmong B seen scan.place → GoesOn (λ ws. IsAmong B ws scan.place) (exec B (blocks_shown kind (blocks_left B scan))) (exec B (blocks_shown kind (blocks_left B scan))) seen (g.O.Out.text c.args.out.now) (g.O.Out.text c.args.out.now) c.args.text.now c.args.text.now)
           (λ B seen on. goes_none (λ ws. IsAmong B ws scan.place) (exec B (blocks_shown kind (blocks_left B scan))) seen (g.O.Out.text c.args.out.now) c.args.text.now on);
     }
@@ -114,6 +115,7 @@ loop-stop-preserved g c =
       room = same_room _ _ s.others f.invariant.room;
       layout = same_layout f.store c.show_next.new.store _ _ s.others ∙ f.invariant.layout;
       account = s.account ∙ f.invariant.account;
+      grows = grows_twice f.invariant.grows s.grows;
       tells = joined (λ B. (seen : List Want) → IsAmong B seen scan.place → GoesOn (λ ws. IsAmong B ws f.scan.place) (exec B (blocks_shown kind (blocks_left B scan))) (exec B (blocks_shown kind (blocks_left B f.scan))) seen begun mid c.args.text.now f.text)
           (λ B. (seen : List Want) → IsAmong B seen f.scan.place → Turns was (λ ws. IsAmong B ws c.show_next.new.scan.place) (exec B (blocks_shown kind (blocks_left B f.scan))) (exec B (blocks_shown kind (blocks_left B c.show_next.new.scan))) seen mid text f.text c.show_next.new.text (Ok c.in-Ok-true.field-0))
           (λ B. (seen : List Want) → IsAmong B seen scan.place → GoesOn (λ ws. IsAmong B ws c.show_next.new.scan.place) (exec B (blocks_shown kind (blocks_left B scan))) (exec B (blocks_shown kind (blocks_left B c.show_next.new.scan))) seen begun text c.args.text.now c.show_next.new.text) f.invariant.layout
@@ -125,3 +127,9 @@ loop-stop-preserved g c =
           record { past = turned.past; on = turned.on }))
           f.invariant.tells s.content;
     }
+
+pub returns-in-Err-clause-grows : goal.returns-in-Err-clause-grows
+returns-in-Err-clause-grows g c = grows_twice c.loop-stop.invariant.grows c.in-Err.ensures.grows
+
+pub returns-in-Ok-false-clause-grows : goal.returns-in-Ok-false-clause-grows
+returns-in-Ok-false-clause-grows g c = grows_twice c.loop-stop.invariant.grows c.in-Ok-false.ensures.grows

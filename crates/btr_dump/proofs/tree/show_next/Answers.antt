@@ -1,15 +1,16 @@
-use Rattle.std.proofs.Common.{◌∙◌, ◌++◌, List, true, false, Ok, Err, Some, None, refl, sym, ap, subst}
+use Rattle.std.proofs.Common.{◌∙◌, ◌++◌, List, [], true, false, Ok, Err, ap, subst}
 use Rattle.btr_prog.specs.Prog.{exec}
 use Rattle.btr_read.specs.declared.want.Want.{Want}
 use Rattle.btr_volume.specs.declared.stop.Stop.TheVariants.{Tree}
 use Rattle.btr_walk.specs.Blocks.{shown_block}
 use Rattle.btr_walk.specs.Preorder.{IsAmong, IsNextBlock, blocks_left}
 use Rattle.btr_walk.specs.Reading.{unread_by}
-use Rattle.btr_dump.specs.Pieces.{met_block, blocks_shown}
+use Rattle.btr_dump.specs.Pieces.{held_block, held_in, met_block, blocks_shown}
 use Rattle.btr_dump.specs.Showing.{Turns}
 use Rattle.btr_dump.proofs.Blocks.{met_wants_none, met_written}
 use Rattle.btr_dump.proofs.Loops.{turn_halts, turn_ends, turn_goes, turn_stops}
 use Rattle.btr_dump.proofs.Telling.{drawn}
+use Rattle.btr_dump.proofs.Growing.{grows_none, run_grows, no_block}
 use Rattle.btr_dump.proofs.tree.show_next.Goals as goal
 
 pub returns-in-Err-clause-content : goal.returns-in-Err-clause-content
@@ -78,3 +79,27 @@ returns-in-Ok-clause-content g c =
     gives.on (met_written is (seen ++ gives.past) B kind (shown_block found) old_text new_text c.args.text.now c.write_held.new.text (Ok tt)
     (c.in-Ok.ensures.text layout (g.R.Rack.seen c.args.rack.now) (g.R.Rack.seen c.next_block.new.rack) (seen ++ gives.past) B)))
     c.next_block.follows.holds-at-none.content
+
+pub returns-in-Err-clause-grows : goal.returns-in-Err-clause-grows
+returns-in-Err-clause-grows g c = grows_none (g.O.Out.text c.args.out.now)
+
+pub returns-in-Ok-None-clause-grows : goal.returns-in-Ok-None-clause-grows
+returns-in-Ok-None-clause-grows g c = grows_none (g.O.Out.text c.args.out.now)
+
+pub returns-in-Err-write_held-clause-grows : goal.returns-in-Err-write_held-clause-grows
+returns-in-Err-write_held-clause-grows g c =
+    let layout = c.args.store.now.layout in
+    let old = g.R.Rack.seen c.args.rack.now in
+    let new = g.R.Rack.seen c.next_block.new.rack in
+    let found = c.in-Ok-Some.found in
+    run_grows (unread_by layout old new) [] (exec no_block (held_block c.args.kind found.addr found.bytes.now (held_in found.bytes.now))) (g.O.Out.text c.args.out.now) (g.O.Out.text c.write_held.new.out) c.args.text.now c.write_held.new.text (Err c.in-Err-write_held.stop)
+    (c.in-Err-write_held.ensures.text layout old new [] no_block)
+
+pub returns-in-Ok-clause-grows : goal.returns-in-Ok-clause-grows
+returns-in-Ok-clause-grows g c =
+    let layout = c.args.store.now.layout in
+    let old = g.R.Rack.seen c.args.rack.now in
+    let new = g.R.Rack.seen c.next_block.new.rack in
+    let found = c.in-Ok-Some.found in
+    run_grows (unread_by layout old new) [] (exec no_block (held_block c.args.kind found.addr found.bytes.now (held_in found.bytes.now))) (g.O.Out.text c.args.out.now) (g.O.Out.text c.write_held.new.out) c.args.text.now c.write_held.new.text (Ok tt)
+    (c.in-Ok.ensures.text layout old new [] no_block)

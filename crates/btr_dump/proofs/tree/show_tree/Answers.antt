@@ -1,6 +1,7 @@
-use Rattle.std.proofs.Common.{◌∙◌, [], List, Err, sym, ap, subst}
+use Rattle.std.proofs.Common.{[], List, Ok, Err, sym, subst}
 use Rattle.btr_prog.specs.Prog.{exec}
 use Rattle.btr_read.specs.declared.want.Want.{Want}
+use Rattle.btr_text.specs.Pieces.{text_of}
 use Rattle.btr_text.proofs.Writing.{wrote_as, cut_as}
 use Rattle.btr_walk.specs.Blocks.{blocks}
 use Rattle.btr_walk.specs.Preorder.{IsAmong, blocks_left}
@@ -9,6 +10,7 @@ use Rattle.btr_dump.specs.Pieces.{tree_text, blocks_shown, tree_shown}
 use Rattle.btr_dump.specs.Showing.{Writes}
 use Rattle.btr_dump.proofs.Rooting.{one_cut, one_then}
 use Rattle.btr_dump.proofs.Telling.{drawn, told_none}
+use Rattle.btr_dump.proofs.Growing.{grows_twice, text_grows}
 use Rattle.btr_dump.proofs.tree.show_tree.Goals as goal
 
 pub returns-in-Err-clause-content : goal.returns-in-Err-clause-content
@@ -40,3 +42,11 @@ returns-clause-content g c =
     (λ B h. one_then is B line (blocks_shown kind (blocks root.place)) old mid new c.args.text.now c.push_all.new.self c.show_blocks-shown.new.text c.show_blocks-shown.result (wrote_as line c.tree_line.ensures c.in-Ok.ensures.text)
     (subst (λ p. Writes is [] (exec B (blocks_shown kind p)) mid new c.push_all.new.self c.show_blocks-shown.new.text c.show_blocks-shown.result) (c.new-scan.ensures.program B) (h [] (c.new-scan.ensures.on B))))
     c.show_blocks-shown.ensures.content
+
+pub returns-in-Err-clause-grows : goal.returns-in-Err-clause-grows
+returns-in-Err-clause-grows g c =
+    text_grows (Unit {0}) (g.O.Out.text c.args.out.now) (g.O.Out.text c.push_all.new.out) c.args.text.now c.push_all.new.self (text_of c.tree_line.result) (Err c.in-Err.refusal) c.in-Err.ensures.text
+
+pub returns-clause-grows : goal.returns-clause-grows
+returns-clause-grows g c =
+    grows_twice (text_grows (Unit {0}) (g.O.Out.text c.args.out.now) (g.O.Out.text c.push_all.new.out) c.args.text.now c.push_all.new.self (text_of c.tree_line.result) (Ok tt) c.in-Ok.ensures.text) c.show_blocks-shown.ensures.grows

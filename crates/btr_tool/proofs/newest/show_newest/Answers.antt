@@ -3,11 +3,11 @@ use Rattle.btr_super.specs.Newest.{newest_index}
 use Rattle.btr_tool.specs.Answers.{answer_of, output_answer}
 use Rattle.btr_tool.specs.Commands.{MayFail}
 use Rattle.btr_tool.specs.Newest.{IsSuperOutcome}
-use Rattle.btr_tool.specs.Supers.{supers_answer}
+use Rattle.btr_tool.specs.Faults.{open_answer}
 use Rattle.btr_tool.specs.declared.answer.Answer.TheVariants.{Done}
 use Rattle.btr_tool.specs.declared.plan.Command.TheVariants.{Super}
 use Rattle.btr_tool.proofs.Coming.{answer_gives}
-use Rattle.btr_tool.proofs.Showing.{refusal_effect, refusal_told, refusal_behind, shown_effect, shown_told, shown_behind}
+use Rattle.btr_tool.proofs.Showing.{refusal_effect, refusal_told, refusal_behind, shown_effect, shown_told, shown_behind, supers_read}
 use Rattle.btr_tool.proofs.newest.show_newest.Goals as goal
 
 pub returns-in_err-supers-clause-effect : goal.returns-in_err-supers-clause-effect
@@ -16,7 +16,7 @@ returns-in_err-supers-clause-effect g c =
     let new = g.R.Rack.seen c.read_supers.new.rack in
     let fault = c.in_err-supers.field-0.0 in
     refusal_effect old new fault c.in_err-supers.ensures.cause old.held (g.O.Out.text c.args.out.now) (g.O.Out.account c.args.out.now) (answer_of c.from_residual.result)
-    (answer_gives c.from_residual.result (supers_answer fault) c.from_residual.ensures.1) c.in_err-supers.ensures.supers
+    (answer_gives c.from_residual.result (open_answer fault) c.from_residual.ensures.1) c.in_err-supers.ensures.supers
 
 pub returns-in_err-supers-clause-told : goal.returns-in_err-supers-clause-told
 returns-in_err-supers-clause-told g c =
@@ -24,7 +24,7 @@ returns-in_err-supers-clause-told g c =
     let new = g.R.Rack.seen c.read_supers.new.rack in
     let fault = c.in_err-supers.field-0.0 in
     refusal_told old new fault c.in_err-supers.ensures.cause IsSuperOutcome (g.O.Out.text c.args.out.now) (g.O.Out.account c.args.out.now) (answer_of c.from_residual.result)
-    (answer_gives c.from_residual.result (supers_answer fault) c.from_residual.ensures.1)
+    (answer_gives c.from_residual.result (open_answer fault) c.from_residual.ensures.1)
 
 pub returns-in_err-supers-clause-cause : goal.returns-in_err-supers-clause-cause
 returns-in_err-supers-clause-cause g c =
@@ -32,7 +32,7 @@ returns-in_err-supers-clause-cause g c =
     let new = g.R.Rack.seen c.read_supers.new.rack in
     let fault = c.in_err-supers.field-0.0 in
     refusal_behind old new fault c.in_err-supers.ensures.cause (MayFail Super) (answer_of c.from_residual.result)
-    (answer_gives c.from_residual.result (supers_answer fault) c.from_residual.ensures.1) c.in_err-supers.ensures.same c.in_err-supers.ensures.sure
+    (answer_gives c.from_residual.result (open_answer fault) c.from_residual.ensures.1) c.in_err-supers.ensures.same
 
 pub returns-in_err-put_super-clause-effect : goal.returns-in_err-put_super-clause-effect
 returns-in_err-put_super-clause-effect g c =
@@ -53,7 +53,7 @@ returns-in_err-put_super-clause-told g c =
 pub returns-in_err-put_super-clause-cause : goal.returns-in_err-put_super-clause-cause
 returns-in_err-put_super-clause-cause g c =
     let fault = c.in_err-put_super.field-0.0 in
-    shown_behind (MayFail Super) (g.R.Rack.seen c.args.rack.now) (g.R.Rack.seen c.read_supers.new.rack) (Err fault) c.in_ok-supers.ensures.same c.in_ok-supers.ensures.cause
+    shown_behind (MayFail Super) (g.R.Rack.seen c.args.rack.now) (g.R.Rack.seen c.read_supers.new.rack) (Err fault) (supers_read _ _ (Ok c.in_ok-supers.supers) c.in_ok-supers.ensures.same c.in_ok-supers.ensures.cause) c.in_ok-supers.ensures.cause
     (answer_of c.from_residual-in_err-put_super.result) (answer_gives c.from_residual-in_err-put_super.result (output_answer fault) c.from_residual-in_err-put_super.ensures.1)
 
 pub returns-clause-effect : goal.returns-clause-effect
@@ -72,4 +72,4 @@ returns-clause-told g c =
 
 pub returns-clause-cause : goal.returns-clause-cause
 returns-clause-cause g c =
-    shown_behind (MayFail Super) (g.R.Rack.seen c.args.rack.now) (g.R.Rack.seen c.read_supers.new.rack) (Ok tt) c.in_ok-supers.ensures.same c.in_ok-supers.ensures.cause (Done 0) refl
+    shown_behind (MayFail Super) (g.R.Rack.seen c.args.rack.now) (g.R.Rack.seen c.read_supers.new.rack) (Ok tt) (supers_read _ _ (Ok c.in_ok-supers.supers) c.in_ok-supers.ensures.same c.in_ok-supers.ensures.cause) c.in_ok-supers.ensures.cause (Done 0) refl

@@ -3,7 +3,7 @@ use Rattle.std.specs.String.{string_bytes}
 use Rattle.btr_tool.specs.Answers.{answer_of}
 use Rattle.btr_tool.specs.Effects.{MayFollow}
 use Rattle.btr_tool.specs.Outcomes.{OrBare}
-use Rattle.btr_tool.proofs.Ending.{when_told, has_effect, has_part, decided, stated, image, shut, out_failed, hidden, sure, is_told}
+use Rattle.btr_tool.proofs.Ending.{when_told, has_effect, has_part, decided, stated, image, shut, out_failed, tree, hidden, sure, is_told}
 use Rattle.btr_tool.proofs.run.run.Goals as goal
 
 pub returns-clause-effect : goal.returns-clause-effect
@@ -49,6 +49,11 @@ pub returns-clause-out : goal.returns-clause-out
 returns-clause-out g c =
     out_failed (g.O.Out.text c.args.out.now) (g.O.Out.text c.carry_out-done.new.out) (g.O.Out.text c.finish.new.out) (g.O.Out.account c.args.out.now) (g.O.Out.account c.carry_out-done.new.out) (g.O.Out.account c.finish.new.out)
     (answer_of c.carry_out-done.result) c.finish.result c.finish.ensures (OrBare (MayFollow (map string_bytes c.args.words.now))) c.carry_out-done.ensures.told
+
+pub returns-clause-tree : goal.returns-clause-tree
+returns-clause-tree g c =
+    tree (g.O.Out.text c.args.out.now) (g.O.Out.text c.carry_out-done.new.out) (g.O.Out.text c.finish.new.out) (g.O.Out.account c.args.out.now) (g.O.Out.account c.carry_out-done.new.out) (g.O.Out.account c.finish.new.out)
+    (answer_of c.carry_out-done.result) c.finish.result c.finish.ensures (map string_bytes c.args.words.now) (g.R.Rack.seen c.args.rack.now) (g.R.Rack.seen c.carry_out-done.new.rack) c.carry_out-done.ensures.cause
 
 pub returns-clause-hidden : goal.returns-clause-hidden
 returns-clause-hidden g c =

@@ -1,0 +1,62 @@
+use Rattle.std.proofs.Common.{◌∙◌, [], List, Ok, Err, sym, ap, subst}
+use Rattle.btr_base.specs.Key.{last_key}
+use Rattle.btr_prog.specs.Prog.{exec}
+use Rattle.btr_read.specs.declared.want.Want.{Want}
+use Rattle.btr_volume.specs.Table.{first_key}
+use Rattle.btr_volume.specs.Tree.{root_root}
+use Rattle.btr_walk.specs.Going.{IsOn}
+use Rattle.btr_walk.specs.Range.{range}
+use Rattle.btr_walk.specs.Reading.{unread_by}
+use Rattle.btr_walk.specs.ScanEnds.{left_of}
+use Rattle.btr_dump.specs.Pieces.{all_trees, item_trees, kind_in, top_trees}
+use Rattle.btr_dump.specs.Showing.{Writes}
+use Rattle.btr_dump.proofs.Growing.{grows_twice}
+use Rattle.btr_dump.proofs.Parts.{first_stops, second_then}
+use Rattle.btr_dump.proofs.Telling.{drawn, joined, on_as, since}
+use Rattle.btr_dump.proofs.trees.show_all.Goals as goal
+
+pub returns-in-Err-clause-content : goal.returns-in-Err-clause-content
+returns-in-Err-clause-content g c =
+    let s = c.args.s.now in
+    let layout = c.args.store.now.layout in
+    let is = unread_by layout (g.R.Rack.seen c.args.rack.now) (g.R.Rack.seen c.show_tops.new.rack) in
+    let text = g.O.Out.text c.args.out.now in
+    let text' = g.O.Out.text c.show_tops.new.out in
+    let waited = c.args.text.now in
+    let waits = c.show_tops.new.text in
+    drawn layout (λ B. Writes {A = Unit {0}} is [] (exec B (top_trees s)) text text' waited waits (Err c.in-Err.stop)) (λ B. Writes {A = Unit {0}} is [] (exec B (all_trees s)) text text' waited waits (Err c.in-Err.stop))
+    (λ B w. first_stops B (top_trees s) (λ u. item_trees (kind_in s) (range first_key last_key (root_root s))) is text text' waited waits c.in-Err.stop w) c.in-Err.ensures.content
+
+pub returns-clause-grows : goal.returns-clause-grows
+returns-clause-grows g c = grows_twice c.in-Ok.ensures.grows c.show_items-shown.ensures.grows
+
+pub returns-clause-content : goal.returns-clause-content
+returns-clause-content g c =
+    let s = c.args.s.now in
+    let layout = c.args.store.now.layout in
+    let store = c.show_tops.new.store in
+    let mid = store.layout in
+    let before = g.R.Rack.seen c.args.rack.now in
+    let between = g.R.Rack.seen c.show_tops.new.rack in
+    let after = g.R.Rack.seen c.show_items-shown.new.rack in
+    let is = unread_by layout before after in
+    let early = unread_by layout before between in
+    let later = unread_by mid between after in
+    let old = g.O.Out.text c.args.out.now in
+    let text = g.O.Out.text c.show_tops.new.out in
+    let new = g.O.Out.text c.show_items-shown.new.out in
+    let waited = c.args.text.now in
+    let waiting = c.show_tops.new.text in
+    let waits = c.show_items-shown.new.text in
+    let scan = c.new-scan.result in
+    let items = range first_key last_key (root_root s) in
+    let kind = c.kind_in.result in
+    let result = c.show_items-shown.result in
+    joined (λ B. Writes {A = Unit {0}} early [] (exec B (top_trees s)) old text waited waiting (Ok tt))
+    (λ B. (seen : List Want) → IsOn scan.lo scan.hi B seen scan.place → Writes later seen (exec B (item_trees kind (left_of B store scan))) text new waiting waits result)
+    (λ B. Writes is [] (exec B (all_trees s)) old new waited waits result) c.in-Ok.ensures.loans.layout
+    (λ B one two. second_then B (top_trees s) (λ u. item_trees (kind_in s) items) early is later (since layout mid c.in-Ok.ensures.loans.layout c.in-Ok.ensures.reads) old text new waited waiting waits result one
+    (subst (λ k. Writes later [] (exec B (item_trees k items)) text new waiting waits result) c.kind_in.ensures
+    (subst (λ p. Writes later [] (exec B (item_trees kind p)) text new waiting waits result) (c.new-scan.ensures.program B store ∙ ap (range first_key last_key) c.root_root.ensures)
+    (two [] (on_as first_key last_key scan.lo scan.hi B [] scan.place (sym c.new-scan.ensures.lo) (sym c.new-scan.ensures.hi) (c.new-scan.ensures.on B))))))
+    c.in-Ok.ensures.content c.show_items-shown.ensures.content

@@ -1,0 +1,259 @@
+-- What the commands that show trees come to.
+use Rattle.std.proofs.Common.{◌≡◌, ◌≢◌, ◌⊎◌, inl, inr, ⊎_elim, ℕ, List, [], ◌∷◌, length, take, Option, Some, None, Result, Ok, Err, refl, sym, ap, ◌∙◌, subst, arith}
+use Rattle.std.specs.Option.{IfSome}
+use Rattle.std.proofs.lemmas.List.{take_all}
+use Rattle.btr_dump.specs.Pieces.{Text}
+use Rattle.btr_dump.specs.Showing.{Grows, TextRun, TellsBlock, Puts, PutsAsked}
+use Rattle.btr_dump.specs.Stops.{StopCause, StopCounts}
+use Rattle.btr_dump.proofs.Telling.{cause_since}
+use Rattle.btr_prog.specs.Answers.{Names}
+use Rattle.btr_prog.specs.Calls.{First}
+use Rattle.btr_rack.specs.Rack.{Account, Seen, NoneFailed, OnlyReads, Rose, Steady}
+use Rattle.btr_rack.specs.Out.{Adds, CallAccount}
+use Rattle.btr_rack.specs.declared.error.SinkError.TheVariants as sink
+use Rattle.btr_rack.proofs.Reading.{reads_more}
+use Rattle.btr_read.specs.Fate.{fate}
+use Rattle.btr_read.specs.Layout.{Layout}
+use Rattle.btr_read.specs.declared.want.Want.{Want}
+use Rattle.btr_volume.specs.Opening.{SuperUnread}
+use Rattle.btr_volume.specs.Start.{Images}
+use Rattle.btr_volume.specs.declared.fault.OpenFault.{OpenFault}
+use Rattle.btr_volume.specs.declared.fault.OpenFault.TheVariants as opening
+use Rattle.btr_volume.specs.declared.stop.Stop.{Stop}
+use Rattle.btr_volume.specs.declared.stop.Stop.TheVariants as stop
+use Rattle.btr_volume.specs.declared.volume.Volume.{Volume}
+use Rattle.btr_volume.specs.declared.which.Which.TheVariants.{Images as images_limit}
+use Rattle.btr_walk.specs.Reading.{Map, UnreadBlock, FaultCause, Tells, unread_by}
+use Rattle.btr_walk.specs.declared.fault.TreeFault.{TreeFault}
+use Rattle.btr_walk.specs.declared.fault.TreeFault.TheVariants as tree
+use Rattle.btr_tool.specs.Answers.{error_line}
+use Rattle.btr_tool.specs.Behind.{IfSteady, IsBehind, IsFault, HasTreeCause}
+use Rattle.btr_tool.specs.Faults.{open_answer, tree_answer}
+use Rattle.btr_tool.specs.Filesystem.{OpensFilesystem, IsBySupers, IsRefusal, MayMend, filesystem_in, filesystem_of}
+use Rattle.btr_tool.specs.Outcomes.{Comes, OrBare, OrMemory, refused}
+use Rattle.btr_tool.specs.Trees.{IsTreesOutcome, asked_answer, call_answer, shown_outcome, trees_in, trees_outcome, trees_shown, whole_answer}
+use Rattle.btr_tool.specs.declared.plan.DumpChoice.{DumpChoice}
+use Rattle.btr_tool.specs.declared.answer.Answer.{Answer}
+use Rattle.btr_tool.specs.declared.answer.Answer.TheVariants.{Done, Usage, NoSuper, SumKind, Foreign, Twin, Unsupported, Geometry, LogPending, BadArray, Limit, NoTree, ImageFault, OutFault}
+use Rattle.btr_tool.proofs.Coming.{comes_bare, comes_also}
+use Rattle.btr_tool.proofs.Ending.{when_told}
+use Rattle.btr_tool.proofs.Faulting.{tree_in, tree_back}
+use Rattle.btr_tool.proofs.Refusals.{open_line, open_no_out, open_no_usage}
+use Rattle.btr_tool.proofs.Shows.{asked_come, puts_come}
+
+steady_not_rose : (before now : ℕ) → Steady before now → Rose before now → ⊥
+steady_not_rose before now steady rose = omega (arith, steady.0, steady.1, rose.0, rose.1)
+
+-- where no read failed no block is unread
+none_unread : (layout : Layout) (old new : Seen) → Steady old.account.faults new.account.faults → (u : UnreadBlock) (ws : List Want) → Names (unread_by layout old new) u ws → ⊥
+none_unread layout old new steady u [] names = names
+none_unread layout old new steady u (w ∷ ws) names = ⊎_elim (λ is. steady_not_rose old.account.faults new.account.faults steady is.unread.rose) (λ rest. none_unread layout old new steady u ws rest) names
+
+-- what is told where something holds
+told_where : {X : Type 0} (o : Option X) (S : Type 0) (Q : X → Type 0) → (S → IfSome o Q) → IfSome o (λ x. S → Q x)
+told_where None S Q f = tt
+told_where (Some x) S Q f = f
+
+module _ (layout : Layout) (old new : Seen) where
+  abbrev Is : UnreadBlock → Want → Type 0
+  Is = unread_by layout old new
+
+  -- what calls tell where no read failed
+  steadily : (P : Map → Type 0) → Tells layout old new P → IfSteady old.held old.account new.account (λ images. P (fate images layout))
+  steadily P tells = told_where old.held (Steady old.account.faults new.account.faults) (λ images. P (fate images layout)) (λ steady. tells.calls.content First (omega (arith, tells.calls.later, steady.0), steady.1))
+
+  steadily_block : (addr : ℕ) (P : Map → Type 0) → TellsBlock layout addr old new P → IfSteady old.held old.account new.account (λ images. P (fate images layout))
+  steadily_block addr P tells = told_where old.held (Steady old.account.faults new.account.faults) (λ images. P (fate images layout)) (λ steady. tells.calls.content First (omega (arith, tells.calls.later, steady.0), steady.1))
+
+  module _ (text text' : Option Text) (before after : CallAccount) (result : Result (Unit {0}) Stop) (counts : StopCounts before after result) where
+    -- what a call comes to that shows the text of a run
+    pub run_comes : (run : Map → TextRun (Unit {0})) → Tells layout old new (λ B. Puts Is (run B) text text' result)
+        → IfSteady old.held old.account new.account (λ images. Comes (λ outcome. outcome ≡ shown_outcome whole_answer (run (fate images layout))) text text' before after (call_answer result))
+    run_comes run tells =
+        when_told old.held (λ images. Steady old.account.faults new.account.faults → Puts Is (run (fate images layout)) text text' result)
+        (λ images. Steady old.account.faults new.account.faults → Comes (λ outcome. outcome ≡ shown_outcome whole_answer (run (fate images layout))) text text' before after (call_answer result))
+        (λ images puts steady. puts_come Is (run (fate images layout)) text text' before after result (none_unread layout old new steady) (puts steady) counts) (steadily (λ B. Puts Is (run B) text text' result) tells)
+
+    pub block_comes : (addr : ℕ) (run : Map → TextRun (Unit {0})) → TellsBlock layout addr old new (λ B. Puts Is (run B) text text' result)
+        → IfSteady old.held old.account new.account (λ images. Comes (λ outcome. outcome ≡ shown_outcome whole_answer (run (fate images layout))) text text' before after (call_answer result))
+    block_comes addr run tells =
+        when_told old.held (λ images. Steady old.account.faults new.account.faults → Puts Is (run (fate images layout)) text text' result)
+        (λ images. Steady old.account.faults new.account.faults → Comes (λ outcome. outcome ≡ shown_outcome whole_answer (run (fate images layout))) text text' before after (call_answer result))
+        (λ images puts steady. puts_come Is (run (fate images layout)) text text' before after result (none_unread layout old new steady) (puts steady) counts) (steadily_block addr (λ B. Puts Is (run B) text text' result) tells)
+
+    pub tree_comes : (run : Map → TextRun (Option ℕ)) → Tells layout old new (λ B. PutsAsked Is (run B) text text' result)
+        → IfSteady old.held old.account new.account (λ images. Comes (λ outcome. outcome ≡ shown_outcome asked_answer (run (fate images layout))) text text' before after (call_answer result))
+    tree_comes run tells =
+        when_told old.held (λ images. Steady old.account.faults new.account.faults → PutsAsked Is (run (fate images layout)) text text' result)
+        (λ images. Steady old.account.faults new.account.faults → Comes (λ outcome. outcome ≡ shown_outcome asked_answer (run (fate images layout))) text text' before after (call_answer result))
+        (λ images puts steady. asked_come Is (run (fate images layout)) text text' before after result (none_unread layout old new steady) (puts steady) counts) (steadily (λ B. PutsAsked Is (run B) text text' result) tells)
+
+-- the filesystem isn't opened
+module _ (answer result : Answer) (is : result ≡ answer) (refusal : IsRefusal answer) where
+  no_out : answer ≢ OutFault
+  no_out e = open_no_out refusal.refusal (sym refusal.is ∙ e)
+
+  pub unopened_effect : (choice : DumpChoice) (old new : Account) (held : Option Images) (text : Option Text) (account : CallAccount) → IfSteady held old new (λ images. OpensFilesystem images (Err answer))
+      → IfSteady held old new (λ images. Comes (OrMemory (λ outcome. Some (trees_outcome choice images) ≡ Some outcome)) text text account account result)
+  unopened_effect choice old new held text account =
+      when_told held (λ images. Steady old.faults new.faults → OpensFilesystem images (Err answer))
+      (λ images. Steady old.faults new.faults → Comes (OrMemory (λ outcome. Some (trees_outcome choice images) ≡ Some outcome)) text text account account result)
+      (λ images opens steady. subst (λ a. Comes (OrMemory (λ outcome. Some (trees_outcome choice images) ≡ Some outcome)) text text account account a) (sym is)
+      (comes_bare (OrMemory (λ outcome. Some (trees_outcome choice images) ≡ Some outcome)) text account answer
+      (⊎_elim (λ none. inl (ap (λ f. Some (trees_in choice images f)) none)) (λ want. inr (ap refused want)) (opens steady)) no_out))
+
+  pub unopened_told : (text : Option Text) (account : CallAccount) → Comes (OrBare IsTreesOutcome) text text account account result
+  unopened_told text account =
+      subst (λ a. Comes (OrBare IsTreesOutcome) text text account account a) (sym is)
+      (comes_bare (OrBare IsTreesOutcome) text account answer (inr (refl, λ e. open_line refusal.refusal (ap error_line (sym refusal.is) ∙ e))) no_out)
+
+  pub unopened_behind : (old new : Seen) → OnlyReads old new → ((slot : ℕ) → answer ≡ ImageFault slot → SuperUnread old new slot) → HasTreeCause old new answer
+      → NoneFailed old.account new.account ⊎ IsFault answer ⊎ MayMend answer → ((n : ℕ) → answer ≢ Limit images_limit n) → IsBehind MayMend old new result
+  unopened_behind old new reads image cause hidden counted = record {
+    reads = reads;
+    image = λ slot e. image slot (sym is ∙ e);
+    tree = λ fault e. cause fault (sym is ∙ e);
+    hidden = subst (λ a. NoneFailed old.account new.account ⊎ IsFault a ⊎ MayMend a) (sym is) hidden;
+    no_usage = λ at e. open_no_usage refusal.refusal at (sym refusal.is ∙ sym is ∙ e);
+    no_limit = λ n e. counted n (sym is ∙ e);
+  }
+
+-- The filesystem is open, and its trees were shown.
+module _ (choice : DumpChoice) (old mid new : Seen) (first : OnlyReads old mid) (second : OnlyReads mid new) (text text' : Option Text) (before after : CallAccount) (answer : Answer) (result : Result (Unit {0}) Stop) (is : answer ≡ call_answer result) where
+  pub shown_effect : (volume : Volume) → IfSteady old.held old.account mid.account (λ images. OpensFilesystem images (Ok volume))
+      → IfSteady mid.held mid.account new.account (λ images. Comes (λ outcome. outcome ≡ trees_shown choice (fate images volume.store.layout) volume.sup) text text' before after (call_answer result))
+      → IfSteady old.held old.account new.account (λ images. Comes (OrMemory (λ outcome. Some (trees_outcome choice images) ≡ Some outcome)) text text' before after answer)
+  shown_effect volume opens shows = of old.held opens (subst (λ held. IfSteady held mid.account new.account (λ images. Comes (λ outcome. outcome ≡ trees_shown choice (fate images volume.store.layout) volume.sup) text text' before after (call_answer result))) (ap (λ (s : Seen). s.held) first.same) shows)
+    where
+      of : (held : Option Images) → IfSteady held old.account mid.account (λ images. OpensFilesystem images (Ok volume))
+          → IfSteady held mid.account new.account (λ images. Comes (λ outcome. outcome ≡ trees_shown choice (fate images volume.store.layout) volume.sup) text text' before after (call_answer result))
+          → IfSteady held old.account new.account (λ images. Comes (OrMemory (λ outcome. Some (trees_outcome choice images) ≡ Some outcome)) text text' before after answer)
+      of None opens shows = tt
+      of (Some images) opens shows = λ steady.
+          let opened : filesystem_of images ≡ Ok (filesystem_in volume) = opens (omega (arith, steady.0, second.later), omega (arith, steady.1, second.later)) in
+          subst (λ a. Comes (OrMemory (λ outcome. Some (trees_outcome choice images) ≡ Some outcome)) text text' before after a) (sym is)
+          (comes_also (λ outcome. outcome ≡ trees_shown choice (fate images volume.store.layout) volume.sup) (OrMemory (λ outcome. Some (trees_outcome choice images) ≡ Some outcome)) text text' before after (call_answer result)
+          (λ outcome e. inl (ap (λ f. Some (trees_in choice images f)) opened ∙ ap (λ o. Some o) (sym e)))
+          (shows (omega (arith, steady.0, first.later), steady.1)))
+
+module _ (text text' : Option Text) (before after : CallAccount) (answer : Answer) (result : Result (Unit {0}) Stop) (is : answer ≡ call_answer result) (counts : StopCounts before after result) where
+  pub shown_told : Grows text text' → Comes (OrBare IsTreesOutcome) text text' before after answer
+  shown_told grows = subst (λ a. Comes (OrBare IsTreesOutcome) text text' before after a) (sym is) (of result counts)
+    where
+      some : (n : ℕ) × Adds text text' (take n grows.more)
+      some = (length grows.more, subst (Adds text text') (sym (take_all (length grows.more) grows.more (omega arith))) grows.adds)
+
+      of : (r : Result (Unit {0}) Stop) → StopCounts before after r → Comes (OrBare IsTreesOutcome) text text' before after (call_answer r)
+      of (Ok u) counts = record { outcome = record { answer = Done 0; text = grows.more }; is_one = inl (inl refl); no_fault = λ e. cc; put = record { put = Ok tt; puts = grows.adds; counts = counts; due = refl } }
+      of (Err (stop.Tree f)) counts = record { outcome = record { answer = tree_answer f; text = grows.more }; is_one = inl (inr (inr (f, refl))); no_fault = λ e. no_out f e; put = record { put = Ok tt; puts = grows.adds; counts = counts; due = refl } }
+        where
+          no_out : (f : TreeFault) → tree_answer f ≢ OutFault
+          no_out (tree.Lost a) e = cc
+          no_out (tree.Unread a slot) e = cc
+          no_out (tree.Unmapped a) e = cc
+          no_out (tree.Crosses a) e = cc
+          no_out (tree.Malformed a) e = cc
+      of (Err (stop.NoTree id)) counts = record { outcome = record { answer = NoTree id; text = grows.more }; is_one = inl (inr (inl (id, refl))); no_fault = λ e. cc; put = record { put = Ok tt; puts = grows.adds; counts = counts; due = refl } }
+      of (Err stop.Out) counts = record { outcome = record { answer = Done 0; text = grows.more }; is_one = inl (inl refl); no_fault = λ e. cc; put = record { put = Err sink.Failed; puts = some; counts = counts; due = refl } }
+      of (Err stop.Memory) counts = record { outcome = record { answer = Done 0; text = grows.more }; is_one = inl (inl refl); no_fault = λ e. cc; put = record { put = Err sink.Memory; puts = some; counts = counts; due = refl } }
+      of (Err (stop.Deletion id)) counts = absurd counts
+      of (Err stop.Balance) counts = absurd counts
+      of (Err (stop.Missing id)) counts = absurd counts
+      of (Err (stop.Image slot)) counts = absurd counts
+      of (Err stop.Sink) counts = absurd counts
+
+-- the answer is none of those that the words or the superblocks alone decide
+abbrev NoneOf : Answer → Type 0
+NoneOf (Usage at) = ⊥
+NoneOf (Limit images_limit n) = ⊥
+NoneOf (NoSuper slot) = ⊥
+NoneOf (SumKind kind) = ⊥
+NoneOf (Foreign slot) = ⊥
+NoneOf (Twin slot) = ⊥
+NoneOf (Unsupported bits) = ⊥
+NoneOf Geometry = ⊥
+NoneOf LogPending = ⊥
+NoneOf BadArray = ⊥
+NoneOf answer = Unit {0}
+
+module _ (old mid new : Seen) (first : OnlyReads old mid) (second : OnlyReads mid new) (before after : CallAccount) (answer : Answer) (result : Result (Unit {0}) Stop) (is : answer ≡ call_answer result) (counts : StopCounts before after result) where
+  no_image : (slot : ℕ) → call_answer result ≢ ImageFault slot
+  no_image slot = of result counts
+    where
+      of : (r : Result (Unit {0}) Stop) → StopCounts before after r → call_answer r ≢ ImageFault slot
+      of (Ok u) counts e = cc
+      of (Err (stop.Tree (tree.Lost a))) counts e = cc
+      of (Err (stop.Tree (tree.Unread a slot))) counts e = cc
+      of (Err (stop.Tree (tree.Unmapped a))) counts e = cc
+      of (Err (stop.Tree (tree.Crosses a))) counts e = cc
+      of (Err (stop.Tree (tree.Malformed a))) counts e = cc
+      of (Err (stop.NoTree id)) counts e = cc
+      of (Err stop.Out) counts e = cc
+      of (Err stop.Memory) counts e = cc
+      of (Err (stop.Deletion id)) counts e = absurd counts
+      of (Err stop.Balance) counts e = absurd counts
+      of (Err (stop.Missing id)) counts e = absurd counts
+      of (Err (stop.Image other)) counts e = absurd counts
+      of (Err stop.Sink) counts e = absurd counts
+
+  none_of : NoneOf (call_answer result)
+  none_of = of result
+    where
+      of : (r : Result (Unit {0}) Stop) → NoneOf (call_answer r)
+      of (Ok u) = tt
+      of (Err (stop.Tree (tree.Lost a))) = tt
+      of (Err (stop.Tree (tree.Unread a slot))) = tt
+      of (Err (stop.Tree (tree.Unmapped a))) = tt
+      of (Err (stop.Tree (tree.Crosses a))) = tt
+      of (Err (stop.Tree (tree.Malformed a))) = tt
+      of (Err (stop.NoTree id)) = tt
+      of (Err stop.Out) = tt
+      of (Err stop.Memory) = tt
+      of (Err (stop.Deletion id)) = tt
+      of (Err stop.Balance) = tt
+      of (Err (stop.Missing id)) = tt
+      of (Err (stop.Image other)) = tt
+      of (Err stop.Sink) = tt
+
+  mends : MayMend (call_answer result)
+  mends refusal by e = of refusal by (subst NoneOf e none_of)
+    where
+      of : (r : OpenFault) → IsBySupers r → NoneOf (open_answer r) → ⊥
+      of (opening.ImageFault slot) by none = by
+      of (opening.NoSuper slot) by none = none
+      of (opening.SumKind kind) by none = none
+      of (opening.Foreign slot) by none = none
+      of (opening.Twin slot) by none = none
+      of (opening.Unsupported bits) by none = none
+      of opening.Geometry by none = none
+      of opening.LogPending by none = none
+      of opening.BadArray by none = none
+      of (opening.BadChunk start) by none = by
+      of (opening.Limit which count) by none = by
+      of (opening.Tree f) by none = by
+      of opening.Memory by none = by
+
+  tree_cause : (layout : Layout) → StopCause layout mid new result → HasTreeCause old new (call_answer result)
+  tree_cause layout cause fault is = (layout, of result cause (ap tree_in is ∙ tree_back fault))
+    where
+      of : (r : Result (Unit {0}) Stop) → StopCause layout mid new r → tree_in (call_answer r) ≡ Some fault → FaultCause layout old new fault
+      of (Ok u) cause e = absurd (cc e)
+      of (Err (stop.Tree f)) cause e = let same : f ≡ fault = cc (sym (tree_back f) ∙ e) in subst (FaultCause layout old new) same (cause_since new layout layout f refl first cause)
+      of (Err (stop.NoTree id)) cause e = absurd (cc e)
+      of (Err stop.Out) cause e = absurd (cc e)
+      of (Err stop.Memory) cause e = absurd (cc e)
+      of (Err (stop.Deletion id)) cause e = absurd (cc e)
+      of (Err stop.Balance) cause e = absurd (cc e)
+      of (Err (stop.Missing id)) cause e = absurd (cc e)
+      of (Err (stop.Image other)) cause e = absurd (cc e)
+      of (Err stop.Sink) cause e = absurd (cc e)
+
+  pub shown_behind : (layout : Layout) → StopCause layout mid new result → IsBehind MayMend old new answer
+  shown_behind layout cause = subst (IsBehind MayMend old new) (sym is) (record {
+    reads = reads_more first second;
+    image = λ slot is. absurd (no_image slot is);
+    tree = tree_cause layout cause;
+    hidden = inr (inr mends);
+    no_usage = λ at e. subst NoneOf e none_of;
+    no_limit = λ n e. subst NoneOf e none_of;
+  })
