@@ -81,7 +81,7 @@ module _ (treat : Counts → DirEntry → Program Step Counts) (B : Map) (Bs : �
     seen = [];
     so_far = so_far_more (GoesTo Bs (each treat counts p)) (GoesTo Bs (each treat counts p)) (Left treat Bs counts (exec B (dir_left B dir))) [] [] []
         (λ q h. goes_thread Bs (body_of treat) last counts p (exec B p) q (goes_some Bs B p (each_all (λ w. (i : ℕ) × (Bs i w ≡ B w)) (needs B p) (λ w. (0, zeroth w))))
-            (subst (λ (x : Program DirEntry (Unit {0})). Left treat Bs counts (exec B x) q) is h))
+        (subst (λ (x : Program DirEntry (Unit {0})). Left treat Bs counts (exec B x) q) is h))
         (so_far_none (GoesTo Bs (each treat counts p)));
     on = on;
   }
@@ -176,7 +176,7 @@ module _ (treat : Counts → DirEntry → Program Step Counts) (x : World) where
         content = all_of layout x.rack rack (λ Bs. Goes (unread_by layout x.rack rack) part [] Bs whole l.done (Err (halt_of f)))
             (both_then layout x.rack y.rack rack Was (Next layout (Err f)) (λ B Bs. Goes (unread_by layout x.rack rack) part [] Bs whole l.done (Err (halt_of f)))
             (λ B Bs z p q. left_fault treat B Bs z whole counts (unread_by layout x.rack rack) dir l.done (halt_of f) p
-                (follows_as (unread_by layout y.rack rack) (unread_by layout x.rack rack) earlier no_part p.seen (exec B (dir_left B dir)) [] (Err (halt_of f)) (q p.seen p.on)))
+            (follows_as (unread_by layout y.rack rack) (unread_by layout x.rack rack) earlier no_part p.seen (exec B (dir_left B dir)) [] (Err (halt_of f)) (q p.seen p.on)))
             l.content (over (Err f) t));
       };
       cause = cause_since rack layout y.vol.store.layout f l.volume.store.layout l.reads cause;
@@ -197,7 +197,7 @@ module _ (treat : Counts → DirEntry → Program Step Counts) (x : World) where
         content = all_of layout x.rack rack (λ Bs. Goes (unread_by layout x.rack rack) part [] Bs whole l.done (Ok counts))
             (both_then layout x.rack y.rack rack Was (Next layout (Ok None)) (λ B Bs. Goes (unread_by layout x.rack rack) part [] Bs whole l.done (Ok counts))
             (λ B Bs z p q. left_ended treat B Bs z whole counts (unread_by layout x.rack rack) dir l.done p
-                (follows_as (unread_by layout y.rack rack) (unread_by layout x.rack rack) earlier no_part p.seen (exec B (dir_left B dir)) [] (Ok tt) (q p.seen p.on)))
+            (follows_as (unread_by layout y.rack rack) (unread_by layout x.rack rack) earlier no_part p.seen (exec B (dir_left B dir)) [] (Ok tt) (q p.seen p.on)))
             l.content (over (Ok None) (subst (λ r. Tells y.vol.store.layout y.rack rack (Next y.vol.store.layout r)) is t)));
       };
       cause = tt;
@@ -244,7 +244,7 @@ module _ (treat : Counts → DirEntry → Program Step Counts) (x : World) where
           content = all_of layout x.rack z.rack (λ Bs. Goes (unread_by layout x.rack z.rack) part [] Bs whole (l.done ++ r.did.done) (Err (stop_halt s)))
               (both_all layout x.rack rack z.rack (λ B Bs. MetOf treat whole B Bs counts entry dir' l.done) (λ Bs. Goes (unread_by layout rack z.rack) part [] Bs (treat counts entry) r.did.done (Err (stop_halt s))) (λ B Bs. Goes (unread_by layout x.rack z.rack) part [] Bs whole (l.done ++ r.did.done) (Err (stop_halt s)))
               (λ B Bs zth m g. left_halts treat B Bs zth whole counts entry dir' l.done r.did.done (unread_by layout x.rack z.rack) (stop_halt s) m
-                  (goes_as (unread_by layout rack z.rack) (unread_by layout x.rack z.rack) Bs (treat counts entry) r.did.done (Err (stop_halt s)) (λ u w i. since layout layout refl (reads_then l.reads reads) u w i) g)) met
+              (goes_as (unread_by layout rack z.rack) (unread_by layout x.rack z.rack) Bs (treat counts entry) r.did.done (Err (stop_halt s)) (λ u w i. since layout layout refl (reads_then l.reads reads) u w i) g)) met
               (subst (λ (L : Layout). TellsAll L rack z.rack (λ Bs. Goes (unread_by L rack z.rack) part [] Bs (treat counts entry) r.did.done (Err (stop_halt s)))) deeper r.did.content));
         };
         cause = stop_cause_since {C = Counts} z.rack layout vol.store.layout (Err s) deeper (reads_then l.reads reads) r.cause;

@@ -94,9 +94,11 @@ module _ {A : Type 0} where
     done = [];
     sink = refl;
     text = text_none told;
-    content = record { calls = calls_as (λ sure h f.
-        if_map (λ images. Follows {S = ⊥} (unread_by layout old new) no_part [] (exec (fate.fate images layout) p) [] (answer_of result)) (λ images. Goes (unread_by layout old new) part [] (maps_of layout sure images) (quiet p) [] (answer_of result)) h
-        (λ images g. goes_look layout sure images (unread_by layout old new) p (answer_of result) g) f) l.calls };
+    content = record {
+      calls = calls_as (λ sure h f.
+          if_map (λ images. Follows {S = ⊥} (unread_by layout old new) no_part [] (exec (fate.fate images layout) p) [] (answer_of result)) (λ images. Goes (unread_by layout old new) part [] (maps_of layout sure images) (quiet p) [] (answer_of result)) h
+          (λ images g. goes_look layout sure images (unread_by layout old new) p (answer_of result) g) f) l.calls;
+    };
   }
 
   module _ {C : Type 0} (layout layout' : Layout) (same : layout' ≡ layout) (p : Program Step A) (k : A → Program Step C) (x y z : Scene) where
@@ -107,11 +109,13 @@ module _ {A : Type 0} where
           done = h.done ++ g'.done;
           sink = g'.sink ∙ (ap (λ (s : Sink). fold sink_after s g'.done) h.sink ∙ sym (fold-append sink_after x.sink h.done g'.done));
           text = g'.text ∙ (ap (λ t. text_after t g'.done) h.text ∙ text_then x.text h.done g'.done);
-          content = record { calls = calls_then (λ sure held f f'.
-              if_both (λ images. Goes (unread_by layout x.rack y.rack) part [] (maps_of layout sure images) p h.done (Ok a)) (λ images. Goes (unread_by layout y.rack z.rack) part [] (maps_of layout sure images) (k a) g'.done ans) (λ images. Goes (unread_by layout x.rack z.rack) part [] (maps_of layout sure images) (bind p k) (h.done ++ g'.done) ans) held
-              (λ images one two. goes_on (maps_of layout sure images) (unread_by layout x.rack y.rack) (unread_by layout x.rack z.rack) p k a h.done g'.done ans one
-                  (goes_as (unread_by layout y.rack z.rack) (unread_by layout x.rack z.rack) (maps_of layout sure images) (k a) g'.done ans (λ u w i. since layout layout refl reads u w i) two)) f f')
-              h.content.calls g'.content.calls };
+          content = record {
+            calls = calls_then (λ sure held f f'.
+                if_both (λ images. Goes (unread_by layout x.rack y.rack) part [] (maps_of layout sure images) p h.done (Ok a)) (λ images. Goes (unread_by layout y.rack z.rack) part [] (maps_of layout sure images) (k a) g'.done ans) (λ images. Goes (unread_by layout x.rack z.rack) part [] (maps_of layout sure images) (bind p k) (h.done ++ g'.done) ans) held
+                (λ images one two. goes_on (maps_of layout sure images) (unread_by layout x.rack y.rack) (unread_by layout x.rack z.rack) p k a h.done g'.done ans one
+                (goes_as (unread_by layout y.rack z.rack) (unread_by layout x.rack z.rack) (maps_of layout sure images) (k a) g'.done ans (λ u w i. since layout layout refl reads u w i) two)) f f')
+                h.content.calls g'.content.calls;
+          };
         }
 
     pub does_halt : (halt : Halt fate.Fault UnreadBlock) → Does layout p x y (Err halt) → Does layout (bind p k) x y (Err halt)
@@ -119,9 +123,11 @@ module _ {A : Type 0} where
       done = h.done;
       sink = h.sink;
       text = h.text;
-      content = record { calls = calls_as (λ sure held f.
-          if_map (λ images. Goes (unread_by layout x.rack y.rack) part [] (maps_of layout sure images) p h.done (Err halt)) (λ images. Goes (unread_by layout x.rack y.rack) part [] (maps_of layout sure images) (bind p k) h.done (Err halt)) held
-          (λ images g. goes_halt (maps_of layout sure images) (unread_by layout x.rack y.rack) part [] p k 0 h.done halt g) f) h.content.calls };
+      content = record {
+        calls = calls_as (λ sure held f.
+            if_map (λ images. Goes (unread_by layout x.rack y.rack) part [] (maps_of layout sure images) p h.done (Err halt)) (λ images. Goes (unread_by layout x.rack y.rack) part [] (maps_of layout sure images) (bind p k) h.done (Err halt)) held
+            (λ images g. goes_halt (maps_of layout sure images) (unread_by layout x.rack y.rack) part [] p k 0 h.done halt g) f) h.content.calls;
+      };
     }
 
 -- accounts of calls in a row
@@ -365,6 +371,12 @@ module _ {C : Type 0} (b : Bool) (step : Step) (rest : Program Step C) where
     pub row_halt : Wrote (unless b) x y (Err s) → Wrote (cond b rest (Emit step rest)) x y (Err s)
     row_halt h = subst (λ (p : Program Step C). Wrote p x y (Err s)) (unless_bind b) (wrote_halt (unless b) (λ u. rest) x y y s h)
 
+-- .. before calls that read too
+module _ {C : Type 0} (b : Bool) (step : Step) (rest : Program Step C) (rack : Seen) (vol : Volume) (x y : Outside) (z : World) (r : Result C TheStop) where
+  pub row_ran : IsReady rack vol → Wrote (unless b step rest b) x y (Ok tt) → Ran rest (world rack vol y) z r → Ran (cond b rest (Emit step rest)) (world rack vol x) z r
+  row_ran ready w h = subst (λ (p : Program Step C). Ran p (world rack vol x) z r) (unless_bind b step rest b)
+      (ran_then (unless b step rest b) (λ u. rest) (world rack vol x) (world rack vol y) z tt r (ran_wrote (unless b step rest b) rack vol x y (Ok tt) ready w) h)
+
 -- nothing is done
 pub wrote_none : {A : Type 0} (a : A) (x : Outside) → Wrote (Return a) x x (Ok a)
 wrote_none a x = record { did = emits_none a x.sink x.text; sink_calls = refl; out_calls = refl; stops = tt }
@@ -469,3 +481,26 @@ zeros_cut count n = cut n count
     cut zero m = ap zeros (none_of m)
     cut (suc k) zero = ap zeros (of_none k)
     cut (suc k) (suc m) = ap (λ l. 0 ∷ l) (cut k m) ∙ ap zeros (one_more k m)
+
+-- a lookup where a test decides
+module _ {A : Type 0} (p q : Lookup A) (x y : World) (r : Result A TheStop) where
+  pub look_if : (b : Bool) → b ≡ true → Ran (quiet p) x y r → Ran (quiet (cond b p q)) x y r
+  look_if true e h = h
+  look_if false e h = cc
+
+  pub look_else : (b : Bool) → b ≡ false → Ran (quiet q) x y r → Ran (quiet (cond b p q)) x y r
+  look_else true e h = cc
+  look_else false e h = h
+
+-- there is no such tree
+pub ran_no_tree : {A : Type 0} (id : ℕ) (x : World) → IsReady x.rack x.vol → Ran {A = A} (Stop (fate.NoTree id)) x x (Err (stop.NoTree id))
+ran_no_tree {A} id x ready = record {
+  reads = reads_self x.rack;
+  volume = same_self x.vol;
+  ready = ready;
+  did = does_emits x.vol.store.layout x.rack (Stop (fate.NoTree id)) x.out.sink x.out.sink x.out.text x.out.text (Err (stop_halt (stop.NoTree id)))
+      (record { done = []; sink = refl; text = text_none x.out.text; goes = λ layout old new Bs. (run [] (Err (fate.NoTree id)), refl, (refl, refl)) });
+  cause = tt;
+  sink_calls = refl;
+  out_calls = refl;
+}

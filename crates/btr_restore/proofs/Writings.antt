@@ -101,7 +101,7 @@ module _ (plan : RestorePlan) (s : Super) (sums : Option TreeRoot) (Bs : ℕ →
     piece_next file' piece l g =
         let ws = want_marks {S = Step} g.past in
         let more = so_far_more Whole (PutsLeft plan s sums kind Bs plain file) (PutsFrom plan s sums kind Bs plain piece file') l.seen done ws
-            (λ r h. (prepend (want_marks g.past) (first (Does piece) h.0), g.goes h.0 h.1, past_in g.past plain (first (Does piece) h.0) r h.2)) l.so_far in
+        (λ r h. (prepend (want_marks g.past) (first (Does piece) h.0), g.goes h.0 h.1, past_in g.past plain (first (Does piece) h.0) r h.2)) l.so_far in
         record {
           seen = l.seen ++ g.past;
           so_far = subst (λ (x : List Want). SoFar Whole (PutsFrom plan s sums kind Bs plain piece file') (l.seen ++ x) done) (wants_back g.past)
@@ -162,8 +162,10 @@ module _ (plan : RestorePlan) (s : Super) (sums : Option TreeRoot) (Bs : ℕ →
 
 -- facts of calls in a row, over one layout
 all_then : (layout : Layout) (a b c : Seen) (P Q R : (ℕ → Map) → Type 0) → ((Bs : ℕ → Map) → P Bs → Q Bs → R Bs) → TellsAll layout a b P → TellsAll layout b c Q → TellsAll layout a c R
-all_then layout a b c P Q R f one two = record { calls = calls_then (λ sure held p q.
-    if_both (λ images. P (maps_of layout sure images)) (λ images. Q (maps_of layout sure images)) (λ images. R (maps_of layout sure images)) held (λ images h g. f (maps_of layout sure images) h g) p q) one.calls two.calls }
+all_then layout a b c P Q R f one two = record {
+  calls = calls_then (λ sure held p q.
+      if_both (λ images. P (maps_of layout sure images)) (λ images. Q (maps_of layout sure images)) (λ images. R (maps_of layout sure images)) held (λ images h g. f (maps_of layout sure images) h g) p q) one.calls two.calls;
+}
 
 -- the writing of a file, call by call
 module _ (plan : RestorePlan) (s : Super) (sums : Option TreeRoot) (whole : Program Step Bool) (x y : World) (plain : Bool) (file file' : FileBytes) (rack : Seen) (vol : Volume) (l : IsWriting plan s sums whole x y plain file) (reads : OnlyReads y.rack rack) where
@@ -197,48 +199,48 @@ module _ (plan : RestorePlan) (s : Super) (sums : Option TreeRoot) (whole : Prog
   -- it came to a fault
   pub writing_fault : (f : TreeFault) (result : Result (Option Lending) TreeFault) → result ≡ Err f → Streamed y.vol vol file file' y.rack rack result → HasCause {A = Option Lending} y.vol.store.layout y.rack rack (Err f) → WasWritten plan s sums whole x (world rack vol y.out) file' (Err (stop.Tree f))
   writing_fault f result is m cause =
-    let n = streamed result (Err f) is m in
-    record {
-    reads = reads_then l.reads reads;
-    sup = n.sup ∙ l.sup;
-    others = apart n.others;
-    reading = n.reading;
-    did = record {
-      done = l.done;
-      sink = l.sink;
-      text = l.text;
-      content = all_then layout x.rack y.rack rack Was (Next layout x.vol.sup (Err f)) (λ Bs. Goes (unread_by layout x.rack rack) part [] Bs whole l.done (Err (halt_of f)))
-          (λ Bs p q. file_fault plan s sums Bs whole kind plain file l.done (unread_by layout x.rack rack) (halt_of f) p
+      let n = streamed result (Err f) is m in
+      record {
+        reads = reads_then l.reads reads;
+        sup = n.sup ∙ l.sup;
+        others = apart n.others;
+        reading = n.reading;
+        did = record {
+          done = l.done;
+          sink = l.sink;
+          text = l.text;
+          content = all_then layout x.rack y.rack rack Was (Next layout x.vol.sup (Err f)) (λ Bs. Goes (unread_by layout x.rack rack) part [] Bs whole l.done (Err (halt_of f)))
+              (λ Bs p q. file_fault plan s sums Bs whole kind plain file l.done (unread_by layout x.rack rack) (halt_of f) p
               (let e = q p.seen p.on in (e.0, e.1, follows_as (unread_by layout y.rack rack) (unread_by layout x.rack rack) earlier no_part p.seen e.0 [] (Err (halt_of f)) e.2)))
-          l.content (over (Err f) n.content);
-    };
-    cause = cause_since rack layout y.vol.store.layout f same_layout l.reads cause;
-    sink_calls = l.sink_calls;
-    out_calls = l.out_calls;
-  }
+              l.content (over (Err f) n.content);
+        };
+        cause = cause_since rack layout y.vol.store.layout f same_layout l.reads cause;
+        sink_calls = l.sink_calls;
+        out_calls = l.out_calls;
+      }
 
   -- .. or to its end
   pub writing_end : (result : Result (Option Lending) TreeFault) → result ≡ Ok None → Streamed y.vol vol file file' y.rack rack result → WasWritten plan s sums whole x (world rack vol y.out) file' (Ok plain)
   writing_end result is m =
-    let n = streamed result (Ok None) is m in
-    record {
-    reads = reads_then l.reads reads;
-    sup = n.sup ∙ l.sup;
-    others = apart n.others;
-    reading = n.reading;
-    did = record {
-      done = l.done;
-      sink = l.sink;
-      text = l.text;
-      content = all_then layout x.rack y.rack rack Was (Next layout x.vol.sup (Ok None)) (λ Bs. Goes (unread_by layout x.rack rack) part [] Bs whole l.done (Ok plain))
-          (λ Bs p q. file_end plan s sums Bs whole kind plain file l.done (unread_by layout x.rack rack) p
+      let n = streamed result (Ok None) is m in
+      record {
+        reads = reads_then l.reads reads;
+        sup = n.sup ∙ l.sup;
+        others = apart n.others;
+        reading = n.reading;
+        did = record {
+          done = l.done;
+          sink = l.sink;
+          text = l.text;
+          content = all_then layout x.rack y.rack rack Was (Next layout x.vol.sup (Ok None)) (λ Bs. Goes (unread_by layout x.rack rack) part [] Bs whole l.done (Ok plain))
+              (λ Bs p q. file_end plan s sums Bs whole kind plain file l.done (unread_by layout x.rack rack) p
               (let e = q p.seen p.on in (e.0, e.1, follows_as (unread_by layout y.rack rack) (unread_by layout x.rack rack) earlier no_part p.seen e.0 [] (Ok tt) e.2)))
-          l.content (over (Ok None) n.content);
-    };
-    cause = tt;
-    sink_calls = l.sink_calls;
-    out_calls = l.out_calls;
-  }
+              l.content (over (Ok None) n.content);
+        };
+        cause = tt;
+        sink_calls = l.sink_calls;
+        out_calls = l.out_calls;
+      }
 
   -- a piece was given, and put or not
   module _ (piece : Lending) (result : Result (Option Lending) TreeFault) (is : result ≡ Ok (Some piece)) (m : Streamed y.vol vol file file' y.rack rack result) (z : Outside) where
@@ -295,8 +297,10 @@ writing_first plan s sums x file p reading same begins on = record {
   done = [];
   sink = refl;
   text = text_none x.out.text;
-  content = record { calls = calls_none (λ sure. if_some (λ images. LeftToPut plan s sums (each (put plan s sums) false p) (kind_in x.vol.sup) (maps_of x.vol.store.layout sure images) false file []) x.rack.held
-      (λ images. left_first plan s sums (maps_of x.vol.store.layout sure images) (kind_in x.vol.sup) file false p begins (on (maps_of x.vol.store.layout sure images 0)))) };
+  content = record {
+    calls = calls_none (λ sure. if_some (λ images. LeftToPut plan s sums (each (put plan s sums) false p) (kind_in x.vol.sup) (maps_of x.vol.store.layout sure images) false file []) x.rack.held
+        (λ images. left_first plan s sums (maps_of x.vol.store.layout sure images) (kind_in x.vol.sup) file false p begins (on (maps_of x.vol.store.layout sure images 0))));
+  };
   sink_calls = refl;
   out_calls = refl;
 }

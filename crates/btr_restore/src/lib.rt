@@ -14,6 +14,7 @@ mod listing;
 mod lookups;
 mod name;
 mod path;
+mod restoring;
 mod rows;
 mod telling;
 #[cfg(test)]
@@ -23,3 +24,4 @@ mod treating;
 mod writing;
 
 pub use laws::{committed_order, each_told, headline, opened_then, orderly, settled};
+pub use restoring::restore;

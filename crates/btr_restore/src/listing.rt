@@ -51,7 +51,9 @@ fn list_within<R: Rack, T: TreeSink, O: Out>(
     let Some((here, below)) = frames.split_first_mut() else {
         unreachable!();
     };
-    match list(job, inner, dirid, here, below, path, counts, rack, vol, tree, out) {
+    match list(
+        job, inner, dirid, here, below, path, counts, rack, vol, tree, out,
+    ) {
         Err(stop) => Err(stop),
         Ok(()) => leave_dir(&job.plan, tree),
     }

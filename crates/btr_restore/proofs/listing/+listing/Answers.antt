@@ -58,8 +58,19 @@ list-returns-in-Ok-None-clause-stands g t c n h = c.loop-fault.invariant.stands 
 pub list-list_entry-requires : goal.list-list_entry-requires
 list-list_entry-requires g t c κs within = (
   omega (arith, c.decreases, c.loop-fault.invariant.same_below),
-  (within.0, (within.1.0, (within.1.1, (ready_next _ _ _ c.loop-fault.invariant.ready c.in-Ok-Some.ensures.serves c.in-Ok-Some.ensures.volume,
-  λ dry. (c.loop-fault.invariant.stands (g.T.TreeSink.sink c.args.tree.now).depth (λ d. (c.requires.between d, refl)) dry).0)))),
+  (
+    within.0,
+    (
+      within.1.0,
+      (
+        within.1.1,
+        (
+          ready_next _ _ _ c.loop-fault.invariant.ready c.in-Ok-Some.ensures.serves c.in-Ok-Some.ensures.volume,
+          λ dry. (c.loop-fault.invariant.stands (g.T.TreeSink.sink c.args.tree.now).depth (λ d. (c.requires.between d, refl)) dry).0,
+        ),
+      ),
+    ),
+  ),
 )
 
 pub list-loop-fault-smaller : goal.list-loop-fault-smaller
@@ -74,18 +85,18 @@ list-loop-fault-preserved g t c =
       same_below = c.list_entry.auto.below ∙ c.loop-fault.invariant.same_below;
       stands = λ n h. c.in-Ok.ensures.stands n (c.loop-fault.invariant.stands n h);
       listed = λ s e. listed_step (treat_in c.args.job.now.plan s c.args.job.now.sums (length c.args.below.now) c.args.root c.args.dirid c.args.path.now) (world (g.R.Rack.seen c.args.rack.now) c.args.vol.now (outside (g.T.TreeSink.sink c.args.tree.now) (g.T.TreeSink.account c.args.tree.now) (g.O.Out.text c.args.out.now) (g.O.Out.account c.args.out.now))) (each (treat_in c.args.job.now.plan s c.args.job.now.sums (length c.args.below.now) c.args.root c.args.dirid c.args.path.now) c.args.counts.now (entries c.args.root c.args.dirid)) (world (g.R.Rack.seen c.loop-fault.rack) c.loop-fault.vol (outside (g.T.TreeSink.sink c.loop-fault.tree) (g.T.TreeSink.account c.loop-fault.tree) (g.O.Out.text c.loop-fault.out) (g.O.Out.account c.loop-fault.out))) c.loop-fault.counts c.loop-fault.here.dir c.next.new.self c.next.new.name (g.R.Rack.seen c.next.new.rack) c.next.new.vol (c.loop-fault.invariant.listed s e) c.in-Ok-Some.ensures.reads c.in-Ok-Some.ensures.volume (ready_next _ _ _ c.loop-fault.invariant.ready c.in-Ok-Some.ensures.serves c.in-Ok-Some.ensures.volume) c.in-Ok-Some.row c.next.result (c.in-Ok-Some.is ∙ ap Ok c.in-Ok-Some.field-0-is) c.next.ensures.content (world (g.R.Rack.seen c.list_entry.new.rack) c.list_entry.new.vol (outside (g.T.TreeSink.sink c.list_entry.new.tree) (g.T.TreeSink.account c.list_entry.new.tree) (g.O.Out.text c.list_entry.new.out) (g.O.Out.account c.list_entry.new.out))) c.list_entry.new.counts
-        (subst (λ (k : ℕ). Ran (treat_in c.args.job.now.plan s c.args.job.now.sums k c.args.root c.args.dirid c.args.path.now c.loop-fault.counts (named_row c.in-Ok-Some.row c.next.new.name)) (world (g.R.Rack.seen c.next.new.rack) c.next.new.vol (outside (g.T.TreeSink.sink c.loop-fault.tree) (g.T.TreeSink.account c.loop-fault.tree) (g.O.Out.text c.loop-fault.out) (g.O.Out.account c.loop-fault.out))) (world (g.R.Rack.seen c.list_entry.new.rack) c.list_entry.new.vol (outside (g.T.TreeSink.sink c.list_entry.new.tree) (g.T.TreeSink.account c.list_entry.new.tree) (g.O.Out.text c.list_entry.new.out) (g.O.Out.account c.list_entry.new.out))) (Ok c.list_entry.new.counts)) c.loop-fault.invariant.same_below
-        (subst (λ (p : List ℕ). Ran (treat_in c.args.job.now.plan s c.args.job.now.sums (length c.loop-fault.below) c.args.root c.args.dirid p c.loop-fault.counts (named_row c.in-Ok-Some.row c.next.new.name)) (world (g.R.Rack.seen c.next.new.rack) c.next.new.vol (outside (g.T.TreeSink.sink c.loop-fault.tree) (g.T.TreeSink.account c.loop-fault.tree) (g.O.Out.text c.loop-fault.out) (g.O.Out.account c.loop-fault.out))) (world (g.R.Rack.seen c.list_entry.new.rack) c.list_entry.new.vol (outside (g.T.TreeSink.sink c.list_entry.new.tree) (g.T.TreeSink.account c.list_entry.new.tree) (g.O.Out.text c.list_entry.new.out) (g.O.Out.account c.list_entry.new.out))) (Ok c.list_entry.new.counts)) c.loop-fault.invariant.same_path
-        (c.in-Ok.ensures.ran s (e ∙ (sym (c.loop-fault.invariant.listed s e).volume.sup ∙ sym c.in-Ok-Some.ensures.volume.sup)))));
+          (subst (λ (k : ℕ). Ran (treat_in c.args.job.now.plan s c.args.job.now.sums k c.args.root c.args.dirid c.args.path.now c.loop-fault.counts (named_row c.in-Ok-Some.row c.next.new.name)) (world (g.R.Rack.seen c.next.new.rack) c.next.new.vol (outside (g.T.TreeSink.sink c.loop-fault.tree) (g.T.TreeSink.account c.loop-fault.tree) (g.O.Out.text c.loop-fault.out) (g.O.Out.account c.loop-fault.out))) (world (g.R.Rack.seen c.list_entry.new.rack) c.list_entry.new.vol (outside (g.T.TreeSink.sink c.list_entry.new.tree) (g.T.TreeSink.account c.list_entry.new.tree) (g.O.Out.text c.list_entry.new.out) (g.O.Out.account c.list_entry.new.out))) (Ok c.list_entry.new.counts)) c.loop-fault.invariant.same_below
+          (subst (λ (p : List ℕ). Ran (treat_in c.args.job.now.plan s c.args.job.now.sums (length c.loop-fault.below) c.args.root c.args.dirid p c.loop-fault.counts (named_row c.in-Ok-Some.row c.next.new.name)) (world (g.R.Rack.seen c.next.new.rack) c.next.new.vol (outside (g.T.TreeSink.sink c.loop-fault.tree) (g.T.TreeSink.account c.loop-fault.tree) (g.O.Out.text c.loop-fault.out) (g.O.Out.account c.loop-fault.out))) (world (g.R.Rack.seen c.list_entry.new.rack) c.list_entry.new.vol (outside (g.T.TreeSink.sink c.list_entry.new.tree) (g.T.TreeSink.account c.list_entry.new.tree) (g.O.Out.text c.list_entry.new.out) (g.O.Out.account c.list_entry.new.out))) (Ok c.list_entry.new.counts)) c.loop-fault.invariant.same_path
+          (c.in-Ok.ensures.ran s (e ∙ (sym (c.loop-fault.invariant.listed s e).volume.sup ∙ sym c.in-Ok-Some.ensures.volume.sup)))));
     }
 
 pub list-returns-in-Err-list_entry-clause-ran : goal.list-returns-in-Err-list_entry-clause-ran
 list-returns-in-Err-list_entry-clause-ran g t c s e =
     subst (λ (p : Program Step Counts). Ran p (world (g.R.Rack.seen c.args.rack.now) c.args.vol.now (outside (g.T.TreeSink.sink c.args.tree.now) (g.T.TreeSink.account c.args.tree.now) (g.O.Out.text c.args.out.now) (g.O.Out.account c.args.out.now))) (world (g.R.Rack.seen c.list_entry.new.rack) c.list_entry.new.vol (outside (g.T.TreeSink.sink c.list_entry.new.tree) (g.T.TreeSink.account c.list_entry.new.tree) (g.O.Out.text c.list_entry.new.out) (g.O.Out.account c.list_entry.new.out))) (Err c.in-Err-list_entry.stop)) (directory_is c.args.job.now.plan s c.args.job.now.sums (length c.args.below.now) c.args.root c.args.dirid c.args.path.now c.args.counts.now)
     (listed_halt (treat_in c.args.job.now.plan s c.args.job.now.sums (length c.args.below.now) c.args.root c.args.dirid c.args.path.now) (world (g.R.Rack.seen c.args.rack.now) c.args.vol.now (outside (g.T.TreeSink.sink c.args.tree.now) (g.T.TreeSink.account c.args.tree.now) (g.O.Out.text c.args.out.now) (g.O.Out.account c.args.out.now))) (each (treat_in c.args.job.now.plan s c.args.job.now.sums (length c.args.below.now) c.args.root c.args.dirid c.args.path.now) c.args.counts.now (entries c.args.root c.args.dirid)) (world (g.R.Rack.seen c.loop-fault.rack) c.loop-fault.vol (outside (g.T.TreeSink.sink c.loop-fault.tree) (g.T.TreeSink.account c.loop-fault.tree) (g.O.Out.text c.loop-fault.out) (g.O.Out.account c.loop-fault.out))) c.loop-fault.counts c.loop-fault.here.dir c.next.new.self c.next.new.name (g.R.Rack.seen c.next.new.rack) c.next.new.vol (c.loop-fault.invariant.listed s e) c.in-Ok-Some.ensures.reads c.in-Ok-Some.ensures.volume (ready_next _ _ _ c.loop-fault.invariant.ready c.in-Ok-Some.ensures.serves c.in-Ok-Some.ensures.volume) c.in-Ok-Some.row c.next.result (c.in-Ok-Some.is ∙ ap Ok c.in-Ok-Some.field-0-is) c.next.ensures.content (world (g.R.Rack.seen c.list_entry.new.rack) c.list_entry.new.vol (outside (g.T.TreeSink.sink c.list_entry.new.tree) (g.T.TreeSink.account c.list_entry.new.tree) (g.O.Out.text c.list_entry.new.out) (g.O.Out.account c.list_entry.new.out))) c.in-Err-list_entry.stop
-        (subst (λ (k : ℕ). Ran (treat_in c.args.job.now.plan s c.args.job.now.sums k c.args.root c.args.dirid c.args.path.now c.loop-fault.counts (named_row c.in-Ok-Some.row c.next.new.name)) (world (g.R.Rack.seen c.next.new.rack) c.next.new.vol (outside (g.T.TreeSink.sink c.loop-fault.tree) (g.T.TreeSink.account c.loop-fault.tree) (g.O.Out.text c.loop-fault.out) (g.O.Out.account c.loop-fault.out))) (world (g.R.Rack.seen c.list_entry.new.rack) c.list_entry.new.vol (outside (g.T.TreeSink.sink c.list_entry.new.tree) (g.T.TreeSink.account c.list_entry.new.tree) (g.O.Out.text c.list_entry.new.out) (g.O.Out.account c.list_entry.new.out))) (Err c.in-Err-list_entry.stop)) c.loop-fault.invariant.same_below
-        (subst (λ (p : List ℕ). Ran (treat_in c.args.job.now.plan s c.args.job.now.sums (length c.loop-fault.below) c.args.root c.args.dirid p c.loop-fault.counts (named_row c.in-Ok-Some.row c.next.new.name)) (world (g.R.Rack.seen c.next.new.rack) c.next.new.vol (outside (g.T.TreeSink.sink c.loop-fault.tree) (g.T.TreeSink.account c.loop-fault.tree) (g.O.Out.text c.loop-fault.out) (g.O.Out.account c.loop-fault.out))) (world (g.R.Rack.seen c.list_entry.new.rack) c.list_entry.new.vol (outside (g.T.TreeSink.sink c.list_entry.new.tree) (g.T.TreeSink.account c.list_entry.new.tree) (g.O.Out.text c.list_entry.new.out) (g.O.Out.account c.list_entry.new.out))) (Err c.in-Err-list_entry.stop)) c.loop-fault.invariant.same_path
-        (c.in-Err-list_entry.ensures.ran s (e ∙ (sym (c.loop-fault.invariant.listed s e).volume.sup ∙ sym c.in-Ok-Some.ensures.volume.sup))))))
+    (subst (λ (k : ℕ). Ran (treat_in c.args.job.now.plan s c.args.job.now.sums k c.args.root c.args.dirid c.args.path.now c.loop-fault.counts (named_row c.in-Ok-Some.row c.next.new.name)) (world (g.R.Rack.seen c.next.new.rack) c.next.new.vol (outside (g.T.TreeSink.sink c.loop-fault.tree) (g.T.TreeSink.account c.loop-fault.tree) (g.O.Out.text c.loop-fault.out) (g.O.Out.account c.loop-fault.out))) (world (g.R.Rack.seen c.list_entry.new.rack) c.list_entry.new.vol (outside (g.T.TreeSink.sink c.list_entry.new.tree) (g.T.TreeSink.account c.list_entry.new.tree) (g.O.Out.text c.list_entry.new.out) (g.O.Out.account c.list_entry.new.out))) (Err c.in-Err-list_entry.stop)) c.loop-fault.invariant.same_below
+    (subst (λ (p : List ℕ). Ran (treat_in c.args.job.now.plan s c.args.job.now.sums (length c.loop-fault.below) c.args.root c.args.dirid p c.loop-fault.counts (named_row c.in-Ok-Some.row c.next.new.name)) (world (g.R.Rack.seen c.next.new.rack) c.next.new.vol (outside (g.T.TreeSink.sink c.loop-fault.tree) (g.T.TreeSink.account c.loop-fault.tree) (g.O.Out.text c.loop-fault.out) (g.O.Out.account c.loop-fault.out))) (world (g.R.Rack.seen c.list_entry.new.rack) c.list_entry.new.vol (outside (g.T.TreeSink.sink c.list_entry.new.tree) (g.T.TreeSink.account c.list_entry.new.tree) (g.O.Out.text c.list_entry.new.out) (g.O.Out.account c.list_entry.new.out))) (Err c.in-Err-list_entry.stop)) c.loop-fault.invariant.same_path
+    (c.in-Err-list_entry.ensures.ran s (e ∙ (sym (c.loop-fault.invariant.listed s e).volume.sup ∙ sym c.in-Ok-Some.ensures.volume.sup))))))
 
 pub list_entry-returns-in-Err-clause-ran : goal.list_entry-returns-in-Err-clause-ran
 list_entry-returns-in-Err-clause-ran g t c s e =
@@ -94,11 +105,25 @@ list_entry-returns-in-Err-clause-ran g t c s e =
 pub list_entry-list_within-requires : goal.list_entry-list_within-requires
 list_entry-list_within-requires g t c κs within = (
   omega (arith, c.decreases),
-  (within.0, (within.1.0, (within.1.1, (
-    (c.treat.ensures.ran c.args.vol.now.sup c.args.path.now refl (c.as_bytes-2.ensures ∙ (c.in-Ok.ensures ∙ ap (path_in c.args.path.now) c.as_bytes.ensures))).ready,
-    (λ dry. (stands_within c.args.job.now.plan.dry (g.T.TreeSink.sink c.args.tree.now).depth (g.T.TreeSink.sink c.treat.new.tree) c.in-Ok-Within.field-0 c.in-Ok-Within.inner c.in-Ok-Within.dirid c.in-Ok-Within.field-0-is (c.in-Ok-Within.ensures.stands (g.T.TreeSink.sink c.args.tree.now).depth (λ d. (c.requires.between d, refl))) dry).0,
-    (some_place (length c.args.below.now) c.is_empty.result c.in-Ok-Within.field-0 c.in-Ok-Within.inner c.in-Ok-Within.dirid (λ z. c.is_empty.ensures ∙ ap (λ (k : ℕ). k == 0) z) c.in-Ok-Within.field-0-is c.in-Ok-Within.ensures.flat,
-    λ dry. subst (λ (d : ℕ). 0 < d) (sym (stands_within c.args.job.now.plan.dry (g.T.TreeSink.sink c.args.tree.now).depth (g.T.TreeSink.sink c.treat.new.tree) c.in-Ok-Within.field-0 c.in-Ok-Within.inner c.in-Ok-Within.dirid c.in-Ok-Within.field-0-is (c.in-Ok-Within.ensures.stands (g.T.TreeSink.sink c.args.tree.now).depth (λ d. (c.requires.between d, refl))) dry).1) (omega arith))))))),
+  (
+    within.0,
+    (
+      within.1.0,
+      (
+        within.1.1,
+        (
+          (c.treat.ensures.ran c.args.vol.now.sup c.args.path.now refl (c.as_bytes-2.ensures ∙ (c.in-Ok.ensures ∙ ap (path_in c.args.path.now) c.as_bytes.ensures))).ready,
+          (
+            λ dry. (stands_within c.args.job.now.plan.dry (g.T.TreeSink.sink c.args.tree.now).depth (g.T.TreeSink.sink c.treat.new.tree) c.in-Ok-Within.field-0 c.in-Ok-Within.inner c.in-Ok-Within.dirid c.in-Ok-Within.field-0-is (c.in-Ok-Within.ensures.stands (g.T.TreeSink.sink c.args.tree.now).depth (λ d. (c.requires.between d, refl))) dry).0,
+            (
+              some_place (length c.args.below.now) c.is_empty.result c.in-Ok-Within.field-0 c.in-Ok-Within.inner c.in-Ok-Within.dirid (λ z. c.is_empty.ensures ∙ ap (λ (k : ℕ). k == 0) z) c.in-Ok-Within.field-0-is c.in-Ok-Within.ensures.flat,
+              λ dry. subst (λ (d : ℕ). 0 < d) (sym (stands_within c.args.job.now.plan.dry (g.T.TreeSink.sink c.args.tree.now).depth (g.T.TreeSink.sink c.treat.new.tree) c.in-Ok-Within.field-0 c.in-Ok-Within.inner c.in-Ok-Within.dirid c.in-Ok-Within.field-0-is (c.in-Ok-Within.ensures.stands (g.T.TreeSink.sink c.args.tree.now).depth (λ d. (c.requires.between d, refl))) dry).1) (omega arith),
+            ),
+          ),
+        ),
+      ),
+    ),
+  ),
 )
 
 pub list_entry-returns-in-Err-treat-clause-ran : goal.list_entry-returns-in-Err-treat-clause-ran

@@ -19,8 +19,8 @@ invariant-loop-stop g l =
     × ((g.T.TreeSink.sink l.tree).stage ≡ InFile)
     × ((g.T.TreeSink.sink l.tree).depth ≡ (g.T.TreeSink.sink l.initial.tree).depth)
     × ((plan : RestorePlan) (s : Super) (sums : Option TreeRoot) (whole : Program Step Bool) (x : World) (text : Option (List ℕ)) (calls : CallAccount)
-        → IsWriting plan s sums whole x (world (g.R.Rack.seen l.initial.rack) l.initial.vol (outside (g.T.TreeSink.sink l.initial.tree) (g.T.TreeSink.account l.initial.tree) text calls)) false l.initial.file
-        → IsWriting plan s sums whole x (world (g.R.Rack.seen l.rack) l.vol (outside (g.T.TreeSink.sink l.tree) (g.T.TreeSink.account l.tree) text calls)) l.plain l.file)
+    → IsWriting plan s sums whole x (world (g.R.Rack.seen l.initial.rack) l.initial.vol (outside (g.T.TreeSink.sink l.initial.tree) (g.T.TreeSink.account l.initial.tree) text calls)) false l.initial.file
+    → IsWriting plan s sums whole x (world (g.R.Rack.seen l.rack) l.vol (outside (g.T.TreeSink.sink l.tree) (g.T.TreeSink.account l.tree) text calls)) l.plain l.file)
 
 abbrev pub decreases-loop-stop : goal.decreases-loop-stop
 decreases-loop-stop g l = bytes_left l.file
