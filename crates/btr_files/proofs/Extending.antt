@@ -261,8 +261,7 @@ module _ (size before : ℕ) (item : TreeItem) (fields : FileExtent) (clear : ju
         let m : ℕ = min len (size - begin) in
         let low : (m ≤ len) × (m ≤ size - begin) × (0 < m) = (omega arith, omega arith, omega (arith, lt, p.some)) in
         let whole : 4096 * (len / 4096) ≡ len = omega (arith, p.len_whole) in
-        let c : (count * 4096 ≤ m + 4095) × (m < count * 4096 + 1) = (omega arith, omega arith) in
-        (
+        let c : (count * 4096 ≤ m + 4095) × (m < count * 4096 + 1) = (omega arith, omega arith) in (
           order,
           omega (arith, low.2, c.1),
           omega (arith, low.1, c.0, lt),

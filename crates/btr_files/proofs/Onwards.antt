@@ -71,22 +71,19 @@ module _ (kind : SumKind) (source : Source) (Bs : ℕ → Map) where
   -- an item, by a run of its pieces
   treats_by : (g : Given) (item : TreeItem) (items : Items) (b : Run Want fate.Fault Piece (Result Given ℕ)) (x : Result (Result Given ℕ) fate.Fault) (q : Pieces) → Item g item b → b.ending ≡ x → AfterTo b.marks x (Behind kind source Bs items) q → Treats kind source Bs g (first (Does item) items) q
   treats_by g item items b (Ok (Ok g')) q go is h =
-      let r = h.2.0 in
-      (
+      let r = h.2.0 in (
         prepend b.marks r,
         (b, go, subst (λ e. AfterTo b.marks e (GoOnTo (λ g''. Threads g'' items.marks items.ending)) (prepend b.marks r)) (sym is) (r, refl, h.2.1)),
         subst (AfterTo (b.marks ++ r.marks) r.ending Last) (sym h.1) (after_past b.marks r.marks r.ending Last h.0 h.2.2),
       )
   treats_by g item items b (Ok (Err at)) q go is h =
-      let r : Run Want fate.Fault Piece ℕ = run [] (Ok at) in
-      (
+      let r : Run Want fate.Fault Piece ℕ = run [] (Ok at) in (
         prepend b.marks r,
         (b, go, subst (λ e. AfterTo b.marks e (GoOnTo (λ g''. Threads g'' items.marks items.ending)) (prepend b.marks r)) (sym is) (r, refl, refl)),
         (h.0, h.1 ∙ ap (λ ms. prepend ms h.0) (sym (append-nil b.marks)), h.2),
       )
   treats_by g item items b (Err f) q go is h =
-      let r : Run Want fate.Fault Piece ℕ = run b.marks (Err f) in
-      (
+      let r : Run Want fate.Fault Piece ℕ = run b.marks (Err f) in (
         r,
         (b, go, subst (λ e. AfterTo b.marks e (GoOnTo (λ g''. Threads g'' items.marks items.ending)) r) (sym is) refl),
         h,
@@ -172,4 +169,3 @@ pub follows_past : (Is : UnreadBlock → Want → Type 0) (seen ws : List Want) 
 follows_past Is seen ws q answer f =
     subst (λ (done : List Piece). Follows Is no_part seen (prepend (want_marks ws) q) done answer) (append-nil (steps_of (want_marks ws)) ∙ steps_back ws)
     (follows_behind Is no_part seen (want_marks ws) q [] answer (subst (λ (x : List Want). Follows Is no_part (seen ++ x) q [] answer) (sym (wants_back ws)) f))
-

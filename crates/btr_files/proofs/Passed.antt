@@ -105,8 +105,7 @@ module _ (source : Source) (B : Map) (first : Blocks) (scan0 : Scan) (end0 : ℕ
       pub gone_err : (f : TreeFault) → ((u : UnreadBlock) (w : Want) → Was u w → Is u w) → IsNextExtent source Was B store new scan scan' end (Err f) → IsNextExtent source Is B first new scan0 scan' end0 (Err f)
       gone_err f weaker n seen on kind Bs at =
           let x = gone seen on in
-          let y = n (seen ++ x.past) (on_here (seen ++ x.past) x.on) kind Bs at in
-          (
+          let y = n (seen ++ x.past) (on_here (seen ++ x.past) x.on) kind Bs at in (
             prepend (want_marks x.past) y.0,
             x.goes kind Bs at y.0 y.1,
             follows_past Is seen x.past y.0 (Err (halt_of f)) (follows_as Was Is weaker no_part (seen ++ x.past) y.0 [] (Err (halt_of f)) y.2),

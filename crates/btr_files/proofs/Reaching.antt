@@ -81,8 +81,7 @@ module _ (source : Source) (Is : UnreadBlock → Want → Type 0) (B : Map) (old
 
     some_fault : (f : TreeFault) → ahead_of source.size end item ≡ Err f → HaltsAt source Is B seen old scan end f
     some_fault f e kind Bs at =
-        let broken : Pieces = run [] (Err (fate.Malformed item.leaf)) in
-        (
+        let broken : Pieces = run [] (Err (fate.Malformed item.leaf)) in (
           prepend (want_marks g.past) broken,
           onward (Err f) e kind Bs at broken (run [] (Err (fate.Malformed item.leaf)), refl, refl),
           subst (λ (x : TreeFault). Follows Is no_part seen (prepend (want_marks g.past) broken) [] (Err (halt_of x))) (sym (found_fault source.size end item f e)) (no_steps g.past, refl),

@@ -118,8 +118,7 @@ module _ (kind : SumKind) (source : Source) (Bs : ℕ → Map) (p : Progress) wh
   pub nothing_left : (Is : UnreadBlock → Want → Type 0) (store : Blocks) → p.todo ≡ Over → source.size ≤ p.at → IsNextStep kind source Is Bs p store (Ok None)
   nothing_left Is store e le seen g =
       let q : Pieces = run [] (Ok tt) in
-      let none : source.size - p.at ≡ 0 = omega (arith, le) in
-      (
+      let none : source.size - p.at ≡ 0 = omega (arith, le) in (
         q,
         left_as Over q e (then_of kind source Bs (Err p.at) ahead q (subst (λ (x : Program Piece (Unit {0})). GoesTo Bs x q) (sym (no_zeros (source.size - p.at) (Return tt) none)) refl)),
         (refl, refl),

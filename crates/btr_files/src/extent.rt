@@ -50,7 +50,10 @@ fn todo_of(size: u64, leaf: u64, start: u64, shape: &Shape) -> Todo
             Todo::Inline(InlinePart { start, leaf, len })
         }
         Shape::Regular {
-            addr, skip, len, ..
+            addr,
+            skip,
+            len,
+            ..
         } => {
             if addr == 0 {
                 return Todo::Next;
