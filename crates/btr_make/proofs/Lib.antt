@@ -2,3 +2,4 @@ pub mod Ready
 pub mod Registers
 pub mod Seals
 pub mod Standings
+pub mod Spoils

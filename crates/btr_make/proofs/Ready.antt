@@ -1,10 +1,7 @@
 -- A rack of a volume that can be tried stays one while its images are written.
-use Rattle.std.proofs.Common.{◌≡◌, ◌∙◌, ℕ, Option, Some, None, zero, suc, Bool, true, false, List, [], ◌∷◌, refl, sym, ap, subst, map, take, drop, codes, arith}
+use Rattle.std.proofs.Common.{◌≡◌, ◌∙◌, ℕ, zero, suc, List, [], ◌∷◌, refl, sym, ap, subst, map, take, drop, codes, arith}
 use Rattle.std.specs.Option.{is_some, IsSome}
-use Rattle.std.specs.List.{list_any, find}
-use Rattle.std.specs.Option.{option_map}
-use Rattle.btr_rack.specs.Rack.{Slot}
-use Rattle.btr_rack.specs.Image.{MemoryImage, bytes_in, is_named, zeros}
+use Rattle.btr_rack.specs.Image.{MemoryImage, zeros}
 use Rattle.btr_rack.specs.Memory.{MemoryRack, named, slots_of, shelf_of, empty_rack, with_image}
 use Rattle.btr_make.specs.Shelf.{Standing, standing, IsReady}
 

@@ -1,12 +1,12 @@
 -- The checksum of a block is computed byte by byte.
-use Rattle.std.proofs.Common.{◌≡◌, ◌∙◌, ◌⊎◌, inl, inr, ℕ, suc, ◌+◌, ◌-◌, ◌^◌, ◌<◌, ◌≤◌, ◌++◌, List, [], ◌∷◌, Option, Some, None, refl, sym, ap, length, take, drop, get_or, bit_xor, arith, add-one}
+use Rattle.std.proofs.Common.{◌≡◌, ◌∙◌, inl, inr, ℕ, suc, ◌+◌, ◌-◌, ◌^◌, ◌<◌, List, [], ◌∷◌, Option, Some, None, refl, sym, ap, length, take, drop, get_or, bit_xor, arith, add-one}
 use Rattle.std.specs.Prelude.{IfSome}
 use Rattle.std.specs.Option.{option_and_then}
 use Rattle.std.specs.List.{slice_get, slice_range}
 use Rattle.std.proofs.lemmas.Nat.{xor_lt}
 use Rattle.std.proofs.lemmas.Option.{slice_get_within, slice_get-get_or, slice_get_cases}
 use Rattle.std.proofs.Math.Seq.{drop-cons}
-use Rattle.btr_base.specs.Crc.{register, shifted_by, crc32c}
+use Rattle.btr_base.specs.Crc.{register, shifted_by}
 use Rattle.btr_base.proofs.Shifts.{register-cons, register-nil, shifted_by_lt}
 use Rattle.btr_make.specs.Seal.{IsRegisterAt, IsCrcOf}
 

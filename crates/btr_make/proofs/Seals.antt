@@ -1,14 +1,13 @@
 -- What `seal` does, from the two pokes that it makes: one of no bytes, and one of the sum.
-use Rattle.std.proofs.Common.{◌≡◌, ◌≢◌, ◌∙◌, ◌⊎◌, inl, inr, ℕ, ◌+◌, ◌-◌, ◌<◌, ◌≤◌, Bool, true, false, List, [], Option, Some, None, Result, Ok, Err, refl, sym, ap, subst, length, take, drop, arith}
+use Rattle.std.proofs.Common.{◌≡◌, ◌≢◌, ◌∙◌, inl, ℕ, ◌+◌, ◌-◌, ◌<◌, ◌≤◌, Bool, true, false, List, [], Option, Some, Result, Ok, Err, refl, sym, ap, subst, length, take, drop, arith}
 use Rattle.std.specs.Prelude.{IfSome}
 use Rattle.std.specs.Int.{w32, to_le_bytes}
 use Rattle.std.specs.Str.{bytes_eq}
 use Rattle.std.proofs.lemmas.Slice.Eq.{bytes_eq-Decides}
-use Rattle.btr_base.specs.Crc.{crc32c}
 use Rattle.btr_rack.specs.declared.error.PokeError.{PokeError}
 use Rattle.btr_rack.specs.declared.error.PokeError.TheVariants.{NoImage, Range, Memory}
 use Rattle.btr_rack.specs.Rack.{pasted}
-use Rattle.btr_rack.specs.Memory.{MemoryRack, named, slots_of, Rewrites, Pokes}
+use Rattle.btr_rack.specs.Memory.{MemoryRack, named, Rewrites, Pokes}
 use Rattle.btr_rack.proofs.Patches.{pasted-same}
 use Rattle.btr_make.specs.Shelf.{Standing, standing}
 use Rattle.btr_make.specs.Seal.{IsUntouched, IsCrcOf, Seals}

@@ -1,12 +1,12 @@
 -- What writing into images leaves as it is.
-use Rattle.std.proofs.Common.{◌≡◌, ◌≢◌, ◌∙◌, ◌++◌, ℕ, Bool, true, false, List, refl, sym, ap, Option, Some, None, Result, Ok, Err}
+use Rattle.std.proofs.Common.{◌≡◌, ◌≢◌, ◌∙◌, ℕ, Bool, true, false, List, refl, sym, ap, Result, Ok, Err}
 use Rattle.std.specs.Option.{is_some}
 use Rattle.std.specs.Str.{bytes_eq}
 use Rattle.std.proofs.lemmas.Slice.Eq.{bytes_eq-Decides}
 use Rattle.btr_rack.specs.declared.error.PokeError.{PokeError}
 use Rattle.btr_rack.specs.declared.error.PokeError.TheVariants.{NoImage, Range, Memory}
 use Rattle.btr_rack.specs.Memory.{MemoryRack, named, slots_of, Rewrites, Pokes}
-use Rattle.btr_make.specs.Shelf.{Standing, standing}
+use Rattle.btr_make.specs.Shelf.{standing}
 
 -- an image is there afterwards exactly where it was
 named_rewrites : (name other : List ℕ) (off : ℕ) (bytes : List ℕ) (old new : MemoryRack) → Rewrites name off bytes old new → (b : Bool) → bytes_eq other name ≡ b → is_some (named new other) ≡ is_some (named old other)

@@ -1,3 +1,4 @@
 pub mod Copy
 pub mod Shelf
 pub mod Seal
+pub mod Spoil

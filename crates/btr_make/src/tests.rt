@@ -1,1 +1,2 @@
+mod spoiling;
 mod supers;

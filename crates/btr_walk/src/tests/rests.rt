@@ -7,7 +7,7 @@ ghost use Rattle.btr_walk.specs.Ranks.{IsShaped};
 ghost use Rattle.btr_walk.specs.Rests.{HasMet};
 
 use super::volume::{START, key, rack_of, root, store_over, tree};
-use crate::{Rest, TreeFault, next};
+use crate::{MetAgain, Rest, TreeFault, next};
 use btr_node::Leaf;
 use btr_rack::MemRack;
 use btr_read::Store;
@@ -21,9 +21,9 @@ fn again(store: &mut Store, rest: &Rest, rack: &mut MemRack) -> Result<u64, Tree
     ensures serves { Serves (seen_of rack.new) store.new }
     ensures free { free_count store.new ≡ 24 }
 {
-    let met = rest.met_again(rack, store)?;
-    let key = Leaf::of(store.bytes(&met.loan)).key(met.at);
-    store.give(met.loan);
+    let MetAgain { loan, at } = rest.met_again(rack, store)?;
+    let key = Leaf::of(store.bytes(&loan)).key(at);
+    store.give(loan);
     Ok(key.objectid)
 }
 
