@@ -1,2 +1,3 @@
 mod lookups;
+mod pieces;
 mod volume;

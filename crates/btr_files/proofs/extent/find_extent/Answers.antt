@@ -1,6 +1,7 @@
 use Rattle.std.proofs.Common.{Ok, Err, Option, Some, None, refl, subst, ◌∙◌, arith}
 use Rattle.btr_rack.proofs.Reading.{reads_none, reads_more}
 use Rattle.btr_walk.specs.Reading.{unread_by}
+use Rattle.btr_walk.specs.ScanEnds.{without_leaf}
 use Rattle.btr_walk.proofs.Fetched.{since}
 use Rattle.btr_walk.proofs.Joined.{joined, unread_on}
 use Rattle.btr_walk.proofs.Lending.{same_none, same_then}
@@ -74,7 +75,7 @@ loop-fault-preserved g c =
     record {
       ready = s.ready;
       reads = reads_more f.invariant.reads s.reads;
-      others = same_then f.invariant.others s.others;
+      others = same_then {c = without_leaf new scan'} f.invariant.others s.others;
       room = same_room _ _ s.others f.invariant.room;
       layout = same_layout f.store new _ _ s.others ∙ f.invariant.layout;
       lo = s.lo ∙ f.invariant.lo;
@@ -102,7 +103,7 @@ returns-in_default g c =
     record {
       ready = s.ready;
       reads = reads_more f.invariant.reads s.reads;
-      others = same_then f.invariant.others s.others;
+      others = same_then {c = without_leaf new scan'} f.invariant.others s.others;
       lo = s.lo ∙ f.invariant.lo;
       hi = s.hi ∙ f.invariant.hi;
       kept = subst (λ (o : Option Ahead). KeepsItem (Ok o) scan'.leaf) c.in-Ok-Some.field-0-is s.kept;
