@@ -114,7 +114,19 @@ fn list_into<R: Rack, T: TreeSink, O: Out>(
     let Some((here, below)) = frames.split_first_mut() else {
         unreachable!();
     };
-    match list(job, *root, root.dirid, here, below, path, &mut counts, rack, vol, tree, out) {
+    match list(
+        job,
+        *root,
+        root.dirid,
+        here,
+        below,
+        path,
+        &mut counts,
+        rack,
+        vol,
+        tree,
+        out,
+    ) {
         Ok(()) => tell_counts(&counts, out),
         Err(stop) => Err(stop),
     }

@@ -1,4 +1,6 @@
 // The lines and the names.
+mod restoring;
+
 use crate::cause::Cause;
 use crate::lines::put_counts;
 use crate::name::good_name;
