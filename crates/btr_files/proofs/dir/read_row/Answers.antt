@@ -1,4 +1,4 @@
-use Rattle.std.proofs.Common.{Result, Ok, Err, Option, Some, None, ◌∙◌, ap, subst}
+use Rattle.std.proofs.Common.{Result, Ok, Err, Option, None, ◌∙◌, ap, subst}
 use Rattle.btr_walk.specs.declared.fault.TreeFault.{TreeFault}
 use Rattle.btr_walk.specs.declared.found.Found.{Found}
 use Rattle.btr_walk.specs.Reading.{Map, unread_by}

@@ -2,7 +2,6 @@ use Rattle.std.proofs.Common.{Ok, Err, Some, refl, ap, ◌∙◌, subst}
 use Rattle.btr_walk.specs.declared.fault.TreeFault.TheVariants.{Malformed}
 use Rattle.btr_walk.specs.Showing.{item_of}
 use Rattle.btr_files.specs.declared.dir_row.DirRow.{DirRow}
-use Rattle.btr_files.specs.Entries.{DirEntry}
 use Rattle.btr_files.specs.Listing.{IsRowBy}
 use Rattle.btr_files.proofs.Rows.{name_fits}
 use Rattle.btr_files.proofs.dir.row_found.Goals as goal

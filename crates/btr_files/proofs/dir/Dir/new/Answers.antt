@@ -2,7 +2,7 @@ use Rattle.std.proofs.Common.{[], sym, ap, ◌∙◌, subst}
 use Rattle.btr_base.specs.declared.key.Key.{Key}
 use Rattle.btr_walk.specs.Going.{IsOn}
 use Rattle.btr_walk.specs.Range.{range}
-use Rattle.btr_volume.specs.Tree.{key, last}
+use Rattle.btr_volume.specs.Tree.{key}
 use Rattle.btr_files.specs.Entries.{entries_in}
 use Rattle.btr_files.proofs.dir.Dir.new.Goals as goal
 
