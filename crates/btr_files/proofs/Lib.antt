@@ -2,3 +2,4 @@ pub mod Folding
 pub mod Meeting
 pub mod Surveys
 pub mod Lookups
+pub mod Rows

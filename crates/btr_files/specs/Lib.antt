@@ -5,4 +5,5 @@ pub mod Sums
 pub mod Content
 pub mod FileAt
 pub mod Steps
+pub mod Listing
 pub mod Maps

@@ -1,23 +1,24 @@
-mod Fitting
+pub mod Fitting
 pub mod Fetched
-mod Les
-mod Ways
+pub mod Les
+pub mod Ways
 pub mod Lending
 pub mod Joined
-mod Shown
-mod Choosing
-mod Belows
-mod Entered
-mod Repeated
-mod Paths
-mod Items
-mod Ranking
-mod Leads
-mod Hands
-mod Nexts
-mod Folds
-mod Turns
-mod Halting
-mod Preorders
-mod Walks
-mod Froms
+pub mod Shown
+pub mod Choosing
+pub mod Belows
+pub mod Entered
+pub mod Repeated
+pub mod Paths
+pub mod Items
+pub mod Ranking
+pub mod Leads
+pub mod Hands
+pub mod Nexts
+pub mod Folds
+pub mod Turns
+pub mod Halting
+pub mod Preorders
+pub mod Walks
+pub mod Froms
+pub mod Resting

@@ -1,5 +1,5 @@
 -- A step of a scan.
-use Rattle.std.proofs.Common.{◌≡◌, ℕ, ◌+◌, ◌-◌, ◌*◌, ◌^◌, ◌<◌, ◌≤◌, true, false, List, [], ◌++◌, length, get_or, Option, Some, None, IfSome, IsTrue, Bool, cond, Result, Ok, Err, refl, sym, ap, ◌∙◌, subst, arith}
+use Rattle.std.proofs.Common.{◌≡◌, ℕ, ◌+◌, ◌-◌, ◌*◌, ◌^◌, ◌<◌, ◌≤◌, true, false, List, [], ◌++◌, length, get_or, Option, Some, None, IfSome, IsSomeAnd, IsTrue, Bool, cond, Result, Ok, Err, refl, sym, ap, ◌∙◌, subst, arith}
 use Rattle.btr_node.specs.Block.{Item, items, is_leaf}
 use Rattle.btr_prog.specs.Prog.{Does, first, prepend, exec}
 use Rattle.btr_prog.specs.Answers.{Follows, no_part}
@@ -30,7 +30,7 @@ use Rattle.btr_walk.specs.Lending.{base}
 use Rattle.btr_walk.specs.Advancing.{IsInHand, loan_of, hand_items, hand_prog, leaf_prog, left, HasItem, Meets, AdvancesBy, IsAdvanced}
 use Rattle.btr_walk.specs.Ranks.{IsShaped, rank, rank_leaf, rank_on, StepNears}
 use Rattle.btr_walk.specs.Going.{place_prog}
-use Rattle.btr_walk.specs.ScanEnds.{left_of, HoldsLeaf, Gives, IsNextOn, IsReady, Scanned, Paused, rank_of, from_key, IsFrom, sought_from, Sought}
+use Rattle.btr_walk.specs.ScanEnds.{left_of, HoldsLeaf, WasMet, frame_of, Gives, IsNextOn, IsReady, Scanned, Paused, rank_of, from_key, IsFrom, sought_from, Sought}
 use Rattle.btr_walk.proofs.Joined.{drawn, block_is}
 
 abbrev pub scan_at : Scan → ScanPlace → Option LeafAt → Scan
@@ -89,6 +89,7 @@ module _ (store new : Blocks) (scan : Scan) (taken : Option LeafAt) (is_taken : 
               ∙ ap (λ x. prepend (wants m.past) (first (Does (item_of found)) (exec B (left scan.lo scan.hi B new x (in_hand a.place))))) (sym there);
           on = record { rest = m.on; kept = tt };
           held = λ w. subst (λ x. IfSome x (IsHeld B (seen ++ m.past) new)) (sym there) (m.held w);
+          met = subst (λ x. IfSome x (WasMet new (item_of found))) (sym there) (subst (λ (i : TreeItem). WasMet new i l) same m.at);
         }
 
     pub next_item : a.met ≡ Ok true → IsShaped a.place → SameLoans (base store (loan_of taken)) (base new (loan_of a.leaf)) → IfSome a.leaf (IsInHand new) → Tells store.layout before now (λ B. IsAdvanced scan.lo scan.hi Is B scan.place taken store new a) → Scanned store new scan (scan_at scan (in_hand a.place) leaf) before now (Ok (Some found))
@@ -110,6 +111,11 @@ keeps_err leaf leaf' met f is e h = is ∙ ends leaf (subst (HasItem leaf) e h)
     ends : (l : Option LeafAt) → HasItem l (Err f) → l ≡ None
     ends None h = h
     ends (Some x) h = h
+
+pub keeps_item : (leaf leaf' : Option LeafAt) (l : LeafAt) (met : Result Bool TreeFault) → leaf' ≡ leaf → leaf' ≡ Some l → met ≡ Ok true → HasItem leaf met → IsSomeAnd leaf' (λ x. (0 < x.next) × (x.next ≤ x.end))
+keeps_item leaf leaf' l met same is e h =
+    let i : HasItem (Some l) (Ok true) = subst (λ x. HasItem x (Ok true)) (sym same ∙ is) (subst (HasItem leaf) e h) in
+    subst (λ x. IsSomeAnd x (λ y. (0 < y.next) × (y.next ≤ y.end))) (sym is) i
 
 -- the scan came nearer to its end
 pub near_some : (scan : Scan) (taken leaf' : Option LeafAt) (a : Advanced) → taken ≡ scan.leaf → leaf' ≡ a.leaf → StepNears (rank_on scan.place taken) a.place a.leaf a.met → a.met ≡ Ok true → rank_of (scan_at scan (in_hand a.place) leaf') < rank_of scan
@@ -136,6 +142,7 @@ paused_none store scan leaf' e f = record {
   lo = refl;
   hi = refl;
   leaf = f;
+  kept = subst (λ x. IfSome x (λ l. scan.place.leaf ≡ Some (frame_of l))) (sym e) tt;
   rank = ap (λ l. rank_on scan.place l) (f ∙ sym e);
   program = λ B seen h. ap (λ l. left scan.lo scan.hi B store l scan.place) (f ∙ sym e);
   on = λ B seen h on. on;
@@ -166,6 +173,7 @@ module _ (store after : Blocks) (scan : Scan) (leaf' : Option LeafAt) (l : LeafA
     lo = refl;
     hi = refl;
     leaf = none;
+    kept = subst (λ x. IfSome x (λ y. Some kept ≡ Some (frame_of y))) (sym is) refl;
     rank = ap (λ x. 2 ^ 64 * rank scan.place.rest + rank_leaf x (Some kept)) none ∙ ap (λ x. 2 ^ 64 * rank scan.place.rest + rank_leaf x scan.place.leaf) (sym is);
     program = λ B seen h.
         let rest = place_prog scan.lo scan.hi B scan.place.rest in

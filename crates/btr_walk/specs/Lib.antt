@@ -17,3 +17,4 @@ pub mod Folds
 pub mod Folding
 pub mod Blocks
 pub mod Preorder
+pub mod Rests

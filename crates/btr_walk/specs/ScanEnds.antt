@@ -1,9 +1,10 @@
 -- What a scan and its store are after a step.
-use Rattle.std.specs.Prelude.{◌≡◌, ℕ, ◌-◌, ◌<◌, ◌≤◌, ◌++◌, List, filter, if◌then◌else◌, [], Option, Some, None, IfSome, IsSome, Result, Ok, Err, ⊤}
+use Rattle.std.specs.Prelude.{◌≡◌, ℕ, ◌-◌, ◌<◌, ◌≤◌, ◌++◌, List, length, filter, slice_index_or, if◌then◌else◌, [], Option, Some, None, IfSome, IsSomeAnd, Result, Ok, Err, ⊤}
 use Rattle.std.specs.Borrow.{follows_so, MutBor, Fml}
 use mathlib.Core.Option.{none}
 use Rattle.btr_base.specs.Key.{key_le}
 use Rattle.btr_base.specs.declared.key.Key.{Key}
+use Rattle.btr_node.specs.Block.{Item, items}
 use Rattle.btr_prog.specs.Prog.{Does, first, prepend, exec}
 use Rattle.btr_prog.specs.Answers.{Follows, no_part}
 use Rattle.btr_rack.specs.Rack.{Seen}
@@ -14,9 +15,10 @@ use Rattle.btr_read.specs.declared.want.Want.{Want}
 use Rattle.btr_walk.specs.declared.entering.LeafAt.{LeafAt}
 use Rattle.btr_walk.specs.declared.fault.TreeFault.{TreeFault}
 use Rattle.btr_walk.specs.declared.found.Found.{Found}
+use Rattle.btr_walk.specs.declared.frame.Frame.{Frame}
 use Rattle.btr_walk.specs.declared.scan.Scan.{Scan}
 use Rattle.btr_walk.specs.Spot.{is_below}
-use Rattle.btr_walk.specs.Le.{TreeItem}
+use Rattle.btr_walk.specs.Le.{TreeItem, tree_item}
 use Rattle.btr_walk.specs.Reading.{Map, UnreadBlock, Tells, unread_by, halt_of}
 use Rattle.btr_walk.specs.Scans.{wants, IsHeld}
 use Rattle.btr_walk.specs.Range.{RangeProg, emit_all, range}
@@ -34,12 +36,17 @@ left_of B store scan = left scan.lo scan.hi B store scan.leaf scan.place
 abbrev pub HoldsLeaf : Map → List Want → Blocks → Scan → Type 0
 HoldsLeaf B seen store scan = IfSome scan.leaf (IsHeld B seen store)
 
+-- an item of a leaf in hand is the one that was met last: it stands before `next`
+abbrev pub WasMet : Blocks → TreeItem → LeafAt → Type 0
+WasMet store item l = IsSomeAnd (block_of store l.loan) (λ block. (l.next ≤ length (items block)) × ((d : Item) → tree_item l.spot.addr (slice_index_or (items block) (l.next - 1) d) ≡ item))
+
 -- some wants, and then the item; what is left comes behind
 pub record Gives (B : Map) (seen : List Want) (old new : Blocks) (scan scan' : Scan) (found : Found) : Type 0 where
   pub past : List Want
   pub is : exec B (left_of B old scan) ≡ prepend (wants past) (first (Does (item_of found)) (exec B (left_of B new scan')))
   pub on : IsOn scan.lo scan.hi B (seen ++ past) scan'.place
   pub held : HoldsLeaf B seen old scan → HoldsLeaf B (seen ++ past) new scan'
+  pub met : IfSome scan'.leaf (WasMet new (item_of found))
 
 abbrev pub NextBy : (UnreadBlock → Want → Type 0) → Map → List Want → Blocks → Blocks → Scan → Scan → Result (Option Found) TreeFault → Type 0
 NextBy Is B seen old new scan scan' (Ok (Some found)) = Gives B seen old new scan scan' found
@@ -69,9 +76,9 @@ pub record Scanned (old new : Blocks) (scan scan' : Scan) (before now : Seen) (r
 abbrev pub ScanEnds : MutBor Blocks → Scan → Scan → Seen → Seen → Result (Option Found) TreeFault → Fml
 ScanEnds store scan scan' before now result = follows_so the_row the_row store.ghost_name none (λ _ _. ⊤) (λ new. Scanned store.now new scan scan' before now result)
 
--- a leaf is kept with an item, and only then
+-- a leaf is kept with an item, which stands before `next`, and only then
 abbrev pub KeepsLeaf : Result (Option Found) TreeFault → Option LeafAt → Type 0
-KeepsLeaf (Ok (Some found)) leaf = IsSome leaf
+KeepsLeaf (Ok (Some found)) leaf = IsSomeAnd leaf (λ l. (0 < l.next) × (l.next ≤ l.end))
 KeepsLeaf (Ok None) leaf = leaf ≡ None
 KeepsLeaf (Err f) leaf = leaf ≡ None
 
@@ -110,12 +117,17 @@ pub record Sought (old new : Blocks) (scan scan' : Scan) (key : Key) : Type 0 wh
   pub on : (B : Map) (seen : List Want) → IsOn scan.lo scan.hi B seen scan.place → IsOn scan'.lo scan'.hi B seen scan'.place
   pub held : (B : Map) (seen : List Want) → HoldsLeaf B seen old scan → HoldsLeaf B seen new scan'
 
+-- where a leaf stands, without its loan
+abbrev pub frame_of : LeafAt → Frame
+frame_of l = record { spot = l.spot; next = l.next; end = l.end }
+
 -- a scan that gave its leaf back has still to give the same, and comes to its end as near
 pub record Paused (old new : Blocks) (scan scan' : Scan) : Type 0 where
   pub root : scan'.root ≡ scan.root
   pub lo : scan'.lo ≡ scan.lo
   pub hi : scan'.hi ≡ scan.hi
   pub leaf : scan'.leaf ≡ None
+  pub kept : IfSome scan.leaf (λ l. scan'.place.leaf ≡ Some (frame_of l))
   pub rank : rank_of scan' ≡ rank_of scan
   pub program : (B : Map) (seen : List Want) → HoldsLeaf B seen old scan → left_of B new scan' ≡ left_of B old scan
   pub on : (B : Map) (seen : List Want) → HoldsLeaf B seen old scan → IsOn scan.lo scan.hi B seen scan.place → IsOn scan.lo scan.hi B seen scan'.place

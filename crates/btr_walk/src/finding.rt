@@ -22,8 +22,8 @@ use btr_node::{Inner, Leaf};
 use btr_rack::Rack;
 use btr_read::{Loan, Store};
 
-// The child of a pointer.
-pub(crate) fn child_at(inner: &Inner<'_>, i: usize, up: Option<Key>) -> Spot
+/// Where the child of pointer `i` stands, `up` being the bound of the node itself: the child's bound is the next pointer's key.
+pub fn child_at(inner: &Inner<'_>, i: usize, up: Option<Key>) -> Spot
     requires { i < length inner.now }
     ensures { HoldsAt (λ pointer. result ≡ below pointer (up_of (drop (i + 1) inner.now) up)) inner.now i }
 {
@@ -123,8 +123,8 @@ pub(crate) fn seek_le<R: Rack>(
     }
 }
 
-// The item at a place of a leaf.
-pub(crate) fn found_at(block: &[u8], leaf: u64, at: usize) -> Found<'_>
+/// The item at a place of a good leaf, whose address is `leaf`.
+pub fn found_at(block: &[u8], leaf: u64, at: usize) -> Found<'_>
     requires header { 101 ≤ length block.now }
     requires good { IsTrue (is_leaf block.now) }
     requires there { at < length (items block.now) }

@@ -12,8 +12,11 @@ use crate::spot::Spot;
 use btr_rack::Rack;
 use btr_read::{Loan, Store, Want, fetch};
 
-// Reads the block of a level at a spot, and tests whether it fits.
-pub(crate) fn read_block<R: Rack>(
+/// Reads the block of a level at a spot, and tests whether it fits there; its loan is the caller's. It takes no memory, and four slots are free.
+///
+/// The faults are `Lost`, `Unread`, `Unmapped` and `Crosses` of that block, and `Malformed` where it breaks a rule of one block, has another first key
+/// than its pointer, or a key that isn't below the bound.
+pub fn read_block<R: Rack>(
     level: u8,
     spot: &Spot,
     rack: &mut R,

@@ -1,4 +1,5 @@
 mod folds;
+mod rests;
 mod scans;
 mod volume;
 mod walks;

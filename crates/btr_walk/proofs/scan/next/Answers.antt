@@ -1,6 +1,5 @@
 use Rattle.std.proofs.Common.{Ok, refl, ap, ◌∙◌}
-use Rattle.std.specs.Option.{is_some}
-use Rattle.btr_walk.proofs.Nexts.{cause_as, next_err, next_end, next_item, keeps_err, keeps_end, near_some, near_none}
+use Rattle.btr_walk.proofs.Nexts.{cause_as, next_err, next_end, next_item, keeps_err, keeps_end, keeps_item, near_some, near_none}
 use Rattle.btr_walk.proofs.scan.next.Goals as goal
 
 pub returns-in-Err : goal.returns-in-Err
@@ -32,7 +31,7 @@ returns-in-Some g c =
         root = refl;
         lo = refl;
         hi = refl;
-        kept = ap is_some c.in-Some.is;
+        kept = keeps_item a.leaf c.put.new.place c.in-Some.hand a.met c.put.ensures c.in-Some.is met c.advance-leaf.ensures.item;
         nears = near_some c.args.scan.now c.take-leaf.result c.put.new.place a c.take-leaf.ensures.value c.put.ensures c.advance-leaf.ensures.nears met;
         place = tt;
         cause = tt;
