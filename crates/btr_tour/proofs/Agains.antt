@@ -1,22 +1,19 @@
 -- A node that is read again.
-use Rattle.std.proofs.Common.{◌≡◌, ◌∙◌, ℕ, ◌+◌, ◌-◌, ◌<◌, ◌≤◌, List, length, get_or, drop, Option, Some, None, IfSome, IsSomeAnd, Result, Ok, Err, refl, sym, ap, subst, arith}
+use Rattle.std.proofs.Common.{◌≡◌, ◌∙◌, ℕ, ◌+◌, ◌<◌, List, length, get_or, drop, Option, Some, None, IfSome, Ok, Err, refl, sym, ap, subst, arith}
 use Rattle.btr_base.specs.declared.key.Key.{Key}
 use Rattle.btr_node.specs.Block.{KeyPointer, pointers}
 use Rattle.btr_node.specs.declared.node.Node.TheVariants.{Inner}
-use Rattle.btr_read.specs.Store.{Blocks, Lent, block_of}
+use Rattle.btr_read.specs.Store.{Blocks}
 use Rattle.btr_read.specs.declared.want.Want.{Want}
 use Rattle.btr_walk.specs.declared.fault.TreeFault.{TreeFault}
 use Rattle.btr_walk.specs.declared.fault.TreeFault.TheVariants.{Lost, Unread, Unmapped, Crosses, Malformed}
-use Rattle.btr_walk.specs.declared.spot.Spot.{Spot}
 use Rattle.btr_walk.specs.Spot.{judged}
 use Rattle.btr_walk.specs.Le.{below, up_of, want_of}
 use Rattle.btr_walk.specs.Reading.{Map, UnreadBlock, Reads}
-use Rattle.btr_walk.proofs.Joined.{block_is}
 use Rattle.btr_tour.specs.declared.again.Below.{Below}
 use Rattle.btr_tour.specs.declared.frame.Frame.{Frame}
-use Rattle.btr_tour.specs.Tour.{child_spots}
 use Rattle.btr_tour.specs.Place.{IsNode}
-use Rattle.btr_tour.specs.Steps.{reason, FramesFrom, FitsBelow, IsNextBelow, IsNext, Rereads}
+use Rattle.btr_tour.specs.Steps.{reason, FramesFrom, IsNextBelow, IsNext}
 use Rattle.btr_tour.proofs.Seeking.{length-spots, spot_at, some_pointer}
 
 module _ (lo hi : Key) where

@@ -1,10 +1,10 @@
 -- What a step meets that reads a block.
-use Rattle.std.proofs.Common.{◌≡◌, ◌∙◌, ℕ, zero, suc, ◌+◌, ◌-◌, ◌<◌, ◌≤◌, true, List, [], ◌∷◌, ◌++◌, length, get_or, set, map, drop, filter, flat_map, Option, Some, None, IfSome, IsSomeAnd, Ok, Err, refl, sym, ap, subst, append_assoc, arith}
+use Rattle.std.proofs.Common.{◌≡◌, ◌∙◌, ℕ, zero, suc, ◌+◌, ◌-◌, ◌<◌, List, [], ◌∷◌, ◌++◌, length, get_or, set, map, drop, filter, flat_map, Option, Some, None, IfSome, Ok, Err, refl, sym, ap, subst, append_assoc, arith}
 use Rattle.std.proofs.lemmas.List.{drop_all}
 use Rattle.btr_base.specs.Header.{header_of}
 use Rattle.btr_base.specs.declared.kind.SumKind.{SumKind}
 use Rattle.btr_base.specs.declared.key.Key.{Key}
-use Rattle.btr_node.specs.Block.{Item as NodeItem, KeyPointer, items, pointers}
+use Rattle.btr_node.specs.Block.{items, pointers}
 use Rattle.btr_node.specs.declared.node.Node.TheVariants.{Leaf, Inner}
 use Rattle.btr_read.specs.Fate as fate
 use Rattle.btr_read.specs.Store.{Blocks, Lent, block_of}
@@ -27,7 +27,7 @@ use Rattle.btr_tour.specs.Tour as marks
 use Rattle.btr_tour.specs.Tour.{Mark, place_of, child_spots, meets_keys, child_tour, tour_at}
 use Rattle.btr_tour.specs.Place.{hand_items, children_left, frame_left, frame_or_none, path_left, todo_left, place_left, IsNode, IsOn}
 use Rattle.btr_tour.specs.Shape.{IsShaped}
-use Rattle.btr_tour.specs.Steps.{IsLowest, FramesFrom, IsNextBelow, Rereads, reason, left_out, MeetsBlock, Meets, StepsBy, Advances}
+use Rattle.btr_tour.specs.Steps.{IsLowest, FramesFrom, IsNextBelow, Rereads, reason, left_out, MeetsBlock, Meets, Advances}
 use Rattle.btr_tour.proofs.Seeking.{filter_at, length-spots, some_spot}
 use Rattle.btr_tour.proofs.Tours.{leaf_tour, inner_tour, fault_tour}
 use Rattle.btr_tour.proofs.Paths.{rest_of, path_set, path_none, path_bare, path_here, path_gone, frame_is, node_is, on_set}

@@ -1,5 +1,5 @@
 -- An item is met.
-use Rattle.std.proofs.Common.{◌≡◌, ◌∙◌, ℕ, ◌<◌, List, Option, Some, None, IfSome, Ok, refl, sym, ap, subst, get_or}
+use Rattle.std.proofs.Common.{◌≡◌, ◌∙◌, ℕ, ◌<◌, List, Option, Some, None, IfSome, Ok, sym, subst, get_or}
 use Rattle.btr_base.specs.declared.kind.SumKind.{SumKind}
 use Rattle.btr_base.specs.declared.key.Key.{Key}
 use Rattle.btr_node.specs.Block.{Item as NodeItem, items}
@@ -21,7 +21,7 @@ use Rattle.btr_tour.specs.Tour as marks
 use Rattle.btr_tour.specs.Tour.{Mark}
 use Rattle.btr_tour.specs.Shape.{IsShaped, rank_on, StepNears}
 use Rattle.btr_tour.specs.Steps.{IsInHand, loan_of, Meets, StepsBy, Advances, left}
-use Rattle.btr_tour.specs.TourEnds.{left_of, IsNextMark, IsReady, Toured}
+use Rattle.btr_tour.specs.TourEnds.{left_of, IsNextMark, Toured}
 use Rattle.btr_tour.proofs.Seeking.{some_item}
 
 -- the item in the leaf in hand

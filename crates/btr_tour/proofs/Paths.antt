@@ -1,9 +1,9 @@
 -- What is left on a path.
-use Rattle.std.proofs.Common.{◌≡◌, ◌∙◌, inl, inr, ℕ, zero, suc, ◌+◌, ◌-◌, ◌<◌, ◌≤◌, true, List, [], ◌∷◌, ◌++◌, length, get_or, set, drop, filter, flat_map, Option, Some, None, IfSome, Ok, refl, sym, ap, subst, append_assoc, arith}
+use Rattle.std.proofs.Common.{◌≡◌, ◌∙◌, inl, inr, ℕ, zero, suc, ◌+◌, ◌-◌, ◌<◌, ◌≤◌, List, [], ◌∷◌, ◌++◌, length, get_or, set, drop, flat_map, Option, Some, None, IfSome, Ok, refl, sym, ap, subst, arith}
 use Rattle.std.proofs.lemmas.Bool.{cases_eq}
 use Rattle.std.proofs.lemmas.List.{get_or-set_same, get_or-set_other, set-get_or, set-set}
 use Rattle.btr_base.specs.declared.key.Key.{Key}
-use Rattle.btr_node.specs.Block.{KeyPointer, pointers}
+use Rattle.btr_node.specs.Block.{pointers}
 use Rattle.btr_walk.specs.declared.spot.Spot.{Spot}
 use Rattle.btr_walk.specs.Le.{want_of}
 use Rattle.btr_walk.specs.Reading.{Map}
@@ -11,9 +11,8 @@ use Rattle.btr_walk.specs.Scans.{pointers_in}
 use Rattle.btr_walk.specs.Spot.{judged}
 use Rattle.btr_node.specs.declared.node.Node.TheVariants.{Inner}
 use Rattle.btr_tour.specs.declared.frame.Frame.{Frame}
-use Rattle.btr_tour.specs.declared.place.Place.{Place}
-use Rattle.btr_tour.specs.Tour.{Mark, child_spots, meets_keys, child_tour, tour_at}
-use Rattle.btr_tour.specs.Place.{children_left, frame_left, frame_or_none, path_left, IsNode, IsOn}
+use Rattle.btr_tour.specs.Tour.{Mark, child_spots, child_tour, tour_at}
+use Rattle.btr_tour.specs.Place.{children_left, frame_left, frame_or_none, path_left, IsNode}
 use Rattle.btr_tour.specs.Steps.{FramesFrom}
 
 module _ (lo hi : Key) (B : Map) where

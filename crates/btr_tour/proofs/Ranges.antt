@@ -1,5 +1,5 @@
 -- A tour without faults has the items of the range.
-use Rattle.std.proofs.Common.{◌≡◌, ◌∙◌, ◌⊎◌, inl, inr, ℕ, zero, suc, ◌-◌, Bool, true, false, cond, List, [], ◌∷◌, ◌++◌, Option, Some, None, IsSome, Result, Ok, Err, refl, sym, ap, subst, map, filter, flat_map, append_assoc, append-nil, arith}
+use Rattle.std.proofs.Common.{◌≡◌, ◌∙◌, inl, inr, ℕ, zero, suc, ◌-◌, Bool, true, false, cond, List, [], ◌∷◌, ◌++◌, Option, Some, None, IsSome, Result, Ok, Err, refl, sym, ap, map, filter, flat_map, append_assoc, append-nil, arith}
 use Rattle.std.specs.Option.{is_some}
 use Rattle.btr_base.specs.declared.key.Key.{Key}
 use Rattle.btr_node.specs.Block.{KeyPointer, items, pointers}
@@ -7,17 +7,15 @@ use Rattle.btr_node.specs.declared.node.Node.{Node}
 use Rattle.btr_node.specs.declared.node.Node.TheVariants.{Leaf, Inner}
 use Rattle.btr_prog.specs.Prog.{Return, Wants, first, given, exec, steps_of}
 use Rattle.btr_read.specs.Fate.{Fault, Malformed}
-use Rattle.btr_walk.specs.declared.place.RootPlace.{RootPlace}
 use Rattle.btr_walk.specs.declared.spot.Spot.{Spot}
 use Rattle.btr_walk.specs.Spot.{judged}
 use Rattle.btr_walk.specs.Le.{TreeItem, root_spot, below, up_of, want_of}
-use Rattle.btr_walk.specs.Range.{RangeProg, meets, emit_all, items_within, over, range_leaf, range_inner, range_at, range}
+use Rattle.btr_walk.specs.Range.{RangeProg, meets, emit_all, items_within, over, range_leaf, range_inner, range_at}
 use Rattle.btr_walk.specs.Reading.{Map}
 use Rattle.btr_walk.proofs.Ways.{IsLeafAt, IsInnerAt, judged_is}
-use Rattle.btr_tour.specs.Tour.{Mark, Block, Child, Item, Left, place_of, child_spots, meets_keys, child_tour, under, node_tour, block_tour, tour_at, tour, items_met, faults_met}
-use Rattle.btr_tour.specs.Place.{children_left}
+use Rattle.btr_tour.specs.Tour.{Mark, Block, Child, Item, Left, place_of, child_spots, meets_keys, child_tour, node_tour, block_tour, tour_at, tour, items_met, faults_met}
 use Rattle.btr_tour.specs.Law.{FaultlessLaw}
-use Rattle.btr_tour.proofs.Tours.{leaf_tour, inner_tour, err_tour, bad_tour}
+use Rattle.btr_tour.proofs.Tours.{leaf_tour, err_tour, bad_tour}
 
 items_met-append : (xs ys : List Mark) → items_met (xs ++ ys) ≡ items_met xs ++ items_met ys
 items_met-append [] ys = refl

@@ -1,5 +1,5 @@
 -- A tour comes nearer to its end.
-use Rattle.std.proofs.Common.{◌≡◌, ◌∙◌, inl, inr, ℕ, zero, suc, ◌+◌, ◌-◌, ◌*◌, ◌^◌, ◌<◌, ◌≤◌, List, [], ◌∷◌, length, get_or, set, Option, Some, None, IfSome, Result, Ok, Err, refl, sym, ap, subst, arith}
+use Rattle.std.proofs.Common.{◌≡◌, ◌∙◌, inl, inr, ℕ, zero, suc, ◌+◌, ◌-◌, ◌*◌, ◌^◌, ◌<◌, ◌≤◌, List, [], ◌∷◌, length, get_or, set, Option, Some, None, IfSome, refl, sym, ap, subst, arith}
 use Rattle.std.proofs.lemmas.Bool.{cases_eq}
 use Rattle.std.proofs.lemmas.List.{length-set, get_or-set_same, get_or-set_other}
 use Rattle.btr_node.specs.Block.{KeyPointer}
@@ -84,9 +84,6 @@ shaped_set path i o todo long lt frames fits clear low = record {
     above_of : (todo : Option Todo) → IfSome todo (λ t. t.level ≡ i) → IfSome todo (λ t. (k : ℕ) → k < t.level → get_or (set path i o) k None ≡ None)
     above_of None l = tt
     above_of (Some t) l = λ k lt'. get_or-set_other path i k o None (λ e. absurd (omega (arith, e, lt', l))) ∙ clear k (omega (arith, lt', l))
-
-pub shaped_here : (place : Place) → IsShaped place → IsShaped (record { path = place.path; todo = None })
-shaped_here place s = record { long = s.long; frames = s.frames; above = tt }
 
 -- a place with a block that is to be read
 todo_rank : (place : Place) (level : ℕ) (spot : Spot) → place.todo ≡ Some (record { level = level; spot = spot }) → rank_at place.todo place.path ≡ 2 * rank_todo level place.path

@@ -1,5 +1,5 @@
 -- The first entry of a block that passes a test.
-use Rattle.std.proofs.Common.{◌≡◌, ◌∙◌, ℕ, zero, suc, ◌+◌, ◌-◌, ◌<◌, ◌≤◌, Bool, true, false, cond, List, [], ◌∷◌, Option, Some, None, refl, sym, ap, subst, length, get_or, filter, drop, add-one, arith}
+use Rattle.std.proofs.Common.{◌≡◌, ◌∙◌, ℕ, zero, suc, ◌+◌, ◌<◌, ◌≤◌, Bool, true, false, cond, List, [], ◌∷◌, Option, None, refl, sym, ap, length, get_or, filter, drop, add-one, arith}
 use Rattle.std.proofs.lemmas.List.{drop_more, drop_all}
 use Rattle.btr_base.specs.declared.key.Key.{Key}
 use Rattle.btr_node.specs.Block.{Item, KeyPointer}

@@ -1,5 +1,5 @@
 -- The tour of one block.
-use Rattle.std.proofs.Common.{◌≡◌, ◌∙◌, ℕ, zero, suc, ◌-◌, List, [], ◌∷◌, Option, Some, None, IfSome, Result, Ok, Err, refl, sym, ap, map, filter, drop, flat_map, arith}
+use Rattle.std.proofs.Common.{◌≡◌, ◌∙◌, ℕ, zero, suc, ◌-◌, List, [], ◌∷◌, None, IfSome, Ok, Err, sym, ap, map, filter, flat_map, arith}
 use Rattle.btr_base.specs.declared.key.Key.{Key}
 use Rattle.btr_node.specs.Block.{items, pointers}
 use Rattle.btr_read.specs.Fate as fate
@@ -13,7 +13,7 @@ use Rattle.btr_walk.specs.Le.{want_of}
 use Rattle.btr_walk.specs.Range.{items_within}
 use Rattle.btr_walk.specs.Reading.{Map, UnreadBlock, Reads}
 use Rattle.btr_walk.proofs.Ways.{IsLeafAt, IsInnerAt}
-use Rattle.btr_tour.specs.Tour.{Mark, Block, Item, Left, place_of, child_spots, meets_keys, child_tour, node_tour, block_tour, tour_at}
+use Rattle.btr_tour.specs.Tour.{Block, Item, Left, place_of, child_spots, meets_keys, child_tour, node_tour, block_tour, tour_at}
 use Rattle.btr_tour.specs.Place.{children_left}
 use Rattle.btr_tour.specs.Steps.{reason}
 

@@ -1,5 +1,5 @@
 -- What a tour has still to meet.
-use Rattle.std.specs.Prelude.{◌≡◌, ℕ, ◌+◌, ◌-◌, ◌<◌, ◌≤◌, Bool, true, List, [], ◌++◌, length, map, filter, flat_map, drop, slice_index_or, Option, Some, None, IfSome, ◌∷◌, Ok}
+use Rattle.std.specs.Prelude.{◌≡◌, ℕ, ◌+◌, ◌-◌, true, List, [], ◌++◌, length, map, filter, flat_map, drop, slice_index_or, Option, Some, None, IfSome, ◌∷◌, Ok}
 use Rattle.std.specs.List.{HoldsAt}
 use Rattle.btr_base.specs.declared.key.Key.{Key}
 use Rattle.btr_node.specs.Block.{items, pointers}

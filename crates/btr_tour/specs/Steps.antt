@@ -1,5 +1,5 @@
 -- What a step of a tour does.
-use Rattle.std.specs.Prelude.{◌≡◌, ℕ, zero, suc, ◌+◌, ◌-◌, ◌^◌, ◌<◌, ◌≤◌, Bool, true, List, [], ◌∷◌, ◌++◌, length, filter, drop, slice_set, slice_index_or, Option, Some, None, IfSome, IfNone, IsSome, IsSomeAnd, IsTrue, Result, Ok, Err}
+use Rattle.std.specs.Prelude.{◌≡◌, ℕ, zero, suc, ◌+◌, ◌-◌, ◌^◌, ◌<◌, ◌≤◌, Bool, true, List, [], ◌∷◌, ◌++◌, length, filter, drop, slice_set, slice_index_or, Option, Some, None, IfSome, IsSome, IsSomeAnd, IsTrue, Result, Ok, Err}
 use Rattle.std.specs.Option.{option_map}
 use Rattle.std.specs.List.{HoldsAt}
 use Rattle.btr_base.specs.Header.{header_of}

@@ -1,4 +1,4 @@
-use Rattle.std.proofs.Common.{◌≡◌, ℕ, List, Ok, Err, None, arith}
+use Rattle.std.proofs.Common.{◌≡◌, ℕ, List, Ok, Err, arith}
 use Rattle.btr_walk.specs.declared.fault.TreeFault.TheVariants as tree
 use Rattle.btr_walk.specs.Le.{want_of}
 use Rattle.btr_walk.specs.Reading.{Reads, unread_by}

@@ -1,4 +1,4 @@
-use Rattle.std.proofs.Common.{◌≡◌, ◌≤◌, ◌<◌, ℕ, List, Ok, Err, None, Some, IsTrue, refl, sym, ap, subst, length, ◌∙◌, arith}
+use Rattle.std.proofs.Common.{◌≡◌, ℕ, List, Ok, Err, None, Some, IsTrue, refl, sym, ap, subst, length, ◌∙◌, arith}
 use Rattle.btr_node.specs.Block.{KeyPointer, items, pointers, is_leaf}
 use Rattle.btr_walk.specs.declared.place.RootPlace.{RootPlace}
 use Rattle.btr_walk.specs.Le.{want_of}

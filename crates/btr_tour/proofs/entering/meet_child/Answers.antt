@@ -1,4 +1,4 @@
-use Rattle.std.proofs.Common.{◌≡◌, ◌+◌, Ok, Err, None, Some, refl, sym, subst}
+use Rattle.std.proofs.Common.{◌+◌, Ok, Err, None, Some, sym, subst}
 use Rattle.btr_walk.specs.declared.place.RootPlace.{RootPlace}
 use Rattle.btr_tour.specs.declared.place.Place.{Place}
 use Rattle.btr_tour.specs.Tour.{Child}

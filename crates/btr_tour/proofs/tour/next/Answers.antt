@@ -1,4 +1,4 @@
-use Rattle.std.proofs.Common.{◌≡◌, ◌∙◌, Ok, refl, sym, ap}
+use Rattle.std.proofs.Common.{◌≡◌, ◌∙◌, Ok, refl, ap}
 use Rattle.std.specs.Option.{is_some}
 use Rattle.btr_tour.specs.declared.step.Step.TheVariants.{Item}
 use Rattle.btr_tour.proofs.Nexts.{toured_item, near_item}
