@@ -1,0 +1,175 @@
+-- What a step of a tour does.
+use Rattle.std.specs.Prelude.{◌≡◌, ℕ, zero, suc, ◌+◌, ◌-◌, ◌^◌, ◌<◌, ◌≤◌, Bool, true, List, [], ◌∷◌, ◌++◌, length, filter, drop, slice_set, slice_index_or, Option, Some, None, IfSome, IsSome, IsSomeAnd, IsTrue, Result, Ok, Err}
+use Rattle.std.specs.Option.{option_map}
+use Rattle.std.specs.List.{HoldsAt}
+use Rattle.btr_base.specs.Header.{header_of}
+use Rattle.btr_base.specs.declared.header.Header.{Header}
+use Rattle.btr_base.specs.declared.kind.SumKind.{SumKind}
+use Rattle.btr_base.specs.declared.key.Key.{Key}
+use Rattle.btr_node.specs.Block.{Item as NodeItem, KeyPointer, items, pointers, is_leaf}
+use Rattle.btr_node.specs.declared.node.Node.{Node}
+use Rattle.btr_rack.specs.Rack.{Seen}
+use Rattle.btr_read.specs.Fate as fate
+use Rattle.btr_read.specs.Layout.{Layout}
+use Rattle.btr_read.specs.Store.{Blocks, Lent, block_of, IsLiveIn}
+use Rattle.btr_walk.specs.declared.fault.TreeFault.{TreeFault}
+use Rattle.btr_walk.specs.declared.fault.TreeFault.TheVariants.{Lost, Unread, Unmapped, Crosses, Malformed}
+use Rattle.btr_walk.specs.declared.place.RootPlace.{RootPlace}
+use Rattle.btr_walk.specs.declared.spot.Spot.{Spot}
+use Rattle.btr_walk.specs.Spot.{judged}
+use Rattle.btr_walk.specs.Le.{tree_item, want_of}
+use Rattle.btr_walk.specs.Reading.{Map, FaultCause}
+use Rattle.btr_tour.specs.declared.again.Below.{Below}
+use Rattle.btr_tour.specs.declared.frame.Frame.{Frame}
+use Rattle.btr_tour.specs.declared.leaf_at.LeafAt.{LeafAt}
+use Rattle.btr_tour.specs.declared.path.AtLevel.{AtLevel}
+use Rattle.btr_tour.specs.declared.place.Place.{Place}
+use Rattle.btr_tour.specs.declared.step.Advanced.{Advanced}
+use Rattle.btr_tour.specs.declared.step.Step.{Step}
+use Rattle.btr_tour.specs.declared.step.Step.TheVariants.{Block, Child, Item, Fault, End}
+use Rattle.btr_tour.specs.Tour as tour
+use Rattle.btr_tour.specs.Tour.{Mark, place_of, child_spots, meets_keys, under, tour_at}
+use Rattle.btr_tour.specs.Place.{leaf_left, place_left, IsNode, IsOn}
+
+-- the first entry from one on that passes a test
+pub record IsFirstFrom {X : Type 0} (test : X → Bool) (xs : List X) (from at : ℕ) : Type 0 where
+  pub there : at < length xs
+  pub behind : from ≤ at
+  pub skipped : filter test (drop from xs) ≡ filter test (drop at xs)
+  pub here : HoldsAt (λ x. test x ≡ true) xs at
+
+-- a leaf in hand: its loan is live, and its block is a good leaf
+pub record IsInHand (store : Blocks) (l : LeafAt) : Type 0 where
+  pub live : IsLiveIn store l.loan
+  pub large : 4096 ≤ l.loan.len
+  pub small : l.end < 2 ^ 64
+  pub within : l.next ≤ l.end
+  pub good : IsSomeAnd (block_of store l.loan) (λ block. IsTrue (is_leaf block) × (l.end ≡ length (items block)))
+
+abbrev pub loan_of : Option LeafAt → Option Lent
+loan_of None = None
+loan_of (Some l) = Some l.loan
+
+-- the lowest frame of a path
+pub record IsLowest (place : Place) (low : AtLevel) : Type 0 where
+  pub within : low.at < 7
+  pub before : (k : ℕ) → k < low.at → slice_index_or place.path k None ≡ None
+  pub here : slice_index_or place.path low.at None ≡ Some low.frame
+
+-- why a block is left out; one that could not be read isn't
+abbrev pub reason : TreeFault → Option fate.Fault
+reason (Lost a) = Some (fate.Lost a)
+reason (Unread a slot) = None
+reason (Unmapped a) = Some (fate.Unmapped a)
+reason (Crosses a) = Some (fate.Crosses a)
+reason (Malformed a) = Some (fate.Malformed a)
+
+-- what comes of a fault: where the block could not be read, the tour stays, and else it goes on behind the block
+abbrev pub left_out : Place → Place → TreeFault → Advanced
+left_out place after (Lost a) = record { place = after; leaf = None; step = Ok (Fault (Lost a)) }
+left_out place after (Unread a slot) = record { place = place; leaf = None; step = Err (Unread a slot) }
+left_out place after (Unmapped a) = record { place = after; leaf = None; step = Ok (Fault (Unmapped a)) }
+left_out place after (Crosses a) = record { place = after; leaf = None; step = Ok (Fault (Crosses a)) }
+left_out place after (Malformed a) = record { place = after; leaf = None; step = Ok (Fault (Malformed a)) }
+
+-- the same place and leaf without what is below the block of a level that was met last
+abbrev pub passed_place : ℕ → Place → Place
+passed_place zero place = place
+passed_place (suc n) place = record { path = slice_set place.path n None; todo = place.todo }
+
+abbrev pub at_end : LeafAt → LeafAt
+at_end l = record { addr = l.addr; next = l.end; end = l.end; loan = l.loan }
+
+abbrev pub passed_leaf : ℕ → Option LeafAt → Option LeafAt
+passed_leaf zero leaf = option_map at_end leaf
+passed_leaf (suc n) leaf = leaf
+
+-- a node has as many children as it had, and fewer are still to come
+abbrev pub FitsBelow : Frame → Below → Type 0
+FitsBelow frame b = IfSome b.frame (λ f. (frame.next < f.next) × (f.next < f.end) × (f.end ≡ frame.end))
+
+module _ (lo hi : Key) where
+  -- a node with these pointers at a spot, where children from child `from` on are to come
+  pub record IsFrameFrom (ps : List KeyPointer) (spot : Spot) (from : ℕ) (frame : Frame) : Type 0 where
+    pub spot_is : frame.spot ≡ spot
+    pub all : frame.end ≡ length ps
+    pub small : frame.end < 2 ^ 64
+    pub next : IsFirstFrom (meets_keys lo hi) (child_spots ps spot.up) from frame.next
+
+  abbrev pub FramesFrom : List KeyPointer → Spot → ℕ → Option Frame → Type 0
+  FramesFrom ps spot from None = filter (meets_keys lo hi) (drop from (child_spots ps spot.up)) ≡ []
+  FramesFrom ps spot from (Some frame) = IsFrameFrom ps spot from frame
+
+  -- the next child of a frame
+  pub record IsNextBelow (ps : List KeyPointer) (frame : Frame) (b : Below) : Type 0 where
+    pub spot_is : HoldsAt (λ spot. b.spot ≡ spot) (child_spots ps frame.spot.up) frame.next
+    pub more : FramesFrom ps frame.spot (frame.next + 1) b.frame
+
+  abbrev pub IsNext : List KeyPointer → Frame → Option Below → Type 0
+  IsNext ps frame None = frame.end ≡ length ps → ⊥
+  IsNext ps frame (Some b) = (frame.end ≡ length ps) × IsNextBelow ps frame b × FitsBelow frame b
+
+  module _ (B : Map) where
+    -- a node was read again: its next child, or why it didn't come
+    abbrev pub Rereads : ℕ → Frame → Result Below TreeFault → Type 0
+    Rereads level frame (Ok b) = (node : IsNode lo hi B level frame) → IsNextBelow (pointers node.block) frame b
+    Rereads level frame (Err f) = IsNode lo hi B level frame → reason f ≡ None
+
+    -- what is left at a place, with a leaf in hand
+    abbrev pub left : Blocks → Place → Option LeafAt → List Mark
+    left store place leaf = leaf_left lo hi store leaf ++ place_left lo hi B place
+
+    -- a good block was met; what is below it comes next, and can be passed
+    pub record MeetsBlock (sums : SumKind) (before : List Mark) (store : Blocks) (place : Place) (leaf : Option LeafAt) (at : RootPlace) (header : Header) : Type 0 where
+      pub spot : Spot
+      pub block : List ℕ
+      pub node : Node
+      pub came : B (want_of at.level spot) ≡ Ok block
+      pub good : judged at.level spot block ≡ Some node
+      pub at_is : at ≡ place_of at.level spot
+      pub header_is : header ≡ header_of sums block
+      pub met : before ≡ tour.Block at block ∷ left store place leaf
+      pub below : left store place leaf ≡ under lo hi (tour_at lo hi B (at.level - 1)) at.level spot node ++ left store (passed_place at.level place) (passed_leaf at.level leaf)
+      pub on : IsOn lo hi B place
+
+    -- one mark was met, and what is left comes behind
+    pub record Meets (before : List Mark) (store : Blocks) (place : Place) (leaf : Option LeafAt) (mark : Mark) : Type 0 where
+      pub met : before ≡ mark ∷ left store place leaf
+      pub on : IsOn lo hi B place
+
+    -- the item at a place of the leaf in hand was met
+    abbrev pub MeetsItem : List Mark → Blocks → Place → Option LeafAt → ℕ → Type 0
+    MeetsItem before store place None at = ⊥
+    MeetsItem before store place (Some l) at = IsSomeAnd (block_of store l.loan) (λ block. HoldsAt (λ (item : NodeItem). Meets before store place (Some l) (tour.Item (tree_item l.addr item))) (items block) at)
+
+    -- a step of a tour that had this still to meet
+    abbrev pub StepsBy : SumKind → List Mark → Blocks → Place → Option LeafAt → Result Step TreeFault → Type 0
+    StepsBy sums before store place leaf (Ok (Block at header)) = MeetsBlock sums before store place leaf at header
+    StepsBy sums before store place leaf (Ok (Child block child)) = Meets before store place leaf (tour.Child block child)
+    StepsBy sums before store place leaf (Ok (Item at)) = MeetsItem before store place leaf at
+    StepsBy sums before store place leaf (Ok (Fault f)) = IsSomeAnd (reason f) (λ fault. Meets before store place leaf (tour.Left fault))
+    StepsBy sums before store place leaf (Ok End) = before ≡ []
+    StepsBy sums before store place leaf (Err f) = (before ≡ left store place leaf) × IsOn lo hi B place
+
+    -- what a step does from a place
+    abbrev pub Advances : SumKind → Place → List Mark → Blocks → Advanced → Type 0
+    Advances sums old before store a = IsOn lo hi B old → StepsBy sums before store a.place a.leaf a.step
+
+-- what is told whatever was read: an item stands in the leaf in hand; a loan is kept with an item or a good leaf alone; only
+-- a block that could not be read is refused, and then the place stays
+abbrev pub HasStep : Place → Place → Option LeafAt → Result Step TreeFault → Type 0
+HasStep old place leaf (Ok (Block at header)) = at.level ≤ 7
+HasStep old place leaf (Ok (Child block child)) = leaf ≡ None
+HasStep old place leaf (Ok (Item at)) = IsSomeAnd leaf (λ l. (at < l.end) × (l.next ≡ at + 1))
+HasStep old place leaf (Ok (Fault f)) = (leaf ≡ None) × IsSome (reason f)
+HasStep old place leaf (Ok End) = (leaf ≡ None) × (place ≡ old)
+HasStep old place leaf (Err f) = (leaf ≡ None) × (place ≡ old) × (reason f ≡ None)
+
+-- a block that is left out or could not be read has its cause
+abbrev pub StepCause : Layout → Seen → Seen → Result Step TreeFault → Type 0
+StepCause layout old new (Ok (Block at header)) = Unit {0}
+StepCause layout old new (Ok (Child block child)) = Unit {0}
+StepCause layout old new (Ok (Item at)) = Unit {0}
+StepCause layout old new (Ok (Fault f)) = FaultCause layout old new f
+StepCause layout old new (Ok End) = Unit {0}
+StepCause layout old new (Err f) = FaultCause layout old new f

@@ -1,0 +1,109 @@
+-- What a tour and its store are after a step.
+use Rattle.std.specs.Prelude.{◌≡◌, ℕ, ◌<◌, ◌≤◌, List, [], Option, Some, None, IfSome, IsSome, IsSomeAnd, Result, Ok, Err, ⊤}
+use Rattle.std.specs.Borrow.{follows_so, MutBor, Fml}
+use mathlib.Core.Option.{none}
+use Rattle.btr_rack.specs.Rack.{Seen}
+use Rattle.btr_read.specs.Layout.{Layout}
+use Rattle.btr_read.specs.Serves.{Serves}
+use Rattle.btr_read.specs.Store.{Blocks, SameLoans}
+use Rattle.btr_read.specs.contracts.store.Store.{the_row}
+use Rattle.btr_walk.specs.declared.fault.TreeFault.{TreeFault}
+use Rattle.btr_walk.specs.Lending.{base}
+use Rattle.btr_walk.specs.Reading.{Map, Tells, FaultCause}
+use Rattle.btr_walk.specs.Showing.{item_of}
+use Rattle.btr_tour.specs.declared.leaf_at.LeafAt.{LeafAt}
+use Rattle.btr_tour.specs.declared.met.Met.{Met}
+use Rattle.btr_tour.specs.declared.met.Met.TheVariants.{Block, Child, Item, Fault}
+use Rattle.btr_tour.specs.declared.tour.Tour.{Tour}
+use Rattle.btr_tour.specs.Tour as marks
+use Rattle.btr_tour.specs.Tour.{Mark}
+use Rattle.btr_tour.specs.Place.{IsOn}
+use Rattle.btr_tour.specs.Shape.{IsShaped, rank_on}
+use Rattle.btr_tour.specs.Steps.{IsInHand, loan_of, reason, passed_place, passed_leaf, left, MeetsBlock, Meets}
+
+-- what a tour has still to meet
+abbrev pub left_of : Map → Blocks → Tour → List Mark
+left_of B store tour = left tour.scope.lo tour.scope.hi B store tour.place tour.leaf
+
+-- a tour is on its way through the tree
+abbrev pub IsUnderway : Map → Tour → Type 0
+IsUnderway B tour = IsOn tour.scope.lo tour.scope.hi B tour.place
+
+-- a tour without what is below the block that was met last
+abbrev pub passed_at : Option ℕ → Tour → Tour
+passed_at None tour = tour
+passed_at (Some level) tour = record { scope = tour.scope; place = passed_place level tour.place; leaf = passed_leaf level tour.leaf; level = None }
+
+abbrev pub passed : Tour → Tour
+passed tour = passed_at tour.level tour
+
+-- a rack and a store can go on with a tour: the loan of its leaf, if it has one, is live
+pub record IsReady (rack : Seen) (store : Blocks) (tour : Tour) : Type 0 where
+  pub serves : Serves rack store
+  pub hand : IfSome tour.leaf (IsInHand store)
+  pub shaped : IsShaped tour.place
+  pub low : IfSome tour.level (λ level. level ≤ 7)
+
+-- the store without the loan of a tour's leaf
+abbrev pub without_leaf : Blocks → Tour → Blocks
+without_leaf store tour = base store (loan_of tour.leaf)
+
+-- One mark is met, and what is left comes behind. Behind a good block comes what is below it, which can be passed. A block
+-- that could not be read is met again.
+abbrev pub NextBy : Map → Blocks → Blocks → Tour → Tour → Result (Option Met) TreeFault → Type 0
+NextBy B old new tour tour' (Ok (Some (Block place header))) = MeetsBlock tour.scope.lo tour.scope.hi B tour.scope.sums (left_of B old tour) new tour'.place tour'.leaf place header
+NextBy B old new tour tour' (Ok (Some (Child block place))) = Meets tour.scope.lo tour.scope.hi B (left_of B old tour) new tour'.place tour'.leaf (marks.Child block place)
+NextBy B old new tour tour' (Ok (Some (Item found))) = Meets tour.scope.lo tour.scope.hi B (left_of B old tour) new tour'.place tour'.leaf (marks.Item (item_of found))
+NextBy B old new tour tour' (Ok (Some (Fault f))) = IsSomeAnd (reason f) (λ fault. Meets tour.scope.lo tour.scope.hi B (left_of B old tour) new tour'.place tour'.leaf (marks.Left fault))
+NextBy B old new tour tour' (Ok None) = left_of B old tour ≡ []
+NextBy B old new tour tour' (Err f) = (left_of B old tour ≡ left_of B new tour') × IsUnderway B tour'
+
+abbrev pub IsNextMark : Map → Blocks → Blocks → Tour → Tour → Result (Option Met) TreeFault → Type 0
+IsNextMark B old new tour tour' result = IsUnderway B tour → NextBy B old new tour tour' result
+
+-- a tour can go on, and no other loan changed; and what the step says of the block map
+pub record Toured (old new : Blocks) (tour tour' : Tour) (before now : Seen) (result : Result (Option Met) TreeFault) : Type 0 where
+  pub others : SameLoans (without_leaf old tour) (without_leaf new tour')
+  pub ready : IsReady now new tour'
+  pub content : Tells old.layout before now (λ B. IsNextMark B old new tour tour' result)
+
+abbrev pub TourEnds : MutBor Blocks → Tour → Tour → Seen → Seen → Result (Option Met) TreeFault → Fml
+TourEnds store tour tour' before now result = follows_so the_row the_row store.ghost_name none (λ _ _. ⊤) (λ new. Toured store.now new tour tour' before now result)
+
+-- the level of the block that was met
+abbrev pub level_met : Result (Option Met) TreeFault → Option ℕ
+level_met (Ok (Some (Block place header))) = Some place.level
+level_met (Ok (Some (Child block place))) = None
+level_met (Ok (Some (Item found))) = None
+level_met (Ok (Some (Fault f))) = None
+level_met (Ok None) = None
+level_met (Err f) = None
+
+-- a loan is kept with a leaf and its items alone
+abbrev pub KeepsLeaf : Option LeafAt → Result (Option Met) TreeFault → Type 0
+KeepsLeaf leaf (Ok (Some (Block place header))) = ⊤
+KeepsLeaf leaf (Ok (Some (Child block place))) = leaf ≡ None
+KeepsLeaf leaf (Ok (Some (Item found))) = IsSome leaf
+KeepsLeaf leaf (Ok (Some (Fault f))) = leaf ≡ None
+KeepsLeaf leaf (Ok None) = leaf ≡ None
+KeepsLeaf leaf (Err f) = leaf ≡ None
+
+-- how much a tour has still to do, whatever its tree holds: the measure of a loop over it
+abbrev pub rank_of : Tour → ℕ
+rank_of tour = rank_on tour.place tour.leaf
+
+-- a tour comes nearer to its end with each mark, and never goes back
+abbrev pub NextNears : Tour → Tour → Result (Option Met) TreeFault → Type 0
+NextNears tour tour' (Ok (Some met)) = rank_of tour' < rank_of tour
+NextNears tour tour' (Ok None) = rank_of tour' ≤ rank_of tour
+NextNears tour tour' (Err f) = rank_of tour' ≤ rank_of tour
+
+-- A block that is left out or could not be read has its cause. Only one that could not be read is refused, and then the place
+-- stays; it is never left out.
+abbrev pub NextCause : Layout → Seen → Seen → Tour → Tour → Result (Option Met) TreeFault → Type 0
+NextCause layout old new tour tour' (Ok (Some (Block place header))) = ⊤
+NextCause layout old new tour tour' (Ok (Some (Child block place))) = ⊤
+NextCause layout old new tour tour' (Ok (Some (Item found))) = ⊤
+NextCause layout old new tour tour' (Ok (Some (Fault f))) = FaultCause layout old new f × IsSome (reason f)
+NextCause layout old new tour tour' (Ok None) = ⊤
+NextCause layout old new tour tour' (Err f) = FaultCause layout old new f × (reason f ≡ None) × (tour'.place ≡ tour.place)

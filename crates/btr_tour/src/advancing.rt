@@ -1,0 +1,98 @@
+// One step further.
+ghost use Rattle.std.specs.Prelude.{◌≡◌, ◌≤◌, Some, None, IfSome, ◌++◌};
+ghost use Rattle.btr_rack.specs.Rack.{OnlyReads};
+ghost use Rattle.btr_read.specs.Serves.{Serves};
+ghost use Rattle.btr_read.specs.Store.{SameLoans, free_count};
+ghost use Rattle.btr_walk.specs.Lending.{base};
+ghost use Rattle.btr_walk.specs.Reading.{Tells};
+ghost use Rattle.btr_tour.specs.Place.{place_left, leaf_left};
+ghost use Rattle.btr_tour.specs.Shape.{IsShaped, rank_on, StepNears};
+ghost use Rattle.btr_tour.specs.Steps.{IsInHand, loan_of, HasStep, StepCause, Advances, left};
+
+use crate::entering::{enter, meet_child};
+use crate::leaf_at::LeafAt;
+use crate::meeting::seek_item;
+use crate::path::lowest;
+use crate::place::Place;
+use crate::scope::Scope;
+use crate::step::{Advanced, Step};
+use btr_node::Leaf;
+use btr_rack::Rack;
+use btr_read::Store;
+
+// One step further with no leaf in hand.
+fn from_place<R: Rack>(place: &Place, scope: &Scope, rack: &mut R, store: &mut Store) -> Advanced
+    requires serves { Serves (R.seen rack.old) store.old }
+    requires room { 4 ≤ free_count store.old }
+    requires shaped { IsShaped place.now }
+    ensures serves { Serves (R.seen rack.new) store.new }
+    ensures reads { OnlyReads (R.seen rack.old) (R.seen rack.new) }
+    ensures others { SameLoans store.old (base store.new (loan_of result.leaf)) }
+    ensures hand { IfSome result.leaf (IsInHand store.new) }
+    ensures shaped { IsShaped result.place }
+    ensures nears { StepNears (rank_on place.now None) (rank_on result.place result.leaf) result.step }
+    ensures step { HasStep place.now result.place result.leaf result.step }
+    ensures cause { StepCause store.old.layout (R.seen rack.old) (R.seen rack.new) result.step }
+    ensures content { Tells store.old.layout (R.seen rack.old) (R.seen rack.new) (λ B. Advances scope.now.lo scope.now.hi B scope.now.sums place.now (place_left scope.now.lo scope.now.hi B place.now) store.new result) }
+{
+    match &place.todo {
+        Some(todo) => enter(place, todo, scope, rack, store),
+        None => match lowest(&place.path) {
+            Some(low) => meet_child(place, &low, scope, rack, store),
+            None => Advanced {
+                place: *place,
+                leaf: None,
+                step: Ok(Step::End),
+            },
+        },
+    }
+}
+
+/// One step further.
+pub(crate) fn advance<R: Rack>(
+    place: &Place,
+    leaf: Option<LeafAt>,
+    scope: &Scope,
+    rack: &mut R,
+    store: &mut Store,
+) -> Advanced
+    requires serves { Serves (R.seen rack.old) store.old }
+    requires hand { IfSome leaf (IsInHand store.old) }
+    requires room { 4 ≤ free_count (base store.old (loan_of leaf)) }
+    requires shaped { IsShaped place.now }
+    ensures serves { Serves (R.seen rack.new) store.new }
+    ensures reads { OnlyReads (R.seen rack.old) (R.seen rack.new) }
+    ensures others { SameLoans (base store.old (loan_of leaf)) (base store.new (loan_of result.leaf)) }
+    ensures hand { IfSome result.leaf (IsInHand store.new) }
+    ensures shaped { IsShaped result.place }
+    ensures nears { StepNears (rank_on place.now leaf) (rank_on result.place result.leaf) result.step }
+    ensures step { HasStep place.now result.place result.leaf result.step }
+    ensures cause { StepCause store.old.layout (R.seen rack.old) (R.seen rack.new) result.step }
+    ensures content { Tells store.old.layout (R.seen rack.old) (R.seen rack.new) (λ B. Advances scope.now.lo scope.now.hi B scope.now.sums place.now (left scope.now.lo scope.now.hi B store.old place.now leaf) store.new result) }
+{
+    let Some(hand) = leaf else {
+        return from_place(place, scope, rack, store);
+    };
+    let LeafAt {
+        addr,
+        next,
+        end,
+        loan,
+    } = hand;
+    match seek_item(&Leaf::of(store.bytes(&loan)), next, scope) {
+        Some(at) => Advanced {
+            place: *place,
+            leaf: Some(LeafAt {
+                addr,
+                next: at + 1,
+                end,
+                loan,
+            }),
+            step: Ok(Step::Item(at)),
+        },
+        None => {
+            store.give(loan);
+            from_place(place, scope, rack, store)
+        }
+    }
+}

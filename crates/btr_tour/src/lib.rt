@@ -1,0 +1,28 @@
+//! A tour through a tree that goes on behind faults.
+//!
+//! A `Tour` meets the blocks of a tree in preorder: each good block, its pointers with what is below them, and its items, from one
+//! key to another. A block that is lost, malformed, at an unmapped address, or that crosses an element is met as a fault, and all
+//! that is below it is left out. So a tour is no program over wants, which ends at the first fault: it is a list of marks
+//! (`specs/Tour.antt`). Where it has no fault, its items are those of the range. Its cursor keeps a path of places and at most
+//! one loan. Nothing takes memory, and nothing is written.
+#![tactic(auto)]
+
+mod advancing;
+mod again;
+mod entering;
+mod frame;
+mod laws;
+mod leaf_at;
+mod meeting;
+mod met;
+mod path;
+mod place;
+mod scope;
+mod step;
+#[cfg(test)]
+mod tests;
+mod tour;
+
+pub use laws::faultless;
+pub use met::Met;
+pub use tour::{Tour, next};

@@ -1,0 +1,181 @@
+// Trees in an image in memory, and tours through them.
+ghost use Rattle.std.specs.Prelude.{◌≡◌, ◌<◌, IfOk, length};
+ghost use Rattle.btr_rack.specs.Memory.{seen_of, slots_of};
+ghost use Rattle.btr_read.specs.Serves.{Serves};
+ghost use Rattle.btr_read.specs.Store.{free_count};
+ghost use Rattle.btr_tour.specs.TourEnds.{IsReady, without_leaf};
+
+use crate::{Met, Tour, next};
+use btr_base::Key;
+use btr_blocks::{Body, Form, Items, Tree};
+use btr_chunk::{Chunk, ChunkTable};
+use btr_rack::{MemRack, Rack};
+use btr_read::Store;
+use btr_walk::{RootPlace, TreeFault};
+use std::alloc::{AllocError, Global};
+use std::test::Fail;
+
+/// Where the chunk begins, on the device too.
+pub(super) const START: u64 = 1048576;
+
+/// How long it is.
+pub(super) const CHUNK: u64 = 4194304;
+
+/// Small blocks, of which a leaf has three items and a node three pointers at most.
+pub(super) const FORM: Form = Form {
+    nodesize: 4096,
+    items: 3,
+    pointers: 3,
+    ..Form::DEFAULT
+};
+
+/// What a tour met, without what it lends: a block and a pointer by the address of the block, an item by its number.
+#[derive(Clone, Copy, Debug, PartialEq, Eq)]
+pub(super) enum Mark {
+    Block(u64),
+    Child(u64),
+    Item(u64),
+    Fault(TreeFault),
+}
+
+// The item of a chunk with one copy.
+fn item(alloc: Global) -> Result<Body, AllocError> {
+    Body::new(alloc)
+        .u64(CHUNK)?
+        .u64(2)?
+        .u64(65536)?
+        .u64(2)?
+        .u32(65536)?
+        .u32(65536)?
+        .u32(4096)?
+        .u16(1)?
+        .u16(1)?
+        .u64(1)?
+        .u64(START)?
+        .zeros(16)
+}
+
+// The key of an item that is numbered.
+fn key(n: u64) -> Key {
+    Key {
+        objectid: n,
+        kind: 1,
+        offset: 0,
+    }
+}
+
+/// The tree of the items whose numbers are the even ones below twice `count`.
+pub(super) fn tree(alloc: Global, count: u64) -> Result<Tree, Fail> {
+    let mut items = Items::new(alloc);
+    for n in 0..count {
+        items.put(n.wrapping_mul(2), 1, 0, Body::new(alloc).u64(n)?)?;
+    }
+    Ok(Tree::grow(alloc, &FORM, START, items)?)
+}
+
+/// The place of its root.
+pub(super) fn root(tree: &Tree) -> RootPlace {
+    RootPlace {
+        addr: tree.root(),
+        generation: FORM.generation,
+        level: tree.level(),
+    }
+}
+
+/// A rack with the tree in its one image, which is open, and with these bytes over those from an address on.
+pub(super) fn rack_of(alloc: Global, tree: &Tree, edited: &[u8], addr: u64) -> Result<MemRack, Fail>
+    ensures { IfOk result (λ rack. 0 < length (slots_of rack)) }
+{
+    let mut rack = MemRack::new(alloc);
+    rack.add("a", 8388608)?;
+    tree.put(&mut rack, "a")?;
+    rack.poke("a", addr, edited)?;
+    rack.open("a", false)?;
+    Ok(rack)
+}
+
+/// The store that reads the chunk from the first image.
+pub(super) fn store_over(alloc: Global, rack: &MemRack) -> Result<Store, Fail>
+    requires { 0 < length (slots_of rack.now) }
+    ensures serves { IfOk result (Serves (seen_of rack.now)) }
+    ensures free { IfOk result (λ store. free_count store ≡ 24) }
+{
+    let mut chunks = ChunkTable::new(alloc);
+    chunks.add(Chunk::read(alloc, START, item(alloc)?.as_slice())?)?;
+    let mut store = Store::new(alloc, FORM.sums, FORM.fsid, 4096, chunks)?;
+    store.add_device(1, 0, rack.len(0))?;
+    Ok(store)
+}
+
+// The next mark. What is below the block at an address is passed.
+fn step(
+    store: &mut Store,
+    tour: &mut Tour,
+    rack: &mut MemRack,
+    passed: u64,
+) -> Result<Option<Mark>, TreeFault>
+    requires ready { IsReady (seen_of rack.old) store.old tour.old }
+    requires free { free_count (without_leaf store.old tour.old) ≡ 24 }
+    ensures ready { IsReady (seen_of rack.new) store.new tour.new }
+    ensures free { free_count (without_leaf store.new tour.new) ≡ 24 }
+{
+    match next(store, tour, rack) {
+        Ok(Some(Met::Block { place, .. })) => {
+            if place.addr == passed {
+                tour.pass();
+            }
+            Ok(Some(Mark::Block(place.addr)))
+        }
+        Ok(Some(Met::Child { place, .. })) => Ok(Some(Mark::Child(place.addr))),
+        Ok(Some(Met::Item(found))) => Ok(Some(Mark::Item(found.key.objectid))),
+        Ok(Some(Met::Fault(fault))) => Ok(Some(Mark::Fault(fault))),
+        Ok(None) => Ok(None),
+        Err(fault) => Err(fault),
+    }
+}
+
+// The next marks to the end. Where a block could not be read, it is tried again.
+fn collect(
+    store: &mut Store,
+    tour: &mut Tour,
+    rack: &mut MemRack,
+    passed: u64,
+    marks: &mut Vec<Mark>,
+) -> Result<(), AllocError>
+    requires ready { IsReady (seen_of rack.old) store.old tour.old }
+    requires free { free_count (without_leaf store.old tour.old) ≡ 24 }
+    ensures ready { IsReady (seen_of rack.new) store.new tour.new }
+    ensures free { free_count (without_leaf store.new tour.new) ≡ 24 }
+{
+    for _ in 0..1000 {
+        match step(store, tour, rack, passed) {
+            Ok(Some(mark)) => marks.push(mark)?,
+            Ok(None) => break,
+            Err(_) => {}
+        }
+    }
+    Ok(())
+}
+
+/// The marks of a tree in a range, without those below the block at an address.
+pub(super) fn toured(
+    alloc: Global,
+    store: &mut Store,
+    rack: &mut MemRack,
+    root: &RootPlace,
+    range: (u64, u64),
+    passed: u64,
+) -> Result<Vec<Mark>, AllocError>
+    requires serves { Serves (seen_of rack.old) store.old }
+    requires free { free_count store.old ≡ 24 }
+    ensures serves { Serves (seen_of rack.new) store.new }
+    ensures free { free_count store.new ≡ 24 }
+{
+    let mut marks = Vec::new(alloc);
+    let (lo, hi) = range;
+    let mut tour = Tour::new(root, key(lo), key(hi), FORM.sums);
+    let ended = collect(store, &mut tour, rack, passed, &mut marks);
+    tour.finish(store);
+    ended?;
+    Ok(marks)
+}

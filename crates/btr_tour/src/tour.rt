@@ -1,0 +1,193 @@
+// A tour.
+ghost use Rattle.std.specs.Prelude.{◌≡◌, ◌≤◌, IfSome, IsSome, None, Some};
+ghost use Rattle.std.specs.Borrow.{sem};
+ghost use Rattle.btr_rack.specs.Rack.{OnlyReads, Seen};
+ghost use Rattle.btr_read.specs.Serves.{Serves};
+ghost use Rattle.btr_read.specs.Store.{Blocks, SameLoans, free_count};
+ghost use Rattle.btr_walk.specs.Reading.{Map};
+ghost use Rattle.btr_tour.specs.Tour.{tour};
+ghost use Rattle.btr_tour.specs.Place.{IsOn};
+ghost use Rattle.btr_tour.specs.Steps.{IsInHand, passed_leaf};
+ghost use Rattle.btr_tour.specs.TourEnds.{left_of, passed, without_leaf, rank_of, level_met, IsReady, IsUnderway, KeepsLeaf, NextNears, NextCause, TourEnds};
+
+use crate::Met;
+use crate::advancing::advance;
+use crate::frame::Todo;
+use crate::leaf_at::LeafAt;
+use crate::path::HEIGHT;
+use crate::place::Place;
+use crate::scope::Scope;
+use crate::step::{Advanced, Step};
+use btr_base::{Key, SumKind};
+use btr_rack::Rack;
+use btr_read::Store;
+use btr_walk::{RootPlace, Spot, TreeFault, found_at};
+
+/// A tour through a tree, from one key to another, both included. It keeps at most one loan: that of its leaf. It is not let
+/// go but by `finish`.
+pub struct Tour {
+    pub(crate) scope: Scope,
+    pub(crate) place: Place,
+    pub(crate) leaf: Option<LeafAt>,
+    // The level of the block that was met last, if nothing was met behind it.
+    pub(crate) level: Option<u8>,
+}
+
+// Puts a leaf into an empty place.
+fn put(place: &mut Option<LeafAt>, leaf: Option<LeafAt>)
+    requires { place.old ≡ None }
+    ensures { place.new ≡ leaf }
+{
+    match leaf {
+        None => {}
+        Some(leaf) => match place.replace(leaf) {
+            None => {}
+            Some(_) => unreachable!(),
+        },
+    }
+}
+
+// The leaf behind all its items.
+fn behind_all(leaf: Option<LeafAt>) -> Option<LeafAt>
+    ensures { result ≡ passed_leaf 0 leaf }
+{
+    match leaf {
+        None => None,
+        Some(hand) => {
+            let LeafAt {
+                addr,
+                next: _,
+                end,
+                loan,
+            } = hand;
+            Some(LeafAt {
+                addr,
+                next: end,
+                end,
+                loan,
+            })
+        }
+    }
+}
+
+impl Tour {
+    /// A tour of the tree with this root; nothing is read yet. Where `lo` is above `hi` it has no item. Checksums in headers are
+    /// of the kind `sums`.
+    pub fn new(root: &RootPlace, lo: Key, hi: Key, sums: SumKind) -> Tour
+        ensures scope { result.scope ≡ record { lo = lo; hi = hi; sums = sums } }
+        ensures leaf { result.leaf ≡ None }
+        ensures level { result.level ≡ None }
+        ensures ready { (rack : Seen) (store : Blocks) → Serves rack store → IsReady rack store result }
+        ensures left { (B : Map) (store : Blocks) → left_of B store result ≡ tour lo hi B root.now }
+        ensures on { (B : Map) → IsUnderway B result }
+    {
+        let spot = Spot {
+            addr: root.addr,
+            generation: root.generation,
+            first: None,
+            up: None,
+        };
+        Tour {
+            scope: Scope { lo, hi, sums },
+            place: Place {
+                path: [None; HEIGHT],
+                todo: Some(Todo {
+                    level: root.level,
+                    spot,
+                }),
+            },
+            leaf: None,
+            level: None,
+        }
+    }
+
+    /// Leaves out all that is below the block that was met last. The last answer was that block.
+    pub fn pass(&mut self)
+        requires block { IsSome self.old.level }
+        requires low { IfSome self.old.level (λ level. level ≤ 7) }
+        ensures passed { self.new ≡ passed self.old }
+        ensures ready { (rack : Seen) (store : Blocks) → IsReady rack store self.old → IsReady rack store self.new }
+        ensures on { (B : Map) → IsUnderway B self.old → IsUnderway B self.new }
+        ensures nears { rank_of self.new ≤ rank_of self.old }
+    {
+        let Some(level) = self.level else {
+            unreachable!();
+        };
+        if level == 0 {
+            let leaf = behind_all(self.leaf.take());
+            put(&mut self.leaf, leaf);
+        } else {
+            self.place.path[level as usize - 1] = None;
+        }
+        self.level = None;
+    }
+
+    /// Gives the loan of the leaf back, if one is kept. No tour is let go without it.
+    pub fn finish(self, store: &mut Store)
+        requires { IfSome self.leaf (IsInHand store.old) }
+        ensures back { SameLoans (without_leaf store.old self) store.new }
+        ensures serves { (rack : Seen) → Serves rack store.old → Serves rack store.new }
+    {
+        let Tour {
+            scope: _,
+            place: _,
+            leaf,
+            level: _,
+        } = self;
+        match leaf {
+            None => {}
+            Some(hand) => {
+                let LeafAt {
+                    addr: _,
+                    next: _,
+                    end: _,
+                    loan,
+                } = hand;
+                store.give(loan);
+            }
+        }
+    }
+}
+
+/// Answers what is met next; `None` exactly after the last. It takes no memory. Four slots are free besides the leaf's, which the
+/// tour keeps.
+///
+/// The refusal is `Unread`, and comes where a block could not be read; the next call then meets the same. What else is wrong with
+/// a block is met as `Met::Fault`, and all that is below that block is left out.
+pub fn next<'e, R: Rack>(
+    store: &'e mut Store,
+    tour: &mut Tour,
+    rack: &mut R,
+) -> Result<Option<Met<'e>>, TreeFault>
+    requires ready { IsReady (R.seen rack.old) store.old tour.old }
+    requires room { 4 ≤ free_count (without_leaf store.old tour.old) }
+    ensures* after { sem 𝓛 (TourEnds store.entry tour.old tour.new (R.seen rack.old) (R.seen rack.new) result) }
+    ensures reads { OnlyReads (R.seen rack.old) (R.seen rack.new) }
+    ensures scope { tour.new.scope ≡ tour.old.scope }
+    ensures level { tour.new.level ≡ level_met result }
+    ensures kept { KeepsLeaf tour.new.leaf result }
+    ensures nears { NextNears tour.old tour.new result }
+    ensures cause { NextCause store.old.layout (R.seen rack.old) (R.seen rack.new) tour.old tour.new result }
+{
+    let leaf = tour.leaf.take();
+    let Advanced { place, leaf, step } = advance(&tour.place, leaf, &tour.scope, rack, store);
+    put(&mut tour.leaf, leaf);
+    tour.place = place;
+    tour.level = None;
+    match step {
+        Err(fault) => Err(fault),
+        Ok(Step::End) => Ok(None),
+        Ok(Step::Fault(fault)) => Ok(Some(Met::Fault(fault))),
+        Ok(Step::Child { block, place }) => Ok(Some(Met::Child { block, place })),
+        Ok(Step::Block { place, header }) => {
+            tour.level = Some(place.level);
+            Ok(Some(Met::Block { place, header }))
+        }
+        Ok(Step::Item(at)) => {
+            let Some(hand) = &tour.leaf else {
+                unreachable!();
+            };
+            Ok(Some(Met::Item(found_at(store.bytes(&hand.loan), hand.addr, at))))
+        }
+    }
+}
