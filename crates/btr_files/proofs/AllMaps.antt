@@ -16,7 +16,7 @@ use Rattle.btr_volume.specs.Start.{Images}
 use Rattle.btr_files.specs.Maps.{maps_by, TellsAll}
 
 -- the first candidate is the one of number 0
-zero_chosen : (b : Bool) (xs : List (List ℕ)) → slice_get xs (cond b 0 0) ≡ slice_get xs 0
+pub zero_chosen : (b : Bool) (xs : List (List ℕ)) → slice_get xs (cond b 0 0) ≡ slice_get xs 0
 zero_chosen true xs = refl
 zero_chosen false xs = refl
 

@@ -203,7 +203,7 @@ not_true : (a : Bool) → a ≡ true → not a ≡ false
 not_true true e = refl
 not_true false e = let z : ⊥ = cc in absurd z
 
-plain : (fields : FileExtent) → judged fields ≡ Clear → (fields.compression == 0) ≡ true
+pub plain : (fields : FileExtent) → judged fields ≡ Clear → (fields.compression == 0) ≡ true
 plain fields h = is_clear fields (fields.compression == 0) fields.encoded h
 
 module _ (offset : ℕ) (body : List ℕ) (fields : FileExtent) (clear : judged fields ≡ Clear) where

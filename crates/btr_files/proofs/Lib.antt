@@ -16,3 +16,7 @@ pub mod Sectoring
 pub mod Following
 pub mod Streamed
 pub mod Beginning
+pub mod Fills
+pub mod SectorBytes
+pub mod ExtentBytes
+pub mod Contents

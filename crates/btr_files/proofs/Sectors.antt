@@ -28,7 +28,7 @@ use Rattle.btr_read.specs.declared.want.Want.{Want}
 use Rattle.btr_read.specs.declared.want.Want.TheVariants as want
 use Rattle.btr_read.proofs.Lent.{given_back}
 use Rattle.btr_walk.specs.declared.fault.TreeFault.{TreeFault}
-use Rattle.btr_walk.specs.Reading.{Map, unread_by, FaultCause, tree_fault, halt_of, answer_of}
+use Rattle.btr_walk.specs.Reading.{Map, unread_by, tree_fault, halt_of, answer_of}
 use Rattle.btr_volume.specs.declared.root.TreeRoot.{TreeRoot}
 use Rattle.btr_volume.specs.Looking.{Looks}
 use Rattle.btr_volume.specs.Lookup.{Lookup}
@@ -131,12 +131,6 @@ module _ (layout : Layout) (w : Want) (old new : Seen) (reads : OnlyReads old ne
   sector_failed (read.Unread a slot) fits = told (Err (tree_fault (read.Unread a slot))) (λ sure s. if_all old.held (Comes sure (Err (tree_fault (read.Unread a slot)))) (λ images. fits))
   sector_failed (read.Unmapped a) fits = told (Err (tree_fault (read.Unmapped a))) (λ sure s. if_all old.held (Comes sure (Err (tree_fault (read.Unmapped a)))) (λ images. zero_fault sure images (fate.Unmapped a) (ap (fate_of images (addr_of w)) fits)))
   sector_failed (read.Crosses a) fits = told (Err (tree_fault (read.Crosses a))) (λ sure s. if_all old.held (Comes sure (Err (tree_fault (read.Crosses a)))) (λ images. zero_fault sure images (fate.Crosses a) (ap (fate_of images (addr_of w)) fits)))
-
-  pub sector_cause : (f : ReadFault) → FitsFetch layout w old new store (Err f) → FaultCause layout old new (tree_fault f)
-  sector_cause (read.Lost a) fits = (w, fits.2)
-  sector_cause (read.Unread a slot) fits = (w, fits)
-  sector_cause (read.Unmapped a) fits = (w, fits)
-  sector_cause (read.Crosses a) fits = (w, fits)
 
 -- its loan
 len_is : (old : Blocks) (v : Want) → IsSectorWant v → (n : ℕ) → n ≡ len_of old.layout.setting v → n ≡ 4096

@@ -12,6 +12,7 @@ use Rattle.btr_walk.specs.Lending.{base}
 use Rattle.btr_walk.specs.Reading.{Map, UnreadBlock, unread_by}
 use Rattle.btr_walk.proofs.Turns.{base_layout}
 use Rattle.btr_volume.specs.declared.volume.Volume.{Volume}
+use Rattle.btr_volume.proofs.Looked.{served_base}
 use Rattle.btr_files.specs.declared.file.FileBytes.{FileBytes}
 use Rattle.btr_files.specs.declared.piece.Piece.{Piece as Lending}
 use Rattle.btr_files.specs.declared.progress.Progress.{Progress}
@@ -34,6 +35,10 @@ gives : (kind : SumKind) (Is : UnreadBlock → Want → Type 0) (Bs : ℕ → Ma
 gives kind Is Bs file store step loan piece e h seen on =
     let s = h seen on in
     subst (GivesPiece kind Bs seen file (file_at file step.progress loan)) e (record { past = s.past; goes = s.goes; on = s.on })
+
+-- a store whose loan was given back serves
+pub served_back : (rack : Seen) (old new : Blocks) (loan : Option Lent) → new ≡ base old loan → Serves rack old → Serves rack new
+served_back rack old new loan back serves = subst (Serves rack) (sym back) (served_base rack old loan serves)
 
 module _ (old new : Volume) (mid : Blocks) (file : FileBytes) (taken : Option Lent) (is_taken : taken ≡ file.loan) (back : mid ≡ base old.store taken) (before now : Seen) where
   layout_is : mid.layout ≡ old.store.layout

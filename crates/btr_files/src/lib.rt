@@ -4,7 +4,7 @@
 //! It is promised to the layer above that entries come in ascending index, that a lookup answers what stands in the tree, and that the pieces of a file are
 //! those of its content, whatever reads failed. Nothing takes memory. The definitions are in `specs/`: `Names`, `Entries`, `Extents` and `Sums` are the
 //! lookups and the cursor as programs over wants, `Content` has the pieces of a file, and `Listing` and `Streaming` what a directory and a file have still
-//! to give. `FileAt` has the byte at a position.
+//! to give. `FileAt` has the byte at a position, and `laws` that the pieces of a file are those bytes.
 #![tactic(auto)]
 
 mod clearness;
@@ -14,6 +14,7 @@ mod dir_row;
 mod extent;
 mod file;
 mod finding;
+mod laws;
 mod lookup;
 mod met;
 mod name;
@@ -34,6 +35,7 @@ pub use dir::Dir;
 pub use dir_row::DirRow;
 pub use file::FileBytes;
 pub use finding::inode;
+pub use laws::content_is_file;
 pub use name::NameBuf;
 pub use naming::{linked, mounted};
 pub use piece::Piece;

@@ -21,11 +21,11 @@ use Rattle.btr_walk.specs.declared.fault.TreeFault.{TreeFault}
 use Rattle.btr_volume.specs.Looking.{Looks}
 use Rattle.btr_volume.specs.Lookup.{Program, Lookup, looks}
 use Rattle.btr_files.specs.Maps.{maps_by, TellsAll}
+use Rattle.btr_files.proofs.AllMaps.{choices-zero}
 use Rattle.btr_restore.specs.Outcome.{text_in, text_of}
 use Rattle.btr_restore.specs.Restoring.{sink_after, text_after, Scene, Did, Does, Emits}
 use Rattle.btr_restore.specs.Step.{Step, part}
 use Rattle.btr_restore.proofs.Emitting.{text_none}
-use Rattle.btr_restore.proofs.Honests.{choices-zero}
 
 -- the steps of two calls
 pub fold-append : {A B : Type 0} (f : A → B → A) (a : A) (xs ys : List B) → fold f a (xs ++ ys) ≡ fold f (fold f a xs) ys

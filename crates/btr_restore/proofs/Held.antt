@@ -18,11 +18,12 @@ use Rattle.btr_volume.specs.declared.fault.OpenFault.{OpenFault}
 use Rattle.btr_volume.specs.Maps.{VolumeWant, volume_map, array_layout}
 use Rattle.btr_volume.specs.Start.{Images, Start, layout_by}
 use Rattle.btr_volume.specs.Table.{TableResult, refusal_of, table_scan}
+use Rattle.btr_files.proofs.AllMaps.{choices-zero}
 use Rattle.btr_restore.specs.Committed.{Commit, IsHonest, IsIn, IsClosed, EndsInOrder, is_lost, committed, committed_choices, want_of}
 use Rattle.btr_restore.specs.Journey.{journey, listing}
 use Rattle.btr_restore.specs.Step.{Step}
 use Rattle.btr_restore.proofs.Extends.{array_honest}
-use Rattle.btr_restore.proofs.Honests.{choices-zero, choices_alike, choices_within, lacked_lost}
+use Rattle.btr_restore.proofs.Honests.{choices_alike, choices_within, lacked_lost}
 
 module _ {W : Type 0} (P Q : W → Type 0) (f : (w : W) → P w → Q w) where
   pub each_as : (ws : List W) → Each P ws → Each Q ws

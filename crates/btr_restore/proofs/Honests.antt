@@ -1,5 +1,5 @@
 -- Over honest images, what is found of a want is the committed block.
-use Rattle.std.proofs.Common.{◌≡◌, ◌⊎◌, inl, inr, ℕ, ◌<◌, Bool, true, false, cond, ltb, length, List, [], ◌∷◌, Option, Some, None, Result, Ok, Err, refl, sym, ap, ◌∙◌, subst, arith}
+use Rattle.std.proofs.Common.{◌≡◌, inl, inr, ℕ, ◌<◌, Bool, true, false, cond, ltb, length, List, [], ◌∷◌, Option, Some, None, Result, Ok, Err, refl, sym, ap, subst, arith}
 use Rattle.std.specs.Prelude.{IsSome, Contains, slice_get}
 use Rattle.std.proofs.lemmas.Bool.Decides.{nat_tests}
 use Rattle.std.proofs.lemmas.Option.{slice_get-get_or}
@@ -12,11 +12,12 @@ use Rattle.btr_chunk.specs.Table.{chunk_at}
 use Rattle.btr_prog.specs.Blind.{IsAlike}
 use Rattle.btr_prog.specs.Maps.{IsWithin, IsWhole}
 use Rattle.btr_read.specs.Candidates.{Target}
-use Rattle.btr_read.specs.Fate.{Fault, Lost, sought, sought_at, sought_in, passing, passing_for, or_lost, fate, fate_of, is_plain, chosen, choice_of, choices}
+use Rattle.btr_read.specs.Fate.{Fault, Lost, sought, sought_at, sought_in, passing, passing_for, or_lost, is_plain, chosen, choice_of, choices}
 use Rattle.btr_read.specs.Layout.{Layout}
 use Rattle.btr_read.specs.Want.{addr_of, len_of}
 use Rattle.btr_read.specs.declared.want.Want.{Want}
 use Rattle.btr_volume.specs.Start.{Images}
+use Rattle.btr_files.proofs.AllMaps.{zero_chosen}
 use Rattle.btr_restore.specs.Committed.{Commit, IsHonest, IsIn, EndsInOrder, committed, committed_of, committed_choices}
 
 -- the first of a list stands in it
@@ -32,23 +33,6 @@ the_bytes (Some b) bytes there same = ap Some (sym (same b refl))
 within_self : (r : Result (List ℕ) Fault) → IsWithin r r
 within_self (Ok bytes) = refl
 within_self (Err f) = tt
-
--- the first candidate is the one of number 0
-zero_chosen : (b : Bool) (xs : List (List ℕ)) → slice_get xs (cond b 0 0) ≡ slice_get xs 0
-zero_chosen true xs = refl
-zero_chosen false xs = refl
-
-either_zero : (plain : Bool) (xs : List (List ℕ)) → cond plain (chosen 0 xs) (slice_get xs 0) ≡ slice_get xs 0
-either_zero true xs = zero_chosen (ltb 0 (length xs)) xs
-either_zero false xs = refl
-
-choice-zero : (images : Images) (want : Want) (x : Result Target Fault) → choice_of images 0 want x ≡ fate_of images (addr_of want) x
-choice-zero images want (Err f) = refl
-choice-zero images want (Ok t) = ap (or_lost (addr_of want)) (either_zero (is_plain want) (passing images t))
-
--- the choices of number 0 are the fates
-pub choices-zero : (images : Images) (layout : Layout) (want : Want) → choices images 0 layout want ≡ fate images layout want
-choices-zero images layout want = choice-zero images want (sought layout want)
 
 -- a choice among the same candidates
 module _ (n addr : ℕ) where

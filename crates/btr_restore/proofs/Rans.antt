@@ -33,13 +33,13 @@ use Rattle.btr_volume.specs.declared.stop.Stop.{Stop as TheStop}
 use Rattle.btr_volume.specs.declared.stop.Stop.TheVariants as stop
 use Rattle.btr_volume.specs.declared.volume.Volume.{Volume}
 use Rattle.btr_files.specs.Maps.{maps_by, TellsAll}
+use Rattle.btr_files.proofs.AllMaps.{choices-zero}
 use Rattle.btr_restore.specs.Outcome.{text_of}
 use Rattle.btr_restore.specs.Restoring.{sink_after, text_after, Scene, scene, Did, Does, Emits, StopCause, SinkCounts, OutCounts, stop_halt, ended, stops_out, stops_sink}
 use Rattle.btr_restore.specs.Running.{Outside, outside, World, world, scene_of, IsReady, StopsOutside, Wrote, Ran}
 use Rattle.btr_restore.specs.Step.{Step, part}
 use Rattle.btr_restore.proofs.Doing.{goes_on, fold-append, text_then, emits_then, emits_halt}
 use Rattle.btr_restore.proofs.Emitting.{text_none, emits_none}
-use Rattle.btr_restore.proofs.Honests.{choices-zero}
 
 pub if_some : {X : Type 0} (P : X → Type 0) (o : Option X) → ((x : X) → P x) → IfSome o P
 if_some P None f = tt

@@ -16,7 +16,7 @@ use btr_walk::TreeFault;
 use std::alloc::{AllocError, Global};
 use std::test::Fail;
 
-/// A piece, without its bytes, or the fault that ended a file.
+/// A piece, without its bytes, or a fault in its place.
 #[derive(Clone, Copy, Debug, PartialEq, Eq)]
 enum Part {
     Gap(u64),
@@ -115,14 +115,16 @@ fn collect(
             Ok(None) => return Ok(()),
             Err(fault) => {
                 parts.push(Part::Fault(fault))?;
-                return Ok(());
+                if !matches!(fault, TreeFault::Unread(_, _)) {
+                    return Ok(());
+                }
             }
         }
     }
     Ok(())
 }
 
-// The pieces of a file, up to its end or to a fault.
+// The pieces of a file, up to its end or to a fault; behind a read that failed it goes on.
 fn parts_of(
     alloc: Global,
     tree: &TreeRoot,
@@ -210,7 +212,8 @@ fn preallocated(alloc: Global, len: u64) -> Result<Body, AllocError> {
     body(alloc, shape)
 }
 
-// Files: 257 has a hole, two sectors and a preallocated extent, 258 is inline, 259 and 260 have all sectors, 261 has extents that overlap.
+// Files: 257 has a hole, two sectors and a preallocated extent, 258 is inline, 259 and 260 have all sectors, 261 has extents that overlap,
+// and 262 is inline and has then the sector without a checksum.
 fn files(alloc: Global) -> Result<Tree, Fail> {
     let kind = item::EXTENT_DATA;
     let mut items = Items::new(alloc);
@@ -222,6 +225,8 @@ fn files(alloc: Global) -> Result<Tree, Fail> {
     items.put(260, kind, 0, some(alloc, 0, 16384)?)?;
     items.put(261, kind, 0, some(alloc, 0, 8192)?)?;
     items.put(261, kind, 4096, some(alloc, 0, 4096)?)?;
+    items.put(262, kind, 0, bodies::inline(alloc, 7, b"hello")?)?;
+    items.put(262, kind, 4096, some(alloc, 12288, 4096)?)?;
     tree_at(alloc, START, items)
 }
 
@@ -286,17 +291,18 @@ fn holes_and_sectors(rt: HostRuntime) -> Result<(), Fail> {
     Ok(())
 }
 
+const HELLO: Part = Part::Bytes {
+    len: 5,
+    first: b'h',
+    last: b'o',
+    verified: true,
+};
+
 #[test]
 fn inline_bytes(rt: HostRuntime) -> Result<(), Fail> {
     let mut scene = make_scene(rt.alloc(), 1000)?;
     let long = parts(rt.alloc(), &mut scene, file(258, 100))?;
-    let hello = Part::Bytes {
-        len: 5,
-        first: b'h',
-        last: b'o',
-        verified: true,
-    };
-    assert_eq!(rt; long.as_slice(), [hello, Part::Gap(95)].as_slice());
+    assert_eq!(rt; long.as_slice(), [HELLO, Part::Gap(95)].as_slice());
     let cut = parts(rt.alloc(), &mut scene, file(258, 1))?;
     assert_eq!(rt; cut.as_slice(), [same(1, b'h')].as_slice());
     Ok(())
@@ -330,6 +336,17 @@ fn a_sector_that_is_lost(rt: HostRuntime) -> Result<(), Fail> {
 }
 
 #[test]
+fn a_missing_checksum(rt: HostRuntime) -> Result<(), Fail> {
+    let mut scene = make_scene(rt.alloc(), 1000)?;
+    let found = parts(rt.alloc(), &mut scene, file(262, 8192))?;
+    assert_eq!(rt;
+        found.as_slice(),
+        [HELLO, Part::Gap(4091), plain(4096, 4)].as_slice()
+    );
+    Ok(())
+}
+
+#[test]
 fn sectors_without_checksums(rt: HostRuntime) -> Result<(), Fail> {
     let mut scene = make_scene(rt.alloc(), 1000)?;
     let all = [
@@ -358,26 +375,27 @@ fn extents_that_overlap(rt: HostRuntime) -> Result<(), Fail> {
     Ok(())
 }
 
-// How many pieces of the file 257 come where the call of this number fails, the fault included, and whether a block couldn't be read.
-fn pieces_without(alloc: Global, failing: u64) -> Result<(usize, bool), Fail> {
+// How many pieces of the file 257 come before the block that can't be read where the call of this number fails, and how many behind it.
+fn pieces_around(alloc: Global, failing: u64) -> Result<(usize, usize), Fail> {
     let mut scene = make_scene(alloc, failing)?;
     let found = parts(alloc, &mut scene, file(257, 30000))?;
-    let unread = match found.last() {
-        Some(Part::Fault(TreeFault::Unread(_, slot))) => *slot == 0,
-        Some(_) => false,
-        None => false,
-    };
-    Ok((found.len(), unread))
+    for i in 0..found.len() {
+        if matches!(found[i], Part::Fault(TreeFault::Unread(_, 0))) {
+            return Ok((i, found.len() - i - 1));
+        }
+    }
+    Ok((found.len(), 0))
 }
 
 #[test]
 fn files_that_cannot_be_read(rt: HostRuntime) -> Result<(), Fail> {
-    // The calls from the second on read the root and the leaf of the file's extents, the checksums, and two sectors.
-    assert_eq!(rt; pieces_without(rt.alloc(), 2)?, (1, true));
-    assert_eq!(rt; pieces_without(rt.alloc(), 3)?, (1, true));
-    assert_eq!(rt; pieces_without(rt.alloc(), 4)?, (2, true));
-    assert_eq!(rt; pieces_without(rt.alloc(), 5)?, (2, true));
-    assert_eq!(rt; pieces_without(rt.alloc(), 6)?, (3, true));
-    assert_eq!(rt; pieces_without(rt.alloc(), 7)?, (4, false));
+    // The calls from the second on read the three levels to the file's extents, the checksums, and two sectors.
+    assert_eq!(rt; pieces_around(rt.alloc(), 2)?, (0, 4));
+    assert_eq!(rt; pieces_around(rt.alloc(), 3)?, (0, 4));
+    assert_eq!(rt; pieces_around(rt.alloc(), 4)?, (0, 4));
+    assert_eq!(rt; pieces_around(rt.alloc(), 5)?, (1, 3));
+    assert_eq!(rt; pieces_around(rt.alloc(), 6)?, (1, 3));
+    assert_eq!(rt; pieces_around(rt.alloc(), 7)?, (2, 2));
+    assert_eq!(rt; pieces_around(rt.alloc(), 8)?, (4, 0));
     Ok(())
 }

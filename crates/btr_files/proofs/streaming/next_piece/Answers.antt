@@ -1,19 +1,15 @@
-use Rattle.std.proofs.Common.{Option, Ok, refl, subst, sym, ap, ◌∙◌}
-use Rattle.btr_read.specs.Serves.{Serves}
-use Rattle.btr_volume.proofs.Looked.{served_base}
+use Rattle.std.proofs.Common.{Option, Ok, refl, subst, ap, ◌∙◌}
 use Rattle.btr_files.specs.declared.piece.Piece.TheVariants as lending
 use Rattle.btr_files.specs.declared.streaming.Step.{Step}
 use Rattle.btr_files.specs.Giving.{IsShown, IsNextStep, shown_piece}
 use Rattle.btr_files.specs.Maps.{TellsAll}
 use Rattle.btr_files.specs.Sums.{kind_in}
 use Rattle.btr_walk.specs.Reading.{unread_by}
-use Rattle.btr_files.proofs.Streamed.{streamed, nearer, gap_lent, span_lent, steps_on, none_back, none_live, some_back, some_live, same_loan, span_shown}
+use Rattle.btr_files.proofs.Streamed.{served_back, streamed, nearer, gap_lent, span_lent, steps_on, none_back, none_live, some_back, some_live, same_loan, span_shown}
 use Rattle.btr_files.proofs.streaming.next_piece.Goals as goal
 
 pub next_step-requires-clause-serves : goal.next_step-requires-clause-serves
-next_step-requires-clause-serves g c =
-    let a = g.R.Rack.seen c.args.rack.now in
-    subst (Serves a) (sym c.give_back.ensures) (served_base a c.args.vol.now.store c.take-loan.result c.requires.ready.serves)
+next_step-requires-clause-serves g c = served_back (g.R.Rack.seen c.args.rack.now) c.args.vol.now.store c.give_back.new.store c.take-loan.result c.give_back.ensures c.requires.ready.serves
 
 pub returns-in-Gap : goal.returns-in-Gap
 returns-in-Gap g c =
@@ -36,7 +32,7 @@ returns-in-Gap g c =
       record {
         after = tt;
         reads = s.reads;
-        same = refl;
+        same = refl {a = file.source};
         nears = nearer file given on;
         some = subst IsShown c.in-Gap.is on.shown;
         cause = tt;
@@ -66,7 +62,7 @@ returns-in-Some g c =
       record {
         after = tt;
         reads = s.reads;
-        same = refl;
+        same = refl {a = file.source};
         nears = nearer file given on;
         some = c.piece_in.ensures.some;
         cause = tt;
