@@ -36,8 +36,12 @@ _btrfs_offline() {
         fi
         ;;
     restore)
-        if ((COMP_CWORD == first + 1)); then
-            mapfile -t COMPREPLY < <(compgen -W '-l --help -h' -- "$current")
+        if [[ ${COMP_WORDS[COMP_CWORD - 1]} == -r ]]; then
+            return
+        elif [[ $current == -* ]]; then
+            local options='-r -s -v -D'
+            ((COMP_CWORD == first + 1)) && options='-l -r -s -v -D --help -h'
+            mapfile -t COMPREPLY < <(compgen -W "$options" -- "$current")
         else
             _btrfs_offline_images "$current"
         fi

@@ -10,10 +10,10 @@ use Rattle.btr_files.specs.declared.name.NameBuf.{NameBuf}
 use Rattle.btr_files.specs.declared.plan.RestorePlan.{RestorePlan}
 use Rattle.btr_files.specs.Entries.{name_in}
 use Rattle.btr_files.specs.Listing.{named_row}
-use Rattle.btr_restore.specs.Journey.{Treated, skip, treated}
+use Rattle.btr_restore.specs.Journey.{Treated, skip, treated, treated_named}
 use Rattle.btr_restore.specs.Lines.{is_bad, path_in}
 use Rattle.btr_restore.specs.Running.{World, Ran}
-use Rattle.btr_restore.specs.Treating.{entry_as, treated_named}
+use Rattle.btr_restore.specs.Treating.{entry_as}
 use Rattle.btr_restore.proofs.Rans.{ran_if, ran_else}
 
 module _ (plan : RestorePlan) (s : Super) (sums : Option TreeRoot) (deep : Bool) (tree : TreeRoot) (dirid : ℕ) (path here : List ℕ) (counts : Counts) (row : DirRow) (name : NameBuf) (x y : World) (r : Result Treated TheStop) (at : here ≡ path_in path (name_in name)) where

@@ -126,16 +126,20 @@ module _ (plan : RestorePlan) (s : Super) (sums : Option TreeRoot) where
       else if entry.row.location.kind == inode_item then directory_entry tree dirid entry path counts
       else subvolume_entry tree dirid entry path counts
 
+  -- an entry of a good name, by its kind
+  abbrev pub treated_named : Bool → TreeRoot → ℕ → List ℕ → Counts → DirEntry → Program Step Treated
+  treated_named deep tree dirid here counts entry =
+      let ino = entry.row.location.objectid in
+      if entry.row.kind == 7 then skip (codes "symlink") here counts
+      else if nat_le 3 entry.row.kind then skip (codes "special") here counts
+      else if entry.row.kind == 1 then looks (inode_in tree ino) (file_found tree ino entry.name here counts)
+      else folder_entry deep tree dirid entry here counts
+
   -- an entry by its name and its kind: the first rule that fits decides
   abbrev pub treated : Bool → TreeRoot → ℕ → List ℕ → Counts → DirEntry → Program Step Treated
   treated deep tree dirid path counts entry =
       let here = path_in path entry.name in
-      let ino = entry.row.location.objectid in
-      if is_bad entry.name then skip (codes "name") here counts
-      else if entry.row.kind == 7 then skip (codes "symlink") here counts
-      else if nat_le 3 entry.row.kind then skip (codes "special") here counts
-      else if entry.row.kind == 1 then looks (inode_in tree ino) (file_found tree ino entry.name here counts)
-      else folder_entry deep tree dirid entry here counts
+      if is_bad entry.name then skip (codes "name") here counts else treated_named deep tree dirid here counts entry
 
   -- what is listed in a directory that was entered, and the way up
   abbrev pub listed_in : Listing → List ℕ → Treated → Program Step Counts

@@ -4,10 +4,10 @@ ghost use Rattle.btr_files.specs.Entries.{name_in};
 ghost use Rattle.btr_files.specs.Listing.{named_row};
 ghost use Rattle.btr_rack.specs.Sink.{BetweenFiles};
 ghost use Rattle.btr_super.specs.declared.superblock.Super.{Super};
-ghost use Rattle.btr_restore.specs.Journey.{treated};
+ghost use Rattle.btr_restore.specs.Journey.{treated, treated_named};
 ghost use Rattle.btr_restore.specs.Lines.{path_in};
 ghost use Rattle.btr_restore.specs.Running.{IsReady, Ran, Stands, StandsAfter, outside, world};
-ghost use Rattle.btr_restore.specs.Treating.{IsOver, came, entry_as, treated_named};
+ghost use Rattle.btr_restore.specs.Treating.{IsOver, came, entry_as};
 
 use crate::cause::Cause;
 use crate::entry::Entry;

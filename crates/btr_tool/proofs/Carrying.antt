@@ -7,15 +7,15 @@ use Rattle.std.proofs.lemmas.Bool.{cases_lt}
 use Rattle.std.proofs.lemmas.Bool.Decides.{nat_tests}
 use Rattle.std.proofs.lemmas.List.{drop-map, take_rest}
 use Rattle.btr_rack.specs.Rack.{Seen, Rose, Steady, NoneFailed, Shelf}
-use Rattle.btr_rack.specs.Out.{CallAccount}
+use Rattle.btr_restore.specs.Running.{Outside}
 use Rattle.btr_tool.specs.Answers.{error_line}
 use Rattle.btr_tool.specs.Behind.{IsBehind, HasTreeCause}
 use Rattle.btr_tool.specs.Causes.{IsBehindWords, opened_with}
-use Rattle.btr_tool.specs.Commands.{command_outcome, MayCome, MayFail}
-use Rattle.btr_tool.specs.Effects.{FollowsWords, IsDecided, IsOutcome, MayFollow, images_outcome}
+use Rattle.btr_tool.specs.Commands.{command_outcome, MayCome, MayFail, MayWant}
+use Rattle.btr_tool.specs.Effects.{FollowsWords, IsDecided, IsOutcome, MayFollow, MayWantBy, images_outcome}
 use Rattle.btr_tool.specs.Images.{AreUnchanged, IsMissing, most_images, taken}
 use Rattle.btr_tool.specs.Opening.{HasTooMany, OpeningCause, OpeningFailed, OpensAll, opening_answer}
-use Rattle.btr_tool.specs.Outcomes.{Outcome, refused, Comes, OrBare, OrMemory}
+use Rattle.btr_tool.specs.Outcomes.{Outcome, refused, Comes, IsNoFault, OrBare, OrMemory}
 use Rattle.btr_tool.specs.Words.{Words, IsSentence, IsUsageAt, images_of}
 use Rattle.btr_tool.specs.declared.plan.Command.{Command}
 use Rattle.btr_tool.specs.declared.plan.Plan.{Plan}
@@ -24,7 +24,7 @@ use Rattle.btr_tool.specs.declared.opening.OpeningFault.TheVariants.{TooMany, Fa
 use Rattle.btr_volume.specs.Opening.{SuperUnread}
 use Rattle.btr_volume.specs.declared.which.Which.TheVariants.{Images as images_limit}
 use Rattle.btr_tool.specs.declared.answer.Answer.{Answer}
-use Rattle.btr_tool.specs.declared.answer.Answer.TheVariants.{Usage, Limit, ImageFault, OutFault}
+use Rattle.btr_tool.specs.declared.answer.Answer.TheVariants.{Usage, Limit, ImageFault, SinkFault, OutFault}
 use Rattle.btr_tool.proofs.Causing.{none_failed_yet, none_failed_twice, opened_again}
 use Rattle.btr_tool.proofs.Coming.{comes_bare, comes_also}
 use Rattle.btr_tool.proofs.Faulting.{tree_in, untreed}
@@ -55,12 +55,15 @@ usage_once words at other a b = of (le at other a b) (le other at b a)
 
 -- words that are no sentence
 module _ (words : Words) (at : ℕ) (usage : IsUsageAt words at) where
-  pub usage_effect : (shelf : Option Shelf) (old new : ℕ) (text : Option (List ℕ)) (account : CallAccount) → IfSome shelf (λ s. Steady old new → Comes (OrMemory (IsOutcome words s)) text text account account (Usage at))
-  usage_effect shelf old new text account =
-      all_told shelf _ (λ s steady. comes_bare (OrMemory (IsOutcome words s)) text account (Usage at) (inl (inl (at, usage, refl))) (λ e. cc))
+  usage_no_fault : IsNoFault (Usage at)
+  usage_no_fault = record { no_out = λ e. cc; no_sink = λ e. cc }
 
-  pub usage_told : (text : Option (List ℕ)) (account : CallAccount) → Comes (OrBare (MayFollow words)) text text account account (Usage at)
-  usage_told text account = comes_bare (OrBare (MayFollow words)) text account (Usage at) (inr (refl, λ e. cc)) (λ e. cc)
+  pub usage_effect : (shelf : Option Shelf) (old new : ℕ) (x : Outside) → IfSome shelf (λ s. Steady old new → Comes (MayWantBy words x.out_calls) (OrMemory (IsOutcome words s)) x x (Usage at))
+  usage_effect shelf old new x =
+      all_told shelf _ (λ s steady. comes_bare (MayWantBy words x.out_calls) (OrMemory (IsOutcome words s)) x (Usage at) (inl (inl (at, usage, refl))) usage_no_fault)
+
+  pub usage_told : (x : Outside) → Comes (MayWantBy words x.out_calls) (OrBare (MayFollow words)) x x (Usage at)
+  usage_told x = comes_bare (MayWantBy words x.out_calls) (OrBare (MayFollow words)) x (Usage at) (inr (refl, λ e. cc)) usage_no_fault
 
   pub usage_decided : (answer : Answer) → IsDecided words answer → Usage at ≡ answer
   usage_decided answer decided =
@@ -83,10 +86,18 @@ opening_line (TooMany count) e = cc
 opening_line (Failed slot) e = cc
 opening_line memory_fault e = cc
 
-opening_no_fault : (fault : OpeningFault) → opening_answer fault ≢ OutFault
-opening_no_fault (TooMany count) e = cc
-opening_no_fault (Failed slot) e = cc
-opening_no_fault memory_fault e = cc
+opening_no_out : (fault : OpeningFault) → opening_answer fault ≢ OutFault
+opening_no_out (TooMany count) e = cc
+opening_no_out (Failed slot) e = cc
+opening_no_out memory_fault e = cc
+
+opening_no_sink : (fault : OpeningFault) → opening_answer fault ≢ SinkFault
+opening_no_sink (TooMany count) e = cc
+opening_no_sink (Failed slot) e = cc
+opening_no_sink memory_fault e = cc
+
+opening_no_fault : (fault : OpeningFault) → IsNoFault (opening_answer fault)
+opening_no_fault fault = record { no_out = opening_no_out fault; no_sink = opening_no_sink fault }
 
 opening_no_tree : (fault : OpeningFault) → tree_in (opening_answer fault) ≡ None
 opening_no_tree (TooMany count) = refl
@@ -100,20 +111,20 @@ too_many : (n m : ℕ) → m < n → ltb m n ≡ true
 too_many n m lt = grind (arith, nat_tests)
 
 -- too many images
-limit_outcome : (command : Command) (names : Words) (shelf : Shelf) → most_images < length names → images_outcome command names shelf ≡ Some (refused (Limit images_limit (length names)))
-limit_outcome command names shelf lt =
-    ap (λ b. cond b (Some (refused (Limit images_limit (length names)))) (option_and_then (command_outcome command) (taken names shelf))) (too_many (length names) most_images lt)
+limit_outcome : (command : Command) (words names : Words) (shelf : Shelf) → most_images < length names → images_outcome command words names shelf ≡ Some (refused (Limit images_limit (length names)))
+limit_outcome command words names shelf lt =
+    ap (λ b. cond b (Some (refused (Limit images_limit (length names)))) (option_and_then (command_outcome command words) (taken names shelf))) (too_many (length names) most_images lt)
 
 -- images that were taken from the shelf
-taken_outcome : (command : Command) (names : Words) (shelf : Shelf) (images : Images) → length names ≤ most_images → taken names shelf ≡ Some images → images_outcome command names shelf ≡ command_outcome command images
-taken_outcome command names shelf images le opened =
-    ap (λ b. cond b (Some (refused (Limit images_limit (length names)))) (option_and_then (command_outcome command) (taken names shelf))) (few (length names) most_images le)
-    ∙ ap (option_and_then (command_outcome command)) opened
+pub taken_outcome : (command : Command) (words names : Words) (shelf : Shelf) (images : Images) → length names ≤ most_images → taken names shelf ≡ Some images → images_outcome command words names shelf ≡ command_outcome command words images
+taken_outcome command words names shelf images le opened =
+    ap (λ b. cond b (Some (refused (Limit images_limit (length names)))) (option_and_then (command_outcome command words) (taken names shelf))) (few (length names) most_images le)
+    ∙ ap (option_and_then (command_outcome command words)) opened
 
 -- words that are a sentence: their images
 module _ (words names : Words) (plan : Plan) (sentence : IsSentence plan words) (named : images_of plan words ≡ names) where
-  outcome_is : (shelf : Shelf) (outcome : Outcome) → images_outcome plan.command names shelf ≡ Some outcome → IsOutcome words shelf outcome
-  outcome_is shelf outcome is = inr (plan, sentence, ap (λ l. images_outcome plan.command l shelf) named ∙ is)
+  outcome_is : (shelf : Shelf) (outcome : Outcome) → images_outcome plan.command words names shelf ≡ Some outcome → IsOutcome words shelf outcome
+  outcome_is shelf outcome is = inr (plan, sentence, ap (λ l. images_outcome plan.command words l shelf) named ∙ is)
 
   -- what the words alone decide is that there are too many images
   too_many_decided : (answer : Answer) → IsDecided words answer → (most_images < length names) × (answer ≡ Limit images_limit (length names))
@@ -123,24 +134,24 @@ module _ (words names : Words) (plan : Plan) (sentence : IsSentence plan words) 
 
   -- the images aren't open
   module _ (old new : Seen) (fault : OpeningFault) (many : HasTooMany names (Err fault)) (cause : OpeningCause names old new (Err fault)) where
-    opening_comes : (shelf : Shelf) (text : Option (List ℕ)) (account : CallAccount) → Steady old.account.faults new.account.faults → Comes (OrMemory (IsOutcome words shelf)) text text account account (opening_answer fault)
-    opening_comes shelf text account steady = comes_bare (OrMemory (IsOutcome words shelf)) text account (opening_answer fault) (of fault many cause) (opening_no_fault fault)
+    opening_comes : (shelf : Shelf) (x : Outside) → Steady old.account.faults new.account.faults → Comes (MayWantBy words x.out_calls) (OrMemory (IsOutcome words shelf)) x x (opening_answer fault)
+    opening_comes shelf x steady = comes_bare (MayWantBy words x.out_calls) (OrMemory (IsOutcome words shelf)) x (opening_answer fault) (of fault many cause) (opening_no_fault fault)
       where
         of : (f : OpeningFault) → HasTooMany names (Err f) → OpeningCause names old new (Err f) → OrMemory (IsOutcome words shelf) (refused (opening_answer f))
         of (TooMany count) many cause =
-            inl (outcome_is shelf (refused (Limit images_limit count)) (limit_outcome plan.command names shelf (omega (arith, many.0, many.1)) ∙ ap (λ n. Some (refused (Limit images_limit n))) (sym many.0)))
+            inl (outcome_is shelf (refused (Limit images_limit count)) (limit_outcome plan.command words names shelf (omega (arith, many.0, many.1)) ∙ ap (λ n. Some (refused (Limit images_limit n))) (sym many.0)))
         of (Failed slot) many cause = absurd (steady_not_rose old.account.faults new.account.faults steady cause.faults)
         of memory_fault many cause = inr refl
 
-    pub opening_effect : (shelf : Option Shelf) (text : Option (List ℕ)) (account : CallAccount) (result : Answer) → result ≡ opening_answer fault
-        → IfSome shelf (λ s. Steady old.account.faults new.account.faults → Comes (OrMemory (IsOutcome words s)) text text account account result)
-    opening_effect shelf text account result is =
-        all_told shelf _ (λ s steady. subst (λ a. Comes (OrMemory (IsOutcome words s)) text text account account a) (sym is) (opening_comes s text account steady))
+    pub opening_effect : (shelf : Option Shelf) (x : Outside) (result : Answer) → result ≡ opening_answer fault
+        → IfSome shelf (λ s. Steady old.account.faults new.account.faults → Comes (MayWantBy words x.out_calls) (OrMemory (IsOutcome words s)) x x result)
+    opening_effect shelf x result is =
+        all_told shelf _ (λ s steady. subst (λ a. Comes (MayWantBy words x.out_calls) (OrMemory (IsOutcome words s)) x x a) (sym is) (opening_comes s x steady))
 
-    pub opening_told : (text : Option (List ℕ)) (account : CallAccount) (result : Answer) → result ≡ opening_answer fault → Comes (OrBare (MayFollow words)) text text account account result
-    opening_told text account result is =
-        subst (λ a. Comes (OrBare (MayFollow words)) text text account account a) (sym is)
-        (comes_bare (OrBare (MayFollow words)) text account (opening_answer fault) (inr (refl, opening_line fault)) (opening_no_fault fault))
+    pub opening_told : (x : Outside) (result : Answer) → result ≡ opening_answer fault → Comes (MayWantBy words x.out_calls) (OrBare (MayFollow words)) x x result
+    opening_told x result is =
+        subst (λ a. Comes (MayWantBy words x.out_calls) (OrBare (MayFollow words)) x x a) (sym is)
+        (comes_bare (MayWantBy words x.out_calls) (OrBare (MayFollow words)) x (opening_answer fault) (inr (refl, opening_line fault)) (opening_no_fault fault))
 
     pub opening_decided : (result answer : Answer) → result ≡ opening_answer fault → IsDecided words answer → (most_images < length names) × (result ≡ answer)
     opening_decided result answer is decided = let all = too_many_decided answer decided in (all.0, is ∙ of fault many all.0 ∙ sym all.1)
@@ -191,24 +202,28 @@ module _ (words names : Words) (plan : Plan) (sentence : IsSentence plan words) 
 
   -- the images are open, and the command was done, or not
   module _ (old mid new : Seen) (few : length names ≤ most_images) (opened : NoneFailed old.account mid.account) (answer : Answer) (behind : IsBehind (MayFail plan.command) mid new answer) where
-    pub command_effect : (texts texts' : Option (List ℕ)) (before after : CallAccount) → OpensAll names old.shelf mid.held (Ok tt)
-        → IfSome mid.held (λ images. Steady mid.account.faults new.account.faults → Comes (OrMemory (λ outcome. command_outcome plan.command images ≡ Some outcome)) texts texts' before after answer)
-        → IfSome old.shelf (λ shelf. Steady old.account.faults new.account.faults → Comes (OrMemory (IsOutcome words shelf)) texts texts' before after answer)
-    command_effect texts texts' before after = of old.shelf mid.held
+    may_want : (x : Outside) → MayWant plan.command x.out_calls → MayWantBy words x.out_calls
+    may_want x may = ⊎_elim (λ scarce. inl scarce) (λ writes. inr (plan, sentence, writes)) may
+
+    pub command_effect : (x y : Outside) → OpensAll names old.shelf mid.held (Ok tt)
+        → IfSome mid.held (λ images. Steady mid.account.faults new.account.faults → Comes (MayWant plan.command x.out_calls) (OrMemory (λ outcome. command_outcome plan.command words images ≡ Some outcome)) x y answer)
+        → IfSome old.shelf (λ shelf. Steady old.account.faults new.account.faults → Comes (MayWantBy words x.out_calls) (OrMemory (IsOutcome words shelf)) x y answer)
+    command_effect x y = of old.shelf mid.held
       where
         of : (shelf : Option Shelf) (held : Option Images) → OpensAll names shelf held (Ok tt)
-            → IfSome held (λ images. Steady mid.account.faults new.account.faults → Comes (OrMemory (λ outcome. command_outcome plan.command images ≡ Some outcome)) texts texts' before after answer)
-            → IfSome shelf (λ shelf. Steady old.account.faults new.account.faults → Comes (OrMemory (IsOutcome words shelf)) texts texts' before after answer)
+            → IfSome held (λ images. Steady mid.account.faults new.account.faults → Comes (MayWant plan.command x.out_calls) (OrMemory (λ outcome. command_outcome plan.command words images ≡ Some outcome)) x y answer)
+            → IfSome shelf (λ shelf. Steady old.account.faults new.account.faults → Comes (MayWantBy words x.out_calls) (OrMemory (IsOutcome words shelf)) x y answer)
         of None held opens effect = tt
         of (Some at) None opens effect = absurd opens
         of (Some at) (Some images) opens effect = λ steady.
-            comes_also (OrMemory (λ outcome. command_outcome plan.command images ≡ Some outcome)) (OrMemory (IsOutcome words at)) texts texts' before after answer
-            (λ outcome one. ⊎_elim (λ is. inl (outcome_is at outcome (taken_outcome plan.command names at images few opens ∙ is))) (λ want. inr want) one)
+            comes_also (MayWant plan.command x.out_calls) (MayWantBy words x.out_calls) (OrMemory (λ outcome. command_outcome plan.command words images ≡ Some outcome)) (OrMemory (IsOutcome words at)) x y answer (may_want x)
+            (λ outcome one. ⊎_elim (λ is. inl (outcome_is at outcome (taken_outcome plan.command words names at images few opens ∙ is))) (λ want. inr want) one)
             (effect (subst (λ n. Steady n new.account.faults) (sym opened.faults) steady))
 
-    pub command_told : (texts texts' : Option (List ℕ)) (before after : CallAccount) → Comes (OrBare (MayCome plan.command)) texts texts' before after answer → Comes (OrBare (MayFollow words)) texts texts' before after answer
-    command_told texts texts' before after comes =
-        comes_also (OrBare (MayCome plan.command)) (OrBare (MayFollow words)) texts texts' before after answer (λ outcome one. ⊎_elim (λ is. inl (plan, sentence, is)) (λ bare. inr bare) one) comes
+    pub command_told : (x y : Outside) → Comes (MayWant plan.command x.out_calls) (OrBare (MayCome plan.command)) x y answer → Comes (MayWantBy words x.out_calls) (OrBare (MayFollow words)) x y answer
+    command_told x y comes =
+        comes_also (MayWant plan.command x.out_calls) (MayWantBy words x.out_calls) (OrBare (MayCome plan.command)) (OrBare (MayFollow words)) x y answer (may_want x)
+        (λ outcome one. ⊎_elim (λ is. inl (plan, sentence, is)) (λ bare. inr bare) one) comes
 
     pub none_decided : (other : Answer) → IsDecided words other → ⊥
     none_decided other decided = omega (arith, few, (too_many_decided other decided).0)

@@ -1,5 +1,6 @@
 pub mod Numerals
 pub mod Machine
+pub mod RestoreWords
 pub mod Sentences
 pub mod Labels
 pub mod Openings
@@ -13,3 +14,6 @@ pub mod Shows
 pub mod Carrying
 pub mod Ending
 pub mod TreesShown
+pub mod Restorings
+pub mod Performing
+pub mod Promises

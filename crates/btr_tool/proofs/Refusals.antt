@@ -5,10 +5,11 @@ use Rattle.btr_volume.specs.declared.fault.OpenFault.TheVariants as opening
 use Rattle.btr_walk.specs.declared.fault.TreeFault.TheVariants as tree
 use Rattle.btr_tool.specs.Answers.{error_line}
 use Rattle.btr_tool.specs.Faults.{open_answer}
-use Rattle.btr_tool.specs.declared.answer.Answer.TheVariants.{Usage, OutFault}
+use Rattle.btr_tool.specs.Outcomes.{IsNoFault}
+use Rattle.btr_tool.specs.declared.answer.Answer.TheVariants.{Usage, SinkFault, OutFault}
 
--- a refusal of opening is no fault of the output, and has a line
-pub open_no_out : (refusal : OpenFault) → open_answer refusal ≢ OutFault
+-- a refusal of opening is no fault of the output or of the sink, and has a line
+open_no_out : (refusal : OpenFault) → open_answer refusal ≢ OutFault
 open_no_out (opening.ImageFault slot) e = cc
 open_no_out (opening.NoSuper slot) e = cc
 open_no_out (opening.SumKind kind) e = cc
@@ -26,6 +27,29 @@ open_no_out (opening.Tree (tree.Unmapped a)) e = cc
 open_no_out (opening.Tree (tree.Crosses a)) e = cc
 open_no_out (opening.Tree (tree.Malformed a)) e = cc
 open_no_out opening.Memory e = cc
+
+open_no_sink : (refusal : OpenFault) → open_answer refusal ≢ SinkFault
+open_no_sink (opening.ImageFault slot) e = cc
+open_no_sink (opening.NoSuper slot) e = cc
+open_no_sink (opening.SumKind kind) e = cc
+open_no_sink (opening.Foreign slot) e = cc
+open_no_sink (opening.Twin slot) e = cc
+open_no_sink (opening.Unsupported bits) e = cc
+open_no_sink opening.Geometry e = cc
+open_no_sink opening.LogPending e = cc
+open_no_sink opening.BadArray e = cc
+open_no_sink (opening.BadChunk start) e = cc
+open_no_sink (opening.Limit which count) e = cc
+open_no_sink (opening.Tree (tree.Lost a)) e = cc
+open_no_sink (opening.Tree (tree.Unread a slot)) e = cc
+open_no_sink (opening.Tree (tree.Unmapped a)) e = cc
+open_no_sink (opening.Tree (tree.Crosses a)) e = cc
+open_no_sink (opening.Tree (tree.Malformed a)) e = cc
+open_no_sink opening.Memory e = cc
+
+-- nor of the sink
+pub open_no_fault : (refusal : OpenFault) → IsNoFault (open_answer refusal)
+open_no_fault refusal = record { no_out = open_no_out refusal; no_sink = open_no_sink refusal }
 
 pub open_line : (refusal : OpenFault) → error_line (open_answer refusal) ≢ []
 open_line (opening.ImageFault slot) e = cc

@@ -1,27 +1,39 @@
 -- The walk over the words is right: it accepts exactly the sentences, and stops behind their longest beginning.
-use Rattle.std.proofs.Common.{◌≡◌, ◌⊎◌, inl, inr, ⊎_elim, ℕ, suc, ◌<◌, Bool, true, false, cond, List, [], ◌∷◌, ◌++◌, length, take, get_or, Option, Some, None, refl, sym, ap, ◌∙◌, subst, arith}
-use Rattle.std.specs.Prelude.{codes, All}
+use Rattle.std.proofs.Common.{◌≡◌, ◌⊎◌, inl, inr, ⊎_elim, ℕ, suc, ◌+◌, ◌<◌, Bool, true, false, cond, List, [], ◌∷◌, ◌++◌, length, take, get_or, Option, Some, None, refl, sym, ap, ◌∙◌, subst, arith}
+use Rattle.std.specs.Prelude.{◌==◌, codes, is_some, All}
 use Rattle.std.specs.Option.{option_and_then, option_map}
 use Rattle.std.specs.Str.{bytes_eq}
-use Rattle.std.proofs.lemmas.List.{append_assoc, append-nil, take_all}
+use Rattle.std.proofs.lemmas.List.{append_assoc, append-nil, length-append, take_all}
 use Rattle.std.proofs.lemmas.List.Elements.{All-append, All-cons, All-nil}
+use Rattle.std.proofs.lemmas.Bool.{eqb-true}
 use Rattle.std.proofs.lemmas.Fmt.{decimal_digit}
 use Rattle.std.proofs.lemmas.Slice.Eq.{bytes_eq-Decides}
 use Rattle.std.specs.Bool.{Decides}
+use Rattle.btr_tool.specs.Commands.{HasWords}
 use Rattle.btr_tool.specs.Numbers.{IsNumber, number_of}
-use Rattle.btr_tool.specs.Words.{Words, is_name, IsName, Asks, IsSentence, Begins, IsUsageAt, behind_all, dump_words, plan_for, next_of, plan_of}
+use Rattle.btr_tool.specs.Restores.{AreFree, IsFree, OneOption, Root, Snapshots, Verbose, Dry, is_subvolume, no_options, option_words, options_words, plan_by, with_option, with_options, with_root, words_in}
+use Rattle.btr_tool.specs.declared.options.Options.{Options}
+use Rattle.btr_tool.specs.Words.{Words, is_name, IsName, Asks, IsSentence, Begins, IsUsageAt, behind_all, dest_place, dump_words, plan_for, next_of, plan_of, root_place, roots_place}
 use Rattle.btr_tool.proofs.Numerals.{number_read, number_sound}
 use Rattle.btr_tool.proofs.Machine.{reached, reached_from, reached_stuck}
+use Rattle.btr_tool.proofs.RestoreWords.{all_counted, more_free, more_given, more_words, no_more_words, walked}
 use Rattle.btr_tool.specs.declared.plan.Command.{Command}
-use Rattle.btr_tool.specs.declared.plan.Command.TheVariants.{Super, Dump, Roots}
+use Rattle.btr_tool.specs.declared.plan.Command.TheVariants.{Super, Dump, Roots, Restore as restoring}
 use Rattle.btr_tool.specs.declared.plan.DumpChoice.TheVariants.{All as all_trees, Block, Tree, RootLines}
 use Rattle.btr_tool.specs.declared.plan.Plan.{Plan}
 use Rattle.btr_tool.specs.declared.progress.Progress.{Progress}
-use Rattle.btr_tool.specs.declared.progress.Progress.TheVariants.{Start, Inspect, DumpTree, Address, TreeId, Restore, FirstImage, Images}
+use Rattle.btr_tool.specs.declared.progress.Progress.TheVariants.{Start, Inspect, DumpTree, Address, TreeId, Restore, RootId, FirstImage, Images}
 
 -- the walk from a place over these words ends with this plan
 abbrev Accepts : Progress → Words → Plan → Type 0
 Accepts place words plan = option_and_then plan_of (reached place words) ≡ Some plan
+
+-- these options are given behind `restore`
+record IsGiven (given : Options) (words : Words) : Type 0 where
+  options : List OneOption
+  free : AreFree no_options options
+  given_is : given ≡ with_options no_options options
+  words_are : words ≡ codes "restore" ∷ options_words options
 
 -- Each place, by the words that lead there: a case each.
 abbrev Led : Progress → Words → Type 0
@@ -30,7 +42,8 @@ Led Inspect words = words ≡ codes "inspect-internal" ∷ []
 Led DumpTree words = words ≡ dump_words []
 Led Address words = words ≡ dump_words (codes "-b" ∷ [])
 Led TreeId words = words ≡ dump_words (codes "-t" ∷ [])
-Led Restore words = words ≡ codes "restore" ∷ []
+Led (Restore given) words = IsGiven given words
+Led (RootId given) words = (before : Words) × IsGiven given before × (given.root ≡ None) × (words ≡ before ++ codes "-r" ∷ [])
 Led (FirstImage plan) words = Asks plan.command words × (plan.images ≡ length words)
 Led (Images plan) words = IsSentence plan words
 
@@ -46,6 +59,22 @@ one_or word this next found other = of (bytes_eq word this) (bytes_eq-Decides wo
     of : (b : Bool) → Decides b (word ≡ this) → cond b (Some next) other ≡ Some found → ((word ≡ this) × (next ≡ found)) ⊎ (other ≡ Some found)
     of true d e = inl (d.0 refl, cc)
     of false d e = inr e
+
+-- a word that is this one, or another, where either may lead nowhere
+this_or : (word this : List ℕ) (here other : Option Progress) (found : Progress) → cond (bytes_eq word this) here other ≡ Some found → ((word ≡ this) × (here ≡ Some found)) ⊎ (other ≡ Some found)
+this_or word this here other found = of (bytes_eq word this) (bytes_eq-Decides word this)
+  where
+    of : (b : Bool) → Decides b (word ≡ this) → cond b here other ≡ Some found → ((word ≡ this) × (here ≡ Some found)) ⊎ (other ≡ Some found)
+    of true d e = inl (d.0 refl, e)
+    of false d e = inr e
+
+some_is : (place next : Progress) → ◌≡◌ {A = Option Progress} (Some place) (Some next) → place ≡ next
+some_is place next e = cc e
+
+-- where an option leads that may stand once
+flagged : (flag : Bool) (after : Options) (found : Progress) → option_map Restore (cond flag None (Some after)) ≡ Some found → (flag ≡ false) × (Restore after ≡ found)
+flagged true after found e = absurd (cc e)
+flagged false after found e = (refl, some_is (Restore after) found e)
 
 nowhere_led : (next : Progress) (words : Words) → ◌≡◌ {A = Option Progress} None (Some next) → Led next words
 nowhere_led next words e = absurd (cc)
@@ -79,6 +108,65 @@ image_led plan words word s name = record {
   words_are = ap (λ l. l ++ word ∷ []) s.words_are ∙ append_assoc s.head (s.first ∷ s.more) (word ∷ []);
 }
 
+-- an option behind others
+option_led : (given : Options) (option : OneOption) (next : Progress) (words more : Words) → IsGiven given words → IsFree given option → more ≡ option_words option → Restore (with_option given option) ≡ next → Led next (words ++ more)
+option_led given option next words more led free are is = subst (λ p. Led p (words ++ more)) is (record {
+  options = led.options ++ option ∷ [];
+  free = more_free no_options led.options option led.free (subst (λ g. IsFree g option) led.given_is free);
+  given_is = ap (λ g. with_option g option) led.given_is ∙ sym (more_given no_options led.options option);
+  words_are = ap (λ l. l ++ more) led.words_are ∙ ap (λ l. codes "restore" ∷ (options_words led.options ++ l)) are ∙ ap (λ l. codes "restore" ∷ l) (sym (more_words led.options option));
+})
+
+-- `-l` behind no other option
+roots_led : (given : Options) (next : Progress) (words : Words) (word : List ℕ) → IsGiven given words → word ≡ codes "-l" → roots_place given ≡ Some next → Led next (words ++ word ∷ [])
+roots_led given next words word led is place = of (words_in given == 1) refl place
+  where
+    of : (b : Bool) → (words_in given == 1) ≡ b → cond b (Some (behind_all Roots 2)) None ≡ Some next → Led next (words ++ word ∷ [])
+    of true one e =
+        let none = no_more_words led.options led.free (ap words_in (sym led.given_is) ∙ eqb-true (words_in given) 1 one) in
+        let are = then words (codes "restore" ∷ []) word (codes "-l") (led.words_are ∙ ap (λ l. codes "restore" ∷ l) none) is in
+        subst (λ p. Led p (words ++ word ∷ [])) (some_is (behind_all Roots 2) next e) (are, sym (ap (λ (l : Words). length l) are))
+    of false one e = absurd (cc e)
+
+-- `-r`, which stands there once
+root_led : (given : Options) (next : Progress) (words : Words) (word : List ℕ) → IsGiven given words → word ≡ codes "-r" → root_place given ≡ Some next → Led next (words ++ word ∷ [])
+root_led given next words word led is place = of given.root refl place
+  where
+    of : (root : Option ℕ) → given.root ≡ root → cond (is_some root) None (Some (RootId given)) ≡ Some next → Led next (words ++ word ∷ [])
+    of None none e = subst (λ p. Led p (words ++ word ∷ [])) (some_is (RootId given) next e) (words, led, none, ap (λ w. words ++ w ∷ []) is)
+    of (Some id) some e = absurd (cc e)
+
+-- the id behind it
+root_id_led : (given : Options) (next : Progress) (before : Words) (word : List ℕ) → IsGiven given before → given.root ≡ None → (words : Words) → words ≡ before ++ codes "-r" ∷ [] → next_of (RootId given) word ≡ Some next → Led next (words ++ word ∷ [])
+root_id_led given next before word led none words are = of (number_of word) refl
+  where
+    of : (o : Option ℕ) → number_of word ≡ o → option_map Restore (option_and_then (λ id. with_root id given) o) ≡ Some next → Led next (words ++ word ∷ [])
+    of None is e = absurd (cc e)
+    of (Some id) is e = in_range (is_subvolume id) refl e
+      where
+        in_range : (b : Bool) → is_subvolume id ≡ b → option_map Restore (cond b (Some (with_option given (Root id))) None) ≡ Some next → Led next (words ++ word ∷ [])
+        in_range true fits e =
+            subst (Led next) (sym (ap (λ l. l ++ word ∷ []) are ∙ append_assoc before (codes "-r" ∷ []) (word ∷ [])))
+            (option_led given (Root id) next before (codes "-r" ∷ word ∷ []) led (none, fits) (ap (λ w. codes "-r" ∷ w ∷ []) (number_sound id word is).1) (some_is (Restore (with_option given (Root id))) next e))
+        in_range false fits e = absurd (cc e)
+
+-- the destination
+dest_led : (given : Options) (next : Progress) (words : Words) (word : List ℕ) → IsGiven given words → dest_place given word ≡ Some next → Led next (words ++ word ∷ [])
+dest_led given next words word led place = of (is_name word) refl place
+  where
+    count : words_in given ≡ 1 + length (options_words led.options)
+    count = ap words_in led.given_is ∙ all_counted led.options led.free
+
+    are : words ++ word ∷ [] ≡ codes "restore" ∷ (options_words led.options ++ word ∷ [])
+    are = ap (λ l. l ++ word ∷ []) led.words_are
+
+    long : words_in given + 1 ≡ length (words ++ word ∷ [])
+    long = omega (arith, count, ap (λ (l : Words). length l) are, length-append (options_words led.options) (word ∷ []))
+
+    of : (b : Bool) → is_name word ≡ b → cond b (Some (behind_all (restoring (words_in given) (plan_by given)) (words_in given + 1))) None ≡ Some next → Led next (words ++ word ∷ [])
+    of true named e = subst (λ p. Led p (words ++ word ∷ [])) (some_is (behind_all (restoring (words_in given) (plan_by given)) (words_in given + 1)) next e) (record { options = led.options; name = word; free = led.free; named = named; words_are = are; dest_is = count; plan_is = ap plan_by led.given_is }, long)
+    of false named e = absurd (cc e)
+
 -- one more word: a case for each place
 led_more : (place next : Progress) (words : Words) (word : List ℕ) → Led place words → next_of place word ≡ Some next → Led next (words ++ word ∷ [])
 led_more Start next words word led on =
@@ -86,8 +174,8 @@ led_more Start next words word led on =
     (λ other.
     ⊎_elim (λ one. subst (λ p. Led p (words ++ word ∷ [])) one.1 (then words [] word (codes "inspect-internal") led one.0))
     (λ other.
-    ⊎_elim (λ one. subst (λ p. Led p (words ++ word ∷ [])) one.1 (then words [] word (codes "restore") led one.0)) (nowhere_led next (words ++ word ∷ []))
-    (one_or word (codes "restore") Restore next None other)) (one_or word (codes "inspect-internal") Inspect next _ other)) (one_or word (codes "super") (behind_all Super 1) next _ on)
+    ⊎_elim (λ one. subst (λ p. Led p (words ++ word ∷ [])) one.1 (record { options = []; free = tt; given_is = refl; words_are = then words [] word (codes "restore") led one.0 })) (nowhere_led next (words ++ word ∷ []))
+    (one_or word (codes "restore") (Restore no_options) next None other)) (one_or word (codes "inspect-internal") Inspect next _ other)) (one_or word (codes "super") (behind_all Super 1) next _ on)
 led_more Inspect next words word led on =
     ⊎_elim (λ one. subst (λ p. Led p (words ++ word ∷ [])) one.1 (then words (codes "inspect-internal" ∷ []) word (codes "dump-tree") led one.0)) (nowhere_led next (words ++ word ∷ []))
     (one_or word (codes "dump-tree") DumpTree next None on)
@@ -109,9 +197,19 @@ led_more TreeId next words word led on =
     let read = numbered word (λ id. behind_all (Dump (Tree id)) 4) next on in
     let is = then words (dump_words (codes "-t" ∷ [])) word word led refl in
     subst (λ p. Led p (words ++ word ∷ [])) read.2 ((word, read.1, is), sym (ap (λ (l : Words). length l) is))
-led_more Restore next words word led on =
-    ⊎_elim (λ one. let is = then words (codes "restore" ∷ []) word (codes "-l") led one.0 in subst (λ p. Led p (words ++ word ∷ [])) one.1 (is, sym (ap (λ (l : Words). length l) is)))
-    (nowhere_led next (words ++ word ∷ [])) (one_or word (codes "-l") (behind_all Roots 2) next None on)
+led_more (Restore given) next words word led on =
+    ⊎_elim (λ one. roots_led given next words word led one.0 one.1)
+    (λ other.
+    ⊎_elim (λ one. root_led given next words word led one.0 one.1)
+    (λ other.
+    ⊎_elim (λ one. let is = flagged given.snapshots (with_option given Snapshots) next one.1 in option_led given Snapshots next words (word ∷ []) led is.0 (ap (λ w. w ∷ []) one.0) is.1)
+    (λ other.
+    ⊎_elim (λ one. let is = flagged given.verbose (with_option given Verbose) next one.1 in option_led given Verbose next words (word ∷ []) led is.0 (ap (λ w. w ∷ []) one.0) is.1)
+    (λ other.
+    ⊎_elim (λ one. let is = flagged given.dry (with_option given Dry) next one.1 in option_led given Dry next words (word ∷ []) led is.0 (ap (λ w. w ∷ []) one.0) is.1)
+    (λ other. dest_led given next words word led other)
+    (this_or word (codes "-D") _ _ next other)) (this_or word (codes "-v") _ _ next other)) (this_or word (codes "-s") _ _ next other)) (this_or word (codes "-r") _ _ next other)) (this_or word (codes "-l") _ _ next on)
+led_more (RootId given) next words word led on = root_id_led given next led.0 word led.1 led.2 words led.3 on
 led_more (FirstImage plan) next words word led on =
     let one = taken (is_name word) (Images plan) next on in subst (λ p. Led p (words ++ word ∷ [])) one.1 (first_led plan words word led.0 led.1 one.0)
 led_more (Images plan) next words word led on =
@@ -138,7 +236,8 @@ sound plan words = of (reached Start words) refl
     at_end DumpTree led e = absurd (cc)
     at_end Address led e = absurd (cc)
     at_end TreeId led e = absurd (cc)
-    at_end Restore led e = absurd (cc)
+    at_end (Restore given) led e = absurd (cc)
+    at_end (RootId given) led e = absurd (cc)
     at_end (FirstImage p) led e = absurd (cc)
     at_end (Images p) led e = let same : p ≡ plan = cc in subst (λ q. IsSentence q words) same led
 
@@ -153,6 +252,20 @@ no_option name option place other is not_name = of (bytes_eq name option) (bytes
     of : (b : Bool) → Decides b (name ≡ option) → cond b (Some place) other ≡ other
     of true d = absurd (cc (sym is ∙ ap is_name (d.0 refl) ∙ not_name))
     of false d = refl
+
+-- .. also where an option leads nowhere
+not_option : (name option : List ℕ) (here other : Option Progress) → is_name name ≡ true → is_name option ≡ false → cond (bytes_eq name option) here other ≡ other
+not_option name option here other is not_name = of (bytes_eq name option) (bytes_eq-Decides name option)
+  where
+    of : (b : Bool) → Decides b (name ≡ option) → cond b here other ≡ other
+    of true d = absurd (cc (sym is ∙ ap is_name (d.0 refl) ∙ not_name))
+    of false d = refl
+
+-- a destination behind `restore` and its options
+dest_taken : (given : Options) (name : List ℕ) → is_name name ≡ true → next_of (Restore given) name ≡ Some (behind_all (restoring (words_in given) (plan_by given)) (words_in given + 1))
+dest_taken given name is =
+    not_option name (codes "-l") _ _ is refl ∙ not_option name (codes "-r") _ _ is refl ∙ not_option name (codes "-s") _ _ is refl ∙ not_option name (codes "-v") _ _ is refl
+    ∙ not_option name (codes "-D") _ _ is refl ∙ ap (λ b. cond b (Some (behind_all (restoring (words_in given) (plan_by given)) (words_in given + 1))) None) is
 
 -- a name behind `dump-tree`
 all_dumped : (name : List ℕ) → is_name name ≡ true → next_of DumpTree name ≡ Some (Images (plan_for (Dump all_trees) 2))
@@ -185,6 +298,28 @@ asked (Dump RootLines) head first asks name =
 asked Roots head first asks name =
     ap (λ (l : Words). reached Start (l ++ first ∷ [])) asks ∙ by_name (plan_for Roots 2) first name ∙ ap (λ (l : Words). Some (Images (plan_for Roots (length l)))) (sym asks)
 
+asked (restoring dest plan) head first asks name =
+    ap (λ (l : Words). reached Start (l ++ first ∷ [])) asks.words_are
+    ∙ ap (reached (Restore no_options)) (append_assoc (options_words asks.options) (asks.name ∷ []) (first ∷ []))
+    ∙ walked no_options asks.options (asks.name ∷ first ∷ []) asks.free
+    ∙ ap (option_and_then (λ p. reached p (first ∷ []))) (dest_taken given asks.name asks.named)
+    ∙ by_name (plan_for (restoring (words_in given) (plan_by given)) (words_in given + 1)) first name
+    ∙ plans
+  where
+    given : Options
+    given = with_options no_options asks.options
+
+    count : words_in given ≡ 1 + length (options_words asks.options)
+    count = all_counted asks.options asks.free
+
+    long : words_in given + 1 ≡ length head
+    long = omega (arith, count, ap (λ (l : Words). length l) asks.words_are, length-append (options_words asks.options) (asks.name ∷ []))
+
+    plans : Some (Images (plan_for (restoring (words_in given) (plan_by given)) (words_in given + 1))) ≡ Some (Images (plan_for (restoring dest plan) (length head)))
+    plans =
+        ap (λ n. Some (Images (plan_for (restoring (words_in given) (plan_by given)) n))) long ∙ ap (λ n. Some (Images (plan_for (restoring n (plan_by given)) (length head)))) (count ∙ sym asks.dest_is)
+        ∙ ap (λ p. Some (Images (plan_for (restoring dest p) (length head)))) (sym asks.plan_is)
+
 names_accepted : (plan : Plan) (names : Words) → All IsName names → Accepts (Images plan) names plan
 names_accepted plan [] all = refl
 names_accepted plan (word ∷ names) all =
@@ -208,6 +343,9 @@ one_plan words plan other a b = same (option_and_then plan_of (reached Start wor
 zero_is : IsNumber 0 (codes "0")
 zero_is = (omega arith, sym (decimal_digit 0 (omega arith)))
 
+five_is : IsNumber 5 (codes "5")
+five_is = (omega arith, sym (decimal_digit 5 (omega arith)))
+
 -- a name
 abbrev some_name : List ℕ
 some_name = 97 ∷ []
@@ -219,7 +357,12 @@ live Inspect = (codes "dump-tree" ∷ some_name ∷ [], plan_for (Dump all_trees
 live DumpTree = (some_name ∷ [], plan_for (Dump all_trees) 2, refl)
 live Address = (codes "0" ∷ some_name ∷ [], plan_for (Dump (Block 0)) 4, ap (option_and_then plan_of) (by_number (λ n. behind_all (Dump (Block n)) 4) 0 (codes "0") (some_name ∷ []) zero_is))
 live TreeId = (codes "0" ∷ some_name ∷ [], plan_for (Dump (Tree 0)) 4, ap (option_and_then plan_of) (by_number (λ n. behind_all (Dump (Tree n)) 4) 0 (codes "0") (some_name ∷ []) zero_is))
-live Restore = (codes "-l" ∷ some_name ∷ [], plan_for Roots 2, refl)
+live (Restore given) = (some_name ∷ some_name ∷ [], plan_for (restoring (words_in given) (plan_by given)) (words_in given + 1), refl)
+live (RootId given) = let after = with_option given (Root 5) in (
+  codes "5" ∷ some_name ∷ some_name ∷ [],
+  plan_for (restoring (words_in after) (plan_by after)) (words_in after + 1),
+  ap (λ o. option_and_then plan_of (option_and_then (λ p. reached p (some_name ∷ some_name ∷ [])) (option_map Restore (option_and_then (λ id. with_root id given) o)))) (number_read 5 (codes "5") five_is),
+)
 live (FirstImage plan) = (some_name ∷ [], plan, refl)
 live (Images plan) = ([], plan, refl)
 
@@ -258,3 +401,14 @@ usage_end words here led none = record {
   where
     ends : (plan : Plan) → Accepts Start words plan → ⊥
     ends plan e = cc (ap (option_and_then plan_of) led)
+
+-- the words that a command cites are there
+pub has_words : (plan : Plan) (words : Words) → IsSentence plan words → HasWords plan.command (length words)
+has_words plan words s = of plan.command s.asks
+  where
+    of : (command : Command) → Asks command s.head → HasWords command (length words)
+    of Super asks = tt
+    of (Dump choice) asks = tt
+    of Roots asks = tt
+    of (restoring dest p) asks =
+        omega (arith, asks.dest_is, ap (λ (l : Words). length l) asks.words_are, length-append (options_words asks.options) (asks.name ∷ []), ap (λ (l : Words). length l) s.words_are, length-append s.head (s.first ∷ s.more))

@@ -20,10 +20,10 @@ use Rattle.btr_dump.specs.Pieces.{Text}
 use Rattle.btr_dump.specs.Showing.{TextRun, part, whole, Puts, PutsAsked}
 use Rattle.btr_dump.specs.Stops.{StopCounts}
 use Rattle.btr_tool.specs.Filesystem.{fault_answer}
-use Rattle.btr_tool.specs.Outcomes.{Comes}
-use Rattle.btr_tool.specs.Trees.{whole_answer, asked_answer, ending_answer, shown_outcome, call_answer}
+use Rattle.btr_tool.specs.Outcomes.{IsNoFault, Shows, showing}
+use Rattle.btr_tool.specs.Trees.{whole_answer, asked_answer, ending_answer, shown_by, call_answer}
 use Rattle.btr_tool.specs.declared.answer.Answer.{Answer}
-use Rattle.btr_tool.specs.declared.answer.Answer.TheVariants.{OutFault, Memory as wanted}
+use Rattle.btr_tool.specs.declared.answer.Answer.TheVariants.{SinkFault, OutFault, Memory as wanted}
 
 fault_no_out : (f : Fault) → fault_answer f ≢ OutFault
 fault_no_out (fault.Unmapped a) e = cc
@@ -31,6 +31,17 @@ fault_no_out (fault.Crosses a) e = cc
 fault_no_out (fault.Lost a) e = cc
 fault_no_out (fault.Malformed a) e = cc
 fault_no_out (fault.NoTree n) e = cc
+
+fault_no_sink : (f : Fault) → fault_answer f ≢ SinkFault
+fault_no_sink (fault.Unmapped a) e = cc
+fault_no_sink (fault.Crosses a) e = cc
+fault_no_sink (fault.Lost a) e = cc
+fault_no_sink (fault.Malformed a) e = cc
+fault_no_sink (fault.NoTree n) e = cc
+
+-- a block that can't be had is neither
+pub fault_no_fault : (f : Fault) → IsNoFault (fault_answer f)
+fault_no_fault f = record { no_out = fault_no_out f; no_sink = fault_no_sink f }
 
 -- a first part of a text before more
 first_part : (before rest : Text) (n : ℕ) → n ≤ length before → take n before ≡ take n (before ++ rest)
@@ -59,53 +70,53 @@ cut_text ms before behind left place leaves =
         cut_piece : t ≡ take (min leaves.0 (length s)) s
         cut_piece = let is : take leaves.0 s ≡ t = cc (leaves.1) in sym is ∙ sym (take_min leaves.0 s)
 
-module _ {A : Type 0} (answer : A → Answer) (fine : (a : A) → answer a ≢ OutFault) (r : TextRun A) (old new : Option Text) (before after : CallAccount) where
-  no_out : (e : Result A Fault) → ending_answer answer e ≢ OutFault
-  no_out (Ok a) e = fine a e
-  no_out (Err f) e = fault_no_out f e
+module _ {A : Type 0} (answer : A → Answer) (fine : (a : A) → IsNoFault (answer a)) (r : TextRun A) (old new : Option Text) (before after : CallAccount) where
+  no_fault_in : (e : Result A Fault) → IsNoFault (ending_answer answer e)
+  no_fault_in (Ok a) = fine a
+  no_fault_in (Err f) = fault_no_fault f
 
-  abbrev Shown : Answer → Type 0
-  Shown result = Comes (λ outcome. outcome ≡ shown_outcome answer r) old new before after result
+  abbrev IsShown : Answer → Type 0
+  IsShown result = Shows (λ outcome. outcome ≡ showing (shown_by answer r)) old new before after result
 
   -- all of it was put
-  ended : (done : List Text) → Adds old new (whole done) → (ending : Result A Fault) → (done ≡ steps_of r.marks) × (r.ending ≡ ending) → after ≡ before → Shown (ending_answer answer ending)
+  ended : (done : List Text) → Adds old new (whole done) → (ending : Result A Fault) → (done ≡ steps_of r.marks) × (r.ending ≡ ending) → after ≡ before → IsShown (ending_answer answer ending)
   ended done adds ending follows same = record {
-    outcome = shown_outcome answer r;
+    shown = shown_by answer r;
     is_one = refl;
-    no_fault = no_out r.ending;
+    no_fault = no_fault_in r.ending;
     put = record { put = Ok tt; puts = subst (λ l. Adds old new (whole l)) follows.0 adds; counts = same; due = ap (ending_answer answer) (sym follows.1) };
   }
 
   -- a first part of it was put, since the output failed
-  failed : (done : List Text) → Adds old new (whole done) → Breaks part (λ ws. Unit {0}) r done → Counts {T = Unit {0}} before after (Err sink.Failed) → Shown OutFault
+  failed : (done : List Text) → Adds old new (whole done) → Breaks part (λ ws. Unit {0}) r done → Counts {T = Unit {0}} before after (Err sink.Failed) → IsShown OutFault
   failed done adds broke counts =
       let cut = cut_text r.marks broke.before broke.behind broke.left broke.place broke.leaves in record {
-        outcome = shown_outcome answer r;
+        shown = shown_by answer r;
         is_one = refl;
-        no_fault = no_out r.ending;
+        no_fault = no_fault_in r.ending;
         put = record { put = Err sink.Failed; puts = (cut.0, subst (Adds old new) (ap whole broke.steps ∙ cut.1) adds); counts = counts; due = refl };
       }
 
   -- or wanted memory
-  wants : (done : List Text) → Adds old new (whole done) → Breaks part (λ ws. Unit {0}) r done → Counts {T = Unit {0}} before after (Err sink.Memory) → Shown wanted
+  wants : (done : List Text) → Adds old new (whole done) → Breaks part (λ ws. Unit {0}) r done → Counts {T = Unit {0}} before after (Err sink.Memory) → IsShown wanted
   wants done adds broke counts =
       let cut = cut_text r.marks broke.before broke.behind broke.left broke.place broke.leaves in record {
-        outcome = shown_outcome answer r;
+        shown = shown_by answer r;
         is_one = refl;
-        no_fault = no_out r.ending;
+        no_fault = no_fault_in r.ending;
         put = record { put = Err sink.Memory; puts = (cut.0, subst (Adds old new) (ap whole broke.steps ∙ cut.1) adds); counts = counts; due = refl };
       }
 
-fine_whole : (u : Unit {0}) → whole_answer u ≢ OutFault
-fine_whole u e = cc
+fine_whole : (u : Unit {0}) → IsNoFault (whole_answer u)
+fine_whole u = record { no_out = λ e. cc; no_sink = λ e. cc }
 
-fine_asked : (found : Option ℕ) → asked_answer found ≢ OutFault
-fine_asked None e = cc
-fine_asked (Some id) e = cc
+fine_asked : (found : Option ℕ) → IsNoFault (asked_answer found)
+fine_asked None = record { no_out = λ e. cc; no_sink = λ e. cc }
+fine_asked (Some id) = record { no_out = λ e. cc; no_sink = λ e. cc }
 
 -- a call that shows a run comes to its outcome, where no block went unread
 pub puts_come : (Is : UnreadBlock → Want → Type 0) (r : TextRun (Unit {0})) (old new : Option Text) (before after : CallAccount) (result : Result (Unit {0}) Stop) → ((u : UnreadBlock) (ws : List Want) → Names Is u ws → ⊥) → Puts Is r old new result → StopCounts before after result
-    → Comes (λ outcome. outcome ≡ shown_outcome whole_answer r) old new before after (call_answer result)
+    → Shows (λ outcome. outcome ≡ showing (shown_by whole_answer r)) old new before after (call_answer result)
 puts_come Is r old new before after (Ok u) unread puts counts = ended whole_answer fine_whole r old new before after puts.done puts.adds (Ok tt) puts.follows counts
 puts_come Is r old new before after (Err (Tree (tree.Lost a))) unread puts counts = ended whole_answer fine_whole r old new before after puts.done puts.adds (Err (fault.Lost a)) puts.follows counts
 puts_come Is r old new before after (Err (Tree (tree.Unmapped a))) unread puts counts = ended whole_answer fine_whole r old new before after puts.done puts.adds (Err (fault.Unmapped a)) puts.follows counts
@@ -123,7 +134,7 @@ puts_come Is r old new before after (Err Sink) unread puts counts = absurd puts.
 
 -- the same where a tree was asked for
 pub asked_come : (Is : UnreadBlock → Want → Type 0) (r : TextRun (Option ℕ)) (old new : Option Text) (before after : CallAccount) (result : Result (Unit {0}) Stop) → ((u : UnreadBlock) (ws : List Want) → Names Is u ws → ⊥) → PutsAsked Is r old new result → StopCounts before after result
-    → Comes (λ outcome. outcome ≡ shown_outcome asked_answer r) old new before after (call_answer result)
+    → Shows (λ outcome. outcome ≡ showing (shown_by asked_answer r)) old new before after (call_answer result)
 asked_come Is r old new before after (Ok u) unread puts counts = ended asked_answer fine_asked r old new before after puts.done puts.adds (Ok None) puts.follows counts
 asked_come Is r old new before after (Err (NoTree n)) unread puts counts = ended asked_answer fine_asked r old new before after puts.done puts.adds (Ok (Some n)) puts.follows counts
 asked_come Is r old new before after (Err (Tree (tree.Lost a))) unread puts counts = ended asked_answer fine_asked r old new before after puts.done puts.adds (Err (fault.Lost a)) puts.follows counts

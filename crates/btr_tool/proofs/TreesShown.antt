@@ -30,27 +30,27 @@ use Rattle.btr_tool.specs.Answers.{error_line}
 use Rattle.btr_tool.specs.Behind.{IfSteady, IsBehind, IsFault, HasTreeCause}
 use Rattle.btr_tool.specs.Faults.{open_answer, tree_answer}
 use Rattle.btr_tool.specs.Filesystem.{OpensFilesystem, IsBySupers, IsRefusal, MayMend, filesystem_in, filesystem_of}
-use Rattle.btr_tool.specs.Outcomes.{Comes, OrBare, OrMemory, refused}
-use Rattle.btr_tool.specs.Trees.{IsTreesOutcome, asked_answer, call_answer, shown_outcome, trees_in, trees_outcome, trees_shown, whole_answer}
+use Rattle.btr_tool.specs.Outcomes.{IsNoFault, Shows, OrBare, OrMemory, refused, showing}
+use Rattle.btr_tool.specs.Trees.{IsTreesOutcome, asked_answer, call_answer, shown_by, trees_in, trees_outcome, trees_shown, whole_answer}
 use Rattle.btr_tool.specs.declared.plan.DumpChoice.{DumpChoice}
 use Rattle.btr_tool.specs.declared.answer.Answer.{Answer}
 use Rattle.btr_tool.specs.declared.answer.Answer.TheVariants.{Done, Usage, NoSuper, SumKind, Foreign, Twin, Unsupported, Geometry, LogPending, BadArray, Limit, NoTree, ImageFault, OutFault}
-use Rattle.btr_tool.proofs.Coming.{comes_bare, comes_also}
+use Rattle.btr_tool.proofs.Coming.{shows_bare, shows_also}
 use Rattle.btr_tool.proofs.Ending.{when_told}
 use Rattle.btr_tool.proofs.Faulting.{tree_in, tree_back}
-use Rattle.btr_tool.proofs.Refusals.{open_line, open_no_out, open_no_usage}
+use Rattle.btr_tool.proofs.Refusals.{open_line, open_no_fault, open_no_usage}
 use Rattle.btr_tool.proofs.Shows.{asked_come, puts_come}
 
 steady_not_rose : (before now : ℕ) → Steady before now → Rose before now → ⊥
 steady_not_rose before now steady rose = omega (arith, steady.0, steady.1, rose.0, rose.1)
 
 -- where no read failed no block is unread
-none_unread : (layout : Layout) (old new : Seen) → Steady old.account.faults new.account.faults → (u : UnreadBlock) (ws : List Want) → Names (unread_by layout old new) u ws → ⊥
+pub none_unread : (layout : Layout) (old new : Seen) → Steady old.account.faults new.account.faults → (u : UnreadBlock) (ws : List Want) → Names (unread_by layout old new) u ws → ⊥
 none_unread layout old new steady u [] names = names
 none_unread layout old new steady u (w ∷ ws) names = ⊎_elim (λ is. steady_not_rose old.account.faults new.account.faults steady is.unread.rose) (λ rest. none_unread layout old new steady u ws rest) names
 
 -- what is told where something holds
-told_where : {X : Type 0} (o : Option X) (S : Type 0) (Q : X → Type 0) → (S → IfSome o Q) → IfSome o (λ x. S → Q x)
+pub told_where : {X : Type 0} (o : Option X) (S : Type 0) (Q : X → Type 0) → (S → IfSome o Q) → IfSome o (λ x. S → Q x)
 told_where None S Q f = tt
 told_where (Some x) S Q f = f
 
@@ -68,44 +68,44 @@ module _ (layout : Layout) (old new : Seen) where
   module _ (text text' : Option Text) (before after : CallAccount) (result : Result (Unit {0}) Stop) (counts : StopCounts before after result) where
     -- what a call comes to that shows the text of a run
     pub run_comes : (run : Map → TextRun (Unit {0})) → Tells layout old new (λ B. Puts Is (run B) text text' result)
-        → IfSteady old.held old.account new.account (λ images. Comes (λ outcome. outcome ≡ shown_outcome whole_answer (run (fate images layout))) text text' before after (call_answer result))
+        → IfSteady old.held old.account new.account (λ images. Shows (λ outcome. outcome ≡ showing (shown_by whole_answer (run (fate images layout)))) text text' before after (call_answer result))
     run_comes run tells =
         when_told old.held (λ images. Steady old.account.faults new.account.faults → Puts Is (run (fate images layout)) text text' result)
-        (λ images. Steady old.account.faults new.account.faults → Comes (λ outcome. outcome ≡ shown_outcome whole_answer (run (fate images layout))) text text' before after (call_answer result))
+        (λ images. Steady old.account.faults new.account.faults → Shows (λ outcome. outcome ≡ showing (shown_by whole_answer (run (fate images layout)))) text text' before after (call_answer result))
         (λ images puts steady. puts_come Is (run (fate images layout)) text text' before after result (none_unread layout old new steady) (puts steady) counts) (steadily (λ B. Puts Is (run B) text text' result) tells)
 
     pub block_comes : (addr : ℕ) (run : Map → TextRun (Unit {0})) → TellsBlock layout addr old new (λ B. Puts Is (run B) text text' result)
-        → IfSteady old.held old.account new.account (λ images. Comes (λ outcome. outcome ≡ shown_outcome whole_answer (run (fate images layout))) text text' before after (call_answer result))
+        → IfSteady old.held old.account new.account (λ images. Shows (λ outcome. outcome ≡ showing (shown_by whole_answer (run (fate images layout)))) text text' before after (call_answer result))
     block_comes addr run tells =
         when_told old.held (λ images. Steady old.account.faults new.account.faults → Puts Is (run (fate images layout)) text text' result)
-        (λ images. Steady old.account.faults new.account.faults → Comes (λ outcome. outcome ≡ shown_outcome whole_answer (run (fate images layout))) text text' before after (call_answer result))
+        (λ images. Steady old.account.faults new.account.faults → Shows (λ outcome. outcome ≡ showing (shown_by whole_answer (run (fate images layout)))) text text' before after (call_answer result))
         (λ images puts steady. puts_come Is (run (fate images layout)) text text' before after result (none_unread layout old new steady) (puts steady) counts) (steadily_block addr (λ B. Puts Is (run B) text text' result) tells)
 
     pub tree_comes : (run : Map → TextRun (Option ℕ)) → Tells layout old new (λ B. PutsAsked Is (run B) text text' result)
-        → IfSteady old.held old.account new.account (λ images. Comes (λ outcome. outcome ≡ shown_outcome asked_answer (run (fate images layout))) text text' before after (call_answer result))
+        → IfSteady old.held old.account new.account (λ images. Shows (λ outcome. outcome ≡ showing (shown_by asked_answer (run (fate images layout)))) text text' before after (call_answer result))
     tree_comes run tells =
         when_told old.held (λ images. Steady old.account.faults new.account.faults → PutsAsked Is (run (fate images layout)) text text' result)
-        (λ images. Steady old.account.faults new.account.faults → Comes (λ outcome. outcome ≡ shown_outcome asked_answer (run (fate images layout))) text text' before after (call_answer result))
+        (λ images. Steady old.account.faults new.account.faults → Shows (λ outcome. outcome ≡ showing (shown_by asked_answer (run (fate images layout)))) text text' before after (call_answer result))
         (λ images puts steady. asked_come Is (run (fate images layout)) text text' before after result (none_unread layout old new steady) (puts steady) counts) (steadily (λ B. PutsAsked Is (run B) text text' result) tells)
 
 -- the filesystem isn't opened
 module _ (answer result : Answer) (is : result ≡ answer) (refusal : IsRefusal answer) where
-  no_out : answer ≢ OutFault
-  no_out e = open_no_out refusal.refusal (sym refusal.is ∙ e)
+  no_fault : IsNoFault answer
+  no_fault = subst IsNoFault (sym refusal.is) (open_no_fault refusal.refusal)
 
   pub unopened_effect : (choice : DumpChoice) (old new : Account) (held : Option Images) (text : Option Text) (account : CallAccount) → IfSteady held old new (λ images. OpensFilesystem images (Err answer))
-      → IfSteady held old new (λ images. Comes (OrMemory (λ outcome. Some (trees_outcome choice images) ≡ Some outcome)) text text account account result)
+      → IfSteady held old new (λ images. Shows (OrMemory (λ outcome. Some (trees_outcome choice images) ≡ Some outcome)) text text account account result)
   unopened_effect choice old new held text account =
       when_told held (λ images. Steady old.faults new.faults → OpensFilesystem images (Err answer))
-      (λ images. Steady old.faults new.faults → Comes (OrMemory (λ outcome. Some (trees_outcome choice images) ≡ Some outcome)) text text account account result)
-      (λ images opens steady. subst (λ a. Comes (OrMemory (λ outcome. Some (trees_outcome choice images) ≡ Some outcome)) text text account account a) (sym is)
-      (comes_bare (OrMemory (λ outcome. Some (trees_outcome choice images) ≡ Some outcome)) text account answer
-      (⊎_elim (λ none. inl (ap (λ f. Some (trees_in choice images f)) none)) (λ want. inr (ap refused want)) (opens steady)) no_out))
+      (λ images. Steady old.faults new.faults → Shows (OrMemory (λ outcome. Some (trees_outcome choice images) ≡ Some outcome)) text text account account result)
+      (λ images opens steady. subst (λ a. Shows (OrMemory (λ outcome. Some (trees_outcome choice images) ≡ Some outcome)) text text account account a) (sym is)
+      (shows_bare (OrMemory (λ outcome. Some (trees_outcome choice images) ≡ Some outcome)) text account answer
+      (⊎_elim (λ none. inl (ap (λ f. Some (trees_in choice images f)) none)) (λ want. inr (ap refused want)) (opens steady)) no_fault))
 
-  pub unopened_told : (text : Option Text) (account : CallAccount) → Comes (OrBare IsTreesOutcome) text text account account result
+  pub unopened_told : (text : Option Text) (account : CallAccount) → Shows (OrBare IsTreesOutcome) text text account account result
   unopened_told text account =
-      subst (λ a. Comes (OrBare IsTreesOutcome) text text account account a) (sym is)
-      (comes_bare (OrBare IsTreesOutcome) text account answer (inr (refl, λ e. open_line refusal.refusal (ap error_line (sym refusal.is) ∙ e))) no_out)
+      subst (λ a. Shows (OrBare IsTreesOutcome) text text account account a) (sym is)
+      (shows_bare (OrBare IsTreesOutcome) text account answer (inr (refl, λ e. open_line refusal.refusal (ap error_line (sym refusal.is) ∙ e))) no_fault)
 
   pub unopened_behind : (old new : Seen) → OnlyReads old new → ((slot : ℕ) → answer ≡ ImageFault slot → SuperUnread old new slot) → HasTreeCause old new answer
       → NoneFailed old.account new.account ⊎ IsFault answer ⊎ MayMend answer → ((n : ℕ) → answer ≢ Limit images_limit n) → IsBehind MayMend old new result
@@ -121,41 +121,45 @@ module _ (answer result : Answer) (is : result ≡ answer) (refusal : IsRefusal 
 -- The filesystem is open, and its trees were shown.
 module _ (choice : DumpChoice) (old mid new : Seen) (first : OnlyReads old mid) (second : OnlyReads mid new) (text text' : Option Text) (before after : CallAccount) (answer : Answer) (result : Result (Unit {0}) Stop) (is : answer ≡ call_answer result) where
   pub shown_effect : (volume : Volume) → IfSteady old.held old.account mid.account (λ images. OpensFilesystem images (Ok volume))
-      → IfSteady mid.held mid.account new.account (λ images. Comes (λ outcome. outcome ≡ trees_shown choice (fate images volume.store.layout) volume.sup) text text' before after (call_answer result))
-      → IfSteady old.held old.account new.account (λ images. Comes (OrMemory (λ outcome. Some (trees_outcome choice images) ≡ Some outcome)) text text' before after answer)
-  shown_effect volume opens shows = of old.held opens (subst (λ held. IfSteady held mid.account new.account (λ images. Comes (λ outcome. outcome ≡ trees_shown choice (fate images volume.store.layout) volume.sup) text text' before after (call_answer result))) (ap (λ (s : Seen). s.held) first.same) shows)
+      → IfSteady mid.held mid.account new.account (λ images. Shows (λ outcome. outcome ≡ showing (trees_shown choice (fate images volume.store.layout) volume.sup)) text text' before after (call_answer result))
+      → IfSteady old.held old.account new.account (λ images. Shows (OrMemory (λ outcome. Some (trees_outcome choice images) ≡ Some outcome)) text text' before after answer)
+  shown_effect volume opens shows = of old.held opens (subst (λ held. IfSteady held mid.account new.account (λ images. Shows (λ outcome. outcome ≡ showing (trees_shown choice (fate images volume.store.layout) volume.sup)) text text' before after (call_answer result))) (ap (λ (s : Seen). s.held) first.same) shows)
     where
       of : (held : Option Images) → IfSteady held old.account mid.account (λ images. OpensFilesystem images (Ok volume))
-          → IfSteady held mid.account new.account (λ images. Comes (λ outcome. outcome ≡ trees_shown choice (fate images volume.store.layout) volume.sup) text text' before after (call_answer result))
-          → IfSteady held old.account new.account (λ images. Comes (OrMemory (λ outcome. Some (trees_outcome choice images) ≡ Some outcome)) text text' before after answer)
+          → IfSteady held mid.account new.account (λ images. Shows (λ outcome. outcome ≡ showing (trees_shown choice (fate images volume.store.layout) volume.sup)) text text' before after (call_answer result))
+          → IfSteady held old.account new.account (λ images. Shows (OrMemory (λ outcome. Some (trees_outcome choice images) ≡ Some outcome)) text text' before after answer)
       of None opens shows = tt
       of (Some images) opens shows = λ steady.
           let opened : filesystem_of images ≡ Ok (filesystem_in volume) = opens (omega (arith, steady.0, second.later), omega (arith, steady.1, second.later)) in
-          subst (λ a. Comes (OrMemory (λ outcome. Some (trees_outcome choice images) ≡ Some outcome)) text text' before after a) (sym is)
-          (comes_also (λ outcome. outcome ≡ trees_shown choice (fate images volume.store.layout) volume.sup) (OrMemory (λ outcome. Some (trees_outcome choice images) ≡ Some outcome)) text text' before after (call_answer result)
+          subst (λ a. Shows (OrMemory (λ outcome. Some (trees_outcome choice images) ≡ Some outcome)) text text' before after a) (sym is)
+          (shows_also (λ outcome. outcome ≡ showing (trees_shown choice (fate images volume.store.layout) volume.sup)) (OrMemory (λ outcome. Some (trees_outcome choice images) ≡ Some outcome)) text text' before after (call_answer result)
           (λ outcome e. inl (ap (λ f. Some (trees_in choice images f)) opened ∙ ap (λ o. Some o) (sym e)))
           (shows (omega (arith, steady.0, first.later), steady.1)))
 
+-- a tree that can't be read on is neither a fault of the output nor of the sink
+pub tree_no_fault : (f : TreeFault) → IsNoFault (tree_answer f)
+tree_no_fault (tree.Lost a) = record { no_out = λ e. cc; no_sink = λ e. cc }
+tree_no_fault (tree.Unread a slot) = record { no_out = λ e. cc; no_sink = λ e. cc }
+tree_no_fault (tree.Unmapped a) = record { no_out = λ e. cc; no_sink = λ e. cc }
+tree_no_fault (tree.Crosses a) = record { no_out = λ e. cc; no_sink = λ e. cc }
+tree_no_fault (tree.Malformed a) = record { no_out = λ e. cc; no_sink = λ e. cc }
+
 module _ (text text' : Option Text) (before after : CallAccount) (answer : Answer) (result : Result (Unit {0}) Stop) (is : answer ≡ call_answer result) (counts : StopCounts before after result) where
-  pub shown_told : Grows text text' → Comes (OrBare IsTreesOutcome) text text' before after answer
-  shown_told grows = subst (λ a. Comes (OrBare IsTreesOutcome) text text' before after a) (sym is) (of result counts)
+  pub shown_told : Grows text text' → Shows (OrBare IsTreesOutcome) text text' before after answer
+  shown_told grows = subst (λ a. Shows (OrBare IsTreesOutcome) text text' before after a) (sym is) (of result counts)
     where
       some : (n : ℕ) × Adds text text' (take n grows.more)
       some = (length grows.more, subst (Adds text text') (sym (take_all (length grows.more) grows.more (omega arith))) grows.adds)
 
-      of : (r : Result (Unit {0}) Stop) → StopCounts before after r → Comes (OrBare IsTreesOutcome) text text' before after (call_answer r)
-      of (Ok u) counts = record { outcome = record { answer = Done 0; text = grows.more }; is_one = inl (inl refl); no_fault = λ e. cc; put = record { put = Ok tt; puts = grows.adds; counts = counts; due = refl } }
-      of (Err (stop.Tree f)) counts = record { outcome = record { answer = tree_answer f; text = grows.more }; is_one = inl (inr (inr (f, refl))); no_fault = λ e. no_out f e; put = record { put = Ok tt; puts = grows.adds; counts = counts; due = refl } }
-        where
-          no_out : (f : TreeFault) → tree_answer f ≢ OutFault
-          no_out (tree.Lost a) e = cc
-          no_out (tree.Unread a slot) e = cc
-          no_out (tree.Unmapped a) e = cc
-          no_out (tree.Crosses a) e = cc
-          no_out (tree.Malformed a) e = cc
-      of (Err (stop.NoTree id)) counts = record { outcome = record { answer = NoTree id; text = grows.more }; is_one = inl (inr (inl (id, refl))); no_fault = λ e. cc; put = record { put = Ok tt; puts = grows.adds; counts = counts; due = refl } }
-      of (Err stop.Out) counts = record { outcome = record { answer = Done 0; text = grows.more }; is_one = inl (inl refl); no_fault = λ e. cc; put = record { put = Err sink.Failed; puts = some; counts = counts; due = refl } }
-      of (Err stop.Memory) counts = record { outcome = record { answer = Done 0; text = grows.more }; is_one = inl (inl refl); no_fault = λ e. cc; put = record { put = Err sink.Memory; puts = some; counts = counts; due = refl } }
+      calm : IsNoFault (Done 0)
+      calm = record { no_out = λ e. cc; no_sink = λ e. cc }
+
+      of : (r : Result (Unit {0}) Stop) → StopCounts before after r → Shows (OrBare IsTreesOutcome) text text' before after (call_answer r)
+      of (Ok u) counts = record { shown = record { answer = Done 0; text = grows.more }; is_one = inl (record { shown = record { answer = Done 0; text = grows.more }; is = refl; ends = inl refl }); no_fault = calm; put = record { put = Ok tt; puts = grows.adds; counts = counts; due = refl } }
+      of (Err (stop.Tree f)) counts = record { shown = record { answer = tree_answer f; text = grows.more }; is_one = inl (record { shown = record { answer = tree_answer f; text = grows.more }; is = refl; ends = inr (inr (f, refl)) }); no_fault = tree_no_fault f; put = record { put = Ok tt; puts = grows.adds; counts = counts; due = refl } }
+      of (Err (stop.NoTree id)) counts = record { shown = record { answer = NoTree id; text = grows.more }; is_one = inl (record { shown = record { answer = NoTree id; text = grows.more }; is = refl; ends = inr (inl (id, refl)) }); no_fault = record { no_out = λ e. cc; no_sink = λ e. cc }; put = record { put = Ok tt; puts = grows.adds; counts = counts; due = refl } }
+      of (Err stop.Out) counts = record { shown = record { answer = Done 0; text = grows.more }; is_one = inl (record { shown = record { answer = Done 0; text = grows.more }; is = refl; ends = inl refl }); no_fault = calm; put = record { put = Err sink.Failed; puts = some; counts = counts; due = refl } }
+      of (Err stop.Memory) counts = record { shown = record { answer = Done 0; text = grows.more }; is_one = inl (record { shown = record { answer = Done 0; text = grows.more }; is = refl; ends = inl refl }); no_fault = calm; put = record { put = Err sink.Memory; puts = some; counts = counts; due = refl } }
       of (Err (stop.Deletion id)) counts = absurd counts
       of (Err stop.Balance) counts = absurd counts
       of (Err (stop.Missing id)) counts = absurd counts
@@ -163,7 +167,7 @@ module _ (text text' : Option Text) (before after : CallAccount) (answer : Answe
       of (Err stop.Sink) counts = absurd counts
 
 -- the answer is none of those that the words or the superblocks alone decide
-abbrev NoneOf : Answer → Type 0
+abbrev pub NoneOf : Answer → Type 0
 NoneOf (Usage at) = ⊥
 NoneOf (Limit images_limit n) = ⊥
 NoneOf (NoSuper slot) = ⊥
@@ -175,6 +179,25 @@ NoneOf Geometry = ⊥
 NoneOf LogPending = ⊥
 NoneOf BadArray = ⊥
 NoneOf answer = Unit {0}
+
+-- such an answer may be mended by another copy
+pub mends_of : (answer : Answer) → NoneOf answer → MayMend answer
+mends_of answer none_of refusal by e = of refusal by (subst NoneOf e none_of)
+  where
+    of : (r : OpenFault) → IsBySupers r → NoneOf (open_answer r) → ⊥
+    of (opening.ImageFault slot) by none = by
+    of (opening.NoSuper slot) by none = none
+    of (opening.SumKind kind) by none = none
+    of (opening.Foreign slot) by none = none
+    of (opening.Twin slot) by none = none
+    of (opening.Unsupported bits) by none = none
+    of opening.Geometry by none = none
+    of opening.LogPending by none = none
+    of opening.BadArray by none = none
+    of (opening.BadChunk start) by none = by
+    of (opening.Limit which count) by none = by
+    of (opening.Tree f) by none = by
+    of opening.Memory by none = by
 
 module _ (old mid new : Seen) (first : OnlyReads old mid) (second : OnlyReads mid new) (before after : CallAccount) (answer : Answer) (result : Result (Unit {0}) Stop) (is : answer ≡ call_answer result) (counts : StopCounts before after result) where
   no_image : (slot : ℕ) → call_answer result ≢ ImageFault slot
@@ -215,24 +238,6 @@ module _ (old mid new : Seen) (first : OnlyReads old mid) (second : OnlyReads mi
       of (Err (stop.Image other)) = tt
       of (Err stop.Sink) = tt
 
-  mends : MayMend (call_answer result)
-  mends refusal by e = of refusal by (subst NoneOf e none_of)
-    where
-      of : (r : OpenFault) → IsBySupers r → NoneOf (open_answer r) → ⊥
-      of (opening.ImageFault slot) by none = by
-      of (opening.NoSuper slot) by none = none
-      of (opening.SumKind kind) by none = none
-      of (opening.Foreign slot) by none = none
-      of (opening.Twin slot) by none = none
-      of (opening.Unsupported bits) by none = none
-      of opening.Geometry by none = none
-      of opening.LogPending by none = none
-      of opening.BadArray by none = none
-      of (opening.BadChunk start) by none = by
-      of (opening.Limit which count) by none = by
-      of (opening.Tree f) by none = by
-      of opening.Memory by none = by
-
   tree_cause : (layout : Layout) → StopCause layout mid new result → HasTreeCause old new (call_answer result)
   tree_cause layout cause fault is = (layout, of result cause (ap tree_in is ∙ tree_back fault))
     where
@@ -253,7 +258,7 @@ module _ (old mid new : Seen) (first : OnlyReads old mid) (second : OnlyReads mi
     reads = reads_more first second;
     image = λ slot is. absurd (no_image slot is);
     tree = tree_cause layout cause;
-    hidden = inr (inr mends);
+    hidden = inr (inr (mends_of (call_answer result) none_of));
     no_usage = λ at e. subst NoneOf e none_of;
     no_limit = λ n e. subst NoneOf e none_of;
   })

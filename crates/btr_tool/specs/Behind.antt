@@ -8,15 +8,15 @@ use Rattle.btr_walk.specs.Reading.{FaultCause}
 use Rattle.btr_walk.specs.declared.fault.TreeFault.{TreeFault}
 use Rattle.btr_volume.specs.declared.which.Which.TheVariants.{Images}
 use Rattle.btr_tool.specs.declared.answer.Answer.{Answer}
-use Rattle.btr_tool.specs.declared.answer.Answer.TheVariants.{Usage, Limit, ImageFault, OutFault, Memory}
+use Rattle.btr_tool.specs.declared.answer.Answer.TheVariants.{Usage, Limit, ImageFault, SinkFault, OutFault, Memory}
 
 -- where something is told, and no call on an image failed
 abbrev pub IfSteady : {T : Type 0} → Option T → Account → Account → (T → Type 0) → Type 0
 IfSteady told old new P = IfSome told (λ x. Steady old.faults new.faults → P x)
 
--- an image or the output failed, or memory was wanted
+-- an image, the sink or the output failed, or memory was wanted
 abbrev pub IsFault : Answer → Type 0
-IsFault answer = ((slot : ℕ) × (answer ≡ ImageFault slot)) ⊎ (answer ≡ OutFault) ⊎ (answer ≡ Memory)
+IsFault answer = ((slot : ℕ) × (answer ≡ ImageFault slot)) ⊎ (answer ≡ SinkFault) ⊎ (answer ≡ OutFault) ⊎ (answer ≡ Memory)
 
 -- a fault of a tree has its cause: by some layout some block was lost, has no position, or could not be read
 abbrev pub HasTreeCause : Seen → Seen → Answer → Type 0

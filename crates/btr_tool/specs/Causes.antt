@@ -23,7 +23,7 @@ pub record ImageCause (words : Words) (old new : Seen) (slot : ℕ) : Type 0 whe
   pub sentence : IsSentence plan words
   pub failed : OpeningFailed (images_of plan words) new.slots old.account new.account slot ⊎ SuperUnread old new slot
 
--- the image that couldn't be opened is answered, or a failure of the output, or want of memory
+-- the image that couldn't be opened is answered, or a failure of the output, or want of memory for the line
 abbrev pub IsShut : Words → Seen → Seen → Answer → Type 0
 IsShut words old new answer = ((slot : ℕ) × (answer ≡ ImageFault slot) × IsUnopened words old new slot) ⊎ (answer ≡ OutFault) ⊎ (answer ≡ Memory)
 

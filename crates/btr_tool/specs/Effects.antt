@@ -1,11 +1,13 @@
 -- What the words and the images come to.
-use Rattle.std.specs.Prelude.{◌≡◌, ◌⊎◌, ℕ, ◌<◌, nat_lt, if◌then◌else◌, List, length, Option, Some}
+use Rattle.std.specs.Prelude.{◌≡◌, ◌⊎◌, ℕ, ◌<◌, false, nat_lt, if◌then◌else◌, length, Option, Some}
 use Rattle.std.specs.Option.{option_and_then}
 use Rattle.btr_rack.specs.Rack.{Shelf}
-use Rattle.btr_rack.specs.Out.{Adds, CallAccount}
-use Rattle.btr_tool.specs.Commands.{command_outcome, MayCome}
+use Rattle.btr_rack.specs.Out.{CallAccount}
+use Rattle.btr_restore.specs.Running.{Outside}
+use Rattle.btr_tool.specs.Answers.{error_line}
+use Rattle.btr_tool.specs.Commands.{command_outcome, MayCome, Writes}
 use Rattle.btr_tool.specs.Images.{taken, most_images}
-use Rattle.btr_tool.specs.Outcomes.{Outcome, refused, printed, OrBare, OrMemory, HasFirstPart, IsPrinted}
+use Rattle.btr_tool.specs.Outcomes.{Outcome, refused, Stands, OrBare, OrMemory, HasFirstPart, IsPrinted}
 use Rattle.btr_tool.specs.Words.{Words, IsSentence, IsUsageAt, images_of}
 use Rattle.btr_tool.specs.declared.plan.Command.{Command}
 use Rattle.btr_tool.specs.declared.plan.Plan.{Plan}
@@ -13,27 +15,27 @@ use Rattle.btr_volume.specs.declared.which.Which.TheVariants.{Images}
 use Rattle.btr_tool.specs.declared.answer.Answer.{Answer}
 use Rattle.btr_tool.specs.declared.answer.Answer.TheVariants.{Usage, Limit}
 
--- what a command over named images of a shelf comes to; None where an image can't be taken from it
-abbrev pub images_outcome : Command → Words → Shelf → Option Outcome
-images_outcome command names shelf =
-    if nat_lt most_images (length names) then Some (refused (Limit Images (length names))) else option_and_then (command_outcome command) (taken names shelf)
+-- what a command of some words comes to over named images of a shelf; None where an image can't be taken from it
+abbrev pub images_outcome : Command → Words → Words → Shelf → Option Outcome
+images_outcome command words names shelf =
+    if nat_lt most_images (length names) then Some (refused (Limit Images (length names))) else option_and_then (command_outcome command words) (taken names shelf)
 
 -- what the words come to over a shelf
 abbrev pub IsOutcome : Words → Shelf → Outcome → Type 0
 IsOutcome words shelf outcome =
     ((at : ℕ) × IsUsageAt words at × (outcome ≡ refused (Usage at)))
-    ⊎ ((plan : Plan) × IsSentence plan words × (images_outcome plan.command (images_of plan words) shelf ≡ Some outcome))
+    ⊎ ((plan : Plan) × IsSentence plan words × (images_outcome plan.command words (images_of plan words) shelf ≡ Some outcome))
 
--- this answer and what was added to the text are what the words come to over the shelf
-pub record HasEffect (words : Words) (shelf : Shelf) (old new : Option (List ℕ)) (answer : Answer) : Type 0 where
+-- this answer, what was done in the sink and what was added to the text are what the words come to over the shelf
+pub record HasEffect (words : Words) (shelf : Shelf) (x y : Outside) (answer : Answer) : Type 0 where
   pub outcome : Outcome
   pub is : IsOutcome words shelf outcome
   pub answered : answer ≡ outcome.answer
-  pub put : Adds old new (printed outcome)
+  pub stands : Stands x y outcome.steps (error_line outcome.answer)
 
--- a first part of what the words come to over the shelf was put, or of the line for want of memory, behind a first part of the text
-abbrev pub HasPart : Words → Shelf → Option (List ℕ) → Option (List ℕ) → Type 0
-HasPart words shelf old new = (outcome : Outcome) × OrMemory (IsOutcome words shelf) outcome × HasFirstPart old new outcome
+-- a first part of what the words come to over the shelf was done and put, and of the line of its answer, or for want of memory, or for a fault of the sink
+abbrev pub HasPart : Words → Shelf → Outside → Outside → Type 0
+HasPart words shelf x y = (outcome : Outcome) × OrMemory (IsOutcome words shelf) outcome × HasFirstPart x y outcome
 
 -- the words alone decide this answer: they are no sentence, or name too many images
 abbrev pub IsDecided : Words → Answer → Type 0
@@ -50,7 +52,11 @@ pub record FollowsWords (words : Words) (answer : Answer) : Type 0 where
 abbrev pub MayFollow : Words → Outcome → Type 0
 MayFollow words outcome = (plan : Plan) × IsSentence plan words × MayCome plan.command outcome
 
--- What was put by the time of this answer, whatever the images hold: the text of the command and the line of its answer, or the line of a refusal; or
--- the output failed, or wanted memory, and a first part stands there.
-abbrev pub IsTold : Words → Option (List ℕ) → Option (List ℕ) → CallAccount → CallAccount → Answer → Type 0
-IsTold words old new before after answer = (outcome : Outcome) × OrBare (MayFollow words) outcome × IsPrinted old new before after outcome answer
+-- memory may be wanted behind a first part of the text: where the output does, or where the command writes
+abbrev pub MayWantBy : Words → CallAccount → Type 0
+MayWantBy words out = (out.ample ≡ false) ⊎ ((plan : Plan) × IsSentence plan words × Writes plan.command)
+
+-- What was done by the time of this answer, whatever the images hold: the steps of the command and the line of its answer, or the line of a refusal; or
+-- the sink or the output failed, or memory was wanted, and a first part stands there.
+abbrev pub IsTold : Words → Outside → Outside → Answer → Type 0
+IsTold words x y answer = (outcome : Outcome) × OrBare (MayFollow words) outcome × IsPrinted (MayWantBy words x.out_calls) x y outcome answer

@@ -1,4 +1,5 @@
 pub mod Numbers
+pub mod Restores
 pub mod Words
 pub mod Text
 pub mod Answers
@@ -11,6 +12,8 @@ pub mod Behind
 pub mod Newest
 pub mod Filesystem
 pub mod Trees
+pub mod Restored
 pub mod Commands
 pub mod Causes
 pub mod Effects
+pub mod Promise

@@ -11,7 +11,7 @@ use Rattle.btr_walk.specs.Reading.{Map}
 use Rattle.btr_walk.specs.declared.fault.TreeFault.{TreeFault}
 use Rattle.btr_tool.specs.Faults.{stop_answer, tree_answer}
 use Rattle.btr_tool.specs.Filesystem.{Filesystem, fault_answer, filesystem_of}
-use Rattle.btr_tool.specs.Outcomes.{Outcome, refused}
+use Rattle.btr_tool.specs.Outcomes.{Outcome, Shown, refused, showing}
 use Rattle.btr_tool.specs.declared.answer.Answer.{Answer}
 use Rattle.btr_tool.specs.declared.answer.Answer.TheVariants.{Done, NoTree}
 use Rattle.btr_tool.specs.declared.plan.DumpChoice.{DumpChoice}
@@ -31,18 +31,18 @@ ending_answer answer (Ok a) = answer a
 ending_answer answer (Err fault) = fault_answer fault
 
 -- what showing a text piece by piece comes to: the pieces up to a block that can't be had, and its fault
-abbrev pub shown_outcome : {A : Type 0} → (A → Answer) → TextRun A → Outcome
-shown_outcome answer r = record { answer = ending_answer answer r.ending; text = whole (steps_of r.marks) }
+abbrev pub shown_by : {A : Type 0} → (A → Answer) → TextRun A → Shown
+shown_by answer r = record { answer = ending_answer answer r.ending; text = whole (steps_of r.marks) }
 
 -- what showing the trees that are asked for comes to, by what becomes of each block
-abbrev pub trees_shown : DumpChoice → Map → Super → Outcome
-trees_shown All blocks s = shown_outcome whole_answer (exec blocks (all_trees s))
-trees_shown (Block addr) blocks s = shown_outcome whole_answer (exec blocks (block_shown (kind_in s) addr))
-trees_shown (Tree id) blocks s = shown_outcome asked_answer (exec blocks (asked_tree s id))
-trees_shown RootLines blocks s = shown_outcome whole_answer (exec blocks (roots_shown s))
+abbrev pub trees_shown : DumpChoice → Map → Super → Shown
+trees_shown All blocks s = shown_by whole_answer (exec blocks (all_trees s))
+trees_shown (Block addr) blocks s = shown_by whole_answer (exec blocks (block_shown (kind_in s) addr))
+trees_shown (Tree id) blocks s = shown_by asked_answer (exec blocks (asked_tree s id))
+trees_shown RootLines blocks s = shown_by whole_answer (exec blocks (roots_shown s))
 
 abbrev pub trees_in : DumpChoice → Images → Result Filesystem Answer → Outcome
-trees_in choice images (Ok fs) = trees_shown choice (fate images fs.layout) fs.sup
+trees_in choice images (Ok fs) = showing (trees_shown choice (fate images fs.layout) fs.sup)
 trees_in choice images (Err answer) = refused answer
 
 -- what showing trees of the filesystem of some images comes to
@@ -55,5 +55,7 @@ call_answer (Ok u) = Done 0
 call_answer (Err stop) = stop_answer stop
 
 -- what showing trees may come to, whatever its blocks are: behind some text its end, or that there is no such tree, or a tree that can't be read on
-abbrev pub IsTreesOutcome : Outcome → Type 0
-IsTreesOutcome outcome = (outcome.answer ≡ Done 0) ⊎ ((id : ℕ) × (outcome.answer ≡ NoTree id)) ⊎ ((fault : TreeFault) × (outcome.answer ≡ tree_answer fault))
+pub record IsTreesOutcome (outcome : Outcome) : Type 0 where
+  pub shown : Shown
+  pub is : outcome ≡ showing shown
+  pub ends : (shown.answer ≡ Done 0) ⊎ ((id : ℕ) × (shown.answer ≡ NoTree id)) ⊎ ((fault : TreeFault) × (shown.answer ≡ tree_answer fault))

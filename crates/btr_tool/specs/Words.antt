@@ -1,14 +1,17 @@
 -- The sentences of the command line, and where other words go wrong.
-use Rattle.std.specs.Prelude.{◌≡◌, ℕ, ◌<◌, ◌≤◌, Bool, false, IsTrue, not, ◌==◌, if◌then◌else◌, List, [], ◌∷◌, ◌++◌, length, take, drop, codes, All, Option, Some, None}
-use Rattle.std.specs.Option.{option_map}
+use Rattle.std.specs.Prelude.{◌≡◌, ℕ, ◌+◌, ◌<◌, ◌≤◌, Bool, false, IsTrue, not, ◌==◌, if◌then◌else◌, List, [], ◌∷◌, ◌++◌, length, take, drop, codes, All, Option, Some, None, is_some}
+use Rattle.std.specs.Option.{option_and_then, option_map}
 use Rattle.std.specs.Str.{bytes_eq}
+use Rattle.btr_files.specs.declared.plan.RestorePlan.{RestorePlan}
 use Rattle.btr_tool.specs.Numbers.{IsNumber, number_of}
 use Rattle.btr_tool.specs.declared.plan.Command.{Command}
-use Rattle.btr_tool.specs.declared.plan.Command.TheVariants.{Super, Dump, Roots}
+use Rattle.btr_tool.specs.Restores.{AreFree, OneOption, no_options, options_words, plan_by, with_dry, with_options, with_root, with_snapshots, with_verbose, words_in}
+use Rattle.btr_tool.specs.declared.options.Options.{Options}
+use Rattle.btr_tool.specs.declared.plan.Command.TheVariants.{Super, Dump, Roots, Restore as restoring}
 use Rattle.btr_tool.specs.declared.plan.DumpChoice.TheVariants.{All as all_trees, Block, Tree, RootLines}
 use Rattle.btr_tool.specs.declared.plan.Plan.{Plan}
 use Rattle.btr_tool.specs.declared.progress.Progress.{Progress}
-use Rattle.btr_tool.specs.declared.progress.Progress.TheVariants.{Start, Inspect, DumpTree, Address, TreeId, Restore, FirstImage, Images}
+use Rattle.btr_tool.specs.declared.progress.Progress.TheVariants.{Start, Inspect, DumpTree, Address, TreeId, Restore, RootId, FirstImage, Images}
 
 abbrev pub Words : Type 0
 Words = List (List ℕ)
@@ -25,6 +28,16 @@ IsName word = IsTrue (is_name word)
 abbrev pub dump_words : Words → Words
 dump_words option = codes "inspect-internal" ∷ codes "dump-tree" ∷ option
 
+-- the words ask to restore, with some options, into a destination
+pub record AsksRestore (dest : ℕ) (plan : RestorePlan) (words : Words) : Type 0 where
+  pub options : List OneOption
+  pub name : List ℕ
+  pub free : AreFree no_options options
+  pub named : IsName name
+  pub words_are : words ≡ codes "restore" ∷ (options_words options ++ name ∷ [])
+  pub dest_is : dest ≡ 1 + length (options_words options)
+  pub plan_is : plan ≡ plan_by (with_options no_options options)
+
 -- these words ask for a command; the names of its images follow
 abbrev pub Asks : Command → Words → Type 0
 Asks Super words = words ≡ codes "super" ∷ []
@@ -33,6 +46,7 @@ Asks (Dump (Block addr)) words = (word : List ℕ) × IsNumber addr word × (wor
 Asks (Dump (Tree id)) words = (word : List ℕ) × IsNumber id word × (words ≡ dump_words (codes "-t" ∷ word ∷ []))
 Asks (Dump RootLines) words = words ≡ dump_words (codes "-r" ∷ [])
 Asks Roots words = words ≡ codes "restore" ∷ codes "-l" ∷ []
+Asks (restoring dest plan) words = AsksRestore dest plan words
 
 -- the words ask for a command and name one or more images
 pub record IsSentence (plan : Plan) (words : Words) : Type 0 where
@@ -69,12 +83,24 @@ plan_for command images = record { command = command; images = images }
 abbrev pub behind_all : Command → ℕ → Progress
 behind_all command images = FirstImage (plan_for command images)
 
+-- the place behind `-l`, which no other option stands before
+abbrev pub roots_place : Options → Option Progress
+roots_place given = if words_in given == 1 then Some (behind_all Roots 2) else None
+
+-- the place behind `-r`, which may stand there once
+abbrev pub root_place : Options → Option Progress
+root_place given = if is_some given.root then None else Some (RootId given)
+
+-- the place behind the destination
+abbrev pub dest_place : Options → List ℕ → Option Progress
+dest_place given word = if is_name word then Some (behind_all (restoring (words_in given) (plan_by given)) (words_in given + 1)) else None
+
 -- the place behind one more word, where some sentence has it here
 abbrev pub next_of : Progress → List ℕ → Option Progress
 next_of Start word =
     if bytes_eq word (codes "super") then Some (behind_all Super 1)
     else if bytes_eq word (codes "inspect-internal") then Some Inspect
-    else if bytes_eq word (codes "restore") then Some Restore
+    else if bytes_eq word (codes "restore") then Some (Restore no_options)
     else None
 next_of Inspect word = if bytes_eq word (codes "dump-tree") then Some DumpTree else None
 next_of DumpTree word =
@@ -85,7 +111,14 @@ next_of DumpTree word =
     else None
 next_of Address word = option_map (λ addr. behind_all (Dump (Block addr)) 4) (number_of word)
 next_of TreeId word = option_map (λ id. behind_all (Dump (Tree id)) 4) (number_of word)
-next_of Restore word = if bytes_eq word (codes "-l") then Some (behind_all Roots 2) else None
+next_of (Restore given) word =
+    if bytes_eq word (codes "-l") then roots_place given
+    else if bytes_eq word (codes "-r") then root_place given
+    else if bytes_eq word (codes "-s") then option_map Restore (with_snapshots given)
+    else if bytes_eq word (codes "-v") then option_map Restore (with_verbose given)
+    else if bytes_eq word (codes "-D") then option_map Restore (with_dry given)
+    else dest_place given word
+next_of (RootId given) word = option_map Restore (option_and_then (λ id. with_root id given) (number_of word))
 next_of (FirstImage plan) word = if is_name word then Some (Images plan) else None
 next_of (Images plan) word = if is_name word then Some (Images plan) else None
 
@@ -96,6 +129,7 @@ plan_of Inspect = None
 plan_of DumpTree = None
 plan_of Address = None
 plan_of TreeId = None
-plan_of Restore = None
+plan_of (Restore given) = None
+plan_of (RootId given) = None
 plan_of (FirstImage plan) = None
 plan_of (Images plan) = Some plan

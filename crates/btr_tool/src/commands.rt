@@ -1,37 +1,50 @@
 // The commands.
-ghost use Rattle.std.specs.Prelude.{◌≡◌, ◌<◌, length};
+ghost use Rattle.std.specs.Prelude.{◌≡◌, ◌<◌, Some, length, map};
+ghost use Rattle.std.specs.String.{string_bytes};
+ghost use Rattle.btr_rack.specs.Sink.{NotStarted};
+ghost use Rattle.btr_restore.specs.Running.{outside};
 ghost use Rattle.btr_tool.specs.Answers.{answer_of};
 ghost use Rattle.btr_tool.specs.Behind.{IfSteady, IsBehind};
-ghost use Rattle.btr_tool.specs.Commands.{command_outcome, MayCome, MayFail};
+ghost use Rattle.btr_tool.specs.Commands.{HasWords, MayCome, MayFail, MayWant, command_outcome};
 ghost use Rattle.btr_tool.specs.Outcomes.{Comes, OrBare, OrMemory};
 
 use crate::answer::Answer;
 use crate::newest::show_newest;
 use crate::plan::{Command, DumpChoice};
+use crate::restoring::restore_files;
 use crate::trees::show_trees;
-use btr_rack::{Out, Rack};
+use btr_rack::{Out, Rack, TreeSink};
 use std::alloc::Global;
 
-/// Does a command over the open images, and puts its text.
+/// Does a command of some words over the open images, and puts its text.
 ///
 /// An error is the answer of what stopped it; the line of that answer isn't put here.
-pub(crate) fn perform<R: Rack, O: Out>(
+pub(crate) fn perform<R: Rack, T: TreeSink, O: Out>(
     alloc: Global,
     command: Command,
+    words: &[String],
     rack: &mut R,
+    tree: &mut T,
     out: &mut O,
 ) -> Result<Answer, Answer>
-    requires { 0 < length (R.seen rack.old).slots }
+    requires open { 0 < length (R.seen rack.old).slots }
+    requires words { HasWords command (length words.now) }
+    requires fresh { (T.sink tree.old).stage ≡ NotStarted }
     ensures effect { IfSteady (R.seen rack.old).held (R.seen rack.old).account (R.seen rack.new).account (λ images.
-        Comes (OrMemory (λ outcome. command_outcome command images ≡ Some outcome))
-        (O.text out.old) (O.text out.new) (O.account out.old) (O.account out.new) (answer_of result)) }
-    ensures told { Comes (OrBare (MayCome command))
-        (O.text out.old) (O.text out.new) (O.account out.old) (O.account out.new) (answer_of result) }
+        Comes (MayWant command (O.account out.old)) (OrMemory (λ outcome. command_outcome command (map string_bytes words.now) images ≡ Some outcome))
+        (outside (T.sink tree.old) (T.account tree.old) (O.text out.old) (O.account out.old))
+        (outside (T.sink tree.new) (T.account tree.new) (O.text out.new) (O.account out.new)) (answer_of result)) }
+    ensures told { Comes (MayWant command (O.account out.old)) (OrBare (MayCome command))
+        (outside (T.sink tree.old) (T.account tree.old) (O.text out.old) (O.account out.old))
+        (outside (T.sink tree.new) (T.account tree.new) (O.text out.new) (O.account out.new)) (answer_of result) }
     ensures cause { IsBehind (MayFail command) (R.seen rack.old) (R.seen rack.new) (answer_of result) }
 {
     match command {
         Command::Super => show_newest(alloc, rack, out),
         Command::Dump(choice) => show_trees(alloc, choice, rack, out),
         Command::Roots => show_trees(alloc, DumpChoice::RootLines, rack, out),
+        Command::Restore { dest, plan } => {
+            restore_files(alloc, &plan, words[dest].as_str(), rack, tree, out)
+        }
     }
 }

@@ -10,9 +10,11 @@ mod commands;
 mod filesystem;
 mod newest;
 mod opening;
+mod options;
 mod plan;
 mod progress;
 mod refusal;
+mod restoring;
 mod run;
 mod standard;
 #[cfg(test)]
@@ -22,7 +24,7 @@ mod trees;
 mod words;
 
 use answer::Answer;
-use btr_rack::{FileRack, Out, StdOut};
+use btr_rack::{FileRack, FolderTree, Out, StdOut};
 use std::process::ExitCode;
 
 fn main(rt: HostRuntime) -> ExitCode {
@@ -32,7 +34,11 @@ fn main(rt: HostRuntime) -> ExitCode {
     let alloc = rt.alloc();
     let mut out = StdOut::new(&rt);
     let answer = match words::words(&rt, alloc) {
-        Ok(words) => run::run(alloc, &words, &mut FileRack::new(&rt, alloc), &mut out),
+        Ok(words) => {
+            let mut rack = FileRack::new(&rt, alloc);
+            let mut tree = FolderTree::new(&rt, alloc);
+            run::run(alloc, &words, &mut rack, &mut tree, &mut out)
+        }
         Err(_) => match out.put(refusal::NO_MEMORY) {
             Ok(()) => Answer::Memory,
             Err(_) => Answer::OutFault,

@@ -4,7 +4,7 @@ ghost use Rattle.btr_tool.specs.Answers.{answer_of};
 ghost use Rattle.btr_tool.specs.Behind.{IfSteady, IsBehind};
 ghost use Rattle.btr_tool.specs.Commands.{MayFail};
 ghost use Rattle.btr_tool.specs.Newest.{super_outcome, IsSuperOutcome};
-ghost use Rattle.btr_tool.specs.Outcomes.{Comes, OrBare, OrMemory};
+ghost use Rattle.btr_tool.specs.Outcomes.{OrBare, OrMemory, Shows};
 
 use crate::answer::Answer;
 use crate::plan::Command;
@@ -24,9 +24,9 @@ pub(crate) fn show_newest<R: Rack, O: Out>(
 ) -> Result<Answer, Answer>
     requires { 0 < length (R.seen rack.old).slots }
     ensures effect { IfSteady (R.seen rack.old).held (R.seen rack.old).account (R.seen rack.new).account (λ images.
-        Comes (OrMemory (λ outcome. super_outcome images ≡ Some outcome))
+        Shows (OrMemory (λ outcome. super_outcome images ≡ Some outcome))
         (O.text out.old) (O.text out.new) (O.account out.old) (O.account out.new) (answer_of result)) }
-    ensures told { Comes (OrBare IsSuperOutcome)
+    ensures told { Shows (OrBare IsSuperOutcome)
         (O.text out.old) (O.text out.new) (O.account out.old) (O.account out.new) (answer_of result) }
     ensures cause { IsBehind (MayFail Command.Super) (R.seen rack.old) (R.seen rack.new) (answer_of result) }
 {

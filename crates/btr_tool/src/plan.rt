@@ -4,6 +4,7 @@ ghost use Rattle.std.specs.String.{string_bytes};
 ghost use Rattle.btr_tool.specs.Words.{IsSentence, IsUsageAt};
 
 use crate::progress::Progress;
+use btr_files::RestorePlan;
 
 /// What the program is to do.
 #[derive(Clone, Copy, Debug, PartialEq, Eq)]
@@ -14,6 +15,8 @@ pub enum Command {
     Dump(DumpChoice),
     /// `restore -l`: print the roots of all trees.
     Roots,
+    /// `restore`: write the directories and files of a subvolume into the destination that the word of this number names.
+    Restore { dest: usize, plan: RestorePlan },
 }
 
 /// What `inspect-internal dump-tree` prints.

@@ -1,8 +1,9 @@
 // How far words have come along a sentence.
 ghost use Rattle.std.specs.Prelude.{◌≡◌, ◌↔◌, IsTrue};
 ghost use Rattle.btr_tool.specs.Numbers.{number_of};
-ghost use Rattle.btr_tool.specs.Words.{IsName, behind_all, next_of, plan_of};
+ghost use Rattle.btr_tool.specs.Words.{IsName, behind_all, dest_place, next_of, plan_of, root_place, roots_place};
 
+use crate::options::Options;
 use crate::plan::{Command, DumpChoice, Plan};
 
 /// A place in the sentences, behind some words.
@@ -18,8 +19,10 @@ pub(crate) enum Progress {
     Address,
     /// Behind `-t`: the id of a tree is next.
     TreeId,
-    /// Behind `restore`.
-    Restore,
+    /// Behind `restore` and these options: `-l`, another option or the destination is next.
+    Restore(Options),
+    /// Behind `-r`: the id of a subvolume is next.
+    RootId(Options),
     /// The first image is next.
     FirstImage(Plan),
     /// The words so far are a sentence, and another image may follow.
@@ -37,7 +40,8 @@ impl Progress {
             Progress::DumpTree => dump_option(word),
             Progress::Address => address(word),
             Progress::TreeId => tree_id(word),
-            Progress::Restore => restore_option(word),
+            Progress::Restore(given) => restore_option(given, word),
+            Progress::RootId(given) => root_id(given, word),
             Progress::FirstImage(plan) => image(plan, word),
             Progress::Images(plan) => image(plan, word),
         }
@@ -54,7 +58,8 @@ impl Progress {
             Progress::DumpTree => None,
             Progress::Address => None,
             Progress::TreeId => None,
-            Progress::Restore => None,
+            Progress::Restore(_) => None,
+            Progress::RootId(_) => None,
             Progress::FirstImage(_) => None,
         }
     }
@@ -66,7 +71,7 @@ fn command(word: &str) -> Option<Progress>
     match word {
         "super" => Some(behind_words(Command::Super, 1)),
         "inspect-internal" => Some(Progress::Inspect),
-        "restore" => Some(Progress::Restore),
+        "restore" => Some(Progress::Restore(Options::new())),
         _ => None,
     }
 }
@@ -111,13 +116,60 @@ fn tree_id(word: &str) -> Option<Progress>
     Some(behind_words(Command::Dump(DumpChoice::Tree(id)), 4))
 }
 
-fn restore_option(word: &str) -> Option<Progress>
-    ensures { result ≡ next_of Progress.Restore word.now }
+fn restore_option(given: Options, word: &str) -> Option<Progress>
+    ensures { result ≡ next_of (Progress.Restore given) word.now }
 {
     match word {
-        "-l" => Some(behind_words(Command::Roots, 2)),
-        _ => None,
+        "-l" => roots_behind(given),
+        "-r" => root_behind(given),
+        "-s" => Some(Progress::Restore(given.with_snapshots()?)),
+        "-v" => Some(Progress::Restore(given.with_verbose()?)),
+        "-D" => Some(Progress::Restore(given.with_dry()?)),
+        _ => destination(given, word),
     }
+}
+
+// Behind `-l`, which no other option stands before.
+fn roots_behind(given: Options) -> Option<Progress>
+    ensures { result ≡ roots_place given }
+{
+    if given.words() == 1 {
+        Some(behind_words(Command::Roots, 2))
+    } else {
+        None
+    }
+}
+
+// Behind `-r`, which may stand there once.
+fn root_behind(given: Options) -> Option<Progress>
+    ensures { result ≡ root_place given }
+{
+    match given.root {
+        Some(_) => None,
+        None => Some(Progress::RootId(given)),
+    }
+}
+
+fn root_id(given: Options, word: &str) -> Option<Progress>
+    ensures { result ≡ next_of (Progress.RootId given) word.now }
+{
+    let id = number(word)?;
+    Some(Progress::Restore(given.with_root(id)?))
+}
+
+// Behind the destination.
+fn destination(given: Options, word: &str) -> Option<Progress>
+    ensures { result ≡ dest_place given word.now }
+{
+    if !is_name(word) {
+        return None;
+    }
+    let dest = given.words();
+    let command = Command::Restore {
+        dest,
+        plan: given.plan(),
+    };
+    Some(behind_words(command, dest + 1))
 }
 
 // Behind so many words that ask for a command.

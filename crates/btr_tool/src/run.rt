@@ -2,50 +2,79 @@
 ghost use Rattle.std.specs.Prelude.{◌≡◌, ◌≢◌, ◌⊎◌, ◌<◌, [], ℕ, true, map};
 ghost use Rattle.std.specs.String.{string_bytes};
 ghost use Rattle.btr_rack.specs.Rack.{Steady};
+ghost use Rattle.btr_rack.specs.Sink.{NotStarted};
+ghost use Rattle.btr_restore.specs.Running.{outside};
 ghost use Rattle.btr_tool.specs.Answers.{answer_of, error_line};
 ghost use Rattle.btr_tool.specs.Behind.{IfSteady};
 ghost use Rattle.btr_tool.specs.Causes.{HidesNone, ImageCause, IsBehindWords, IsMissingImage, IsShut, TreeCause};
-ghost use Rattle.btr_tool.specs.Effects.{FollowsWords, HasEffect, HasPart, IsDecided, IsOutcome, IsTold, MayFollow};
+ghost use Rattle.btr_tool.specs.Effects.{FollowsWords, HasEffect, HasPart, IsDecided, IsOutcome, IsTold, MayFollow, MayWantBy};
 ghost use Rattle.btr_tool.specs.Images.{AreUnchanged};
-ghost use Rattle.btr_tool.specs.Outcomes.{Comes, IsPut, OrBare, OrMemory, OutFailed};
+ghost use Rattle.btr_tool.specs.Promise.{KeepsHeadline, KeepsOutcome};
+ghost use Rattle.btr_tool.specs.Outcomes.{CallFailed, Comes, IsPut, OrBare, OrMemory};
 
 use crate::answer::Answer;
 use crate::commands::perform;
 use crate::opening::open_images;
 use crate::plan::Plan;
 use crate::refusal::put_refusal;
-use btr_rack::{Out, Rack};
+use btr_rack::{Out, Rack, TreeSink};
+use btr_restore::{headline, opened_then, settled};
 use std::alloc::Global;
 
-/// Does what the words say over the images of the rack, puts its text, and answers how it ended.
+/// Does what the words say over the images of the rack, writes files into the sink, puts its text, and answers how it ended.
 ///
 /// Words that are no sentence and more than 64 images are refused before any call on the rack. The last thing put for a
-/// refusal is its error line. Where the output refuses a put, a first part of the text and the line stands there. Where it
-/// wants memory for the text, the line for want of memory, or a first part of that, stands behind a first part of the text.
-pub fn run<R: Rack, O: Out>(alloc: Global, words: &[String], rack: &mut R, out: &mut O) -> Answer
-    requires { (R.seen rack.old).slots ≡ [] }
+/// refusal is its error line. Where the output refuses a put, a first part of the text and the line stands there; where the sink refuses
+/// a call, all before it stands. Where memory is wanted on the way, the line for want of memory, or a first part of that, stands behind a first part of the text.
+pub fn run<R: Rack, T: TreeSink, O: Out>(
+    alloc: Global,
+    words: &[String],
+    rack: &mut R,
+    tree: &mut T,
+    out: &mut O,
+) -> Answer
+    requires closed { (R.seen rack.old).slots ≡ [] }
+    requires fresh { (T.sink tree.old).stage ≡ NotStarted }
 
-    // Where no call failed and memory sufficed, the answer and the text are those of the words and the images.
+    // Where no call failed and memory sufficed, the answer, what was done in the sink and the text are those of the words and the images.
     ensures effect { IfSteady (R.seen rack.old).shelf (R.seen rack.old).account (R.seen rack.new).account (λ shelf.
-        Steady (O.account out.old).faults (O.account out.new).faults → result ≢ Answer.Memory
-        → HasEffect (map string_bytes words.now) shelf (O.text out.old) (O.text out.new) result) }
+        Steady (T.account tree.old).faults (T.account tree.new).faults → Steady (O.account out.old).faults (O.account out.new).faults → result ≢ Answer.Memory
+        → HasEffect (map string_bytes words.now) shelf
+        (outside (T.sink tree.old) (T.account tree.old) (O.text out.old) (O.account out.old))
+        (outside (T.sink tree.new) (T.account tree.new) (O.text out.new) (O.account out.new)) result) }
 
-    // Where no call on an image failed, a first part of that text is put, or of the line for want of memory behind a
+    // Of a restore this is the outcome over the bytes of the images. Where every candidate that passes its test is the committed block, that is what was
+    // committed, whole, or up to exactly the first block without such a candidate, which the answer names.
+    ensures outcome { IfSteady (R.seen rack.old).shelf (R.seen rack.old).account (R.seen rack.new).account (λ shelf.
+        Steady (T.account tree.old).faults (T.account tree.new).faults → Steady (O.account out.old).faults (O.account out.new).faults → result ≢ Answer.Memory
+        → KeepsOutcome (map string_bytes words.now) shelf
+        (outside (T.sink tree.old) (T.account tree.old) (O.text out.old) (O.account out.old))
+        (outside (T.sink tree.new) (T.account tree.new) (O.text out.new) (O.account out.new)) result) }
+    ensures headline { IfSteady (R.seen rack.old).shelf (R.seen rack.old).account (R.seen rack.new).account (λ shelf.
+        Steady (T.account tree.old).faults (T.account tree.new).faults → Steady (O.account out.old).faults (O.account out.new).faults → result ≢ Answer.Memory
+        → KeepsHeadline (map string_bytes words.now) shelf
+        (outside (T.sink tree.old) (T.account tree.old) (O.text out.old) (O.account out.old))
+        (outside (T.sink tree.new) (T.account tree.new) (O.text out.new) (O.account out.new)) result) }
+
+    // Where no call on an image failed, a first part of that is done and put, and of the line for want of memory or for a fault of the sink behind a
     // first part of it, whatever the answer.
     ensures part { IfSteady (R.seen rack.old).shelf (R.seen rack.old).account (R.seen rack.new).account (λ shelf.
-        HasPart (map string_bytes words.now) shelf (O.text out.old) (O.text out.new)) }
+        HasPart (map string_bytes words.now) shelf
+        (outside (T.sink tree.old) (T.account tree.old) (O.text out.old) (O.account out.old))
+        (outside (T.sink tree.new) (T.account tree.new) (O.text out.new) (O.account out.new))) }
 
-    // What the words alone decide is answered before any call on the rack, and only then.
+    // What the words alone decide is answered before any call on the rack and on the sink, and only then.
     ensures decided { (answer : Answer) → IsDecided (map string_bytes words.now) answer
-        → (rack.new ≡ rack.old) × ((result ≡ answer) ⊎ (result ≡ Answer.OutFault) ⊎ (result ≡ Answer.Memory)) }
+        → (rack.new ≡ rack.old) × (tree.new ≡ tree.old) × ((result ≡ answer) ⊎ (result ≡ Answer.OutFault) ⊎ (result ≡ Answer.Memory)) }
     ensures stated { FollowsWords (map string_bytes words.now) result }
 
-    // A fault of an image or of the output is answered only where a call on it failed.
+    // A fault of an image, of the sink or of the output is answered only where a call on it failed.
     ensures image { (slot : ℕ) → result ≡ Answer.ImageFault slot
         → ImageCause (map string_bytes words.now) (R.seen rack.old) (R.seen rack.new) slot }
     ensures shut { (R.seen rack.old).account.shut < (R.seen rack.new).account.shut
         → IsShut (map string_bytes words.now) (R.seen rack.old) (R.seen rack.new) result }
-    ensures out { result ≡ Answer.OutFault → OutFailed (O.account out.old) (O.account out.new) }
+    ensures sink { result ≡ Answer.SinkFault → CallFailed (T.account tree.old) (T.account tree.new) }
+    ensures out { result ≡ Answer.OutFault → CallFailed (O.account out.old) (O.account out.new) }
 
     // A fault of a tree is answered only with its cause, whatever failed.
     ensures tree { TreeCause (R.seen rack.old) (R.seen rack.new) result }
@@ -60,29 +89,37 @@ pub fn run<R: Rack, O: Out>(alloc: Global, words: &[String], rack: &mut R, out: 
     // The images were opened only to be read, and hold what the shelf held, where the rack tells it.
     ensures unchanged { AreUnchanged (R.seen rack.old).shelf (R.seen rack.new).slots (R.seen rack.new).held }
 
-    // What stands in the output after each answer.
+    // What stands in the sink and in the output after each answer.
     ensures told { IsTold (map string_bytes words.now)
-        (O.text out.old) (O.text out.new) (O.account out.old) (O.account out.new) result }
+        (outside (T.sink tree.old) (T.account tree.old) (O.text out.old) (O.account out.old))
+        (outside (T.sink tree.new) (T.account tree.new) (O.text out.new) (O.account out.new)) result }
 {
-    let done = carry_out(alloc, words, rack, out);
+    let done = carry_out(alloc, words, rack, tree, out);
+    opened_then();
+    settled();
+    headline();
     finish(done, out)
 }
 
 // Does what the words say, but for the line of a refusal, which is the error.
-fn carry_out<R: Rack, O: Out>(
+fn carry_out<R: Rack, T: TreeSink, O: Out>(
     alloc: Global,
     words: &[String],
     rack: &mut R,
+    tree: &mut T,
     out: &mut O,
 ) -> Result<Answer, Answer>
-    requires { (R.seen rack.old).slots ≡ [] }
+    requires closed { (R.seen rack.old).slots ≡ [] }
+    requires fresh { (T.sink tree.old).stage ≡ NotStarted }
     ensures effect { IfSteady (R.seen rack.old).shelf (R.seen rack.old).account (R.seen rack.new).account (λ shelf.
-        Comes (OrMemory (IsOutcome (map string_bytes words.now) shelf))
-        (O.text out.old) (O.text out.new) (O.account out.old) (O.account out.new) (answer_of result)) }
-    ensures told { Comes (OrBare (MayFollow (map string_bytes words.now)))
-        (O.text out.old) (O.text out.new) (O.account out.old) (O.account out.new) (answer_of result) }
+        Comes (MayWantBy (map string_bytes words.now) (O.account out.old)) (OrMemory (IsOutcome (map string_bytes words.now) shelf))
+        (outside (T.sink tree.old) (T.account tree.old) (O.text out.old) (O.account out.old))
+        (outside (T.sink tree.new) (T.account tree.new) (O.text out.new) (O.account out.new)) (answer_of result)) }
+    ensures told { Comes (MayWantBy (map string_bytes words.now) (O.account out.old)) (OrBare (MayFollow (map string_bytes words.now)))
+        (outside (T.sink tree.old) (T.account tree.old) (O.text out.old) (O.account out.old))
+        (outside (T.sink tree.new) (T.account tree.new) (O.text out.new) (O.account out.new)) (answer_of result) }
     ensures decided { (answer : Answer) → IsDecided (map string_bytes words.now) answer
-        → (rack.new ≡ rack.old) × (answer_of result ≡ answer) }
+        → (rack.new ≡ rack.old) × (tree.new ≡ tree.old) × (answer_of result ≡ answer) }
     ensures stated { FollowsWords (map string_bytes words.now) (answer_of result) }
     ensures cause { IsBehindWords (map string_bytes words.now) (R.seen rack.old) (R.seen rack.new) (answer_of result) }
     ensures unchanged { AreUnchanged (R.seen rack.old).shelf (R.seen rack.new).slots (R.seen rack.new).held }
@@ -92,7 +129,7 @@ fn carry_out<R: Rack, O: Out>(
         Err(at) => return Err(Answer::Usage(at)),
     };
     open_images(&words[plan.images..], rack)?;
-    perform(alloc, plan.command, rack, out)
+    perform(alloc, plan.command, words, rack, tree, out)
 }
 
 // Puts the line of a refusal, and answers how it ended.

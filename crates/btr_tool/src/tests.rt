@@ -3,12 +3,14 @@ ghost use Rattle.std.specs.Prelude.{[], ◌<◌, ◌^◌};
 
 mod dumping;
 mod opening;
+mod restoring;
+mod sinking;
 mod wanting;
 
 use crate::answer::Answer;
 use crate::run::run;
 use btr_make::{put_super, seal};
-use btr_rack::{MemOut, MemRack, Rack};
+use btr_rack::{MemOut, MemRack, MemTree, Rack};
 use btr_super::Super;
 use std::alloc::{AllocError, Global};
 use std::process::Abort;
@@ -92,7 +94,7 @@ fn answers(
     let mut out = MemOut::new(alloc);
     let words = words(alloc, all)?;
     assert_eq!(rt; rack.count(), 0);
-    let answer = run(alloc, &words, rack, &mut out);
+    let answer = run(alloc, &words, rack, &mut MemTree::new(alloc), &mut out);
     assert_eq!(rt; out.text(), expected);
     assert_eq!(rt; answer.code(), code);
     Ok(())
@@ -101,13 +103,21 @@ fn answers(
 #[test]
 fn words_that_are_no_sentence(rt: HostRuntime) -> Result<(), Fail> {
     let alloc = rt.alloc();
-    let rows: [(&[&str], &[u8]); 6] = [
+    let rows: [(&[&str], &[u8]); 14] = [
         (&[], b"error: usage error at word 0\n"),
         (&["super"], b"error: usage error at word 1\n"),
         (&["super", "-x"], b"error: usage error at word 1\n"),
         (&["super", ""], b"error: usage error at word 1\n"),
         (&["super", "a", "-b"], b"error: usage error at word 2\n"),
         (&["frob", "a"], b"error: usage error at word 0\n"),
+        (&["restore"], b"error: usage error at word 1\n"),
+        (&["restore", "out"], b"error: usage error at word 2\n"),
+        (&["restore", "-s", "-s", "out"], b"error: usage error at word 2\n"),
+        (&["restore", "-s", "-l", "a"], b"error: usage error at word 2\n"),
+        (&["restore", "-r", "7", "out", "a"], b"error: usage error at word 2\n"),
+        (&["restore", "-r", "5", "-r", "5"], b"error: usage error at word 3\n"),
+        (&["restore", "-l", "-v", "a"], b"error: usage error at word 2\n"),
+        (&["restore", "out", "-v", "a"], b"error: usage error at word 2\n"),
     ];
     for (all, expected) in rows {
         answers(&rt, alloc, &mut MemRack::new(alloc), all, expected, 2)?;
@@ -164,7 +174,7 @@ fn shows(
     let mut out = MemOut::new(alloc);
     let words = words(alloc, all)?;
     assert_eq!(rt; rack.count(), 0);
-    let answer = run(alloc, &words, rack, &mut out);
+    let answer = run(alloc, &words, rack, &mut MemTree::new(alloc), &mut out);
     assert_eq!(rt; answer, Answer::Done { skipped: 0 });
     assert!(rt; out.text().starts_with(expected));
     Ok(())
@@ -283,7 +293,7 @@ fn a_failing_output(rt: HostRuntime) -> Result<(), Fail> {
         out.fail_call(1).map_err(|_| AllocError)?;
         let words = words(alloc, all)?;
         assert_eq!(rt; rack.count(), 0);
-        let answer = run(alloc, &words, &mut rack, &mut out);
+        let answer = run(alloc, &words, &mut rack, &mut MemTree::new(alloc), &mut out);
         assert_eq!(rt; answer, Answer::OutFault);
         assert_eq!(rt; answer.code(), 4);
         assert!(rt; out.text().is_empty());

@@ -9,7 +9,7 @@ ghost use Rattle.btr_read.specs.Store.{free_count};
 ghost use Rattle.btr_tool.specs.Answers.{answer_of};
 ghost use Rattle.btr_tool.specs.Behind.{IfSteady, IsBehind};
 ghost use Rattle.btr_tool.specs.Filesystem.{MayMend};
-ghost use Rattle.btr_tool.specs.Outcomes.{Comes, OrBare, OrMemory};
+ghost use Rattle.btr_tool.specs.Outcomes.{OrBare, OrMemory, Shows, showing};
 ghost use Rattle.btr_tool.specs.Trees.{IsTreesOutcome, call_answer, trees_outcome, trees_shown};
 
 use crate::answer::Answer;
@@ -32,9 +32,9 @@ pub(crate) fn show_trees<R: Rack, O: Out>(
 ) -> Result<Answer, Answer>
     requires { 0 < length (R.seen rack.old).slots }
     ensures effect { IfSteady (R.seen rack.old).held (R.seen rack.old).account (R.seen rack.new).account (λ images.
-        Comes (OrMemory (λ outcome. Some (trees_outcome choice images) ≡ Some outcome))
+        Shows (OrMemory (λ outcome. Some (trees_outcome choice images) ≡ Some outcome))
         (O.text out.old) (O.text out.new) (O.account out.old) (O.account out.new) (answer_of result)) }
-    ensures told { Comes (OrBare IsTreesOutcome)
+    ensures told { Shows (OrBare IsTreesOutcome)
         (O.text out.old) (O.text out.new) (O.account out.old) (O.account out.new) (answer_of result) }
     ensures cause { IsBehind MayMend (R.seen rack.old) (R.seen rack.new) (answer_of result) }
 {
@@ -57,7 +57,7 @@ fn show<R: Rack, O: Out>(
     ensures cause { StopCause volume.old.store.layout (R.seen rack.old) (R.seen rack.new) result }
     ensures grows { Grows (O.text out.old) (O.text out.new) }
     ensures content { IfSteady (R.seen rack.old).held (R.seen rack.old).account (R.seen rack.new).account (λ images.
-        Comes (λ outcome. outcome ≡ trees_shown choice (fate images volume.old.store.layout) volume.old.sup)
+        Shows (λ outcome. outcome ≡ showing (trees_shown choice (fate images volume.old.store.layout) volume.old.sup))
         (O.text out.old) (O.text out.new) (O.account out.old) (O.account out.new) (call_answer result)) }
 {
     match choice {

@@ -5,7 +5,7 @@ ghost use Rattle.btr_rack.specs.CallsLaws.{unsure_calm};
 use crate::answer::Answer;
 use crate::run::run;
 use crate::tests::words;
-use btr_rack::{MemRack, Out, Rack, RackError, SinkError};
+use btr_rack::{MemRack, MemTree, Out, Rack, RackError, SinkError};
 use std::test::Fail;
 
 // A rack in which each opening wants memory. All else is the inner rack's.
@@ -86,7 +86,13 @@ fn want_of_memory_has_its_line(rt: HostRuntime) -> Result<(), Fail> {
         images: MemRack::new(rt.alloc()),
     };
     let words = words(rt.alloc(), &["super", "a"])?;
-    let answer = run(rt.alloc(), &words, &mut rack, &mut out);
+    let answer = run(
+        rt.alloc(),
+        &words,
+        &mut rack,
+        &mut MemTree::new(rt.alloc()),
+        &mut out,
+    );
     assert_eq!(rt; answer, Answer::Memory);
     assert_eq!(rt; answer.code(), 5);
     assert_eq!(rt; out.len, 17);

@@ -1,30 +1,78 @@
-use Rattle.std.proofs.Common.{◌≡◌, Some, sym, subst}
+use Rattle.std.proofs.Common.{◌≡◌, ◌⊎◌, inl, inr, ⊎_elim, ℕ, List, [], length, map, get_or, Some, refl, sym, ap, ◌∙◌, subst, arith}
+use Rattle.std.specs.String.{string_bytes}
+use Rattle.btr_restore.specs.Running.{outside}
 use Rattle.btr_tool.specs.Answers.{answer_of}
 use Rattle.btr_tool.specs.Behind.{IfSteady}
-use Rattle.btr_tool.specs.Commands.{command_outcome, MayCome}
+use Rattle.btr_tool.specs.Commands.{HasWords, command_outcome, MayCome, MayWant}
 use Rattle.btr_tool.specs.Outcomes.{Comes, OrBare, OrMemory}
+use Rattle.btr_tool.specs.Restored.{restored, IsRestored}
+use Rattle.btr_tool.specs.declared.plan.Command.TheVariants.{Super, Dump, Roots, Restore}
+use Rattle.btr_tool.proofs.Causing.{name_at}
+use Rattle.btr_tool.proofs.Coming.{comes_also}
+use Rattle.btr_tool.proofs.Ending.{when_told}
+use Rattle.btr_tool.proofs.Performing.{shown_effect, shown_told, writing_comes}
 use Rattle.btr_tool.proofs.commands.perform.Goals as goal
+
+pub returns-in-Super-clause-effect : goal.returns-in-Super-clause-effect
+returns-in-Super-clause-effect g c =
+    let old = g.R.Rack.seen c.args.rack.now in
+    let new = g.R.Rack.seen c.show_newest.new.rack in
+    let x = outside (g.T.TreeSink.sink c.args.tree.now) (g.T.TreeSink.account c.args.tree.now) (g.O.Out.text c.args.out.now) (g.O.Out.account c.args.out.now) in
+    let y = outside (g.T.TreeSink.sink c.args.tree.now) (g.T.TreeSink.account c.args.tree.now) (g.O.Out.text c.show_newest.new.out) (g.O.Out.account c.show_newest.new.out) in
+    subst (λ command. IfSteady old.held old.account new.account (λ images. Comes (MayWant command x.out_calls) (OrMemory (λ outcome. command_outcome command (map string_bytes c.args.words.now) images ≡ Some outcome)) x y (answer_of c.show_newest.result)))
+    (sym c.in-Super.is) (shown_effect (Super) x y refl refl (answer_of c.show_newest.result) (λ images outcome. command_outcome (Super) (map string_bytes c.args.words.now) images ≡ Some outcome) old.held old.account new.account c.show_newest.ensures.effect)
+
+pub returns-in-Super-clause-told : goal.returns-in-Super-clause-told
+returns-in-Super-clause-told g c =
+    let x = outside (g.T.TreeSink.sink c.args.tree.now) (g.T.TreeSink.account c.args.tree.now) (g.O.Out.text c.args.out.now) (g.O.Out.account c.args.out.now) in
+    let y = outside (g.T.TreeSink.sink c.args.tree.now) (g.T.TreeSink.account c.args.tree.now) (g.O.Out.text c.show_newest.new.out) (g.O.Out.account c.show_newest.new.out) in
+    subst (λ command. Comes (MayWant command x.out_calls) (OrBare (MayCome command)) x y (answer_of c.show_newest.result)) (sym c.in-Super.is)
+    (shown_told (Super) x y refl refl (answer_of c.show_newest.result) (MayCome (Super)) c.show_newest.ensures.told)
 
 pub returns-in-Dump-clause-effect : goal.returns-in-Dump-clause-effect
 returns-in-Dump-clause-effect g c =
     let old = g.R.Rack.seen c.args.rack.now in
     let new = g.R.Rack.seen c.show_trees.new.rack in
-    subst (λ command. IfSteady old.held old.account new.account (λ images. Comes (OrMemory (λ outcome. command_outcome command images ≡ Some outcome)) (g.O.Out.text c.args.out.now) (g.O.Out.text c.show_trees.new.out) (g.O.Out.account c.args.out.now) (g.O.Out.account c.show_trees.new.out) (answer_of c.show_trees.result)))
-    (sym c.in-Dump.is) c.show_trees.ensures.effect
+    let x = outside (g.T.TreeSink.sink c.args.tree.now) (g.T.TreeSink.account c.args.tree.now) (g.O.Out.text c.args.out.now) (g.O.Out.account c.args.out.now) in
+    let y = outside (g.T.TreeSink.sink c.args.tree.now) (g.T.TreeSink.account c.args.tree.now) (g.O.Out.text c.show_trees.new.out) (g.O.Out.account c.show_trees.new.out) in
+    subst (λ command. IfSteady old.held old.account new.account (λ images. Comes (MayWant command x.out_calls) (OrMemory (λ outcome. command_outcome command (map string_bytes c.args.words.now) images ≡ Some outcome)) x y (answer_of c.show_trees.result)))
+    (sym c.in-Dump.is) (shown_effect (Dump c.in-Dump.choice) x y refl refl (answer_of c.show_trees.result) (λ images outcome. command_outcome (Dump c.in-Dump.choice) (map string_bytes c.args.words.now) images ≡ Some outcome) old.held old.account new.account c.show_trees.ensures.effect)
 
 pub returns-in-Dump-clause-told : goal.returns-in-Dump-clause-told
 returns-in-Dump-clause-told g c =
-    subst (λ command. Comes (OrBare (MayCome command)) (g.O.Out.text c.args.out.now) (g.O.Out.text c.show_trees.new.out) (g.O.Out.account c.args.out.now) (g.O.Out.account c.show_trees.new.out) (answer_of c.show_trees.result)) (sym c.in-Dump.is)
-    c.show_trees.ensures.told
+    let x = outside (g.T.TreeSink.sink c.args.tree.now) (g.T.TreeSink.account c.args.tree.now) (g.O.Out.text c.args.out.now) (g.O.Out.account c.args.out.now) in
+    let y = outside (g.T.TreeSink.sink c.args.tree.now) (g.T.TreeSink.account c.args.tree.now) (g.O.Out.text c.show_trees.new.out) (g.O.Out.account c.show_trees.new.out) in
+    subst (λ command. Comes (MayWant command x.out_calls) (OrBare (MayCome command)) x y (answer_of c.show_trees.result)) (sym c.in-Dump.is)
+    (shown_told (Dump c.in-Dump.choice) x y refl refl (answer_of c.show_trees.result) (MayCome (Dump c.in-Dump.choice)) c.show_trees.ensures.told)
 
 pub returns-in-Roots-clause-effect : goal.returns-in-Roots-clause-effect
 returns-in-Roots-clause-effect g c =
     let old = g.R.Rack.seen c.args.rack.now in
     let new = g.R.Rack.seen c.show_trees-in-Roots.new.rack in
-    subst (λ command. IfSteady old.held old.account new.account (λ images. Comes (OrMemory (λ outcome. command_outcome command images ≡ Some outcome)) (g.O.Out.text c.args.out.now) (g.O.Out.text c.show_trees-in-Roots.new.out) (g.O.Out.account c.args.out.now) (g.O.Out.account c.show_trees-in-Roots.new.out) (answer_of c.show_trees-in-Roots.result)))
-    (sym c.in-Roots.is) c.show_trees-in-Roots.ensures.effect
+    let x = outside (g.T.TreeSink.sink c.args.tree.now) (g.T.TreeSink.account c.args.tree.now) (g.O.Out.text c.args.out.now) (g.O.Out.account c.args.out.now) in
+    let y = outside (g.T.TreeSink.sink c.args.tree.now) (g.T.TreeSink.account c.args.tree.now) (g.O.Out.text c.show_trees-in-Roots.new.out) (g.O.Out.account c.show_trees-in-Roots.new.out) in
+    subst (λ command. IfSteady old.held old.account new.account (λ images. Comes (MayWant command x.out_calls) (OrMemory (λ outcome. command_outcome command (map string_bytes c.args.words.now) images ≡ Some outcome)) x y (answer_of c.show_trees-in-Roots.result)))
+    (sym c.in-Roots.is) (shown_effect (Roots) x y refl refl (answer_of c.show_trees-in-Roots.result) (λ images outcome. command_outcome (Roots) (map string_bytes c.args.words.now) images ≡ Some outcome) old.held old.account new.account c.show_trees-in-Roots.ensures.effect)
 
 pub returns-in-Roots-clause-told : goal.returns-in-Roots-clause-told
 returns-in-Roots-clause-told g c =
-    subst (λ command. Comes (OrBare (MayCome command)) (g.O.Out.text c.args.out.now) (g.O.Out.text c.show_trees-in-Roots.new.out) (g.O.Out.account c.args.out.now) (g.O.Out.account c.show_trees-in-Roots.new.out) (answer_of c.show_trees-in-Roots.result)) (sym c.in-Roots.is)
-    c.show_trees-in-Roots.ensures.told
+    let x = outside (g.T.TreeSink.sink c.args.tree.now) (g.T.TreeSink.account c.args.tree.now) (g.O.Out.text c.args.out.now) (g.O.Out.account c.args.out.now) in
+    let y = outside (g.T.TreeSink.sink c.args.tree.now) (g.T.TreeSink.account c.args.tree.now) (g.O.Out.text c.show_trees-in-Roots.new.out) (g.O.Out.account c.show_trees-in-Roots.new.out) in
+    subst (λ command. Comes (MayWant command x.out_calls) (OrBare (MayCome command)) x y (answer_of c.show_trees-in-Roots.result)) (sym c.in-Roots.is)
+    (shown_told (Roots) x y refl refl (answer_of c.show_trees-in-Roots.result) (MayCome (Roots)) c.show_trees-in-Roots.ensures.told)
+
+pub returns-in-Restore-clause-effect : goal.returns-in-Restore-clause-effect
+returns-in-Restore-clause-effect g c =
+    let old = g.R.Rack.seen c.args.rack.now in
+    let new = g.R.Rack.seen c.restore_files.new.rack in
+    let x = outside (g.T.TreeSink.sink c.args.tree.now) (g.T.TreeSink.account c.args.tree.now) (g.O.Out.text c.args.out.now) (g.O.Out.account c.args.out.now) in
+    let y = outside (g.T.TreeSink.sink c.restore_files.new.tree) (g.T.TreeSink.account c.restore_files.new.tree) (g.O.Out.text c.restore_files.new.out) (g.O.Out.account c.restore_files.new.out) in
+    subst (λ command. IfSteady old.held old.account new.account (λ images. Comes (MayWant command x.out_calls) (OrMemory (λ outcome. command_outcome command (map string_bytes c.args.words.now) images ≡ Some outcome)) x y (answer_of c.restore_files.result)))
+    (sym c.in-Restore.is) (when_told old.held _ _ (λ images comes steady. writing_comes c.in-Restore.dest c.in-Restore.plan (map string_bytes c.args.words.now) _ x y (answer_of c.restore_files.result) (name_at c.args.words.now c.in-Restore.dest c.index-words-dest.result c.as_str.result.now (subst (λ command. HasWords command (length c.args.words.now)) c.in-Restore.is c.requires.words) c.as_str.ensures.value c.index-words-dest.is) images (comes steady)) c.restore_files.ensures.effect)
+
+pub returns-in-Restore-clause-told : goal.returns-in-Restore-clause-told
+returns-in-Restore-clause-told g c =
+    let x = outside (g.T.TreeSink.sink c.args.tree.now) (g.T.TreeSink.account c.args.tree.now) (g.O.Out.text c.args.out.now) (g.O.Out.account c.args.out.now) in
+    let y = outside (g.T.TreeSink.sink c.restore_files.new.tree) (g.T.TreeSink.account c.restore_files.new.tree) (g.O.Out.text c.restore_files.new.out) (g.O.Out.account c.restore_files.new.out) in
+    subst (λ command. Comes (MayWant command x.out_calls) (OrBare (MayCome command)) x y (answer_of c.restore_files.result)) (sym c.in-Restore.is)
+    (comes_also (Unit {0}) (MayWant (Restore c.in-Restore.dest c.in-Restore.plan) x.out_calls) (OrBare IsRestored) (OrBare (MayCome (Restore c.in-Restore.dest c.in-Restore.plan))) x y (answer_of c.restore_files.result) (λ u. inr u) (λ outcome one. one) c.restore_files.ensures.told)

@@ -2,6 +2,7 @@ use Rattle.std.proofs.Common.{ℕ, ◌<◌, ◌-◌, List, String, length, map, 
 use Rattle.std.specs.String.{string_bytes}
 use Rattle.std.specs.declared.alloc.Global.{Global}
 use Rattle.std.proofs.lemmas.List.{length-map}
+use Rattle.btr_restore.specs.Running.{outside}
 use Rattle.btr_tool.specs.Answers.{answer_of}
 use Rattle.btr_tool.specs.Opening.{opening_answer}
 use Rattle.btr_tool.proofs.Carrying.{names_are, usage_effect, usage_told, usage_decided, usage_stated, usage_cause, opening_effect, opening_told, opening_decided, opening_stated, opening_cause, command_effect, command_told, none_decided, command_stated, command_cause, command_unchanged}
@@ -14,15 +15,15 @@ as_many xs k n lt = omega (arith, length-map (take (length xs - k) (drop k xs)) 
 
 pub returns-in-Err-clause-effect : goal.returns-in-Err-clause-effect
 returns-in-Err-clause-effect g c =
-    usage_effect (map string_bytes c.args.words.now) c.in-Err.at c.in-Err.ensures.usage (g.R.Rack.seen c.args.rack.now).shelf (g.R.Rack.seen c.args.rack.now).account.faults (g.R.Rack.seen c.args.rack.now).account.faults (g.O.Out.text c.args.out.now) (g.O.Out.account c.args.out.now)
+    usage_effect (map string_bytes c.args.words.now) c.in-Err.at c.in-Err.ensures.usage (g.R.Rack.seen c.args.rack.now).shelf (g.R.Rack.seen c.args.rack.now).account.faults (g.R.Rack.seen c.args.rack.now).account.faults (outside (g.T.TreeSink.sink c.args.tree.now) (g.T.TreeSink.account c.args.tree.now) (g.O.Out.text c.args.out.now) (g.O.Out.account c.args.out.now))
 
 pub returns-in-Err-clause-told : goal.returns-in-Err-clause-told
 returns-in-Err-clause-told g c =
-    usage_told (map string_bytes c.args.words.now) c.in-Err.at c.in-Err.ensures.usage (g.O.Out.text c.args.out.now) (g.O.Out.account c.args.out.now)
+    usage_told (map string_bytes c.args.words.now) c.in-Err.at c.in-Err.ensures.usage (outside (g.T.TreeSink.sink c.args.tree.now) (g.T.TreeSink.account c.args.tree.now) (g.O.Out.text c.args.out.now) (g.O.Out.account c.args.out.now))
 
 pub returns-in-Err-clause-decided : goal.returns-in-Err-clause-decided
 returns-in-Err-clause-decided g c =
-    λ answer is. (refl, usage_decided (map string_bytes c.args.words.now) c.in-Err.at c.in-Err.ensures.usage answer is)
+    λ answer is. (refl, refl, usage_decided (map string_bytes c.args.words.now) c.in-Err.at c.in-Err.ensures.usage answer is)
 
 pub returns-in-Err-clause-stated : goal.returns-in-Err-clause-stated
 returns-in-Err-clause-stated g c =
@@ -34,23 +35,23 @@ returns-in-Err-clause-cause g c =
 
 pub returns-in-Err-clause-unchanged : goal.returns-in-Err-clause-unchanged
 returns-in-Err-clause-unchanged g c =
-    unopened (g.R.Rack.seen c.args.rack.now).shelf (g.R.Rack.seen c.args.rack.now).held (g.R.Rack.seen c.args.rack.now).slots (g.met.R.Rack.sound c.args.rack.now).sized c.requires
+    unopened (g.R.Rack.seen c.args.rack.now).shelf (g.R.Rack.seen c.args.rack.now).held (g.R.Rack.seen c.args.rack.now).slots (g.met.R.Rack.sound c.args.rack.now).sized c.requires.closed
 
 pub returns-in_err-open_images-clause-effect : goal.returns-in_err-open_images-clause-effect
 returns-in_err-open_images-clause-effect g c =
     opening_effect (map string_bytes c.args.words.now) _ c.in-Ok.plan c.in-Ok.ensures.sentence (names_are c.args.words.now c.in-Ok.plan.images) (g.R.Rack.seen c.args.rack.now) (g.R.Rack.seen c.open_images.new.rack) c.in_err-open_images.field-0.0 c.in_err-open_images.ensures.limit c.in_err-open_images.ensures.cause
-    (g.R.Rack.seen c.args.rack.now).shelf (g.O.Out.text c.args.out.now) (g.O.Out.account c.args.out.now) (answer_of c.from_residual.result) (answer_gives c.from_residual.result (opening_answer c.in_err-open_images.field-0.0) c.from_residual.ensures.1)
+    (g.R.Rack.seen c.args.rack.now).shelf (outside (g.T.TreeSink.sink c.args.tree.now) (g.T.TreeSink.account c.args.tree.now) (g.O.Out.text c.args.out.now) (g.O.Out.account c.args.out.now)) (answer_of c.from_residual.result) (answer_gives c.from_residual.result (opening_answer c.in_err-open_images.field-0.0) c.from_residual.ensures.1)
 
 pub returns-in_err-open_images-clause-told : goal.returns-in_err-open_images-clause-told
 returns-in_err-open_images-clause-told g c =
     opening_told (map string_bytes c.args.words.now) _ c.in-Ok.plan c.in-Ok.ensures.sentence (names_are c.args.words.now c.in-Ok.plan.images) (g.R.Rack.seen c.args.rack.now) (g.R.Rack.seen c.open_images.new.rack) c.in_err-open_images.field-0.0 c.in_err-open_images.ensures.limit c.in_err-open_images.ensures.cause
-    (g.O.Out.text c.args.out.now) (g.O.Out.account c.args.out.now) (answer_of c.from_residual.result) (answer_gives c.from_residual.result (opening_answer c.in_err-open_images.field-0.0) c.from_residual.ensures.1)
+    (outside (g.T.TreeSink.sink c.args.tree.now) (g.T.TreeSink.account c.args.tree.now) (g.O.Out.text c.args.out.now) (g.O.Out.account c.args.out.now)) (answer_of c.from_residual.result) (answer_gives c.from_residual.result (opening_answer c.in_err-open_images.field-0.0) c.from_residual.ensures.1)
 
 pub returns-in_err-open_images-clause-decided : goal.returns-in_err-open_images-clause-decided
 returns-in_err-open_images-clause-decided g c =
     λ answer is.
     let all = opening_decided (map string_bytes c.args.words.now) _ c.in-Ok.plan c.in-Ok.ensures.sentence (names_are c.args.words.now c.in-Ok.plan.images) (g.R.Rack.seen c.args.rack.now) (g.R.Rack.seen c.open_images.new.rack) c.in_err-open_images.field-0.0 c.in_err-open_images.ensures.limit c.in_err-open_images.ensures.cause (answer_of c.from_residual.result) answer (answer_gives c.from_residual.result (opening_answer c.in_err-open_images.field-0.0) c.from_residual.ensures.1) is in
-    (c.in_err-open_images.ensures.early (as_many c.args.words.now c.in-Ok.plan.images 64 all.0), all.1)
+    (c.in_err-open_images.ensures.early (as_many c.args.words.now c.in-Ok.plan.images 64 all.0), refl, all.1)
 
 pub returns-in_err-open_images-clause-stated : goal.returns-in_err-open_images-clause-stated
 returns-in_err-open_images-clause-stated g c =
@@ -64,12 +65,14 @@ returns-in_err-open_images-clause-cause g c =
 pub returns-clause-effect : goal.returns-clause-effect
 returns-clause-effect g c =
     command_effect (map string_bytes c.args.words.now) _ c.in-Ok.plan c.in-Ok.ensures.sentence (names_are c.args.words.now c.in-Ok.plan.images) (g.R.Rack.seen c.args.rack.now) (g.R.Rack.seen c.open_images.new.rack) (g.R.Rack.seen c.perform.new.rack) c.in_ok-open_images.ensures.limit c.in_ok-open_images.ensures.cause (answer_of c.perform.result) c.perform.ensures.cause
-    (g.O.Out.text c.args.out.now) (g.O.Out.text c.perform.new.out) (g.O.Out.account c.args.out.now) (g.O.Out.account c.perform.new.out) c.in_ok-open_images.ensures.images c.perform.ensures.effect
+    (outside (g.T.TreeSink.sink c.args.tree.now) (g.T.TreeSink.account c.args.tree.now) (g.O.Out.text c.args.out.now) (g.O.Out.account c.args.out.now))
+    (outside (g.T.TreeSink.sink c.perform.new.tree) (g.T.TreeSink.account c.perform.new.tree) (g.O.Out.text c.perform.new.out) (g.O.Out.account c.perform.new.out)) c.in_ok-open_images.ensures.images c.perform.ensures.effect
 
 pub returns-clause-told : goal.returns-clause-told
 returns-clause-told g c =
     command_told (map string_bytes c.args.words.now) _ c.in-Ok.plan c.in-Ok.ensures.sentence (names_are c.args.words.now c.in-Ok.plan.images) (g.R.Rack.seen c.args.rack.now) (g.R.Rack.seen c.open_images.new.rack) (g.R.Rack.seen c.perform.new.rack) c.in_ok-open_images.ensures.limit c.in_ok-open_images.ensures.cause (answer_of c.perform.result) c.perform.ensures.cause
-    (g.O.Out.text c.args.out.now) (g.O.Out.text c.perform.new.out) (g.O.Out.account c.args.out.now) (g.O.Out.account c.perform.new.out) c.perform.ensures.told
+    (outside (g.T.TreeSink.sink c.args.tree.now) (g.T.TreeSink.account c.args.tree.now) (g.O.Out.text c.args.out.now) (g.O.Out.account c.args.out.now))
+    (outside (g.T.TreeSink.sink c.perform.new.tree) (g.T.TreeSink.account c.perform.new.tree) (g.O.Out.text c.perform.new.out) (g.O.Out.account c.perform.new.out)) c.perform.ensures.told
 
 pub returns-clause-decided : goal.returns-clause-decided
 returns-clause-decided g c =

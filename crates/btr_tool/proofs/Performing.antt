@@ -1,0 +1,34 @@
+-- What a command that only shows something comes to, as a command among others.
+use Rattle.std.proofs.Common.{◌≡◌, inl, inr, ⊎_elim, ℕ, List, [], get_or, Option, Some, None, ap, ◌∙◌}
+use Rattle.btr_files.specs.declared.plan.RestorePlan.{RestorePlan}
+use Rattle.btr_rack.specs.Rack.{Account, Steady}
+use Rattle.btr_restore.specs.Running.{Outside}
+use Rattle.btr_tool.specs.Behind.{IfSteady}
+use Rattle.btr_tool.specs.Commands.{MayWant, command_outcome}
+use Rattle.btr_tool.specs.Outcomes.{Outcome, Comes, OrBare, OrMemory, Shows}
+use Rattle.btr_tool.specs.Restored.{restored}
+use Rattle.btr_tool.specs.Words.{Words}
+use Rattle.btr_tool.specs.declared.answer.Answer.{Answer}
+use Rattle.btr_tool.specs.declared.plan.Command.{Command}
+use Rattle.btr_tool.specs.declared.plan.Command.TheVariants.{Restore}
+use Rattle.btr_tool.proofs.Coming.{comes_also, comes_shown}
+use Rattle.btr_tool.proofs.Ending.{when_told}
+use Rattle.btr_tool.proofs.Openings.{Images}
+
+module _ (command : Command) (x y : Outside) (same : y.sink ≡ x.sink) (same_calls : y.sink_calls ≡ x.sink_calls) (answer : Answer) where
+  pub shown_effect : (IsOne : Images → Outcome → Type 0) (held : Option Images) (old new : Account) → IfSteady held old new (λ images. Shows (OrMemory (IsOne images)) x.text y.text x.out_calls y.out_calls answer)
+      → IfSteady held old new (λ images. Comes (MayWant command x.out_calls) (OrMemory (IsOne images)) x y answer)
+  shown_effect IsOne held old new =
+      when_told held (λ images. Steady old.faults new.faults → Shows (OrMemory (IsOne images)) x.text y.text x.out_calls y.out_calls answer)
+      (λ images. Steady old.faults new.faults → Comes (MayWant command x.out_calls) (OrMemory (IsOne images)) x y answer)
+      (λ images shows steady. comes_shown (MayWant command x.out_calls) (OrMemory (IsOne images)) x y answer same same_calls (λ scarce. inl scarce) (shows steady))
+
+  pub shown_told : (IsOne : Outcome → Type 0) → Shows (OrBare IsOne) x.text y.text x.out_calls y.out_calls answer → Comes (MayWant command x.out_calls) (OrBare IsOne) x y answer
+  shown_told IsOne shows = comes_shown (MayWant command x.out_calls) (OrBare IsOne) x y answer same same_calls (λ scarce. inl scarce) shows
+
+-- a command that writes into a destination, whose name is a word
+pub writing_comes : (number : ℕ) (plan : RestorePlan) (words : Words) (dest : List ℕ) (x y : Outside) (answer : Answer) → get_or words number [] ≡ dest → (images : Images) → Comes (Unit {0}) (OrMemory (λ outcome. restored plan dest images ≡ outcome)) x y answer
+    → Comes (MayWant (Restore number plan) x.out_calls) (OrMemory (λ outcome. command_outcome (Restore number plan) words images ≡ Some outcome)) x y answer
+writing_comes number plan words dest x y answer named images comes =
+    comes_also (Unit {0}) (MayWant (Restore number plan) x.out_calls) (OrMemory (λ outcome. restored plan dest images ≡ outcome)) (OrMemory (λ outcome. command_outcome (Restore number plan) words images ≡ Some outcome)) x y answer (λ u. inr u)
+    (λ outcome one. ⊎_elim (λ is. inl (ap (λ d. Some (restored plan d images)) named ∙ ap (λ o. Some o) is)) (λ want. inr want) one) comes
