@@ -297,7 +297,6 @@ asked (Dump RootLines) head first asks name =
     ap (λ (l : Words). reached Start (l ++ first ∷ [])) asks ∙ by_name (plan_for (Dump RootLines) 3) first name ∙ ap (λ (l : Words). Some (Images (plan_for (Dump RootLines) (length l)))) (sym asks)
 asked Roots head first asks name =
     ap (λ (l : Words). reached Start (l ++ first ∷ [])) asks ∙ by_name (plan_for Roots 2) first name ∙ ap (λ (l : Words). Some (Images (plan_for Roots (length l)))) (sym asks)
-
 asked (restoring dest plan) head first asks name =
     ap (λ (l : Words). reached Start (l ++ first ∷ [])) asks.words_are
     ∙ ap (reached (Restore no_options)) (append_assoc (options_words asks.options) (asks.name ∷ []) (first ∷ []))

@@ -112,12 +112,30 @@ fn words_that_are_no_sentence(rt: HostRuntime) -> Result<(), Fail> {
         (&["frob", "a"], b"error: usage error at word 0\n"),
         (&["restore"], b"error: usage error at word 1\n"),
         (&["restore", "out"], b"error: usage error at word 2\n"),
-        (&["restore", "-s", "-s", "out"], b"error: usage error at word 2\n"),
-        (&["restore", "-s", "-l", "a"], b"error: usage error at word 2\n"),
-        (&["restore", "-r", "7", "out", "a"], b"error: usage error at word 2\n"),
-        (&["restore", "-r", "5", "-r", "5"], b"error: usage error at word 3\n"),
-        (&["restore", "-l", "-v", "a"], b"error: usage error at word 2\n"),
-        (&["restore", "out", "-v", "a"], b"error: usage error at word 2\n"),
+        (
+            &["restore", "-s", "-s", "out"],
+            b"error: usage error at word 2\n",
+        ),
+        (
+            &["restore", "-s", "-l", "a"],
+            b"error: usage error at word 2\n",
+        ),
+        (
+            &["restore", "-r", "7", "out", "a"],
+            b"error: usage error at word 2\n",
+        ),
+        (
+            &["restore", "-r", "5", "-r", "5"],
+            b"error: usage error at word 3\n",
+        ),
+        (
+            &["restore", "-l", "-v", "a"],
+            b"error: usage error at word 2\n",
+        ),
+        (
+            &["restore", "out", "-v", "a"],
+            b"error: usage error at word 2\n",
+        ),
     ];
     for (all, expected) in rows {
         answers(&rt, alloc, &mut MemRack::new(alloc), all, expected, 2)?;

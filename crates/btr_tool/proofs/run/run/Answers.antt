@@ -32,7 +32,7 @@ returns-clause-decided g c = λ answer is.
       first.0,
       first.1,
       decided (map string_bytes c.args.words.now) (outside (g.T.TreeSink.sink c.args.tree.now) (g.T.TreeSink.account c.args.tree.now) (g.O.Out.text c.args.out.now) (g.O.Out.account c.args.out.now))
-    (outside (g.T.TreeSink.sink c.carry_out-done.new.tree) (g.T.TreeSink.account c.carry_out-done.new.tree) (g.O.Out.text c.carry_out-done.new.out) (g.O.Out.account c.carry_out-done.new.out)) (g.O.Out.text c.finish.new.out) (g.O.Out.account c.finish.new.out)
+          (outside (g.T.TreeSink.sink c.carry_out-done.new.tree) (g.T.TreeSink.account c.carry_out-done.new.tree) (g.O.Out.text c.carry_out-done.new.out) (g.O.Out.account c.carry_out-done.new.out)) (g.O.Out.text c.finish.new.out) (g.O.Out.account c.finish.new.out)
           (answer_of c.carry_out-done.result) c.finish.result c.finish.ensures answer first.2,
     )
 
@@ -97,7 +97,7 @@ returns-clause-outcome g c =
     (λ shelf comes still calm steady enough.
     keeps_outcome seen c.settled.ensures (λ plan dest start. c.opened_then.ensures.listed plan dest start seen seen) (λ plan dest start. c.opened_then.ensures.refused plan dest start seen seen) (λ plan dest start. c.opened_then.ensures.halted plan dest start seen seen)
     (map string_bytes c.args.words.now) shelf (outside (g.T.TreeSink.sink c.args.tree.now) (g.T.TreeSink.account c.args.tree.now) (g.O.Out.text c.args.out.now) (g.O.Out.account c.args.out.now))
-    (outside (g.T.TreeSink.sink c.carry_out-done.new.tree) (g.T.TreeSink.account c.carry_out-done.new.tree) (g.O.Out.text c.finish.new.out) (g.O.Out.account c.finish.new.out)) c.finish.result (g.met.T.TreeSink.sound c.args.tree.now) c.requires.fresh 
+    (outside (g.T.TreeSink.sink c.carry_out-done.new.tree) (g.T.TreeSink.account c.carry_out-done.new.tree) (g.O.Out.text c.finish.new.out) (g.O.Out.account c.finish.new.out)) c.finish.result (g.met.T.TreeSink.sound c.args.tree.now) c.requires.fresh
     (has_effect (map string_bytes c.args.words.now) (outside (g.T.TreeSink.sink c.args.tree.now) (g.T.TreeSink.account c.args.tree.now) (g.O.Out.text c.args.out.now) (g.O.Out.account c.args.out.now))
     (outside (g.T.TreeSink.sink c.carry_out-done.new.tree) (g.T.TreeSink.account c.carry_out-done.new.tree) (g.O.Out.text c.carry_out-done.new.out) (g.O.Out.account c.carry_out-done.new.out)) (g.O.Out.text c.finish.new.out) (g.O.Out.account c.finish.new.out)
     (answer_of c.carry_out-done.result) c.finish.result c.finish.ensures shelf (comes still) calm steady enough))
@@ -110,7 +110,7 @@ returns-clause-headline g c =
     (λ shelf comes still calm steady enough.
     keeps_headline seen c.settled.ensures (λ plan dest start. c.opened_then.ensures.listed plan dest start seen seen) (λ plan dest start. c.opened_then.ensures.refused plan dest start seen seen) (λ plan dest start. c.opened_then.ensures.halted plan dest start seen seen)
     (map string_bytes c.args.words.now) shelf (outside (g.T.TreeSink.sink c.args.tree.now) (g.T.TreeSink.account c.args.tree.now) (g.O.Out.text c.args.out.now) (g.O.Out.account c.args.out.now))
-    (outside (g.T.TreeSink.sink c.carry_out-done.new.tree) (g.T.TreeSink.account c.carry_out-done.new.tree) (g.O.Out.text c.finish.new.out) (g.O.Out.account c.finish.new.out)) c.finish.result (g.met.T.TreeSink.sound c.args.tree.now) c.requires.fresh c.headline.ensures 
+    (outside (g.T.TreeSink.sink c.carry_out-done.new.tree) (g.T.TreeSink.account c.carry_out-done.new.tree) (g.O.Out.text c.finish.new.out) (g.O.Out.account c.finish.new.out)) c.finish.result (g.met.T.TreeSink.sound c.args.tree.now) c.requires.fresh c.headline.ensures
     (has_effect (map string_bytes c.args.words.now) (outside (g.T.TreeSink.sink c.args.tree.now) (g.T.TreeSink.account c.args.tree.now) (g.O.Out.text c.args.out.now) (g.O.Out.account c.args.out.now))
     (outside (g.T.TreeSink.sink c.carry_out-done.new.tree) (g.T.TreeSink.account c.carry_out-done.new.tree) (g.O.Out.text c.carry_out-done.new.out) (g.O.Out.account c.carry_out-done.new.out)) (g.O.Out.text c.finish.new.out) (g.O.Out.account c.finish.new.out)
     (answer_of c.carry_out-done.result) c.finish.result c.finish.ensures shelf (comes still) calm steady enough))
