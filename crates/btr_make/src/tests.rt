@@ -1,2 +1,5 @@
+mod blocks;
+mod rows;
+mod sound;
 mod spoiling;
 mod supers;
