@@ -1,4 +1,5 @@
 mod blocks;
+mod makers;
 mod rows;
 mod sound;
 mod spoiling;

@@ -48,8 +48,13 @@ impl Tally {
     }
 }
 
-// The block at an address, or nothing where no byte was written.
-fn block_at(alloc: Global, rack: &MemRack, name: &str, addr: u64) -> Result<Vec<u8>, Fail> {
+/// The block at an address, or nothing where no byte was written.
+pub(super) fn block_at(
+    alloc: Global,
+    rack: &MemRack,
+    name: &str,
+    addr: u64,
+) -> Result<Vec<u8>, Fail> {
     let mut block = Vec::new(alloc);
     let first = addr / PAGE_SIZE;
     for i in 0..4 {

@@ -98,8 +98,8 @@ fn superblocks_of_small_volumes(rt: HostRuntime) -> Result<(), Fail> {
     Ok(())
 }
 
-// Both superblocks of an image of a made volume have their checksums.
-fn has_two_supers(rt: &impl Abort, rack: &MemRack, name: &str) -> Result<(), Fail> {
+/// Both superblocks of an image of a made volume have their checksums.
+pub(super) fn has_two_supers(rt: &impl Abort, rack: &MemRack, name: &str) -> Result<(), Fail> {
     for index in [16, 16384] {
         let Some(copy) = rack.page(name, index) else {
             return Err("no superblock")?;
