@@ -1,30 +1,35 @@
-// A filesystem of one block: a chunk of the profile single, and the device on which it lies. For want of memory it can't
-// be made; no other refusal of what it calls can come, at these numbers, and each is answered as that one.
-ghost use Rattle.std.specs.Prelude.{◌+◌, ◌<◌, ◌≤◌, length, IfOk};
+// A filesystem of one chunk of the profile single, and the device on which it lies. For want of memory it can't be made; no
+// other refusal of what it calls can come, at these numbers, and each is answered as that one.
+ghost use Rattle.std.specs.Prelude.{◌≡◌, ◌+◌, ◌<◌, ◌≤◌, length, IfOk};
 ghost use Rattle.btr_rack.specs.Memory.{seen_of, slots_of};
 ghost use Rattle.btr_read.specs.Store.{free_count};
 ghost use Rattle.btr_read.specs.Serves.{Serves};
 
 use btr_base::{SumKind, sum};
+use btr_blocks::Tree;
 use btr_chunk::{Chunk, ChunkTable};
 use btr_rack::{MemRack, Rack};
 use btr_read::{Store, Want};
 use std::alloc::{AllocError, Global};
 
-const KIND: SumKind = SumKind::Crc32c;
+/// The kind of checksum.
+pub const KIND: SumKind = SumKind::Crc32c;
 
-const FSID: [u8; 16] = *b"one block of one";
+/// The id in the headers of tree blocks.
+pub const FSID: [u8; 16] = *b"one block of one";
 
-const GENERATION: u64 = 7;
+/// The transaction that wrote everything.
+pub const GENERATION: u64 = 7;
 
 const LEVEL: u8 = 0;
 
 const DEVICE: u64 = 1;
 
-// The chunk's first address, its length in bytes, and where it begins on the device.
-const START: u64 = 16777216;
+/// The chunk's first address.
+pub const START: u64 = 16777216;
 
-const LENGTH: u64 = 131072;
+// The chunk's length in bytes, and where it begins on the device.
+const LENGTH: u64 = 134217728;
 
 const OFFSET: u64 = 1048576;
 
@@ -76,6 +81,23 @@ pub fn image_of(alloc: Global, bytes: &[u8]) -> Result<MemRack, AllocError>
     Ok(rack)
 }
 
+/// The same, with a tree whose blocks stand from the chunk's first address on.
+pub fn image_with(alloc: Global, tree: &Tree) -> Result<MemRack, AllocError>
+    ensures { IfOk result (λ rack. SLOT < length (slots_of rack)) }
+{
+    let mut rack = MemRack::new(alloc);
+    rack.add(NAME, OFFSET + LENGTH).map_err(|_| AllocError)?;
+    for block in &tree.blocks {
+        let off = block.addr.wrapping_sub(START).wrapping_add(OFFSET);
+        rack.poke(NAME, off, block.bytes.as_slice())
+            .map_err(|_| AllocError)?;
+    }
+    let Ok(_slot) = rack.open(NAME, false) else {
+        return Err(AllocError);
+    };
+    Ok(rack)
+}
+
 // The chunk's item: its one stripe lies on the device.
 fn item(alloc: Global) -> Result<Vec<u8>, AllocError> {
     let mut bytes = Vec::new(alloc);
@@ -98,7 +120,7 @@ pub fn store_over(alloc: Global, nodesize: u32, rack: &MemRack) -> Result<Store,
     requires small { nodesize ≤ 65536 }
     requires open { SLOT < length (slots_of rack.now) }
     ensures serves { IfOk result (Serves (seen_of rack.now)) }
-    ensures room { IfOk result (λ store. 4 ≤ free_count store) }
+    ensures free { IfOk result (λ store. free_count store ≡ 24) }
 {
     let mut chunks = ChunkTable::new(alloc);
     let chunk = Chunk::read(alloc, START, item(alloc)?.as_slice()).map_err(|_| AllocError)?;

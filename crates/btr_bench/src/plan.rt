@@ -2,11 +2,11 @@ ghost use Rattle.std.specs.Prelude.{IsTrue};
 ghost use Rattle.btr_bench.specs.Task.{takes};
 
 use crate::task::Task;
-use crate::{fetching, turns};
+use crate::{fetching, turns, walking};
 use anyhow::{Context, Result, bail, ensure};
 use std::alloc::{AllocError, Global};
 
-/// What is to be run: a task over `size` bytes, which it can take, in so many turns.
+/// What is to be run: a task over `size` bytes or items, which it can take, in so many turns.
 #[derive(Clone, Copy)]
 pub struct Plan {
     pub task: Task,
@@ -44,6 +44,7 @@ impl Plan {
         match self.task {
             Task::Over(kernel) => turns::run(alloc, kernel, self.size, self.times),
             Task::Fetching(block) => fetching::run(alloc, block, self.size, self.times),
+            Task::Walking(walk) => walking::run(alloc, walk, self.size as u64, self.times),
         }
     }
 }

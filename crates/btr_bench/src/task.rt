@@ -1,5 +1,6 @@
 use crate::fetching::Block;
 use crate::kernel::Kernel;
+use crate::walking::Walk;
 
 /// What can be timed.
 #[derive(Clone, Copy, Debug, PartialEq, Eq)]
@@ -8,6 +9,8 @@ pub enum Task {
     Over(Kernel),
     /// The fetching of a block from the image of a device.
     Fetching(Block),
+    /// The items of a tree.
+    Walking(Walk),
 }
 
 impl Task {
@@ -22,17 +25,21 @@ impl Task {
             "tree-block" => Some(Task::Fetching(Block::Tree)),
             "kept-block" => Some(Task::Fetching(Block::Kept)),
             "sector" => Some(Task::Fetching(Block::Sector)),
+            "scan" => Some(Task::Walking(Walk::Scan)),
+            "seek" => Some(Task::Walking(Walk::Seek)),
+            "find-le" => Some(Task::Walking(Walk::FindLe)),
             _ => Kernel::from_name(name).map(|kernel| Task::Over(kernel)),
         }
     }
 
-    /// Whether the piece or the block can have so many bytes.
+    /// Whether the piece or the block can have so many bytes, or the tree so many items.
     pub fn takes(self, size: usize) -> bool
         ensures { result ≡ takes self size }
     {
         match self {
             Task::Over(kernel) => kernel.takes(size),
             Task::Fetching(block) => block.takes(size),
+            Task::Walking(_) => 1 <= size && size <= 1000000,
         }
     }
 
@@ -42,7 +49,7 @@ impl Task {
     {
         match self {
             Task::Over(kernel) => kernel.digits(),
-            Task::Fetching(_) => 16,
+            Task::Fetching(_) | Task::Walking(_) => 16,
         }
     }
 }

@@ -25,6 +25,10 @@ fn results(rt: HostRuntime) -> Result<(), Fail> {
         ("tree-block", "16384", "30", 30),
         ("tree-block", "65536", "2", 2),
         ("sector", "4096", "30", 30),
+        ("scan", "1", "1", 1),
+        ("scan", "5000", "2", 5000),
+        ("seek", "5000", "2", 5000),
+        ("find-le", "5000", "2", 5000),
     ];
     for (kernel, size, times, all) in rows {
         let plan = Plan::parse(kernel, size, times)?;
@@ -44,6 +48,8 @@ fn refused(rt: HostRuntime) {
         ("tree-block", "4095", "1"),
         ("tree-block", "65537", "1"),
         ("sector", "8192", "1"),
+        ("scan", "0", "1"),
+        ("find-le", "1000001", "1"),
         ("crc", "8", "x"),
         ("crc32", "8", "1"),
     ];

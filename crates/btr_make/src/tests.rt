@@ -1,2 +1,6 @@
+mod blocks;
+mod makers;
+mod rows;
+mod sound;
 mod spoiling;
 mod supers;

@@ -1,4 +1,6 @@
 // The lines and the names.
+mod failing;
+mod memory;
 mod restoring;
 
 use crate::cause::Cause;

@@ -1,4 +1,5 @@
 // Volumes in memory, opened.
+mod chunks;
 mod refusals;
 mod rows;
 mod volume;

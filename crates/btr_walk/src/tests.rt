@@ -1,3 +1,4 @@
+mod copies;
 mod folds;
 mod rests;
 mod scans;

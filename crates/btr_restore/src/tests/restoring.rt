@@ -1,55 +1,104 @@
-// A restore of a small volume into memory.
-use crate::restore;
+// Restores of small volumes.
+use super::memory::{ALL, five_files, opened, outcome};
 use btr_files::{Counts, RestorePlan};
-use btr_make::{RowVolume, row};
-use btr_rack::{MemOut, MemRack, MemTree, Rack};
-use btr_volume::{Stop, Volume};
-use std::alloc::Global;
+use btr_make::RowVolume;
+use btr_volume::Stop;
+use btr_walk::TreeFault;
 use std::process::Abort;
 use std::test::Fail;
 
-// What came of a restore: the answer, the text, and what stands in the sink.
-#[derive(Drop)]
-struct Restored {
-    answer: Result<Counts, Stop>,
-    text: MemOut,
-    tree: MemTree,
+const VERBOSE: RestorePlan = RestorePlan {
+    verbose: true,
+    ..ALL
+};
+
+const WITH_SNAPSHOTS: RestorePlan = RestorePlan {
+    snapshots: true,
+    ..VERBOSE
+};
+
+const DRY: RestorePlan = RestorePlan { dry: true, ..ALL };
+
+const MISSING: RestorePlan = RestorePlan { root: 300, ..ALL };
+
+#[test]
+fn files_of_small_volumes(rt: HostRuntime) -> Result<(), Fail> {
+    let rows = five_files(rt.alloc())?;
+    for (which, names) in [
+        (RowVolume::V1, ["a"].as_slice()),
+        (RowVolume::V1d, ["a"].as_slice()),
+        (RowVolume::W5, ["a", "c"].as_slice()),
+        (RowVolume::W6, ["b", "d"].as_slice()),
+    ] {
+        let mut rack = opened(rt.alloc(), which, names)?;
+        let all = outcome(&rt, rt.alloc(), &mut rack, &ALL)?;
+        assert!(rt; all.answer.is_ok() && all.part.is_empty());
+        assert!(rt; all.text.as_slice() == b"directories 0 files 5 skipped 0\n".as_slice());
+        assert!(rt; all.rows.as_slice() == rows.as_slice());
+    }
+    Ok(())
 }
 
-// Restores tree 5 from the open images of a rack.
-fn outcome_of(rt: &impl Abort, alloc: Global, rack: &mut MemRack) -> Result<Restored, Fail> {
-    if rack.count() == 0 {
-        return Err("no image")?;
-    }
-    let Ok(mut volume) = Volume::open(alloc, rack) else {
-        return Err("the volume doesn't open")?;
-    };
-    let plan = RestorePlan {
-        root: 5,
-        snapshots: false,
-        verbose: false,
-        dry: false,
-    };
-    let mut tree = MemTree::new(alloc);
-    let mut text = MemOut::new(alloc);
-    let answer = restore(alloc, &plan, "out", rack, &mut volume, &mut tree, &mut text);
-    assert_eq!(rt; volume.store.free(), 24);
-    Ok(Restored { answer, text, tree })
+// The file whose first sector is lost is begun, and has no byte.
+#[test]
+fn the_first_block_that_is_lost(rt: HostRuntime) -> Result<(), Fail> {
+    let mut rack = opened(rt.alloc(), RowVolume::W5, &["b"])?;
+    let some = outcome(&rt, rt.alloc(), &mut rack, &ALL)?;
+    assert_eq!(rt; some.answer, Err(Stop::Tree(TreeFault::Lost(16777216))));
+    assert!(rt; some.text.is_empty());
+    assert!(rt; some.rows.as_slice() == b"out\ne \ni x\nh1 hello\nh2 hello\n".as_slice());
+    assert!(rt; some.part.as_slice() == b"a \n".as_slice());
+    Ok(())
 }
 
 #[test]
-fn files_of_a_small_volume(rt: HostRuntime) -> Result<(), Fail> {
-    let alloc = rt.alloc();
-    let mut rack = row(alloc, RowVolume::W5)?;
-    rack.open("a", false)?;
-    rack.open("c", false)?;
-    let all = outcome_of(&rt, alloc, &mut rack)?;
-    assert!(rt; all.answer.is_ok());
-    assert_eq!(rt;
-        all.text.text(),
-        b"directories 0 files 5 skipped 0\n".as_slice()
-    );
-    assert_eq!(rt; all.tree.rows().len(), 6);
-    assert!(rt; all.tree.part().is_none());
+fn subvolumes_and_snapshots(rt: HostRuntime) -> Result<(), Fail> {
+    for (plan, dirs, text, rows) in [
+        (
+            VERBOSE,
+            1,
+            b"dir /sub\nskip snapshot /snap\ndirectories 1 files 0 skipped 1\n".as_slice(),
+            b"out\nsub\n..\n".as_slice(),
+        ),
+        (
+            WITH_SNAPSHOTS,
+            3,
+            b"dir /sub\ndir /snap\ndir /snap/sub\ndirectories 3 files 0 skipped 0\n".as_slice(),
+            b"out\nsub\n..\nsnap\nsub\n..\n..\n".as_slice(),
+        ),
+    ] {
+        let mut rack = opened(rt.alloc(), RowVolume::S, &["a"])?;
+        let all = outcome(&rt, rt.alloc(), &mut rack, &plan)?;
+        assert!(rt; all.answer.is_ok_and(|counts| counts.dirs == dirs));
+        assert!(rt; all.text.as_slice() == text);
+        assert!(rt; all.rows.as_slice() == rows);
+    }
+    Ok(())
+}
+
+#[test]
+fn dry_runs(rt: HostRuntime) -> Result<(), Fail> {
+    let mut rack = opened(rt.alloc(), RowVolume::V2, &["a"])?;
+    let dry = outcome(&rt, rt.alloc(), &mut rack, &DRY)?;
+    let counts = Counts {
+        dirs: 0,
+        files: 5,
+        skipped: 1,
+    };
+    let text =
+        b"file /e\nfile /i\nfile /h1\nfile /h2\nfile /a\nskip compressed /z\ndirectories 0 files 5 skipped 1\n";
+    assert_eq!(rt; dry.answer, Ok(counts));
+    assert!(rt; dry.text.as_slice() == text.as_slice());
+    assert!(rt; dry.rows.is_empty() && dry.part.is_empty());
+    Ok(())
+}
+
+#[test]
+fn trees_that_are_missing(rt: HostRuntime) -> Result<(), Fail> {
+    let mut rack = opened(rt.alloc(), RowVolume::V1, &["a"])?;
+    let none = outcome(&rt, rt.alloc(), &mut rack, &MISSING)?;
+    assert_eq!(rt; none.answer, Err(Stop::NoTree(300)));
+    assert!(rt; none.text.is_empty());
+    assert!(rt; none.rows.is_empty() && none.part.is_empty());
     Ok(())
 }

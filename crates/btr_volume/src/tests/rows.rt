@@ -8,8 +8,13 @@ use std::alloc::Global;
 use std::process::Abort;
 use std::test::Fail;
 
-// Opens a small volume by some of its images, and looks at its chunks and at the roots of trees.
-fn opens(rt: &impl Abort, alloc: Global, rack: &mut MemRack, chunks: usize) -> Result<(), Fail> {
+/// Opens a small volume by some of its images, and looks at its chunks and at the roots of trees.
+pub(super) fn opens(
+    rt: &impl Abort,
+    alloc: Global,
+    rack: &mut MemRack,
+    chunks: usize,
+) -> Result<(), Fail> {
     let summary = summary(alloc, rack)??;
     assert_eq!(rt; summary.chunks, chunks);
     assert_eq!(rt; summary.free, 24);

@@ -6,8 +6,8 @@ use std::alloc::Global;
 use std::process::Abort;
 use std::test::Fail;
 
-// The even numbers from one to another, of those below twice a count.
-fn is_even_run(numbers: &[u64], count: u64, lo: u64, hi: u64) -> bool {
+/// The even numbers from one to another, of those below twice a count.
+pub(super) fn is_even_run(numbers: &[u64], count: u64, lo: u64, hi: u64) -> bool {
     let mut wanted = 0;
     for n in 0..count {
         let number = n.wrapping_mul(2);

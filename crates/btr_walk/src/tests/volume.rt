@@ -18,7 +18,8 @@ use std::test::Fail;
 /// Where the chunk begins, on the device too.
 pub(super) const START: u64 = 1048576;
 
-const CHUNK: u64 = 4194304;
+/// How many bytes the chunk has.
+pub(super) const CHUNK: u64 = 4194304;
 
 /// Small blocks, of which a leaf has three items and a node three pointers at most.
 pub(super) const FORM: Form = Form {
@@ -56,11 +57,16 @@ pub(super) fn key(n: u64) -> Key {
 
 /// The tree of the items whose numbers are the even ones below twice `count`.
 pub(super) fn tree(alloc: Global, count: u64) -> Result<Tree, Fail> {
+    tree_of(alloc, count, &FORM)
+}
+
+/// The same, with blocks of another form.
+pub(super) fn tree_of(alloc: Global, count: u64, form: &Form) -> Result<Tree, Fail> {
     let mut items = Items::new(alloc);
     for n in 0..count {
         items.put(n.wrapping_mul(2), 1, 0, Body::new(alloc).u64(n)?)?;
     }
-    Ok(Tree::grow(alloc, &FORM, START, items)?)
+    Ok(Tree::grow(alloc, form, START, items)?)
 }
 
 /// The place of its root.
@@ -90,8 +96,17 @@ pub(super) fn store_over(alloc: Global, rack: &MemRack) -> Result<Store, Fail>
     ensures serves { IfOk result (Serves (seen_of rack.now)) }
     ensures free { IfOk result (λ store. free_count store ≡ 24) }
 {
+    store_by(alloc, rack, item(alloc)?.as_slice())
+}
+
+/// The store that reads the chunk of this item from the first image.
+pub(super) fn store_by(alloc: Global, rack: &MemRack, item: &[u8]) -> Result<Store, Fail>
+    requires { 0 < length (slots_of rack.now) }
+    ensures serves { IfOk result (Serves (seen_of rack.now)) }
+    ensures free { IfOk result (λ store. free_count store ≡ 24) }
+{
     let mut chunks = ChunkTable::new(alloc);
-    chunks.add(Chunk::read(alloc, START, item(alloc)?.as_slice())?)?;
+    chunks.add(Chunk::read(alloc, START, item)?)?;
     let mut store = Store::new(alloc, FORM.sums, FORM.fsid, 4096, chunks)?;
     store.add_device(1, 0, rack.len(0))?;
     Ok(store)

@@ -5,7 +5,7 @@ use Rattle.btr_read.specs.Layout.{AreOpen, HaveOwnSlots}
 use Rattle.btr_read.specs.Store.{free_count}
 use Rattle.btr_read.proofs.Devices.{open_none, own_none, open_more, own_more}
 use Rattle.btr_read.proofs.Serving.{serves_anew}
-use Rattle.btr_walk.proofs.tests.volume.store_over.Goals as goal
+use Rattle.btr_walk.proofs.tests.volume.store_by.Goals as goal
 
 pub returns-clause-serves : goal.returns-clause-serves
 returns-clause-serves c =

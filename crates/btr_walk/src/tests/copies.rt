@@ -1,0 +1,106 @@
+// Trees in two copies on one device, of which the first is that of another transaction.
+ghost use Rattle.std.specs.Prelude.{◌<◌, IfOk, length};
+ghost use Rattle.btr_rack.specs.Memory.{slots_of};
+
+use super::scans::is_even_run;
+use super::volume::{CHUNK, FORM, START, floor, root, scanned, store_by, tree, tree_of};
+use crate::TreeFault;
+use btr_blocks::{Body, Form, Tree};
+use btr_rack::{MemRack, Rack};
+use std::alloc::{AllocError, Global};
+use std::test::Fail;
+
+// Blocks that were written before.
+const STALE: Form = Form {
+    generation: FORM.generation - 1,
+    ..FORM
+};
+
+// Where the second copy begins.
+const SECOND: u64 = START + CHUNK;
+
+// The item of a chunk with two copies.
+fn item(alloc: Global) -> Result<Body, AllocError> {
+    Body::new(alloc)
+        .u64(CHUNK)?
+        .u64(2)?
+        .u64(65536)?
+        .u64(0x22)?
+        .u32(65536)?
+        .u32(65536)?
+        .u32(4096)?
+        .u16(2)?
+        .u16(1)?
+        .u64(1)?
+        .u64(START)?
+        .zeros(16)?
+        .u64(1)?
+        .u64(SECOND)?
+        .zeros(16)
+}
+
+// Writes both copies of a tree, of which the first has the stale blocks at one level.
+fn put(rack: &mut MemRack, tree: &Tree, stale: &Tree, level: u8) -> Result<(), Fail> {
+    for (block, old) in tree.blocks.iter().zip(&stale.blocks) {
+        let first = if block.level == level { old } else { block };
+        rack.poke("a", block.addr, first.bytes.as_slice())?;
+        rack.poke("a", block.addr.wrapping_add(CHUNK), block.bytes.as_slice())?;
+    }
+    Ok(())
+}
+
+fn rack_with(alloc: Global, tree: &Tree, stale: &Tree, level: u8) -> Result<MemRack, Fail>
+    ensures { IfOk result (λ rack. 0 < length (slots_of rack)) }
+{
+    let mut rack = MemRack::new(alloc);
+    rack.add("a", 16777216)?;
+    put(&mut rack, tree, stale, level)?;
+    rack.open("a", false)?;
+    Ok(rack)
+}
+
+// What a tree was found to be: the numbers of all its items, the greatest of them, and the fault of the scan.
+#[derive(Drop)]
+struct Reading {
+    numbers: Vec<u64>,
+    last: Option<u64>,
+    fault: Option<TreeFault>,
+}
+
+// The tree of so many items, with stale first copies at a level.
+fn read(alloc: Global, count: u64, level: u8) -> Result<Reading, Fail> {
+    let tree = tree(alloc, count)?;
+    let stale = tree_of(alloc, count, &STALE)?;
+    let place = root(&tree);
+    let mut rack = rack_with(alloc, &tree, &stale, level)?;
+    let mut store = store_by(alloc, &rack, item(alloc)?.as_slice())?;
+    let last = floor(&mut store, &mut rack, &place, 99)?;
+    let (numbers, fault) = scanned(alloc, &mut store, &mut rack, &place, (0, 99), false)?;
+    Ok(Reading {
+        numbers,
+        last,
+        fault,
+    })
+}
+
+#[test]
+fn stale_first_copies(rt: HostRuntime) -> Result<(), Fail> {
+    for (count, level) in [
+        (3, 0),
+        (9, 0),
+        (9, 1),
+        (27, 0),
+        (27, 1),
+        (27, 2),
+        (28, 0),
+        (28, 1),
+        (28, 2),
+        (28, 3),
+    ] {
+        let found = read(rt.alloc(), count, level)?;
+        assert_eq!(rt; found.fault, None);
+        assert_eq!(rt; found.last, Some(count.wrapping_mul(2).wrapping_sub(2)));
+        assert!(rt; is_even_run(found.numbers.as_slice(), count, 0, 99));
+    }
+    Ok(())
+}
