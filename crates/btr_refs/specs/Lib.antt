@@ -1,0 +1,4 @@
+pub mod RefKey
+pub mod Counts
+pub mod Findings
+pub mod Differences
