@@ -2,13 +2,15 @@
 use Rattle.std.proofs.Common.{◌≡◌, ℕ, ◌+◌, ◌<◌, Bool, true, false, cond, ◌||◌, List, [], ◌∷◌, ◌++◌, length, take, get_or, Option, Some, None, filter_map, eqb, refl, sym, ap, ◌∙◌, arith}
 use Rattle.std.proofs.lemmas.Bool.Decides.{nat_tests}
 use Rattle.std.proofs.lemmas.List.Folds.{list_any-append, list_any_more}
-use Rattle.std.specs.BTreeMap.{is_at, keys}
+use Rattle.std.specs.BTreeMap.{is_at}
 use Rattle.std.specs.BTreeSet.{BTreeSet, contains}
 use Rattle.std.specs.List.{list_any, cons_option}
+use Rattle.std.specs.Map.{keys_of}
 use Rattle.std.specs.Ordering.{is_eq, nat_cmp}
 use Rattle.btr_refs.specs.declared.extent.Extent.{Extent}
 use Rattle.btr_refs.specs.declared.finding.Finding.{Finding}
-use Rattle.btr_refs.specs.Differences.{RefCounts, is_row, is_shown, ref_count, ref_total, ref_alone, has_extent}
+use Rattle.btr_refs.specs.Differences.{is_row, is_shown, ref_count, ref_total, ref_alone, has_extent}
+use Rattle.btr_refs.specs.Counts.{RefCounts}
 use Rattle.btr_refs.specs.Findings.{is_one_of, is_same}
 
 or_swaps : (a b c : Bool) → ((a || b) || c) ≡ (b || (a || c))
@@ -53,28 +55,28 @@ or_order false false false false = refl
 module _ (forward stored : RefCounts) (extents : List Extent) (one : Finding) where
   -- the rows that were put, in the order of the definition
   pub all_rows : (empty first second third last : Bool) → empty ≡ false
-      → first ≡ (list_any (is_row (ref_count forward stored) one) (keys forward) || empty)
-      → second ≡ (list_any (is_row (ref_count forward stored) one) (keys stored) || first)
+      → first ≡ (list_any (is_row (ref_count forward stored) one) (keys_of forward) || empty)
+      → second ≡ (list_any (is_row (ref_count forward stored) one) (keys_of stored) || first)
       → third ≡ (list_any (is_row (ref_total stored) one) extents || second)
-      → last ≡ (list_any (is_row (ref_alone extents stored) one) (keys stored) || third)
-      → last ≡ is_one_of (filter_map (ref_count forward stored) (keys forward ++ keys stored) ++ filter_map (ref_total stored) extents ++ filter_map (ref_alone extents stored) (keys stored)) one
+      → last ≡ (list_any (is_row (ref_alone extents stored) one) (keys_of stored) || third)
+      → last ≡ is_one_of (filter_map (ref_count forward stored) (keys_of forward ++ keys_of stored) ++ filter_map (ref_total stored) extents ++ filter_map (ref_alone extents stored) (keys_of stored)) one
   all_rows empty first second third last is-empty is-first is-second is-third is-last =
-      let counts : List Finding = filter_map (ref_count forward stored) (keys forward ++ keys stored) in
+      let counts : List Finding = filter_map (ref_count forward stored) (keys_of forward ++ keys_of stored) in
       let totals : List Finding = filter_map (ref_total stored) extents in
-      let alone : List Finding = filter_map (ref_alone extents stored) (keys stored) in
-      let f : Bool = list_any (is_row (ref_count forward stored) one) (keys forward) in
-      let s : Bool = list_any (is_row (ref_count forward stored) one) (keys stored) in
+      let alone : List Finding = filter_map (ref_alone extents stored) (keys_of stored) in
+      let f : Bool = list_any (is_row (ref_count forward stored) one) (keys_of forward) in
+      let s : Bool = list_any (is_row (ref_count forward stored) one) (keys_of stored) in
       let t : Bool = list_any (is_row (ref_total stored) one) extents in
-      let a : Bool = list_any (is_row (ref_alone extents stored) one) (keys stored) in
+      let a : Bool = list_any (is_row (ref_alone extents stored) one) (keys_of stored) in
       let put : last ≡ (a || (t || (s || (f || false)))) =
       is-last ∙ ap (λ b. a || b) (is-third ∙ ap (λ b. t || b) (is-second ∙ ap (λ b. s || b) (is-first ∙ ap (λ b. f || b) is-empty))) in
       let parts : is_one_of (counts ++ totals ++ alone) one ≡ (((f || s) || t) || a) =
       list_any-append (is_same one) (counts ++ totals) alone
       ∙ ap (λ b. b || is_one_of alone one)
       (list_any-append (is_same one) counts totals
-      ∙ ap (λ b. b || is_one_of totals one) (rows-any (ref_count forward stored) one (keys forward ++ keys stored) ∙ list_any-append (is_row (ref_count forward stored) one) (keys forward) (keys stored))
+      ∙ ap (λ b. b || is_one_of totals one) (rows-any (ref_count forward stored) one (keys_of forward ++ keys_of stored) ∙ list_any-append (is_row (ref_count forward stored) one) (keys_of forward) (keys_of stored))
       ∙ ap (λ b. (f || s) || b) (rows-any (ref_total stored) one extents))
-      ∙ ap (λ b. ((f || s) || t) || b) (rows-any (ref_alone extents stored) one (keys stored)) in
+      ∙ ap (λ b. ((f || s) || t) || b) (rows-any (ref_alone extents stored) one (keys_of stored)) in
       put ∙ or_order f s t a ∙ sym parts
 
 -- one more address

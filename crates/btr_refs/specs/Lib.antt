@@ -1,4 +1,5 @@
 pub mod RefKey
 pub mod Counts
+pub mod Extents
 pub mod Findings
 pub mod Differences

@@ -1,11 +1,12 @@
 // Where the references that are counted and those that are stored differ.
 ghost use Rattle.std.specs.Prelude.{◌≡◌, ℕ, ◌+◌, ◌==◌, ◌||◌, cond, List, OnOk, IfOk};
-ghost use Rattle.std.specs.BTreeMap.{keys};
+ghost use Rattle.std.specs.Map.{keys_of};
 ghost use Rattle.std.specs.List.{list_any};
 ghost use Rattle.btr_refs.specs.declared.extent.Extent.{Extent};
 ghost use Rattle.btr_refs.specs.declared.finding.Finding.{Finding};
+ghost use Rattle.btr_refs.specs.Counts.{RefCounts};
 ghost use Rattle.btr_refs.specs.Findings.{has, shown_sum};
-ghost use Rattle.btr_refs.specs.Differences.{ref_count, ref_total, ref_alone, is_row, RefCounts, Totals, Addresses};
+ghost use Rattle.btr_refs.specs.Differences.{ref_count, ref_total, ref_alone, is_row, Totals, Addresses};
 ghost use Rattle.btr_refs.specs.Differences as rows;
 
 use crate::counts::count_in;
@@ -22,7 +23,7 @@ fn put_ref_count(
     forward: &BTreeMap<RefKey, u64>,
     stored: &BTreeMap<RefKey, u64>,
 ) -> Result<(), Memory>
-    ensures { OnOk result ((one : Finding) → has found.new one ≡ (is_row (ref_count forward.now stored.now) one key.now || has found.old one)) }
+    ensures { OnOk result ((one : Finding) → has found.new one ≡ (is_row (ref_count forward.now.entries stored.now.entries) one key.now || has found.old one)) }
 {
     let counted = count_in(forward, key);
     let kept = count_in(stored, key);
@@ -48,7 +49,7 @@ fn put_ref_counts(
     forward: &BTreeMap<RefKey, u64>,
     stored: &BTreeMap<RefKey, u64>,
 ) -> Result<(), Memory>
-    ensures { OnOk result ((one : Finding) → has found.new one ≡ (list_any (is_row (ref_count forward.now stored.now) one) (keys refs.now) || has found.old one)) }
+    ensures { OnOk result ((one : Finding) → has found.new one ≡ (list_any (is_row (ref_count forward.now.entries stored.now.entries) one) (keys_of refs.now.entries) || has found.old one)) }
 {
     for key in refs.keys() {
         put_ref_count(found, key, forward, stored)?;
@@ -91,7 +92,7 @@ fn add_total(totals: &mut BTreeMap<u64, u128>, addr: u64, count: u64) -> Result<
 
 // How often the extent at each address is referred to, in all.
 fn totals_of(alloc: Global, refs: &BTreeMap<RefKey, u64>) -> Result<BTreeMap<u64, u128>, Memory>
-    ensures { IfOk result (Totals refs.now) }
+    ensures { IfOk result (Totals refs.now.entries) }
 {
     let mut totals = BTreeMap::new(alloc);
     for (key, count) in refs.iter() {
@@ -148,7 +149,7 @@ fn put_ref_alone(
     addresses: &BTreeSet<u64>,
     totals: &BTreeMap<u64, u128>,
 ) -> Result<(), Memory>
-    ensures { (extents : List Extent) → Addresses extents addresses.now → Totals refs.now totals.now → OnOk result ((one : Finding) → has found.new one ≡ (list_any (is_row (ref_alone extents refs.now) one) (keys refs.now) || has found.old one)) }
+    ensures { (extents : List Extent) → Addresses extents addresses.now → Totals refs.now.entries totals.now → OnOk result ((one : Finding) → has found.new one ≡ (list_any (is_row (ref_alone extents refs.now.entries) one) (keys_of refs.now.entries) || has found.old one)) }
 {
     for key in refs.keys() {
         if !addresses.contains(&key.addr) {
@@ -166,14 +167,16 @@ pub fn differences(
     forward: &Forward,
     stored: &Stored,
 ) -> Result<Vec<Finding>, Memory>
-    ensures { IfOk result (λ findings. findings.items ≡ rows.differences forward.now.refs stored.now.extents.items stored.now.refs) }
+    ensures { IfOk result (λ findings. findings.items ≡ rows.differences forward.now.refs.entries stored.now.extents stored.now.refs) }
 {
+    let refs = stored.refs();
+    let extents = stored.extents();
     let mut found = BTreeSet::new(alloc);
-    put_ref_counts(&mut found, &forward.refs, &forward.refs, &stored.refs)?;
-    put_ref_counts(&mut found, &stored.refs, &forward.refs, &stored.refs)?;
-    let totals = totals_of(alloc, &stored.refs)?;
-    put_ref_totals(&mut found, stored.extents.as_slice(), &totals)?;
-    let addresses = addresses_of(alloc, stored.extents.as_slice())?;
-    put_ref_alone(&mut found, &stored.refs, &addresses, &totals)?;
+    put_ref_counts(&mut found, &forward.refs, &forward.refs, refs)?;
+    put_ref_counts(&mut found, refs, &forward.refs, refs)?;
+    let totals = totals_of(alloc, refs)?;
+    put_ref_totals(&mut found, extents, &totals)?;
+    let addresses = addresses_of(alloc, extents)?;
+    put_ref_alone(&mut found, refs, &addresses, &totals)?;
     listed(alloc, &found)
 }

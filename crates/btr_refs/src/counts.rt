@@ -1,6 +1,6 @@
 // How often each reference is met.
-ghost use Rattle.std.specs.Prelude.{◌≡◌, List, [], ◌∷◌, ◌++◌, OnOk, OnErr};
-ghost use Rattle.btr_refs.specs.Counts.{Counted, Counts, count_in};
+ghost use Rattle.std.specs.Prelude.{◌≡◌, OnOk, OnErr};
+ghost use Rattle.btr_refs.specs.Counts.{count_in, counted, CountsLaw};
 
 use crate::RefKey;
 use btr_base::Memory;
@@ -8,7 +8,7 @@ use std::collections::BTreeMap;
 
 /// How often a reference is met: 0 where it isn't in the map.
 pub fn count_in(counts: &BTreeMap<RefKey, u64>, key: &RefKey) -> u64
-    ensures { result ≡ count_in counts.now key.now }
+    ensures { result ≡ count_in counts.now.entries key.now }
 {
     match counts.get(key) {
         Some(count) => *count,
@@ -19,8 +19,8 @@ pub fn count_in(counts: &BTreeMap<RefKey, u64>, key: &RefKey) -> u64
 /// Counts a reference `count` times more. `Memory`: there is no memory, or the sum would pass the greatest number there is;
 /// then nothing is counted.
 pub fn add(counts: &mut BTreeMap<RefKey, u64>, key: RefKey, count: u32) -> Result<(), Memory>
-    ensures ok { (refs : List Counted) → Counts refs counts.old → OnOk result (Counts (refs ++ record { key = key; count = count } ∷ []) counts.new) }
-    ensures err { (refs : List Counted) → Counts refs counts.old → OnErr result (Counts refs counts.new) }
+    ensures ok { OnOk result (counts.new.entries ≡ counted counts.old.entries (record { key = key; count = count })) }
+    ensures err { OnErr result (counts.new.entries ≡ counts.old.entries) }
 {
     let Some(sum) = count_in(counts, &key).checked_add(u64::from(count)) else {
         return Err(Memory);
@@ -30,3 +30,9 @@ pub fn add(counts: &mut BTreeMap<RefKey, u64>, key: RefKey, count: u32) -> Resul
         Err(_) => Err(Memory),
     }
 }
+
+/// Counting some references, from none on, gives a map that has just these, each as often as they say in all. This function is
+/// the law: its contract says it, and its body is empty.
+pub fn counts_law()
+    ensures { CountsLaw }
+{}

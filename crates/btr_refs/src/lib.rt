@@ -11,7 +11,7 @@ mod ref_key;
 mod stored;
 
 pub use comparing::differences;
-pub use counts::{add, count_in};
+pub use counts::{add, count_in, counts_law};
 pub use extent::Extent;
 pub use finding::Finding;
 pub use forward::Forward;

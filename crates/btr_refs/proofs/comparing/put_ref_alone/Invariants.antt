@@ -1,5 +1,5 @@
 use Rattle.std.proofs.Common.{◌≡◌, ◌||◌, List}
-use Rattle.std.specs.BTreeMap.{keys}
+use Rattle.std.specs.Map.{keys_of}
 use Rattle.std.specs.List.{list_any}
 use Rattle.btr_refs.specs.declared.extent.Extent.{Extent}
 use Rattle.btr_refs.specs.declared.finding.Finding.{Finding}
@@ -9,5 +9,5 @@ use Rattle.btr_refs.proofs.comparing.put_ref_alone.Given as goal
 
 -- what is left to be put, and what was put, are all rows
 abbrev pub invariant-loop-key : goal.invariant-loop-key
-invariant-loop-key l = (extents : List Extent) → Addresses extents l.addresses → Totals l.refs l.totals
-    → (one : Finding) → (list_any (is_row (ref_alone extents l.refs) one) l.key-iterator || has l.found one) ≡ (list_any (is_row (ref_alone extents l.refs) one) (keys l.refs) || has l.fn.found one)
+invariant-loop-key l = (extents : List Extent) → Addresses extents l.addresses → Totals l.refs.entries l.totals
+    → (one : Finding) → (list_any (is_row (ref_alone extents l.refs.entries) one) l.key-iterator || has l.found one) ≡ (list_any (is_row (ref_alone extents l.refs.entries) one) (keys_of l.refs.entries) || has l.fn.found one)

@@ -1,7 +1,8 @@
 use Rattle.std.proofs.Common.{◌≡◌, ◌||◌, take}
 use Rattle.std.specs.List.{list_any}
 use Rattle.btr_refs.specs.declared.finding.Finding.{Finding}
-use Rattle.btr_refs.specs.Differences.{RefCounts, is_row, ref_total, Totals}
+use Rattle.btr_refs.specs.Differences.{is_row, ref_total, Totals}
+use Rattle.btr_refs.specs.Counts.{RefCounts}
 use Rattle.btr_refs.specs.Findings.{has}
 use Rattle.btr_refs.proofs.comparing.put_ref_totals.Given as goal
 

@@ -1,9 +1,10 @@
-use Rattle.std.proofs.Common.{◌≡◌, ◌+◌, rules}
-use Rattle.btr_refs.proofs.Counting.{Counts-more}
+use Rattle.std.proofs.Common.{◌≡◌, ◌+◌, ◌∙◌, ap, rules}
+use Rattle.std.specs.BTreeMap.{insert_entry}
 use Rattle.btr_refs.specs.Counts.{count_in}
+use Rattle.btr_refs.specs.RefKey.{ref_cmp}
 use Rattle.btr_refs.proofs.counts.add.Goals as goal
 
 pub returns-in-Ok-clause-ok : goal.returns-in-Ok-clause-ok
-returns-in-Ok-clause-ok c = λ refs is.
-    let sum : c.in-Some.sum ≡ count_in c.args.counts.now c.args.key + c.args.count = search rules in
-    Counts-more refs c.args.counts.now c.insert.new.self c.args.key c.args.count c.in-Some.sum is sum c.in-Ok.ensures.updates.0
+returns-in-Ok-clause-ok c =
+    let sum : c.in-Some.sum ≡ count_in c.args.counts.now.entries c.args.key + c.args.count = search rules in
+    c.in-Ok.ensures.entries ∙ ap (insert_entry ref_cmp c.args.counts.now.entries c.args.key) sum
