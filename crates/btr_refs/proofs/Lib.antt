@@ -1,3 +1,4 @@
 mod Counting
+mod Keeping
 mod Rows
 mod Sets

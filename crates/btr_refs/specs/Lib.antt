@@ -3,3 +3,4 @@ pub mod Counts
 pub mod Extents
 pub mod Findings
 pub mod Differences
+pub mod Collecting

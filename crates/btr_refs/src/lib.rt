@@ -1,6 +1,8 @@
 //! References: what refers to each extent, what the extent tree says of it, and where the two differ.
 #![tactic(auto)]
 
+mod collect_fault;
+mod collecting;
 mod comparing;
 mod counts;
 mod extent;
@@ -9,7 +11,11 @@ mod forward;
 mod found;
 mod ref_key;
 mod stored;
+#[cfg(test)]
+mod tests;
 
+pub use collect_fault::CollectFault;
+pub use collecting::stored_law;
 pub use comparing::differences;
 pub use counts::{add, count_in, counts_law};
 pub use extent::Extent;
