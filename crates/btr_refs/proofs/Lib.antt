@@ -2,3 +2,4 @@ mod Counting
 mod Keeping
 mod Rows
 mod Sets
+mod Using

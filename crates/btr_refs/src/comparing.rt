@@ -167,13 +167,14 @@ pub fn differences(
     forward: &Forward,
     stored: &Stored,
 ) -> Result<Vec<Finding>, Memory>
-    ensures { IfOk result (λ findings. findings.items ≡ rows.differences forward.now.refs.entries stored.now.extents stored.now.refs) }
+    ensures { IfOk result (λ findings. findings.items ≡ rows.differences forward.now.refs stored.now.extents stored.now.refs) }
 {
+    let counted = forward.refs();
     let refs = stored.refs();
     let extents = stored.extents();
     let mut found = BTreeSet::new(alloc);
-    put_ref_counts(&mut found, &forward.refs, &forward.refs, refs)?;
-    put_ref_counts(&mut found, refs, &forward.refs, refs)?;
+    put_ref_counts(&mut found, counted, counted, refs)?;
+    put_ref_counts(&mut found, refs, counted, refs)?;
     let totals = totals_of(alloc, refs)?;
     put_ref_totals(&mut found, extents, &totals)?;
     let addresses = addresses_of(alloc, extents)?;

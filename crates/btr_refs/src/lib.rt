@@ -13,6 +13,7 @@ mod ref_key;
 mod stored;
 #[cfg(test)]
 mod tests;
+mod uses;
 
 pub use collect_fault::CollectFault;
 pub use collecting::stored_law;
@@ -24,3 +25,4 @@ pub use forward::Forward;
 pub use found::{insert, listed, set_law};
 pub use ref_key::RefKey;
 pub use stored::Stored;
+pub use uses::{BlockUse, DataUse};

@@ -1,20 +1,19 @@
 // Where counted and stored references differ.
 use super::stores::{DATA, extent, file, loose, shared, take};
-use crate::{Finding, Forward, RefKey, Stored, add, differences};
+use crate::{Finding, Forward, Stored, differences};
 use btr_base::Memory;
 use btr_items::item;
 use std::alloc::Global;
-use std::collections::BTreeMap;
 use std::process::Abort;
 use std::test::Fail;
 
 // A use of the data extent by each of these inodes.
 fn used_by(alloc: Global, inodes: &[u64]) -> Result<Forward, Memory> {
-    let mut refs = BTreeMap::new(alloc);
+    let mut forward = Forward::new(alloc);
     for inode in inodes {
-        add(&mut refs, RefKey::new(DATA, file(*inode)), 1)?;
+        forward.use_data(DATA, file(*inode), 4096)?;
     }
-    Ok(Forward { refs })
+    Ok(forward)
 }
 
 // Kind 7 of an inode of the data extent.

@@ -9,7 +9,7 @@ use Rattle.btr_refs.proofs.comparing.differences.Goals as goal
 
 pub returns : goal.returns
 returns c =
-    let forward = c.args.forward.now.refs.entries in
+    let forward = c.refs-counted.result.now.entries in
     let stored = c.refs-refs.result.now.entries in
     let extents = c.extents-extents.result.now in
     let rows : List Finding = filter_map (ref_count forward stored) (keys_of forward ++ keys_of stored) ++ filter_map (ref_total stored) extents ++ filter_map (ref_alone extents stored) (keys_of stored) in
@@ -21,5 +21,6 @@ returns c =
     (c.in_ok-put_ref_counts-2.ensures one)
     (c.in_ok-put_ref_totals.ensures stored c.in_ok-totals.ensures one)
     (c.in_ok-put_ref_alone.ensures extents c.in_ok-addresses.ensures c.in_ok-totals.ensures one)) in
-    subst (λ xs. IfOk c.listed.result (λ findings. findings.items ≡ differences forward xs c.args.stored.now.refs)) c.extents-extents.ensures
-    (subst (λ refs. IfOk c.listed.result (λ findings. findings.items ≡ differences forward extents refs)) c.refs-refs.ensures all)
+    subst (λ counts. IfOk c.listed.result (λ findings. findings.items ≡ differences counts c.args.stored.now.extents c.args.stored.now.refs)) c.refs-counted.ensures
+    (subst (λ xs. IfOk c.listed.result (λ findings. findings.items ≡ differences forward xs c.args.stored.now.refs)) c.extents-extents.ensures
+    (subst (λ refs. IfOk c.listed.result (λ findings. findings.items ≡ differences forward extents refs)) c.refs-refs.ensures all))
