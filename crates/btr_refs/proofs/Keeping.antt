@@ -1,0 +1,90 @@
+-- What is kept of items, one more at a time.
+use Rattle.std.proofs.Common.{◌≡◌, ℕ, Bool, true, false, ◌&&◌, List, [], ◌∷◌, ◌++◌, Result, Ok, Err, if◌then◌else◌, refl, sym, ap, ◌∙◌, subst, append_assoc, append-nil}
+use Rattle.std.proofs.lemmas.List.Sums.{fold-append}
+use Rattle.std.specs.List.{list_all}
+use Rattle.btr_base.specs.Key.{last_key}
+use Rattle.btr_prog.specs.Prog.{Mark, Wants, Does, Run, run, exec, steps_of}
+use Rattle.btr_read.specs.Fate as fate
+use Rattle.btr_read.specs.declared.want.Want.{Want}
+use Rattle.btr_volume.specs.Table.{first_key}
+use Rattle.btr_walk.specs.Folds.{Go, Broken}
+use Rattle.btr_walk.specs.Le.{TreeItem}
+use Rattle.btr_walk.specs.Range.{range}
+use Rattle.btr_walk.specs.Reading.{Map}
+use Rattle.btr_walk.proofs.Folds.{fold_run, exec_fold, fold_go, fold_broken}
+use Rattle.btr_refs.specs.declared.extent.Extent.{Extent}
+use Rattle.btr_refs.specs.Counts.{Counts, RefCounts, counted, counted_all}
+use Rattle.btr_refs.specs.Extents.{Kept, nothing_kept, kept_with, kept_step, is_formed, refs_in, extent_in, stored_in, extents_in}
+use Rattle.btr_refs.specs.Collecting.{StoredLaw}
+use Rattle.btr_refs.proofs.Counting.{counts_law}
+
+abbrev formed_item : TreeItem → Bool
+formed_item item = is_formed item.key item.body
+
+-- what some items leave
+abbrev all_kept : Kept → List TreeItem → Kept
+all_kept kept items = record { nodesize = kept.nodesize; refs = counted_all kept.refs (stored_in items); extents = kept.extents ++ extents_in kept.nodesize items }
+
+abbrev kept_as : ℕ → RefCounts → List Extent → Kept
+kept_as nodesize refs extents = record { nodesize = nodesize; refs = refs; extents = extents }
+
+kept_none : (kept : Kept) → all_kept kept [] ≡ kept
+kept_none kept = ap (kept_as kept.nodesize kept.refs) (append-nil kept.extents)
+
+kept_one : (kept : Kept) (item : TreeItem) (items : List TreeItem) → all_kept (kept_with kept item) items ≡ all_kept kept (item ∷ items)
+kept_one kept item items =
+    ap (λ refs. kept_as kept.nodesize refs ((kept.extents ++ extent_in kept.nodesize item.key item.body) ++ extents_in kept.nodesize items)) (sym (fold-append counted kept.refs (refs_in item.key item.body) (stored_in items)))
+    ∙ ap (kept_as kept.nodesize (counted_all kept.refs (stored_in (item ∷ items)))) (append_assoc kept.extents (extent_in kept.nodesize item.key item.body) (extents_in kept.nodesize items))
+
+abbrev id_kept : Kept → Kept
+id_kept kept = kept
+
+abbrev answered : Kept → Result Kept fate.Fault
+answered kept = Ok kept
+
+abbrev refused : fate.Fault → Result Kept fate.Fault
+refused fault = Err fault
+
+ok_is : (a b : Kept) → answered a ≡ answered b → b ≡ a
+ok_is a b e = cc
+
+not_both : (fault : fate.Fault) (kept : Kept) → refused fault ≡ answered kept → ⊥
+not_both fault kept e = cc
+
+module _ (B : Map) where
+  -- a run of items, where something is collected
+  pub record Ends (marks : List (Mark Want TreeItem)) (ending : Result (Unit {0}) fate.Fault) (from kept : Kept) : Type 0 where
+    pub ended : ending ≡ Ok tt
+    pub formed : list_all formed_item (steps_of marks) ≡ true
+    pub all : kept ≡ all_kept from (steps_of marks)
+
+  ends : (marks : List (Mark Want TreeItem)) (ending : Result (Unit {0}) fate.Fault) (from kept : Kept) → (fold_run kept_step id_kept B from (run marks ending)).ending ≡ Ok kept → Ends marks ending from kept
+  ends [] (Ok u) from kept is = record { ended = refl; formed = refl; all = ok_is from kept is ∙ sym (kept_none from) }
+  ends [] (Err f) from kept is = absurd (not_both f kept is)
+  ends (Wants w ∷ marks) ending from kept is = let rest = ends marks ending from kept is in record { ended = rest.ended; formed = rest.formed; all = rest.all }
+  ends (Does item ∷ marks) ending from kept is = by (formed_item item) refl (ends marks ending (kept_with from item) kept)
+    where
+      by : (b : Bool) → formed_item item ≡ b → ((fold_run kept_step id_kept B (kept_with from item) (run marks ending)).ending ≡ Ok kept → Ends marks ending (kept_with from item) kept) → Ends (Does item ∷ marks) ending from kept
+      by true formed more =
+          let goes : kept_step from item ≡ Go (kept_with from item) = ap (λ (b : Bool). if b then Go (kept_with from item) else Broken) formed in
+          let rest = more (subst (λ (r : Run Want fate.Fault ⊥ Kept). r.ending ≡ Ok kept) (fold_go kept_step id_kept B from (kept_with from item) item (run marks ending) goes) is) in
+          record {
+            ended = rest.ended;
+            formed = ap (λ b. b && list_all formed_item (steps_of marks)) formed ∙ rest.formed;
+            all = rest.all ∙ kept_one from item (steps_of marks);
+          }
+      by false formed more =
+          let breaks : kept_step from item ≡ Broken = ap (λ (b : Bool). if b then Go (kept_with from item) else Broken) formed in
+          absurd (not_both (fate.Malformed item.leaf) kept (subst (λ (r : Run Want fate.Fault ⊥ Kept). r.ending ≡ Ok kept) (fold_broken kept_step id_kept B from item (run marks ending) breaks) is))
+
+pub stored_law : StoredLaw
+stored_law B nodesize root kept is =
+    let items = exec B (range first_key last_key root) in
+    let e = ends B items.marks items.ending (nothing_kept nodesize) kept (subst (λ (r : Run Want fate.Fault ⊥ Kept). r.ending ≡ Ok kept) (exec_fold kept_step id_kept B (nothing_kept nodesize) (range first_key last_key root)) is) in (
+      e.ended,
+      record {
+        formed = e.formed;
+        refs = subst (λ (k : Kept). Counts (stored_in (steps_of items.marks)) k.refs) (sym e.all) (counts_law (stored_in (steps_of items.marks)));
+        extents = ap (λ (k : Kept). k.extents) e.all;
+      },
+    )

@@ -1,0 +1,5 @@
+mod Counting
+mod Keeping
+mod Rows
+mod Sets
+mod Using

@@ -1,0 +1,101 @@
+-- Rows that are put into a set, one after another.
+use Rattle.std.proofs.Common.{◌≡◌, ℕ, ◌+◌, ◌<◌, Bool, true, false, cond, ◌||◌, List, [], ◌∷◌, ◌++◌, length, take, get_or, Option, Some, None, filter_map, eqb, refl, sym, ap, ◌∙◌, arith}
+use Rattle.std.proofs.lemmas.Bool.Decides.{nat_tests}
+use Rattle.std.proofs.lemmas.List.Folds.{list_any-append, list_any_more}
+use Rattle.std.specs.BTreeMap.{is_at}
+use Rattle.std.specs.BTreeSet.{BTreeSet, contains}
+use Rattle.std.specs.List.{list_any, cons_option}
+use Rattle.std.specs.Map.{keys_of}
+use Rattle.std.specs.Ordering.{is_eq, nat_cmp}
+use Rattle.btr_refs.specs.declared.extent.Extent.{Extent}
+use Rattle.btr_refs.specs.declared.finding.Finding.{Finding}
+use Rattle.btr_refs.specs.Differences.{is_row, is_shown, ref_count, ref_total, ref_alone, has_extent}
+use Rattle.btr_refs.specs.Counts.{RefCounts}
+use Rattle.btr_refs.specs.Findings.{is_one_of, is_same}
+
+or_swaps : (a b c : Bool) → ((a || b) || c) ≡ (b || (a || c))
+or_swaps true true c = refl
+or_swaps true false c = refl
+or_swaps false true c = refl
+or_swaps false false c = refl
+
+-- the first of what is left was put
+pub row_more : {X : Type 0} (rule : X → Option Finding) (one : Finding) (x : X) (rest all : List X) (put : Bool) (more less first : Bool) → all ≡ x ∷ rest → more ≡ (is_row rule one x || less) → (list_any (is_row rule one) all || less) ≡ (put || first)
+    → (list_any (is_row rule one) rest || more) ≡ (put || first)
+row_more rule one x rest all put more less first is has before =
+    ap (λ b. list_any (is_row rule one) rest || b) has ∙ sym (or_swaps (is_row rule one x) (list_any (is_row rule one) rest) less) ∙ ap (λ l. list_any (is_row rule one) l || less) (sym is) ∙ before
+
+-- the findings of a rule on some things
+pub rows-any : {X : Type 0} (rule : X → Option Finding) (one : Finding) (xs : List X) → is_one_of (filter_map rule xs) one ≡ list_any (is_row rule one) xs
+rows-any rule one [] = refl
+rows-any rule one (x ∷ xs) = by (rule x) (rows-any rule one xs)
+  where
+    by : (o : Option Finding) → is_one_of (filter_map rule xs) one ≡ list_any (is_row rule one) xs → is_one_of (cons_option o (filter_map rule xs)) one ≡ (is_shown one o || list_any (is_row rule one) xs)
+    by None rest = rest
+    by (Some finding) rest = ap (λ b. is_same one finding || b) rest
+
+or_order : (f s t a : Bool) → (a || (t || (s || (f || false)))) ≡ (((f || s) || t) || a)
+or_order true true true true = refl
+or_order true true true false = refl
+or_order true true false true = refl
+or_order true true false false = refl
+or_order true false true true = refl
+or_order true false true false = refl
+or_order true false false true = refl
+or_order true false false false = refl
+or_order false true true true = refl
+or_order false true true false = refl
+or_order false true false true = refl
+or_order false true false false = refl
+or_order false false true true = refl
+or_order false false true false = refl
+or_order false false false true = refl
+or_order false false false false = refl
+
+module _ (forward stored : RefCounts) (extents : List Extent) (one : Finding) where
+  -- the rows that were put, in the order of the definition
+  pub all_rows : (empty first second third last : Bool) → empty ≡ false
+      → first ≡ (list_any (is_row (ref_count forward stored) one) (keys_of forward) || empty)
+      → second ≡ (list_any (is_row (ref_count forward stored) one) (keys_of stored) || first)
+      → third ≡ (list_any (is_row (ref_total stored) one) extents || second)
+      → last ≡ (list_any (is_row (ref_alone extents stored) one) (keys_of stored) || third)
+      → last ≡ is_one_of (filter_map (ref_count forward stored) (keys_of forward ++ keys_of stored) ++ filter_map (ref_total stored) extents ++ filter_map (ref_alone extents stored) (keys_of stored)) one
+  all_rows empty first second third last is-empty is-first is-second is-third is-last =
+      let counts : List Finding = filter_map (ref_count forward stored) (keys_of forward ++ keys_of stored) in
+      let totals : List Finding = filter_map (ref_total stored) extents in
+      let alone : List Finding = filter_map (ref_alone extents stored) (keys_of stored) in
+      let f : Bool = list_any (is_row (ref_count forward stored) one) (keys_of forward) in
+      let s : Bool = list_any (is_row (ref_count forward stored) one) (keys_of stored) in
+      let t : Bool = list_any (is_row (ref_total stored) one) extents in
+      let a : Bool = list_any (is_row (ref_alone extents stored) one) (keys_of stored) in
+      let put : last ≡ (a || (t || (s || (f || false)))) =
+      is-last ∙ ap (λ b. a || b) (is-third ∙ ap (λ b. t || b) (is-second ∙ ap (λ b. s || b) (is-first ∙ ap (λ b. f || b) is-empty))) in
+      let parts : is_one_of (counts ++ totals ++ alone) one ≡ (((f || s) || t) || a) =
+      list_any-append (is_same one) (counts ++ totals) alone
+      ∙ ap (λ b. b || is_one_of alone one)
+      (list_any-append (is_same one) counts totals
+      ∙ ap (λ b. b || is_one_of totals one) (rows-any (ref_count forward stored) one (keys_of forward ++ keys_of stored) ∙ list_any-append (is_row (ref_count forward stored) one) (keys_of forward) (keys_of stored))
+      ∙ ap (λ b. (f || s) || b) (rows-any (ref_total stored) one extents))
+      ∙ ap (λ b. ((f || s) || t) || b) (rows-any (ref_alone extents stored) one (keys_of stored)) in
+      put ∙ or_order f s t a ∙ sym parts
+
+-- one more address
+same_number : (x y : ℕ) → is_eq (nat_cmp x y) ≡ eqb x y
+same_number x y = grind (arith, nat_tests)
+
+or_turns : (a b : Bool) → cond a true b ≡ (b || a)
+or_turns true true = refl
+or_turns true false = refl
+or_turns false true = refl
+or_turns false false = refl
+
+pub address_more : (extents : List Extent) (i : ℕ) (d : Extent) (old new : BTreeSet ℕ) → i < length extents
+    → ((q : ℕ) → contains nat_cmp new q ≡ cond (is_at (nat_cmp (get_or extents i d).addr) q) true (contains nat_cmp old q))
+    → ((addr : ℕ) → contains nat_cmp old addr ≡ has_extent (take i extents) addr)
+    → (addr : ℕ) → contains nat_cmp new addr ≡ has_extent (take (i + 1) extents) addr
+address_more extents i d old new below more before addr =
+    more addr
+    ∙ or_turns (is_eq (nat_cmp (get_or extents i d).addr addr)) (contains nat_cmp old addr)
+    ∙ ap (λ b. b || is_eq (nat_cmp (get_or extents i d).addr addr)) (before addr)
+    ∙ ap (λ b. has_extent (take i extents) addr || b) (same_number (get_or extents i d).addr addr)
+    ∙ sym (list_any_more (λ (extent : Extent). eqb extent.addr addr) extents i d below)

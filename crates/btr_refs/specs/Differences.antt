@@ -1,0 +1,65 @@
+-- Where the references that are counted and those that are stored differ.
+use Rattle.std.specs.Prelude.{◌≡◌, ℕ, ◌==◌, Bool, false, cond, List, [], ◌∷◌, ◌++◌, sum_by, unwrap_or, Option, Some, None, filter_map}
+use Rattle.std.specs.BTreeMap.{BTreeMap, get}
+use Rattle.std.specs.BTreeSet.{BTreeSet, contains}
+use Rattle.std.specs.List.{list_any}
+use Rattle.std.specs.Map.{keys_of}
+use Rattle.std.specs.Ordering.{nat_cmp}
+use Rattle.btr_refs.specs.declared.extent.Extent.{Extent}
+use Rattle.btr_refs.specs.declared.finding.Finding.{Finding}
+use Rattle.btr_refs.specs.declared.ref_key.RefKey.{RefKey}
+use Rattle.btr_refs.specs.Counts.{RefCounts, count_in}
+use Rattle.btr_refs.specs.Findings.{found, unless, shown_sum, is_same, in_order}
+
+-- a reference as it is printed
+abbrev pub key_numbers : RefKey → List ℕ
+key_numbers key = key.addr ∷ key.kind ∷ key.root ∷ key.objectid ∷ key.offset ∷ []
+
+-- 7: a reference is counted as often as it is stored
+abbrev pub ref_count : RefCounts → RefCounts → RefKey → Option Finding
+ref_count forward stored key =
+    unless (count_in forward key == count_in stored key)
+    (found 7 (key_numbers key ++ count_in forward key ∷ count_in stored key ∷ []))
+
+-- how often the extent at an address is referred to
+abbrev pub total_at : RefCounts → ℕ → ℕ
+total_at stored addr = sum_by (λ entry. cond (entry.0.addr == addr) entry.1 0) stored
+
+abbrev pub total_row : ℕ → ℕ → ℕ → Finding
+total_row addr refs sum = found 8 (addr ∷ refs ∷ shown_sum sum ∷ [])
+
+-- 8: an extent states the sum of the references to its address that are stored
+abbrev pub ref_total : RefCounts → Extent → Option Finding
+ref_total stored extent = unless (extent.refs == total_at stored extent.addr) (total_row extent.addr extent.refs (total_at stored extent.addr))
+
+-- an extent is at an address
+abbrev pub has_extent : List Extent → ℕ → Bool
+has_extent extents addr = list_any (λ (extent : Extent). extent.addr == addr) extents
+
+-- 8: where a reference is stored, there is an extent
+abbrev pub ref_alone : List Extent → RefCounts → RefKey → Option Finding
+ref_alone extents stored key = unless (has_extent extents key.addr) (total_row key.addr 0 (total_at stored key.addr))
+
+-- the findings on references
+abbrev pub differences : RefCounts → List Extent → RefCounts → List Finding
+differences forward extents stored =
+    in_order (filter_map (ref_count forward stored) (keys_of forward ++ keys_of stored) ++ filter_map (ref_total stored) extents ++ filter_map (ref_alone extents stored) (keys_of stored))
+
+-- whether a rule's finding on something is this one
+abbrev pub is_shown : Finding → Option Finding → Bool
+is_shown one None = false
+is_shown one (Some finding) = is_same one finding
+
+abbrev pub is_row : {X : Type 0} → (X → Option Finding) → Finding → X → Bool
+is_row rule one x = is_shown one (rule x)
+
+-- a map has the sums at all addresses
+abbrev pub total_in : BTreeMap ℕ ℕ → ℕ → ℕ
+total_in totals addr = unwrap_or (get nat_cmp totals addr) 0
+
+abbrev pub Totals : RefCounts → BTreeMap ℕ ℕ → Type 0
+Totals stored totals = (addr : ℕ) → total_in totals addr ≡ total_at stored addr
+
+-- a set has the addresses of extents
+abbrev pub Addresses : List Extent → BTreeSet ℕ → Type 0
+Addresses extents addresses = (addr : ℕ) → contains nat_cmp addresses addr ≡ has_extent extents addr

@@ -1,0 +1,114 @@
+-- The extents of the extent tree, and the references to them that it stores.
+use Rattle.std.specs.Prelude.{◌≡◌, ℕ, ◌==◌, ◌||◌, ◌&&◌, Bool, true, false, is_ok, List, [], ◌++◌, map, Some, Result, Ok, Err, filter_map, flat_map, option_map, option_to_list, if◌then◌else◌, ⊤}
+use Rattle.std.specs.Result.{result_ok}
+use Rattle.btr_base.specs.declared.key.Key.{Key}
+use Rattle.btr_base.specs.declared.memory.Memory.{Memory}
+use Rattle.btr_items.specs.ExtentItem.{extent_item_of}
+use Rattle.btr_items.specs.InlineRef.{inline_refs_of}
+use Rattle.btr_items.specs.Item.{extent_fits}
+use Rattle.btr_items.specs.Key.{key_fits}
+use Rattle.btr_items.specs.LooseRef.{loose_ref_of}
+use Rattle.btr_items.specs.Types.{extent_item, metadata_item, tree_block_ref, extent_data_ref, shared_block_ref, shared_data_ref}
+use Rattle.btr_items.specs.declared.extent_item.ExtentItem.{ExtentItem}
+use Rattle.btr_items.specs.declared.fault.ItemFault.{ItemFault}
+use Rattle.btr_items.specs.declared.inline_ref.InlineRef.{InlineRef}
+use Rattle.btr_items.specs.declared.loose_ref.LooseRef.{LooseRef}
+use Rattle.btr_walk.specs.Folds.{Next, Go, Broken}
+use Rattle.btr_walk.specs.Le.{TreeItem}
+use Rattle.btr_refs.specs.declared.extent.Extent.{Extent}
+use Rattle.btr_refs.specs.Counts.{Counted, RefCounts, counted_all}
+use Rattle.btr_refs.specs.RefKey.{key_of}
+
+abbrev pub is_extent : ℕ → Bool
+is_extent kind = (kind == extent_item) || (kind == metadata_item)
+
+abbrev pub is_loose : ℕ → Bool
+is_loose kind = ((kind == tree_block_ref) || (kind == extent_data_ref)) || ((kind == shared_block_ref) || (kind == shared_data_ref))
+
+-- an EXTENT_ITEM's key has the length; a METADATA_ITEM's has the level of a block that is as long as a node
+abbrev pub extent_with : ℕ → Key → ExtentItem → Extent
+extent_with nodesize key extent = record {
+  addr = key.objectid;
+  len = if key.kind == extent_item then key.offset else nodesize;
+  refs = extent.refs;
+  flags = extent.flags;
+  level = if key.kind == metadata_item then Some key.offset else extent.level;
+}
+
+abbrev pub extent_of : ℕ → Key → List ℕ → List Extent
+extent_of nodesize key body = option_to_list (option_map (extent_with nodesize key) (result_ok (extent_item_of key.kind body)))
+
+-- the extent that an item is, if it is one
+abbrev pub extent_in : ℕ → Key → List ℕ → List Extent
+extent_in nodesize key body = if is_extent key.kind then extent_of nodesize key body else []
+
+-- the references in an extent's item
+abbrev pub inline_ref : ℕ → InlineRef → Counted
+inline_ref addr part = record { key = key_of addr part.link; count = part.count }
+
+abbrev pub parts_counted : ℕ → List (Result InlineRef ItemFault) → List Counted
+parts_counted addr parts = map (inline_ref addr) (filter_map result_ok parts)
+
+abbrev pub inline_refs : ℕ → List ℕ → Result ExtentItem ItemFault → List Counted
+inline_refs addr body (Ok extent) = parts_counted addr (inline_refs_of extent.first body)
+inline_refs addr body (Err fault) = []
+
+-- the reference in an item of its own
+abbrev pub loose_ref : ℕ → LooseRef → Counted
+loose_ref addr part = record { key = key_of addr part.link; count = part.count }
+
+abbrev pub loose_refs : Key → List ℕ → List Counted
+loose_refs key body = map (loose_ref key.objectid) (option_to_list (result_ok (loose_ref_of key body)))
+
+-- the references that an item stores
+abbrev pub refs_in : Key → List ℕ → List Counted
+refs_in key body =
+    if is_extent key.kind then inline_refs key.objectid body (extent_item_of key.kind body)
+    else if is_loose key.kind then loose_refs key body
+    else []
+
+-- the extents and the references among the items of the extent tree, in the order of their keys
+abbrev pub extents_in : ℕ → List TreeItem → List Extent
+extents_in nodesize items = flat_map (λ (item : TreeItem). extent_in nodesize item.key item.body) items
+
+abbrev pub stored_in : List TreeItem → List Counted
+stored_in items = flat_map (λ (item : TreeItem). refs_in item.key item.body) items
+
+-- an item that says something of extents has its form
+abbrev pub is_formed : Key → List ℕ → Bool
+is_formed key body =
+    if is_extent key.kind then key_fits key && extent_fits key.kind body
+    else if is_loose key.kind then is_ok (loose_ref_of key body)
+    else true
+
+-- what is kept of some items: how long a node is, how often each reference is stored, and the extents
+pub record Kept : Type 0 where
+  pub nodesize : ℕ
+  pub refs : RefCounts
+  pub extents : List Extent
+
+abbrev pub nothing_kept : ℕ → Kept
+nothing_kept nodesize = record { nodesize = nodesize; refs = []; extents = [] }
+
+-- one more item; one that hasn't its form breaks its leaf
+abbrev pub kept_with : Kept → TreeItem → Kept
+kept_with kept item = record {
+  nodesize = kept.nodesize;
+  refs = counted_all kept.refs (refs_in item.key item.body);
+  extents = kept.extents ++ extent_in kept.nodesize item.key item.body;
+}
+
+abbrev pub kept_step : Kept → TreeItem → Next Kept Kept
+kept_step kept item = if is_formed item.key item.body then Go (kept_with kept item) else Broken
+
+-- some references are counted, if they are formed
+abbrev pub AddsRefs : Bool → List Counted → RefCounts → RefCounts → Result Bool Memory → Type 0
+AddsRefs formed more old new (Ok true) = (formed ≡ true) × (new ≡ counted_all old more)
+AddsRefs formed more old new (Ok false) = formed ≡ false
+AddsRefs formed more old new (Err e) = ⊤
+
+-- an item is kept, if it is formed
+abbrev pub AddsItem : Bool → List Counted → List Extent → RefCounts → RefCounts → List Extent → List Extent → Result Bool Memory → Type 0
+AddsItem formed refs extents old new listed listed' (Ok true) = (formed ≡ true) × (new ≡ counted_all old refs) × (listed' ≡ listed ++ extents)
+AddsItem formed refs extents old new listed listed' (Ok false) = formed ≡ false
+AddsItem formed refs extents old new listed listed' (Err e) = ⊤

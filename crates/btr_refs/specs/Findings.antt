@@ -1,0 +1,44 @@
+-- Findings, and the order that they are printed in.
+use Rattle.std.specs.Prelude.{◌≡◌, ℕ, ◌^◌, ◌-◌, min, Bool, List, [], ◌∷◌, ◌++◌, take, replicate, Option, Some, None, if◌then◌else◌}
+use Rattle.std.specs.BTreeSet.{BTreeSet, insert_key, contains}
+use Rattle.std.specs.List.{list_any}
+use Rattle.std.specs.Ordering.{is_eq, nat_cmp, on, then_cmp}
+use Rattle.std.specs.declared.cmp.Ordering.{Ordering}
+use Rattle.std.specs.Cmp.Lexicographic.{slice_cmp}
+use Rattle.btr_refs.specs.declared.finding.Finding.{Finding}
+
+-- a finding of a kind with these numbers, and zeros behind them
+abbrev pub found : ℕ → List ℕ → Finding
+found kind numbers = record { kind = kind; n = take 7 (numbers ++ replicate 7 0) }
+
+-- a finding, unless its rule is kept
+abbrev pub unless : Bool → Finding → Option Finding
+unless kept finding = if kept then None else Some finding
+
+-- a sum as it is printed
+abbrev pub shown_sum : ℕ → ℕ
+shown_sum sum = min sum (2 ^ 64 - 1)
+
+-- by kind, and then by the numbers from the first to the last
+abbrev pub finding_cmp : Finding → Finding → Ordering
+finding_cmp = then_cmp (on (λ finding. finding.kind) nat_cmp) (on (λ finding. finding.n) (slice_cmp nat_cmp))
+
+abbrev pub is_same : Finding → Finding → Bool
+is_same a b = is_eq (finding_cmp a b)
+
+-- the set of some findings, in ascending order
+abbrev pub in_order : List Finding → List Finding
+in_order [] = []
+in_order (finding ∷ findings) = insert_key finding_cmp (in_order findings) finding
+
+-- whether a finding is one of some
+abbrev pub is_one_of : List Finding → Finding → Bool
+is_one_of findings one = list_any (is_same one) findings
+
+-- whether a set has it
+abbrev pub has : BTreeSet Finding → Finding → Bool
+has set one = contains finding_cmp set one
+
+-- a set has just these findings
+abbrev pub HasJust : List Finding → BTreeSet Finding → Type 0
+HasJust findings set = (one : Finding) → has set one ≡ is_one_of findings one

@@ -1,0 +1,120 @@
+-- What uses extents: trees use their root blocks, inner nodes their children, and files their data.
+use Rattle.std.specs.Prelude.{ℕ, ◌+◌, ◌-◌, ◌^◌, ◌%◌, ◌==◌, Bool, List, [], ◌∷◌, map, flat_map, Option, Some, None, Result, Ok, Err, if◌then◌else◌}
+use Rattle.std.specs.BTreeSet.{insert_key}
+use Rattle.std.specs.Ordering.{nat_cmp, ordering_then}
+use Rattle.std.specs.declared.cmp.Ordering.{Ordering}
+use Rattle.btr_base.specs.Field.{number_at}
+use Rattle.btr_base.specs.declared.key.Key.{Key}
+use Rattle.btr_items.specs.FileExtent.{file_extent_of}
+use Rattle.btr_items.specs.Types.{extent_data}
+use Rattle.btr_items.specs.declared.fault.ItemFault.{ItemFault}
+use Rattle.btr_items.specs.declared.file_extent.FileExtent.{FileExtent}
+use Rattle.btr_items.specs.declared.link.Link.{Link}
+use Rattle.btr_items.specs.declared.link.Link.TheVariants.{Tree, SharedTree, File, SharedFile}
+use Rattle.btr_items.specs.declared.shape.Shape.{Shape}
+use Rattle.btr_items.specs.declared.shape.Shape.TheVariants.{Inline, Regular, Prealloc}
+use Rattle.btr_node.specs.Block.{Item, KeyPointer}
+use Rattle.btr_node.specs.Node.{node_of}
+use Rattle.btr_node.specs.declared.node.Node.{Node}
+use Rattle.btr_node.specs.declared.node.Node.TheVariants.{Leaf, Inner}
+use Rattle.btr_volume.specs.declared.root.TreeRoot.{TreeRoot}
+use Rattle.btr_refs.specs.declared.forward.Origin.{Origin}
+use Rattle.btr_refs.specs.declared.uses.BlockUse.{BlockUse}
+use Rattle.btr_refs.specs.declared.uses.DataUse.{DataUse}
+use Rattle.btr_refs.specs.Counts.{Counted, RefCounts, counted}
+use Rattle.btr_refs.specs.RefKey.{key_of}
+
+-- what is used: a tree block of a level, or data that is an extent of a length
+pub data Used : Type 0 where
+  TreeBlock : ℕ → Used
+  Data : ℕ → Used
+
+-- one use of the extent at an address
+pub record Use : Type 0 where
+  pub addr : ℕ
+  pub link : Link
+  pub what : Used
+
+-- a tree refers to its root block by its id
+abbrev pub root_use : TreeRoot → Use
+root_use tree = record { addr = tree.place.addr; link = Tree tree.id; what = TreeBlock tree.place.level }
+
+-- a block's references to tree blocks and to data are by its address, or by its owner; data's by the owner are by the inode too,
+-- and by where in the file the extent would begin, modulo 2^64
+abbrev pub tree_link : Origin → Link
+tree_link from = if from.by_address then SharedTree from.addr else Tree from.owner
+
+abbrev pub file_link : Origin → ℕ → ℕ → Link
+file_link from objectid offset = if from.by_address then SharedFile from.addr else File from.owner objectid offset
+
+abbrev pub begin_of : ℕ → ℕ → ℕ
+begin_of offset skip = (offset + (2 ^ 64 - skip)) % 2 ^ 64
+
+-- a node uses its children
+abbrev pub child_use : Origin → ℕ → KeyPointer → Use
+child_use from level pointer = record { addr = pointer.addr; link = tree_link from; what = TreeBlock (level - 1) }
+
+-- a file uses data that has an address; else it is a hole
+abbrev pub range_uses : Origin → Key → ℕ → ℕ → ℕ → List Use
+range_uses from key addr disk_len skip =
+    if addr == 0 then []
+    else record { addr = addr; link = file_link from key.objectid (begin_of key.offset skip); what = Data disk_len } ∷ []
+
+abbrev pub shape_uses : Origin → Key → Shape → List Use
+shape_uses from key (Inline len) = []
+shape_uses from key (Regular addr disk_len skip len) = range_uses from key addr disk_len skip
+shape_uses from key (Prealloc addr disk_len skip len) = range_uses from key addr disk_len skip
+
+abbrev pub extent_uses : Origin → Key → Result FileExtent ItemFault → List Use
+extent_uses from key (Ok extent) = shape_uses from key extent.shape
+extent_uses from key (Err fault) = []
+
+abbrev pub item_uses : Origin → Key → List ℕ → List Use
+item_uses from key body = if key.kind == extent_data then extent_uses from key (file_extent_of key.offset body) else []
+
+abbrev pub node_uses : Origin → ℕ → Option Node → List Use
+node_uses from level None = []
+node_uses from level (Some (Leaf items)) = flat_map (λ (item : Item). item_uses from item.key item.body) items
+node_uses from level (Some (Inner pointers)) = map (child_use from level) pointers
+
+-- a block's header names the tree that owns it
+abbrev pub origin_of : Bool → ℕ → List ℕ → Origin
+origin_of by_address addr block = record { addr = addr; owner = number_at 8 0x58 block; by_address = by_address }
+
+-- what the block of a level at an address uses
+abbrev pub block_uses : Bool → ℕ → ℕ → List ℕ → List Use
+block_uses by_address addr level block = node_uses (origin_of by_address addr block) level (node_of block)
+
+-- a use counts once
+abbrev pub met : Use → Counted
+met one = record { key = key_of one.addr one.link; count = 1 }
+
+abbrev pub block_cmp : BlockUse → BlockUse → Ordering
+block_cmp a b = ordering_then (nat_cmp a.addr b.addr) (nat_cmp a.level b.level)
+
+abbrev pub data_cmp : DataUse → DataUse → Ordering
+data_cmp a b = ordering_then (nat_cmp a.addr b.addr) (nat_cmp a.len b.len)
+
+-- what is kept of some uses: how often each reference is counted, and what each extent is used as
+pub record Uses : Type 0 where
+  pub refs : RefCounts
+  pub tree_blocks : List BlockUse
+  pub data_extents : List DataUse
+
+abbrev pub no_uses : Uses
+no_uses = record { refs = []; tree_blocks = []; data_extents = [] }
+
+abbrev pub blocks_with : List BlockUse → ℕ → Used → List BlockUse
+blocks_with blocks addr (TreeBlock level) = insert_key block_cmp blocks (record { addr = addr; level = level })
+blocks_with blocks addr (Data len) = blocks
+
+abbrev pub data_with : List DataUse → ℕ → Used → List DataUse
+data_with extents addr (TreeBlock level) = extents
+data_with extents addr (Data len) = insert_key data_cmp extents (record { addr = addr; len = len })
+
+abbrev pub with_use : Uses → Use → Uses
+with_use uses one = record {
+  refs = counted uses.refs (met one);
+  tree_blocks = blocks_with uses.tree_blocks one.addr one.what;
+  data_extents = data_with uses.data_extents one.addr one.what;
+}

@@ -1,0 +1,37 @@
+// Sets of findings.
+ghost use Rattle.std.specs.Prelude.{◌≡◌, ◌||◌, List, OnOk, OnErr, IfOk};
+ghost use Rattle.std.specs.BTreeSet.{IsUnchanged};
+ghost use Rattle.btr_refs.specs.declared.finding.Finding.{Finding};
+ghost use Rattle.btr_refs.specs.Findings.{in_order, is_one_of, has, is_same, HasJust};
+
+use crate::Finding;
+use btr_base::Memory;
+use std::alloc::Global;
+use std::collections::BTreeSet;
+
+/// Puts a finding into a set, where it may be already. `Memory`: the set is as it was.
+pub fn insert(found: &mut BTreeSet<Finding>, finding: Finding) -> Result<(), Memory>
+    ensures ok { OnOk result ((one : Finding) → has found.new one ≡ (is_same one finding || has found.old one)) }
+    ensures err { OnErr result (IsUnchanged found.old found.new) }
+{
+    match found.insert(finding) {
+        Ok(_) => Ok(()),
+        Err(_) => Err(Memory),
+    }
+}
+
+/// The findings of a set, in ascending order. `Memory`: there is no memory for the list.
+pub fn listed(alloc: Global, found: &BTreeSet<Finding>) -> Result<Vec<Finding>, Memory>
+    ensures { (findings : List Finding) → HasJust findings found.now → IfOk result (λ list. list.items ≡ in_order findings) }
+{
+    match found.iter().copied().collect(alloc) {
+        Ok(findings) => Ok(findings),
+        Err(_) => Err(Memory),
+    }
+}
+
+/// Which findings are in a list says what their set is, in whatever order and however often they are met. This function is the
+/// law: its contract says it, and its body is empty.
+pub fn set_law()
+    ensures { (xs ys : List Finding) → ((one : Finding) → is_one_of xs one ≡ is_one_of ys one) → in_order xs ≡ in_order ys }
+{}

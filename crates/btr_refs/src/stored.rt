@@ -1,0 +1,180 @@
+// What the extent tree says of extents.
+ghost use Rattle.std.specs.Prelude.{◌≡◌, ◌≤◌, ◌&&◌, is_ok, length, IsTrue};
+ghost use Rattle.std.specs.List.{list_all};
+ghost use Rattle.btr_items.specs.InlineRef as inline;
+ghost use Rattle.btr_items.specs.Key as key_rules;
+ghost use Rattle.btr_items.specs.ExtentItem.{extent_item_of};
+ghost use Rattle.btr_items.specs.Item.{extent_fits};
+ghost use Rattle.btr_items.specs.LooseRef.{loose_ref_of};
+ghost use Rattle.btr_refs.specs.Extents.{is_extent, extent_with, AddsRefs, AddsItem, parts_counted, loose_refs};
+ghost use Rattle.btr_refs.specs.Extents as words;
+
+use crate::counts::add;
+use crate::{Extent, RefKey};
+use btr_base::{Key, Memory};
+use btr_items::{ExtentItem, LooseRef, inline_refs, item, key_fits};
+use btr_walk::{Folder, Found, Took};
+use std::alloc::Global;
+use std::collections::BTreeMap;
+use std::marker::Model;
+
+/// The extents of the extent tree, in the order of their items, and how often each reference to an extent is stored: in the
+/// extents' items, and in items of their own.
+#[derive(Drop)]
+pub struct Stored {
+    nodesize: u64,
+    refs: BTreeMap<RefKey, u64>,
+    extents: Vec<Extent>,
+}
+
+impl Model for Stored {
+    ghost use Rattle.btr_refs.specs.Extents.{Kept};
+
+    ghost Value = { Kept };
+
+    ghost view = { λ stored. record { nodesize = stored.nodesize; refs = stored.refs.entries; extents = stored.extents.items } };
+}
+
+impl Stored {
+    ghost use Rattle.std.specs.Prelude.{◌≡◌};
+    ghost use Rattle.btr_refs.specs.Extents.{nothing_kept};
+
+    /// Nothing is stored yet. A node has `nodesize` bytes.
+    pub fn new(alloc: Global, nodesize: u64) -> Stored
+        ensures { result ≡ nothing_kept nodesize }
+    {
+        Stored {
+            nodesize,
+            refs: BTreeMap::new(alloc),
+            extents: Vec::new(alloc),
+        }
+    }
+
+    /// How often each reference is stored.
+    pub fn refs(&self) -> &BTreeMap<RefKey, u64>
+        ensures { result.now.entries ≡ self.now.refs }
+    {
+        &self.refs
+    }
+
+    /// The extents, in the order of their items.
+    pub fn extents(&self) -> &[Extent]
+        ensures { result.now ≡ self.now.extents }
+    {
+        self.extents.as_slice()
+    }
+}
+
+// The extent that an item of this key describes.
+fn extent_with(nodesize: u64, key: Key, extent: &ExtentItem) -> Extent
+    requires kind { IsTrue (is_extent key.kind) }
+    requires key { IsTrue (key_rules.key_fits key) }
+    ensures { result ≡ extent_with nodesize key extent.now }
+{
+    let is_metadata = key.kind == item::METADATA_ITEM;
+    Extent {
+        addr: key.objectid,
+        len: if is_metadata { nodesize } else { key.offset },
+        refs: extent.refs,
+        flags: extent.flags,
+        level: if is_metadata {
+            Some(key.offset as u8)
+        } else {
+            extent.level
+        },
+    }
+}
+
+// Counts the inline references from a place of an extent's item on. The answer is whether they have their form.
+fn add_inline(
+    refs: &mut BTreeMap<RefKey, u64>,
+    addr: u64,
+    body: &[u8],
+    first: usize,
+) -> Result<bool, Memory>
+    requires { first ≤ length body.now }
+    ensures { AddsRefs (list_all is_ok (inline.inline_refs_of first body.now)) (parts_counted addr (inline.inline_refs_of first body.now)) refs.old.entries refs.new.entries result }
+{
+    for part in inline_refs(body, first) {
+        let Ok(part) = part else {
+            return Ok(false);
+        };
+        add(refs, RefKey::new(addr, part.link), part.count)?;
+    }
+    Ok(true)
+}
+
+// Keeps an extent and the references in its item. The answer is whether the item has its form.
+fn add_extent(
+    refs: &mut BTreeMap<RefKey, u64>,
+    extents: &mut Vec<Extent>,
+    nodesize: u64,
+    key: Key,
+    body: &[u8],
+) -> Result<bool, Memory>
+    requires kind { IsTrue (is_extent key.kind) }
+    ensures { AddsItem (key_rules.key_fits key && extent_fits key.kind body.now) (words.inline_refs key.objectid body.now (extent_item_of key.kind body.now)) (words.extent_of nodesize key body.now) refs.old.entries refs.new.entries extents.old.items extents.new.items result }
+{
+    let Ok(extent) = ExtentItem::read(key.kind, body) else {
+        return Ok(false);
+    };
+    if !key_fits(key) || !add_inline(refs, key.objectid, body, extent.first)? {
+        return Ok(false);
+    }
+    match extents.push(extent_with(nodesize, key, &extent)) {
+        Ok(()) => Ok(true),
+        Err(_) => Err(Memory),
+    }
+}
+
+// Counts the reference in an item of its own. The answer is whether the item has its form.
+fn add_loose(refs: &mut BTreeMap<RefKey, u64>, key: Key, body: &[u8]) -> Result<bool, Memory>
+    ensures { AddsRefs (is_ok (loose_ref_of key body.now)) (loose_refs key body.now) refs.old.entries refs.new.entries result }
+{
+    let Ok(part) = LooseRef::read(key, body) else {
+        return Ok(false);
+    };
+    add(refs, RefKey::new(key.objectid, part.link), part.count)?;
+    Ok(true)
+}
+
+// Keeps what an item says of extents. The answer is whether it has its form.
+fn keep(
+    refs: &mut BTreeMap<RefKey, u64>,
+    extents: &mut Vec<Extent>,
+    nodesize: u64,
+    key: Key,
+    body: &[u8],
+) -> Result<bool, Memory>
+    ensures { AddsItem (words.is_formed key body.now) (words.refs_in key body.now) (words.extent_in nodesize key body.now) refs.old.entries refs.new.entries extents.old.items extents.new.items result }
+{
+    match key.kind {
+        item::EXTENT_ITEM | item::METADATA_ITEM => add_extent(refs, extents, nodesize, key, body),
+        item::TREE_BLOCK_REF
+        | item::EXTENT_DATA_REF
+        | item::SHARED_BLOCK_REF
+        | item::SHARED_DATA_REF => add_loose(refs, key, body),
+        _ => Ok(true),
+    }
+}
+
+impl Folder<Stored, Memory> for Stored {
+    ghost use Rattle.btr_refs.specs.Extents.{kept_step};
+
+    ghost step = { kept_step };
+
+    ghost answer = { λ stored. stored };
+
+    fn take(&mut self, found: &Found<'_>) -> Result<Took<Stored>, Memory> {
+        let (key, body) = (found.key, found.body);
+        if keep(&mut self.refs, &mut self.extents, self.nodesize, key, body)? {
+            Ok(Took::Go)
+        } else {
+            Ok(Took::Broken)
+        }
+    }
+
+    fn end(self) -> Stored {
+        self
+    }
+}

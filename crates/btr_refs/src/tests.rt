@@ -1,0 +1,4 @@
+mod collects;
+mod rows;
+mod stores;
+mod uses;
