@@ -1,5 +1,5 @@
 -- Outcomes, and what was done and put of them.
-use Rattle.std.proofs.Common.{◌≡◌, ◌≢◌, ◌⊎◌, inl, inr, ℕ, zero, suc, ◌+◌, ◌≤◌, false, List, [], ◌∷◌, ◌++◌, length, take, fold, Option, Some, None, Result, Ok, Err, refl, sym, ap, ◌∙◌, subst, arith}
+use Rattle.std.proofs.Common.{◌≡◌, ◌⊎◌, inl, inr, ℕ, zero, suc, ◌≤◌, false, List, [], ◌∷◌, ◌++◌, length, take, fold, Option, Some, None, Result, Ok, Err, refl, sym, ap, ◌∙◌, subst, arith}
 use Rattle.std.specs.Result.{IsErrAnd}
 use Rattle.std.proofs.lemmas.List.{append-nil, take_all}
 use Rattle.std.proofs.lemmas.Result.{err_from_is_err_and}
@@ -15,7 +15,7 @@ use Rattle.btr_restore.specs.Running.{Outside}
 use Rattle.btr_restore.specs.Step.{Step, Line}
 use Rattle.btr_text.proofs.Writing.{adds_nothing, adds_twice}
 use Rattle.btr_tool.specs.Answers.{error_line, answer_of}
-use Rattle.btr_tool.specs.Outcomes.{Outcome, Shown, refused, showing, text_steps, due_after, IsPut, IsNoFault, Shows, IsFirstPart, Stands, StandsPartly, CallFailed, How, Whole, SinkFailed, OutFailed, Wanted, HasEnded, Comes, HasFirstPart, MayEnd, IsPrinted}
+use Rattle.btr_tool.specs.Outcomes.{Outcome, refused, showing, text_steps, due_after, IsPut, IsNoFault, Shows, IsFirstPart, Stands, StandsPartly, CallFailed, How, Whole, SinkFailed, OutFailed, Wanted, HasEnded, Comes, HasFirstPart, MayEnd, IsPrinted}
 use Rattle.btr_tool.specs.declared.answer.Answer.{Answer}
 use Rattle.btr_tool.specs.declared.answer.Answer.TheVariants.{SinkFault, OutFault, Memory}
 

@@ -1,5 +1,5 @@
 -- What a command that only shows something comes to, as a command among others.
-use Rattle.std.proofs.Common.{◌≡◌, inl, inr, ⊎_elim, ℕ, List, [], get_or, Option, Some, None, ap, ◌∙◌}
+use Rattle.std.proofs.Common.{◌≡◌, inl, inr, ⊎_elim, ℕ, List, [], get_or, Option, Some, ap, ◌∙◌}
 use Rattle.btr_files.specs.declared.plan.RestorePlan.{RestorePlan}
 use Rattle.btr_rack.specs.Rack.{Account, Steady}
 use Rattle.btr_restore.specs.Running.{Outside}

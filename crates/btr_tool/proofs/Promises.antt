@@ -1,24 +1,23 @@
 -- What a restore of the program comes to is the outcome of restore over its images.
-use Rattle.std.proofs.Common.{◌≡◌, false, ℕ, List, [], ◌∷◌, ◌++◌, fold, length, drop, get_or, map, Option, Some, None, Result, Ok, Err, inl, inr, ⊎_elim, refl, sym, ap, ◌∙◌, subst, arith}
+use Rattle.std.proofs.Common.{◌≡◌, false, ℕ, List, [], ◌∷◌, ◌++◌, fold, drop, Option, Some, None, Result, Ok, Err, ⊎_elim, refl, sym, ap, ◌∙◌, subst}
 use Rattle.std.specs.Option.{IfSome, option_map}
 use Rattle.std.specs.Prelude.{is_some}
 use Rattle.btr_chunk.specs.declared.chunk.Chunk.{Chunk}
 use Rattle.btr_files.specs.declared.counts.Counts.{Counts}
 use Rattle.btr_files.specs.declared.plan.RestorePlan.{RestorePlan}
 use Rattle.btr_prog.specs.Prog.{Run, exec, steps_of}
-use Rattle.btr_prog.specs.Answers.{Fault as halt_fault, no_part}
-use Rattle.btr_prog.specs.Goes.{Goes}
+use Rattle.btr_prog.specs.Answers.{Fault as halt_fault}
 use Rattle.btr_prog.proofs.Choices.{goes_map}
-use Rattle.btr_rack.specs.Rack.{Seen, Shelf, Steady}
+use Rattle.btr_rack.specs.Rack.{Seen, Shelf}
 use Rattle.btr_rack.specs.Out.{Adds}
 use Rattle.btr_rack.specs.Sink.{Sink, Tree, IsSound, NotStarted, is_in_file}
 use Rattle.btr_rack.specs.declared.part.Part.{Part}
 use Rattle.btr_read.specs.Fate.{Fault, fate}
 use Rattle.btr_read.specs.declared.want.Want.{Want}
 use Rattle.btr_restore.specs.Headline.{Headline, from_start, restore_outcome}
-use Rattle.btr_restore.specs.InOrder.{OpenedThen, OpenRefused, OpenHalted, SettledLaw, answer_by, opened}
+use Rattle.btr_restore.specs.InOrder.{OpenedThen, OpenRefused, OpenHalted, SettledLaw}
 use Rattle.btr_restore.specs.Journey.{listing}
-use Rattle.btr_restore.specs.Outcome.{Ending, Outcome, after_step, nothing, outcome_by, text_of, tree_after}
+use Rattle.btr_restore.specs.Outcome.{Ending, Outcome, after_step, nothing, outcome_by, tree_after}
 use Rattle.btr_restore.specs.Restoring.{sink_after}
 use Rattle.btr_restore.specs.Running.{Outside}
 use Rattle.btr_restore.specs.Step.{Step, Start as Starts, Dir, Up, File, Bytes, Zeros, Done as Finishes, Line, part}
@@ -26,12 +25,11 @@ use Rattle.btr_volume.specs.Maps.{array_layout}
 use Rattle.btr_volume.specs.Start.{Images, Start, start_of, layout_by}
 use Rattle.btr_volume.specs.Table.{TableResult, refusal_of, table_scan}
 use Rattle.btr_volume.specs.declared.fault.OpenFault.{OpenFault}
-use Rattle.btr_walk.specs.Reading.{unread_by}
 use Rattle.btr_tool.specs.Answers.{error_line}
-use Rattle.btr_tool.specs.Effects.{HasEffect, IsOutcome, images_outcome}
+use Rattle.btr_tool.specs.Effects.{HasEffect, images_outcome}
 use Rattle.btr_tool.specs.Filesystem.{with_start, with_table}
 use Rattle.btr_tool.specs.Outcomes as tool
-use Rattle.btr_tool.specs.Promise.{IsOutcomeOf, KeepsHeadline, KeepsOutcome, RestoresFrom, StandsAs, ended_answer}
+use Rattle.btr_tool.specs.Promise.{IsOutcomeOf, KeepsHeadline, KeepsOutcome, StandsAs, ended_answer}
 use Rattle.btr_tool.specs.Restored.{listed_answer, restored, restored_in}
 use Rattle.btr_tool.specs.Words.{Words, IsSentence, images_of}
 use Rattle.btr_tool.specs.declared.answer.Answer.{Answer}

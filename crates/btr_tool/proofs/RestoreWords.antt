@@ -1,16 +1,14 @@
 -- The options of `restore`, one behind another.
-use Rattle.std.proofs.Common.{◌≡◌, ℕ, ◌+◌, ◌^◌, ◌<◌, Bool, true, false, cond, List, [], ◌∷◌, ◌++◌, length, fold, flat_map, Option, Some, None, refl, sym, ap, ◌∙◌, subst, arith}
-use Rattle.std.specs.Prelude.{codes, is_some}
+use Rattle.std.proofs.Common.{◌≡◌, ℕ, ◌+◌, ◌^◌, ◌<◌, Bool, true, false, cond, List, [], ◌∷◌, ◌++◌, length, Option, Some, None, refl, sym, ap, ◌∙◌, arith}
+use Rattle.std.specs.Prelude.{is_some}
 use Rattle.std.specs.Fmt.{decimal}
 use Rattle.std.specs.Option.{option_and_then, option_map}
 use Rattle.std.proofs.lemmas.List.{append_assoc, append-nil, length-append}
 use Rattle.std.proofs.lemmas.Bool.Decides.{nat_tests}
 use Rattle.std.proofs.lemmas.Grind.{flat_map-append}
-use Rattle.btr_tool.specs.Numbers.{IsNumber, number_of}
 use Rattle.btr_tool.specs.Restores.{AreFree, IsFree, OneOption, Root, Snapshots, Verbose, Dry, flag_words, is_subvolume, no_options, option_words, options_words, root_words, with_option, with_options, with_root, words_in}
-use Rattle.btr_tool.specs.Words.{Words, next_of}
+use Rattle.btr_tool.specs.Words.{Words}
 use Rattle.btr_tool.specs.declared.options.Options.{Options}
-use Rattle.btr_tool.specs.declared.progress.Progress.{Progress}
 use Rattle.btr_tool.specs.declared.progress.Progress.TheVariants.{Restore, RootId}
 use Rattle.btr_tool.proofs.Machine.{reached}
 use Rattle.btr_tool.proofs.Numerals.{number_read}

@@ -1,6 +1,5 @@
 -- What restoring comes to.
-use Rattle.std.proofs.Common.{◌≡◌, ◌≢◌, ◌⊎◌, inl, inr, ⊎_elim, ℕ, List, [], ◌∷◌, ◌++◌, fold, Option, Some, None, Result, Ok, Err, refl, sym, ap, ◌∙◌, subst, arith}
-use Rattle.std.specs.Option.{IfSome}
+use Rattle.std.proofs.Common.{◌≡◌, ◌≢◌, inl, inr, ⊎_elim, ℕ, List, [], ◌∷◌, ◌++◌, Option, Some, None, Result, Ok, Err, refl, sym, ap, ◌∙◌, subst, arith}
 use Rattle.std.proofs.lemmas.List.{append-nil}
 use Rattle.btr_dump.proofs.Telling.{cause_since}
 use Rattle.btr_files.specs.declared.counts.Counts.{Counts}
@@ -8,12 +7,12 @@ use Rattle.btr_files.specs.declared.plan.RestorePlan.{RestorePlan}
 use Rattle.btr_prog.specs.Prog.{Mark, Wants, Does, Run, exec, needs, steps_of, wants_of}
 use Rattle.btr_prog.specs.Answers.{Breaks, Follows, Leaves}
 use Rattle.btr_prog.specs.Calls.{First}
-use Rattle.btr_prog.specs.Goes.{Goes, GoesTo}
+use Rattle.btr_prog.specs.Goes.{Goes}
 use Rattle.btr_prog.specs.Maps.{Each}
 use Rattle.btr_prog.proofs.Choices.{goes_one}
 use Rattle.btr_prog.proofs.Runs.{steps_of-append}
 use Rattle.btr_rack.specs.Rack.{Account, Seen, OnlyReads, Steady}
-use Rattle.btr_rack.specs.Out.{Adds, CallAccount}
+use Rattle.btr_rack.specs.Out.{Adds}
 use Rattle.btr_rack.proofs.Reading.{reads_more}
 use Rattle.btr_read.specs.Fate.{Fault, fate}
 use Rattle.btr_read.specs.Fate as fault
@@ -21,7 +20,7 @@ use Rattle.btr_read.specs.Layout.{Layout}
 use Rattle.btr_read.specs.declared.want.Want.{Want}
 use Rattle.btr_restore.specs.Journey.{listing}
 use Rattle.btr_restore.specs.Outcome.{text_of}
-use Rattle.btr_restore.specs.Restoring.{Did, StopCause, SinkCounts, OutCounts, ended, sink_after, text_after}
+use Rattle.btr_restore.specs.Restoring.{StopCause, SinkCounts, OutCounts, ended, text_after}
 use Rattle.btr_restore.specs.Running.{Outside, Ran, world}
 use Rattle.btr_restore.specs.Step.{Step, part}
 use Rattle.btr_volume.specs.Lookup.{Program}
@@ -30,12 +29,11 @@ use Rattle.btr_volume.specs.declared.stop.Stop.{Stop}
 use Rattle.btr_volume.specs.declared.stop.Stop.TheVariants as stop
 use Rattle.btr_volume.specs.declared.volume.Volume.{Volume}
 use Rattle.btr_walk.specs.Reading.{Map, FaultCause, unread_by}
-use Rattle.btr_walk.specs.declared.fault.TreeFault.{TreeFault}
 use Rattle.btr_walk.specs.declared.fault.TreeFault.TheVariants as tree
 use Rattle.btr_tool.specs.Answers.{error_line}
 use Rattle.btr_tool.specs.Behind.{IfSteady, IsBehind, HasTreeCause}
 use Rattle.btr_tool.specs.Faults.{tree_answer}
-use Rattle.btr_tool.specs.Filesystem.{IsRefusal, MayMend, OpensFilesystem, fault_answer, filesystem_in, filesystem_of}
+use Rattle.btr_tool.specs.Filesystem.{IsRefusal, MayMend, OpensFilesystem, filesystem_in, filesystem_of}
 use Rattle.btr_tool.specs.Outcomes.{Outcome, refused, Comes, IsFirstPart, IsNoFault, Stands, StandsOf, StandsPartly, Whole, SinkFailed, OutFailed, Wanted, OrBare, OrMemory}
 use Rattle.btr_tool.specs.Restored.{IsRestored, call_answer, listed, listed_answer, restored, restored_in}
 use Rattle.btr_tool.specs.declared.answer.Answer.{Answer}

@@ -34,7 +34,7 @@ use Rattle.btr_tool.specs.Outcomes.{IsNoFault, Shows, OrBare, OrMemory, refused,
 use Rattle.btr_tool.specs.Trees.{IsTreesOutcome, asked_answer, call_answer, shown_by, trees_in, trees_outcome, trees_shown, whole_answer}
 use Rattle.btr_tool.specs.declared.plan.DumpChoice.{DumpChoice}
 use Rattle.btr_tool.specs.declared.answer.Answer.{Answer}
-use Rattle.btr_tool.specs.declared.answer.Answer.TheVariants.{Done, Usage, NoSuper, SumKind, Foreign, Twin, Unsupported, Geometry, LogPending, BadArray, Limit, NoTree, ImageFault, OutFault}
+use Rattle.btr_tool.specs.declared.answer.Answer.TheVariants.{Done, Usage, NoSuper, SumKind, Foreign, Twin, Unsupported, Geometry, LogPending, BadArray, Limit, NoTree, ImageFault}
 use Rattle.btr_tool.proofs.Coming.{shows_bare, shows_also}
 use Rattle.btr_tool.proofs.Ending.{when_told}
 use Rattle.btr_tool.proofs.Faulting.{tree_in, tree_back}

@@ -1,5 +1,5 @@
 -- The commands: one case each.
-use Rattle.std.specs.Prelude.{◌≡◌, ◌⊎◌, ℕ, ◌<◌, false, List, [], get_or, length, Option, Some}
+use Rattle.std.specs.Prelude.{◌≡◌, ◌⊎◌, ℕ, ◌<◌, false, List, [], get_or, Option, Some}
 use Rattle.btr_rack.specs.Out.{CallAccount}
 use Rattle.btr_tool.specs.Filesystem.{MayMend}
 use Rattle.btr_tool.specs.Newest.{super_outcome, IsSuperOutcome}

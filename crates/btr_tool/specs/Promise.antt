@@ -1,5 +1,5 @@
 -- What restoring from images comes to, in the words of `btr_restore`, and what it promises where every candidate that passes its test is the committed block.
-use Rattle.std.specs.Prelude.{◌≡◌, ℕ, ◌≤◌, List, [], ◌++◌, drop, get_or, length, IfSome, Option, Some, Result, Ok, Err}
+use Rattle.std.specs.Prelude.{◌≡◌, ℕ, ◌≤◌, List, [], ◌++◌, drop, get_or, length, IfSome, Some, Ok, Err}
 use Rattle.btr_chunk.specs.declared.chunk.Chunk.{Chunk}
 use Rattle.btr_files.specs.declared.plan.RestorePlan.{RestorePlan}
 use Rattle.btr_rack.specs.Rack.{Shelf}
@@ -14,12 +14,10 @@ use Rattle.btr_tool.specs.Faults.{open_answer}
 use Rattle.btr_tool.specs.Filesystem.{fault_answer}
 use Rattle.btr_tool.specs.Images.{most_images, taken}
 use Rattle.btr_tool.specs.Outcomes as tool
-use Rattle.btr_tool.specs.Restored.{restored}
 use Rattle.btr_tool.specs.Words.{Words, IsSentence}
 use Rattle.btr_tool.specs.declared.answer.Answer.{Answer}
 use Rattle.btr_tool.specs.declared.answer.Answer.TheVariants.{Done}
 use Rattle.btr_tool.specs.declared.plan.Command.TheVariants.{Restore}
-use Rattle.btr_tool.specs.declared.plan.Plan.{Plan}
 
 -- the answer of an ending of restore
 abbrev pub ended_answer : Ending → Answer

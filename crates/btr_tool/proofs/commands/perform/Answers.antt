@@ -1,11 +1,11 @@
-use Rattle.std.proofs.Common.{◌≡◌, ◌⊎◌, inl, inr, ⊎_elim, ℕ, List, [], length, map, get_or, Some, refl, sym, ap, ◌∙◌, subst, arith}
+use Rattle.std.proofs.Common.{◌≡◌, inr, length, map, Some, refl, sym, subst}
 use Rattle.std.specs.String.{string_bytes}
 use Rattle.btr_restore.specs.Running.{outside}
 use Rattle.btr_tool.specs.Answers.{answer_of}
 use Rattle.btr_tool.specs.Behind.{IfSteady}
 use Rattle.btr_tool.specs.Commands.{HasWords, command_outcome, MayCome, MayWant}
 use Rattle.btr_tool.specs.Outcomes.{Comes, OrBare, OrMemory}
-use Rattle.btr_tool.specs.Restored.{restored, IsRestored}
+use Rattle.btr_tool.specs.Restored.{IsRestored}
 use Rattle.btr_tool.specs.declared.plan.Command.TheVariants.{Super, Dump, Roots, Restore}
 use Rattle.btr_tool.proofs.Causing.{name_at}
 use Rattle.btr_tool.proofs.Coming.{comes_also}
