@@ -1,5 +1,5 @@
 -- What doing what the words say comes to, by the step that ended it.
-use Rattle.std.proofs.Common.{◌≡◌, ◌≢◌, inl, inr, ⊎_elim, true, false, ltb, cond, ℕ, ◌<◌, ◌≤◌, ◌-◌, List, [], length, map, take, drop, String, Option, Some, None, Ok, Err, refl, sym, ap, ◌∙◌, subst, arith}
+use Rattle.std.proofs.Common.{◌≡◌, ◌≢◌, inl, inr, ⊎_elim, true, false, ltb, cond, ℕ, ◌<◌, ◌≤◌, ◌-◌, List, [], get_or, length, map, take, drop, String, Option, Some, None, Ok, Err, refl, sym, ap, ◌∙◌, subst, arith}
 use Rattle.std.specs.Option.{IfSome, option_and_then}
 use Rattle.std.specs.String.{string_bytes}
 use Rattle.std.specs.declared.alloc.Global.{Global}
@@ -7,17 +7,24 @@ use Rattle.std.proofs.lemmas.Bool.{cases_lt}
 use Rattle.std.proofs.lemmas.Bool.Decides.{nat_tests}
 use Rattle.std.proofs.lemmas.List.{drop-map, take_rest}
 use Rattle.btr_rack.specs.Rack.{Seen, Rose, Steady, NoneFailed, Shelf}
+use Rattle.btr_files.specs.declared.plan.RestorePlan.{RestorePlan}
+use Rattle.btr_prog.specs.Answers.{Broke}
+use Rattle.btr_read.specs.Fate.{choices}
+use Rattle.btr_restore.specs.InOrder as journey
 use Rattle.btr_restore.specs.Running.{Outside}
+use Rattle.btr_volume.specs.Start.{Start}
 use Rattle.btr_tool.specs.Answers.{error_line}
-use Rattle.btr_tool.specs.Behind.{IsBehind, HasTreeCause}
+use Rattle.btr_tool.specs.Behind.{IsBehind, IsFault, HasTreeCause}
 use Rattle.btr_tool.specs.Causes.{IsBehindWords, opened_with}
 use Rattle.btr_tool.specs.Commands.{command_outcome, MayCome, MayFail, MayWant}
 use Rattle.btr_tool.specs.Effects.{FollowsWords, IsDecided, IsOutcome, MayFollow, MayWantBy, images_outcome}
 use Rattle.btr_tool.specs.Images.{AreUnchanged, IsMissing, most_images, taken}
 use Rattle.btr_tool.specs.Opening.{HasTooMany, OpeningCause, OpeningFailed, OpensAll, opening_answer}
+use Rattle.btr_tool.specs.Order.{FollowsOrder, InOrder, KeepsTo}
 use Rattle.btr_tool.specs.Outcomes.{Outcome, refused, Comes, IsNoFault, OrBare, OrMemory}
 use Rattle.btr_tool.specs.Words.{Words, IsSentence, IsUsageAt, images_of}
 use Rattle.btr_tool.specs.declared.plan.Command.{Command}
+use Rattle.btr_tool.specs.declared.plan.Command.TheVariants.{Restore}
 use Rattle.btr_tool.specs.declared.plan.Plan.{Plan}
 use Rattle.btr_tool.specs.declared.opening.OpeningFault.{OpeningFault}
 use Rattle.btr_tool.specs.declared.opening.OpeningFault.TheVariants.{TooMany, Failed, Memory as memory_fault}
@@ -29,6 +36,7 @@ use Rattle.btr_tool.proofs.Causing.{none_failed_yet, none_failed_twice, opened_a
 use Rattle.btr_tool.proofs.Coming.{comes_bare, comes_also}
 use Rattle.btr_tool.proofs.Faulting.{tree_in, untreed}
 use Rattle.btr_tool.proofs.Openings.{Images}
+use Rattle.btr_tool.proofs.Orders.{nothing_done, nothing_stands}
 use Rattle.btr_tool.proofs.Sentences.{one_plan}
 
 -- a clause on what may be told
@@ -64,6 +72,9 @@ module _ (words : Words) (at : ℕ) (usage : IsUsageAt words at) where
 
   pub usage_told : (x : Outside) → Comes (MayWantBy words x.out_calls) (OrBare (MayFollow words)) x x (Usage at)
   usage_told x = comes_bare (MayWantBy words x.out_calls) (OrBare (MayFollow words)) x (Usage at) (inr (refl, λ e. cc)) usage_no_fault
+
+  pub usage_order : (shelf : Option Shelf) (old new : Seen) (x : Outside) → IfSome shelf (λ s. FollowsOrder words s old new x x (Usage at))
+  usage_order shelf old new x = all_told shelf _ (λ s plan dest images from. absurd (usage.no_sentence _ from.sentence))
 
   pub usage_decided : (answer : Answer) → IsDecided words answer → Usage at ≡ answer
   usage_decided answer decided =
@@ -153,6 +164,19 @@ module _ (words names : Words) (plan : Plan) (sentence : IsSentence plan words) 
         subst (λ a. Comes (MayWantBy words x.out_calls) (OrBare (MayFollow words)) x x a) (sym is)
         (comes_bare (MayWantBy words x.out_calls) (OrBare (MayFollow words)) x (opening_answer fault) (inr (refl, opening_line fault)) (opening_no_fault fault))
 
+    pub opening_order : (shelf : Option Shelf) (before : Seen) (x : Outside) (result : Answer) → result ≡ opening_answer fault → IfSome shelf (λ s. FollowsOrder words s before new x x result)
+    opening_order shelf before x result is =
+        all_told shelf _ (λ s p dest images from start begun agreed.
+        of p dest images start (subst (λ l. length l ≤ most_images) (ap (λ (q : Plan). images_of q words) (one_plan words _ plan from.sentence sentence) ∙ named) from.few) fault many is)
+      where
+        bare : (p : RestorePlan) (dest : List ℕ) (images : Images) (start : Start) → IsFault result → KeepsTo (journey.Follows p dest start before new (choices images)) x x [] result
+        bare p dest images start is_fault = record { done = []; answer = Err Broke; allowed = nothing_done p dest images start before new; stands = nothing_stands x; answered = is_fault }
+
+        of : (p : RestorePlan) (dest : List ℕ) (images : Images) (start : Start) → length names ≤ most_images → (f : OpeningFault) → HasTooMany names (Err f) → result ≡ opening_answer f → KeepsTo (journey.Follows p dest start before new (choices images)) x x [] result
+        of p dest images start few (TooMany count) many is = absurd (omega (arith, few, many.0, many.1))
+        of p dest images start few (Failed slot) many is = bare p dest images start (inl (slot, is))
+        of p dest images start few memory_fault many is = bare p dest images start (inr (inr (inr is)))
+
     pub opening_decided : (result answer : Answer) → result ≡ opening_answer fault → IsDecided words answer → (most_images < length names) × (result ≡ answer)
     opening_decided result answer is decided = let all = too_many_decided answer decided in (all.0, is ∙ of fault many all.0 ∙ sym all.1)
       where
@@ -224,6 +248,26 @@ module _ (words names : Words) (plan : Plan) (sentence : IsSentence plan words) 
     command_told x y comes =
         comes_also (MayWant plan.command x.out_calls) (MayWantBy words x.out_calls) (OrBare (MayCome plan.command)) (OrBare (MayFollow words)) x y answer (may_want x)
         (λ outcome one. ⊎_elim (λ is. inl (plan, sentence, is)) (λ bare. inr bare) one) comes
+
+    the_images : (a b : Images) → ◌≡◌ {A = Option Images} (Some a) (Some b) → a ≡ b
+    the_images a b e = cc e
+
+    pub command_order : (x y : Outside) → OpensAll names old.shelf mid.held (Ok tt)
+        → ((number : ℕ) (p : RestorePlan) → plan.command ≡ Restore number p → IfSome mid.held (λ images. InOrder p (get_or words number []) images mid new x y answer))
+        → IfSome old.shelf (λ shelf. FollowsOrder words shelf (opened_with old.account new) new x y answer)
+    command_order x y = of old.shelf mid.held
+      where
+        of : (shelf : Option Shelf) (held : Option Images) → OpensAll names shelf held (Ok tt)
+            → ((number : ℕ) (p : RestorePlan) → plan.command ≡ Restore number p → IfSome held (λ images. InOrder p (get_or words number []) images mid new x y answer))
+            → IfSome shelf (λ shelf. FollowsOrder words shelf (opened_with old.account new) new x y answer)
+        of None held opens order = tt
+        of (Some at) None opens order = absurd opens
+        of (Some at) (Some held) opens order = λ p dest images from.
+            let one = one_plan words _ plan from.sentence sentence in
+            let same : ◌≡◌ {A = Option Images} (Some held) (Some images) = sym opens ∙ sym (ap (λ (q : Plan). taken (images_of q words) at) one ∙ ap (λ l. taken l at) named) ∙ from.from in
+            subst (λ before. InOrder p dest images before new x y answer) (opened_again old mid new opened behind.reads.same)
+            (subst (λ d. InOrder p d images mid new x y answer) from.named
+            (subst (λ i. InOrder p (get_or words from.number []) i mid new x y answer) (the_images held images same) (order from.number p (sym (ap (λ (q : Plan). q.command) one)))))
 
     pub none_decided : (other : Answer) → IsDecided words other → ⊥
     none_decided other decided = omega (arith, few, (too_many_decided other decided).0)

@@ -20,7 +20,7 @@ use Rattle.btr_volume.specs.declared.fault.TableFault.{TableFault}
 use Rattle.btr_volume.specs.declared.volume.Volume.{Volume}
 use Rattle.btr_tool.specs.Behind.{IfSteady}
 use Rattle.btr_tool.specs.Faults.{open_answer, tree_answer}
-use Rattle.btr_tool.specs.Filesystem.{OpensFilesystem, filesystem_of, filesystem_in, with_start, with_table}
+use Rattle.btr_tool.specs.Filesystem.{OpensAs, OpensFilesystem, filesystem_of, filesystem_in, with_start, with_table}
 use Rattle.btr_tool.specs.declared.answer.Answer.{Answer}
 
 steady_not_rose : (before now : ℕ) → Steady before now → Rose before now → ⊥
@@ -95,3 +95,18 @@ refused_content old new refusal answer is cause = of old.held refl
     of : (held : Option Images) → old.held ≡ held → IfSome held (λ images. Opens images old new (Err refusal)) → IfSteady held old.account new.account (λ images. OpensFilesystem images (Err answer))
     of None told opens = tt
     of (Some images) told opens = λ steady. subst (λ a. OpensFilesystem images (Err a)) (sym is) (refused old new images refusal told steady cause opens)
+
+-- what opening answered, whatever failed
+pub opened_as : (old new : Seen) (volume : Volume) → IfSome old.held (λ images. Opens images old new (Ok volume)) → IfSome old.held (λ images. OpensAs images old new (Ok volume))
+opened_as old new volume = of old.held
+  where
+    of : (held : Option Images) → IfSome held (λ images. Opens images old new (Ok volume)) → IfSome held (λ images. OpensAs images old new (Ok volume))
+    of None opens = tt
+    of (Some images) opens = record { opening = Ok volume; opens = opens; same = refl }
+
+pub refused_as : (old new : Seen) (refusal : OpenFault) (result : Result Volume Answer) → result ≡ Err (open_answer refusal) → IfSome old.held (λ images. Opens images old new (Err refusal)) → IfSome old.held (λ images. OpensAs images old new result)
+refused_as old new refusal result is = of old.held
+  where
+    of : (held : Option Images) → IfSome held (λ images. Opens images old new (Err refusal)) → IfSome held (λ images. OpensAs images old new result)
+    of None opens = tt
+    of (Some images) opens = record { opening = Err refusal; opens = opens; same = sym is }

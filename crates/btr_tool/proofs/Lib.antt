@@ -17,3 +17,4 @@ pub mod TreesShown
 pub mod Restorings
 pub mod Performing
 pub mod Promises
+pub mod Orders

@@ -1,10 +1,12 @@
 -- What a command that only shows something comes to, as a command among others.
-use Rattle.std.proofs.Common.{◌≡◌, inl, inr, ⊎_elim, ℕ, List, [], get_or, Option, Some, ap, ◌∙◌}
+use Rattle.std.proofs.Common.{◌≡◌, inl, inr, ⊎_elim, ℕ, List, [], get_or, Option, Some, None, sym, ap, ◌∙◌, subst}
+use Rattle.std.specs.Option.{IfSome}
 use Rattle.btr_files.specs.declared.plan.RestorePlan.{RestorePlan}
-use Rattle.btr_rack.specs.Rack.{Account, Steady}
+use Rattle.btr_rack.specs.Rack.{Account, Seen, Steady}
 use Rattle.btr_restore.specs.Running.{Outside}
 use Rattle.btr_tool.specs.Behind.{IfSteady}
 use Rattle.btr_tool.specs.Commands.{MayWant, command_outcome}
+use Rattle.btr_tool.specs.Order.{InOrder}
 use Rattle.btr_tool.specs.Outcomes.{Outcome, Comes, OrBare, OrMemory, Shows}
 use Rattle.btr_tool.specs.Restored.{restored}
 use Rattle.btr_tool.specs.Words.{Words}
@@ -32,3 +34,16 @@ pub writing_comes : (number : ℕ) (plan : RestorePlan) (words : Words) (dest : 
 writing_comes number plan words dest x y answer named images comes =
     comes_also (Unit {0}) (MayWant (Restore number plan) x.out_calls) (OrMemory (λ outcome. restored plan dest images ≡ outcome)) (OrMemory (λ outcome. command_outcome (Restore number plan) words images ≡ Some outcome)) x y answer (λ u. inr u)
     (λ outcome one. ⊎_elim (λ is. inl (ap (λ d. Some (restored plan d images)) named ∙ ap (λ o. Some o) is)) (λ want. inr want) one) comes
+
+-- what a restore did, by the words
+pub restored_order : (number other : ℕ) (plan given : RestorePlan) (words : Words) (dest : List ℕ) → Restore number plan ≡ Restore other given → (old new : Seen) (x y : Outside) (answer : Answer) → get_or words other [] ≡ dest
+    → IfSome old.held (λ images. InOrder given dest images old new x y answer) → IfSome old.held (λ images. InOrder plan (get_or words number []) images old new x y answer)
+restored_order number other plan given words dest is old new x y answer named =
+    when_told old.held (λ images. InOrder given dest images old new x y answer) (λ images. InOrder plan (get_or words number []) images old new x y answer)
+    (λ images order. subst (λ p. InOrder p (get_or words number []) images old new x y answer) same_plan (subst (λ d. InOrder given d images old new x y answer) (sym named ∙ ap (λ n. get_or words n []) same_number) order))
+  where
+    same_plan : given ≡ plan
+    same_plan = cc is
+
+    same_number : other ≡ number
+    same_number = cc is

@@ -36,12 +36,8 @@ use Rattle.btr_tool.specs.declared.answer.Answer.{Answer}
 use Rattle.btr_tool.specs.declared.plan.Command.TheVariants.{Restore}
 use Rattle.btr_tool.specs.declared.plan.Plan.{Plan}
 use Rattle.btr_tool.proofs.Carrying.{taken_outcome}
+use Rattle.btr_tool.proofs.Orders.{no_steps}
 use Rattle.btr_tool.proofs.Sentences.{one_plan}
-
--- a lookup has no steps
-no_steps : (steps : List ⊥) → [] ≡ steps
-no_steps [] = refl
-no_steps (step ∷ steps) = absurd step
 
 -- the outcome of some steps and an ending
 by_steps : (steps : List Step) (ending : Ending) (answer : Answer) (found : Outcome) → outcome_by steps ending ≡ found → answer ≡ ended_answer ending → IsOutcomeOf (record { answer = answer; steps = steps }) found

@@ -163,7 +163,7 @@ module _ (p : Program Step Counts) (old mid new : Seen) (first : OnlyReads old m
   abbrev IsBy : Images → Outcome → Type 0
   IsBy images outcome = listed (exec (fate images layout) p) ≡ outcome
 
-  did : Stands x y ran.did.done []
+  pub did : Stands x y ran.did.done []
   did = record { sink = ran.did.sink; text = adds_after x.text y.text ran.did.done ran.did.text }
 
   by_run : (images : Images) → Steady mid.account.faults new.account.faults → Goes (unread_by layout mid new) part [] (λ (n : ℕ). fate images layout) p ran.did.done (ended result) → Comes (Unit {0}) (IsBy images) x y (call_answer result)

@@ -5,7 +5,9 @@ use Rattle.btr_read.specs.Fate.{Fault, fate}
 use Rattle.btr_read.specs.Fate as fault
 use Rattle.btr_read.specs.Layout.{Layout}
 use Rattle.btr_super.specs.declared.superblock.Super.{Super}
+use Rattle.btr_rack.specs.Rack.{Seen}
 use Rattle.btr_volume.specs.Maps.{array_layout}
+use Rattle.btr_volume.specs.Opening.{Opens}
 use Rattle.btr_volume.specs.Start.{Images, Start, start_of, layout_by}
 use Rattle.btr_volume.specs.Table.{TableResult, refusal_of, table_scan}
 use Rattle.btr_volume.specs.declared.fault.OpenFault.{OpenFault}
@@ -46,10 +48,21 @@ filesystem_of images = with_start images (start_of images)
 abbrev pub filesystem_in : Volume → Filesystem
 filesystem_in volume = record { sup = volume.sup; layout = volume.store.layout }
 
+-- what opening answers, a refusal being its answer
+abbrev pub answer_as : Result Volume OpenFault → Result Volume Answer
+answer_as (Ok volume) = Ok volume
+answer_as (Err refusal) = Err (open_answer refusal)
+
 -- the volume is the filesystem of the images, or its answer is theirs; memory may be wanted
 abbrev pub OpensFilesystem : Images → Result Volume Answer → Type 0
 OpensFilesystem images (Ok volume) = filesystem_of images ≡ Ok (filesystem_in volume)
 OpensFilesystem images (Err answer) = (filesystem_of images ≡ Err answer) ⊎ (answer ≡ Memory)
+
+-- opening the images answered this, and the answer is its
+pub record OpensAs (images : Images) (old new : Seen) (result : Result Volume Answer) : Type 0 where
+  pub opening : Result Volume OpenFault
+  pub opens : Opens images old new opening
+  pub same : answer_as opening ≡ result
 
 -- a refusal by the superblocks alone
 abbrev pub IsBySupers : OpenFault → Type 0

@@ -17,3 +17,4 @@ pub mod Commands
 pub mod Causes
 pub mod Effects
 pub mod Promise
+pub mod Order

@@ -1,10 +1,10 @@
 // Opening the filesystem of the open images.
-ghost use Rattle.std.specs.Prelude.{◌≡◌, ◌≢◌, ◌⊎◌, ◌<◌, ℕ, length, IfErr, IfOk};
+ghost use Rattle.std.specs.Prelude.{◌≡◌, ◌≢◌, ◌⊎◌, ◌<◌, ℕ, length, IfErr, IfOk, IfSome};
 ghost use Rattle.btr_rack.specs.Rack.{NoneFailed, OnlyReads};
 ghost use Rattle.btr_volume.specs.Opening.{IsFresh, SuperUnread};
 ghost use Rattle.btr_volume.specs.declared.which.Which.TheVariants.{Images};
 ghost use Rattle.btr_tool.specs.Behind.{HasTreeCause, IfSteady, IsFault};
-ghost use Rattle.btr_tool.specs.Filesystem.{IsRefusal, MayMend, OpensFilesystem};
+ghost use Rattle.btr_tool.specs.Filesystem.{IsRefusal, MayMend, OpensAs, OpensFilesystem};
 
 use crate::answer::Answer;
 use btr_rack::Rack;
@@ -18,6 +18,7 @@ pub(crate) fn open_filesystem<R: Rack>(alloc: Global, rack: &mut R) -> Result<Vo
     requires { 0 < length (R.seen rack.old).slots }
     ensures content { IfSteady (R.seen rack.old).held (R.seen rack.old).account (R.seen rack.new).account (λ images.
         OpensFilesystem images result) }
+    ensures opened { IfSome (R.seen rack.old).held (λ images. OpensAs images (R.seen rack.old) (R.seen rack.new) result) }
     ensures reads { OnlyReads (R.seen rack.old) (R.seen rack.new) }
     ensures fresh { IfOk result (IsFresh (R.seen rack.new)) }
     ensures refusal { IfErr result IsRefusal }

@@ -1,10 +1,11 @@
 // The command `restore`, where it writes files.
-ghost use Rattle.std.specs.Prelude.{◌≡◌, ◌<◌, length};
+ghost use Rattle.std.specs.Prelude.{◌≡◌, ◌<◌, length, IfSome};
 ghost use Rattle.btr_rack.specs.Sink.{NotStarted};
 ghost use Rattle.btr_restore.specs.Running.{outside};
 ghost use Rattle.btr_tool.specs.Answers.{answer_of};
 ghost use Rattle.btr_tool.specs.Behind.{IfSteady, IsBehind};
 ghost use Rattle.btr_tool.specs.Filesystem.{MayMend};
+ghost use Rattle.btr_tool.specs.Order.{InOrder};
 ghost use Rattle.btr_tool.specs.Outcomes.{Comes, OrBare, OrMemory};
 ghost use Rattle.btr_tool.specs.Restored.{IsRestored, restored};
 
@@ -12,7 +13,7 @@ use crate::answer::Answer;
 use crate::filesystem::open_filesystem;
 use btr_files::RestorePlan;
 use btr_rack::{Out, Rack, TreeSink};
-use btr_restore::restore;
+use btr_restore::{opened_then, restore};
 use std::alloc::Global;
 
 /// Writes the directories and files of a subvolume of the open images' filesystem into the destination of this name, and puts a line for each entry that is
@@ -37,8 +38,13 @@ pub(crate) fn restore_files<R: Rack, T: TreeSink, O: Out>(
     ensures told { Comes (Unit {0}) (OrBare IsRestored)
         (outside (T.sink tree.old) (T.account tree.old) (O.text out.old) (O.account out.old))
         (outside (T.sink tree.new) (T.account tree.new) (O.text out.new) (O.account out.new)) (answer_of result) }
+    ensures order { IfSome (R.seen rack.old).held (λ images.
+        InOrder plan.now dest.now images (R.seen rack.old) (R.seen rack.new)
+        (outside (T.sink tree.old) (T.account tree.old) (O.text out.old) (O.account out.old))
+        (outside (T.sink tree.new) (T.account tree.new) (O.text out.new) (O.account out.new)) (answer_of result)) }
     ensures cause { IsBehind MayMend (R.seen rack.old) (R.seen rack.new) (answer_of result) }
 {
+    opened_then();
     let mut volume = open_filesystem(alloc, rack)?;
     let counts = restore(alloc, plan, dest, rack, &mut volume, tree, out)?;
     Ok(Answer::Done {

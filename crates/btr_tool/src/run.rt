@@ -1,15 +1,16 @@
 // The top call.
-ghost use Rattle.std.specs.Prelude.{◌≡◌, ◌≢◌, ◌⊎◌, ◌<◌, [], ℕ, true, map};
+ghost use Rattle.std.specs.Prelude.{◌≡◌, ◌≢◌, ◌⊎◌, ◌<◌, [], ℕ, true, map, IfSome};
 ghost use Rattle.std.specs.String.{string_bytes};
 ghost use Rattle.btr_rack.specs.Rack.{Steady};
 ghost use Rattle.btr_rack.specs.Sink.{NotStarted};
 ghost use Rattle.btr_restore.specs.Running.{outside};
 ghost use Rattle.btr_tool.specs.Answers.{answer_of, error_line};
 ghost use Rattle.btr_tool.specs.Behind.{IfSteady};
-ghost use Rattle.btr_tool.specs.Causes.{HidesNone, ImageCause, IsBehindWords, IsMissingImage, IsShut, TreeCause};
+ghost use Rattle.btr_tool.specs.Causes.{HidesNone, ImageCause, IsBehindWords, IsMissingImage, IsShut, TreeCause, opened_with};
 ghost use Rattle.btr_tool.specs.Effects.{FollowsWords, HasEffect, HasPart, IsDecided, IsOutcome, IsTold, MayFollow, MayWantBy};
 ghost use Rattle.btr_tool.specs.Images.{AreUnchanged};
 ghost use Rattle.btr_tool.specs.Promise.{KeepsHeadline, KeepsOutcome};
+ghost use Rattle.btr_tool.specs.Order.{FollowsOrder, KeepsCommittedOrder, KeepsOrder};
 ghost use Rattle.btr_tool.specs.Outcomes.{CallFailed, Comes, IsPut, OrBare, OrMemory};
 
 use crate::answer::Answer;
@@ -18,7 +19,7 @@ use crate::opening::open_images;
 use crate::plan::Plan;
 use crate::refusal::put_refusal;
 use btr_rack::{Out, Rack, TreeSink};
-use btr_restore::{headline, opened_then, settled};
+use btr_restore::{committed_order, headline, opened_then, settled};
 use std::alloc::Global;
 
 /// Does what the words say over the images of the rack, writes files into the sink, puts its text, and answers how it ended.
@@ -53,6 +54,16 @@ pub fn run<R: Rack, T: TreeSink, O: Out>(
     ensures headline { IfSteady (R.seen rack.old).shelf (R.seen rack.old).account (R.seen rack.new).account (λ shelf.
         Steady (T.account tree.old).faults (T.account tree.new).faults → Steady (O.account out.old).faults (O.account out.new).faults → result ≢ Answer.Memory
         → KeepsHeadline (map string_bytes words.now) shelf
+        (outside (T.sink tree.old) (T.account tree.old) (O.text out.old) (O.account out.old))
+        (outside (T.sink tree.new) (T.account tree.new) (O.text out.new) (O.account out.new)) result) }
+
+    // Whatever failed, a restore follows its journey, where the images' copies agree; so it follows what was committed, or stopped where a block of that is lost.
+    ensures order { IfSome (R.seen rack.old).shelf (λ shelf.
+        KeepsOrder (map string_bytes words.now) shelf (opened_with (R.seen rack.old).account (R.seen rack.new)) (R.seen rack.new)
+        (outside (T.sink tree.old) (T.account tree.old) (O.text out.old) (O.account out.old))
+        (outside (T.sink tree.new) (T.account tree.new) (O.text out.new) (O.account out.new)) result) }
+    ensures committed { IfSome (R.seen rack.old).shelf (λ shelf.
+        KeepsCommittedOrder (map string_bytes words.now) shelf (opened_with (R.seen rack.old).account (R.seen rack.new)) (R.seen rack.new)
         (outside (T.sink tree.old) (T.account tree.old) (O.text out.old) (O.account out.old))
         (outside (T.sink tree.new) (T.account tree.new) (O.text out.new) (O.account out.new)) result) }
 
@@ -98,6 +109,7 @@ pub fn run<R: Rack, T: TreeSink, O: Out>(
     opened_then();
     settled();
     headline();
+    committed_order();
     finish(done, out)
 }
 
@@ -118,6 +130,10 @@ fn carry_out<R: Rack, T: TreeSink, O: Out>(
     ensures told { Comes (MayWantBy (map string_bytes words.now) (O.account out.old)) (OrBare (MayFollow (map string_bytes words.now)))
         (outside (T.sink tree.old) (T.account tree.old) (O.text out.old) (O.account out.old))
         (outside (T.sink tree.new) (T.account tree.new) (O.text out.new) (O.account out.new)) (answer_of result) }
+    ensures order { IfSome (R.seen rack.old).shelf (λ shelf.
+        FollowsOrder (map string_bytes words.now) shelf (opened_with (R.seen rack.old).account (R.seen rack.new)) (R.seen rack.new)
+        (outside (T.sink tree.old) (T.account tree.old) (O.text out.old) (O.account out.old))
+        (outside (T.sink tree.new) (T.account tree.new) (O.text out.new) (O.account out.new)) (answer_of result)) }
     ensures decided { (answer : Answer) → IsDecided (map string_bytes words.now) answer
         → (rack.new ≡ rack.old) × (tree.new ≡ tree.old) × (answer_of result ≡ answer) }
     ensures stated { FollowsWords (map string_bytes words.now) (answer_of result) }

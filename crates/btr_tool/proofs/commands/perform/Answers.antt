@@ -10,7 +10,7 @@ use Rattle.btr_tool.specs.declared.plan.Command.TheVariants.{Super, Dump, Roots,
 use Rattle.btr_tool.proofs.Causing.{name_at}
 use Rattle.btr_tool.proofs.Coming.{comes_also}
 use Rattle.btr_tool.proofs.Ending.{when_told}
-use Rattle.btr_tool.proofs.Performing.{shown_effect, shown_told, writing_comes}
+use Rattle.btr_tool.proofs.Performing.{restored_order, shown_effect, shown_told, writing_comes}
 use Rattle.btr_tool.proofs.commands.perform.Goals as goal
 
 pub returns-in-Super-clause-effect : goal.returns-in-Super-clause-effect
@@ -76,3 +76,20 @@ returns-in-Restore-clause-told g c =
     let y = outside (g.T.TreeSink.sink c.restore_files.new.tree) (g.T.TreeSink.account c.restore_files.new.tree) (g.O.Out.text c.restore_files.new.out) (g.O.Out.account c.restore_files.new.out) in
     subst (λ command. Comes (MayWant command x.out_calls) (OrBare (MayCome command)) x y (answer_of c.restore_files.result)) (sym c.in-Restore.is)
     (comes_also (Unit {0}) (MayWant (Restore c.in-Restore.dest c.in-Restore.plan) x.out_calls) (OrBare IsRestored) (OrBare (MayCome (Restore c.in-Restore.dest c.in-Restore.plan))) x y (answer_of c.restore_files.result) (λ u. inr u) (λ outcome one. one) c.restore_files.ensures.told)
+
+pub returns-in-Super-clause-order : goal.returns-in-Super-clause-order
+returns-in-Super-clause-order g c = λ number plan is. absurd (cc (sym c.in-Super.is ∙ is))
+
+pub returns-in-Dump-clause-order : goal.returns-in-Dump-clause-order
+returns-in-Dump-clause-order g c = λ number plan is. absurd (cc (sym c.in-Dump.is ∙ is))
+
+pub returns-in-Roots-clause-order : goal.returns-in-Roots-clause-order
+returns-in-Roots-clause-order g c = λ number plan is. absurd (cc (sym c.in-Roots.is ∙ is))
+
+pub returns-in-Restore-clause-order : goal.returns-in-Restore-clause-order
+returns-in-Restore-clause-order g c = λ number plan is.
+    restored_order number c.in-Restore.dest plan c.in-Restore.plan (map string_bytes c.args.words.now) _ (sym is ∙ c.in-Restore.is) (g.R.Rack.seen c.args.rack.now) (g.R.Rack.seen c.restore_files.new.rack)
+    (outside (g.T.TreeSink.sink c.args.tree.now) (g.T.TreeSink.account c.args.tree.now) (g.O.Out.text c.args.out.now) (g.O.Out.account c.args.out.now))
+    (outside (g.T.TreeSink.sink c.restore_files.new.tree) (g.T.TreeSink.account c.restore_files.new.tree) (g.O.Out.text c.restore_files.new.out) (g.O.Out.account c.restore_files.new.out)) (answer_of c.restore_files.result)
+    (name_at c.args.words.now c.in-Restore.dest c.index-words-dest.result c.as_str.result.now (subst (λ command. HasWords command (length c.args.words.now)) c.in-Restore.is c.requires.words) c.as_str.ensures.value c.index-words-dest.is)
+    c.restore_files.ensures.order

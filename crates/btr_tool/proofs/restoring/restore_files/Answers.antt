@@ -6,7 +6,8 @@ use Rattle.btr_tool.specs.Faults.{stop_answer}
 use Rattle.btr_tool.specs.Restored.{restored}
 use Rattle.btr_tool.specs.declared.answer.Answer.TheVariants.{Done}
 use Rattle.btr_tool.proofs.Coming.{answer_gives}
-use Rattle.btr_tool.proofs.Restorings.{unopened_effect, unopened_told, restored_effect, restored_told, restored_behind, is_restored}
+use Rattle.btr_tool.proofs.Restorings.{did, unopened_effect, unopened_told, restored_effect, restored_told, restored_behind, is_restored}
+use Rattle.btr_tool.proofs.Orders.{nothing_stands, opened_in_order, unopened_in_order}
 use Rattle.btr_tool.proofs.TreesShown.{unopened_behind}
 use Rattle.btr_tool.proofs.restoring.restore_files.Goals as goal
 
@@ -73,3 +74,21 @@ returns-clause-cause g c =
     (outside (g.T.TreeSink.sink c.args.tree.now) (g.T.TreeSink.account c.args.tree.now) (g.O.Out.text c.args.out.now) (g.O.Out.account c.args.out.now))
     (outside (g.T.TreeSink.sink c.restore.new.tree) (g.T.TreeSink.account c.restore.new.tree) (g.O.Out.text c.restore.new.out) (g.O.Out.account c.restore.new.out))
     (Done c.in_ok-counts.counts.skipped) (Ok c.in_ok-counts.counts) refl c.in_ok-counts.ensures
+
+pub returns-in_err-volume-clause-order : goal.returns-in_err-volume-clause-order
+returns-in_err-volume-clause-order g c =
+    let answer = c.in_err-volume.field-0.0 in
+    unopened_in_order c.args.plan.now c.args.dest.now (g.R.Rack.seen c.args.rack.now) (g.R.Rack.seen c.open_filesystem.new.rack) (λ start. c.opened_then.ensures.listed c.args.plan.now c.args.dest.now start (g.R.Rack.seen c.args.rack.now) (g.R.Rack.seen c.open_filesystem.new.rack)) (λ start. c.opened_then.ensures.refused c.args.plan.now c.args.dest.now start (g.R.Rack.seen c.args.rack.now) (g.R.Rack.seen c.open_filesystem.new.rack)) (λ start. c.opened_then.ensures.halted c.args.plan.now c.args.dest.now start (g.R.Rack.seen c.args.rack.now) (g.R.Rack.seen c.open_filesystem.new.rack))
+    (outside (g.T.TreeSink.sink c.args.tree.now) (g.T.TreeSink.account c.args.tree.now) (g.O.Out.text c.args.out.now) (g.O.Out.account c.args.out.now)) answer (answer_of c.from_residual.result) (nothing_stands (outside (g.T.TreeSink.sink c.args.tree.now) (g.T.TreeSink.account c.args.tree.now) (g.O.Out.text c.args.out.now) (g.O.Out.account c.args.out.now))) (answer_gives c.from_residual.result answer c.from_residual.ensures.1) c.in_err-volume.ensures.opened
+
+pub returns-in_err-counts-clause-order : goal.returns-in_err-counts-clause-order
+returns-in_err-counts-clause-order g c =
+    opened_in_order c.args.plan.now c.args.dest.now (g.R.Rack.seen c.args.rack.now) (g.R.Rack.seen c.restore.new.rack) (λ start. c.opened_then.ensures.listed c.args.plan.now c.args.dest.now start (g.R.Rack.seen c.args.rack.now) (g.R.Rack.seen c.restore.new.rack)) (λ start. c.opened_then.ensures.refused c.args.plan.now c.args.dest.now start (g.R.Rack.seen c.args.rack.now) (g.R.Rack.seen c.restore.new.rack)) (λ start. c.opened_then.ensures.halted c.args.plan.now c.args.dest.now start (g.R.Rack.seen c.args.rack.now) (g.R.Rack.seen c.restore.new.rack))
+    (g.R.Rack.seen c.open_filesystem.new.rack) c.in_ok-volume.volume c.restore.new.vol (outside (g.T.TreeSink.sink c.args.tree.now) (g.T.TreeSink.account c.args.tree.now) (g.O.Out.text c.args.out.now) (g.O.Out.account c.args.out.now)) (outside (g.T.TreeSink.sink c.restore.new.tree) (g.T.TreeSink.account c.restore.new.tree) (g.O.Out.text c.restore.new.out) (g.O.Out.account c.restore.new.out)) (answer_of c.from_residual-in_err-counts.result) (Err c.in_err-counts.field-0.0) (answer_gives c.from_residual-in_err-counts.result (stop_answer c.in_err-counts.field-0.0) c.from_residual-in_err-counts.ensures.1) c.in_ok-volume.ensures.reads c.in_ok-volume.ensures.opened c.in_err-counts.ensures
+    (did (listing c.args.plan.now c.args.dest.now c.in_ok-volume.volume.sup) (g.R.Rack.seen c.args.rack.now) (g.R.Rack.seen c.open_filesystem.new.rack) (g.R.Rack.seen c.restore.new.rack) c.in_ok-volume.ensures.reads c.in_ok-volume.volume c.restore.new.vol (outside (g.T.TreeSink.sink c.args.tree.now) (g.T.TreeSink.account c.args.tree.now) (g.O.Out.text c.args.out.now) (g.O.Out.account c.args.out.now)) (outside (g.T.TreeSink.sink c.restore.new.tree) (g.T.TreeSink.account c.restore.new.tree) (g.O.Out.text c.restore.new.out) (g.O.Out.account c.restore.new.out)) (answer_of c.from_residual-in_err-counts.result) (Err c.in_err-counts.field-0.0) (answer_gives c.from_residual-in_err-counts.result (stop_answer c.in_err-counts.field-0.0) c.from_residual-in_err-counts.ensures.1) c.in_err-counts.ensures)
+
+pub returns-clause-order : goal.returns-clause-order
+returns-clause-order g c =
+    opened_in_order c.args.plan.now c.args.dest.now (g.R.Rack.seen c.args.rack.now) (g.R.Rack.seen c.restore.new.rack) (λ start. c.opened_then.ensures.listed c.args.plan.now c.args.dest.now start (g.R.Rack.seen c.args.rack.now) (g.R.Rack.seen c.restore.new.rack)) (λ start. c.opened_then.ensures.refused c.args.plan.now c.args.dest.now start (g.R.Rack.seen c.args.rack.now) (g.R.Rack.seen c.restore.new.rack)) (λ start. c.opened_then.ensures.halted c.args.plan.now c.args.dest.now start (g.R.Rack.seen c.args.rack.now) (g.R.Rack.seen c.restore.new.rack))
+    (g.R.Rack.seen c.open_filesystem.new.rack) c.in_ok-volume.volume c.restore.new.vol (outside (g.T.TreeSink.sink c.args.tree.now) (g.T.TreeSink.account c.args.tree.now) (g.O.Out.text c.args.out.now) (g.O.Out.account c.args.out.now)) (outside (g.T.TreeSink.sink c.restore.new.tree) (g.T.TreeSink.account c.restore.new.tree) (g.O.Out.text c.restore.new.out) (g.O.Out.account c.restore.new.out)) (Done c.in_ok-counts.counts.skipped) (Ok c.in_ok-counts.counts) refl c.in_ok-volume.ensures.reads c.in_ok-volume.ensures.opened c.in_ok-counts.ensures
+    (did (listing c.args.plan.now c.args.dest.now c.in_ok-volume.volume.sup) (g.R.Rack.seen c.args.rack.now) (g.R.Rack.seen c.open_filesystem.new.rack) (g.R.Rack.seen c.restore.new.rack) c.in_ok-volume.ensures.reads c.in_ok-volume.volume c.restore.new.vol (outside (g.T.TreeSink.sink c.args.tree.now) (g.T.TreeSink.account c.args.tree.now) (g.O.Out.text c.args.out.now) (g.O.Out.account c.args.out.now)) (outside (g.T.TreeSink.sink c.restore.new.tree) (g.T.TreeSink.account c.restore.new.tree) (g.O.Out.text c.restore.new.out) (g.O.Out.account c.restore.new.out)) (Done c.in_ok-counts.counts.skipped) (Ok c.in_ok-counts.counts) refl c.in_ok-counts.ensures)

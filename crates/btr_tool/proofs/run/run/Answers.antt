@@ -2,9 +2,11 @@ use Rattle.std.proofs.Common.{map}
 use Rattle.std.specs.String.{string_bytes}
 use Rattle.btr_restore.specs.Running.{outside}
 use Rattle.btr_tool.specs.Answers.{answer_of}
+use Rattle.btr_tool.specs.Causes.{opened_with}
 use Rattle.btr_tool.specs.Effects.{MayFollow}
 use Rattle.btr_tool.specs.Outcomes.{OrBare}
 use Rattle.btr_tool.proofs.Ending.{when_told, has_effect, has_part, decided, stated, image, shut, out_failed, sink_failed, tree, hidden, sure, is_told}
+use Rattle.btr_tool.proofs.Orders.{keeps_committed, keeps_order}
 use Rattle.btr_tool.proofs.Promises.{keeps_outcome, keeps_headline}
 use Rattle.btr_tool.proofs.run.run.Goals as goal
 
@@ -115,3 +117,23 @@ returns-clause-headline g c =
     (outside (g.T.TreeSink.sink c.carry_out-done.new.tree) (g.T.TreeSink.account c.carry_out-done.new.tree) (g.O.Out.text c.carry_out-done.new.out) (g.O.Out.account c.carry_out-done.new.out)) (g.O.Out.text c.finish.new.out) (g.O.Out.account c.finish.new.out)
     (answer_of c.carry_out-done.result) c.finish.result c.finish.ensures shelf (comes still) calm steady enough))
     c.carry_out-done.ensures.effect
+
+pub returns-clause-order : goal.returns-clause-order
+returns-clause-order g c =
+    when_told (g.R.Rack.seen c.args.rack.now).shelf _ _
+    (λ shelf follows.
+    keeps_order (outside (g.T.TreeSink.sink c.args.tree.now) (g.T.TreeSink.account c.args.tree.now) (g.O.Out.text c.args.out.now) (g.O.Out.account c.args.out.now))
+    (outside (g.T.TreeSink.sink c.carry_out-done.new.tree) (g.T.TreeSink.account c.carry_out-done.new.tree) (g.O.Out.text c.carry_out-done.new.out) (g.O.Out.account c.carry_out-done.new.out)) (g.O.Out.text c.finish.new.out) (g.O.Out.account c.finish.new.out) (answer_of c.carry_out-done.result) c.finish.result c.finish.ensures
+    (map string_bytes c.args.words.now) shelf (opened_with (g.R.Rack.seen c.args.rack.now).account (g.R.Rack.seen c.carry_out-done.new.rack)) (g.R.Rack.seen c.carry_out-done.new.rack) follows)
+    c.carry_out-done.ensures.order
+
+pub returns-clause-committed : goal.returns-clause-committed
+returns-clause-committed g c =
+    when_told (g.R.Rack.seen c.args.rack.now).shelf _ _
+    (λ shelf follows.
+    keeps_committed c.committed_order.ensures (map string_bytes c.args.words.now) shelf (opened_with (g.R.Rack.seen c.args.rack.now).account (g.R.Rack.seen c.carry_out-done.new.rack)) (g.R.Rack.seen c.carry_out-done.new.rack) (outside (g.T.TreeSink.sink c.args.tree.now) (g.T.TreeSink.account c.args.tree.now) (g.O.Out.text c.args.out.now) (g.O.Out.account c.args.out.now))
+    (outside (g.T.TreeSink.sink c.carry_out-done.new.tree) (g.T.TreeSink.account c.carry_out-done.new.tree) (g.O.Out.text c.finish.new.out) (g.O.Out.account c.finish.new.out)) c.finish.result
+    (keeps_order (outside (g.T.TreeSink.sink c.args.tree.now) (g.T.TreeSink.account c.args.tree.now) (g.O.Out.text c.args.out.now) (g.O.Out.account c.args.out.now))
+    (outside (g.T.TreeSink.sink c.carry_out-done.new.tree) (g.T.TreeSink.account c.carry_out-done.new.tree) (g.O.Out.text c.carry_out-done.new.out) (g.O.Out.account c.carry_out-done.new.out)) (g.O.Out.text c.finish.new.out) (g.O.Out.account c.finish.new.out) (answer_of c.carry_out-done.result) c.finish.result c.finish.ensures
+    (map string_bytes c.args.words.now) shelf (opened_with (g.R.Rack.seen c.args.rack.now).account (g.R.Rack.seen c.carry_out-done.new.rack)) (g.R.Rack.seen c.carry_out-done.new.rack) follows))
+    c.carry_out-done.ensures.order
