@@ -1,4 +1,4 @@
-use Rattle.std.proofs.Common.{◌≡◌, inr, length, map, Some, refl, sym, subst}
+use Rattle.std.proofs.Common.{◌≡◌, ◌∙◌, inr, length, map, Some, refl, sym, subst}
 use Rattle.std.specs.String.{string_bytes}
 use Rattle.btr_restore.specs.Running.{outside}
 use Rattle.btr_tool.specs.Answers.{answer_of}

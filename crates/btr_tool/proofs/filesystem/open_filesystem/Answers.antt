@@ -1,5 +1,5 @@
 use Rattle.std.proofs.lemmas.Result.{err_from_is_err_and}
-use Rattle.std.proofs.Common.{◌∙◌, Err, ap, sym}
+use Rattle.std.proofs.Common.{◌∙◌, Err, ap}
 use Rattle.btr_tool.proofs.Filesystems.{opened_as, opened_content, refused_as, refused_content}
 use Rattle.btr_tool.proofs.filesystem.open_filesystem.Goals as goal
 
