@@ -58,7 +58,7 @@ fn words_that_are_no_sentence(rt: HostRuntime) -> Result<(), Fail> {
             b"error: usage error at word 3\n",
         ),
         (&["restore"], b"error: usage error at word 1\n"),
-        (&["restore", "out", "a"], b"error: usage error at word 1\n"),
+        (&["restore", "out", "-l"], b"error: usage error at word 2\n"),
         (
             &["restore", "-l", "-l", "a"],
             b"error: usage error at word 2\n",

@@ -67,7 +67,7 @@ fn five_files_of_small_volumes(rt: HostRuntime) -> Result<(), Fail> {
         (RowVolume::V1, &["restore", "out", "a"], counts, 0),
         (RowVolume::W5, &["restore", "out", "a", "c"], counts, 0),
         (RowVolume::W6, &["restore", "out", "b", "d"], counts, 0),
-        (RowVolume::M3, &["restore", "out", "b"], counts, 0),
+        (RowVolume::M3, &["restore", "out", "a"], counts, 0),
         (
             RowVolume::V2,
             &["restore", "out", "a"],
