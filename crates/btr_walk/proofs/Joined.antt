@@ -1,5 +1,5 @@
 -- What a lookup has come to, block by block.
-use Rattle.std.proofs.Common.{◌≡◌, ℕ, ◌-◌, ◌<◌, List, [], length, get_or, set, Option, Some, None, IsSome, IsSomeAnd, IsTrue, Result, Ok, Err, refl, sym, ap, ◌∙◌, subst}
+use Rattle.std.proofs.Common.{◌≡◌, ℕ, ◌+◌, ◌-◌, ◌<◌, List, [], length, get_or, set, drop, Option, Some, None, IsSome, IsSomeAnd, IsTrue, Result, Ok, Err, refl, sym, ap, ◌∙◌, subst}
 use Rattle.btr_base.specs.declared.key.Key.{Key}
 use Rattle.btr_node.specs.Block.{Item, items, pointers, is_leaf}
 use Rattle.btr_prog.specs.Calls.{Sure}
@@ -20,7 +20,9 @@ use Rattle.btr_walk.specs.Spot.{judged}
 use Rattle.btr_walk.specs.Le.{tree_item, root_spot, le, want_of, le_item, le_child}
 use Rattle.btr_walk.specs.Reading.{Map, UnreadBlock, Tells, halt_of, answer_of, Reads, IsGoodFor}
 use Rattle.btr_walk.specs.Finding.{Finds, LendsLeaf}
+use Rattle.btr_walk.specs.Reach.{next_key, FindsAndReaches, SameUpTo}
 use Rattle.btr_walk.proofs.Fetched.{some_block}
+use Rattle.btr_walk.proofs.Reaching.{Carries, carries_down, carries_end}
 use Rattle.btr_walk.proofs.Ways.{IsLeafAt, IsInnerAt, leaf_at, inner_at, Way, way_ends, way_down, halts_at, leaf_ends, inner_ends}
 
 on_both : (layout : Layout) (P Q R : Map → Type 0) → ((B : Map) → P B → Q B → R B) → (sure : Sure) (h : Option (List (List ℕ))) → OnMap layout P sure h → OnMap layout Q sure h → OnMap layout R sure h
@@ -44,38 +46,41 @@ is_inner_at level spot store loan block is good ne = inner_at level spot block (
 
 module _ (key : Key) (root : RootPlace) (level : ℕ) (spot : Spot) where
   abbrev pub WayOn : Map → Type 0
-  WayOn B = Way B key root.level (root_spot root) level spot
+  WayOn B = Way B key root.level (root_spot root) level spot × Carries B key root level spot
 
-  pub stops : (Is : UnreadBlock → Want → Type 0) (store : Blocks) (f : TreeFault) (B : Map) → WayOn B → Reads Is B level spot store (Err f) → Finds Is B root key store (Err f)
-  stops Is store f B way reads = (Err f, refl, way_ends B key Is root.level level (root_spot root) spot (Err (halt_of f)) way (halts_at B key Is level spot store f reads))
+  pub stops : (Is : UnreadBlock → Want → Type 0) (store : Blocks) (f : TreeFault) (B : Map) → WayOn B → Reads Is B level spot store (Err f) → FindsAndReaches Is B root key store (Err f)
+  stops Is store f B way reads = ((Err f, refl, way_ends B key Is root.level level (root_spot root) spot (Err (halt_of f)) way.0 (halts_at B key Is level spot store f reads)), tt)
 
   module _ (store : Blocks) (loan : Lent) (block : List ℕ) (is : block_of store loan ≡ Some block) where
     came : (Is : UnreadBlock → Want → Type 0) (B : Map) → Reads Is B level spot store (Ok loan) → B (want_of level spot) ≡ Ok block
     came Is B reads = block_is store loan block (λ b. B (want_of level spot) ≡ Ok b) is reads
 
-    pub finds_none : (Is : UnreadBlock → Want → Type 0) (after : Blocks) → IsLeafAt level spot block → le_item key (items block) ≡ None → (B : Map) → WayOn B → Reads Is B level spot store (Ok loan) → Finds Is B root key after (Ok None)
-    finds_none Is after leaf none B way reads = (Ok None, tt, way_ends B key Is root.level level (root_spot root) spot (Ok None) way (leaf_ends B key Is level spot block None leaf none (came Is B reads)))
+    pub finds_none : (Is : UnreadBlock → Want → Type 0) (after : Blocks) → IsLeafAt level spot block → le_item key (items block) ≡ None → (B : Map) → WayOn B → Reads Is B level spot store (Ok loan) → FindsAndReaches Is B root key after (Ok None)
+    finds_none Is after leaf none B way reads = ((Ok None, tt, way_ends B key Is root.level level (root_spot root) spot (Ok None) way.0 (leaf_ends B key Is level spot block None leaf none (came Is B reads))), tt)
 
     same_some : (x y : Item) → Some x ≡ Some y → x ≡ y
     same_some x y e = cc
 
-    pub finds_some : (Is : UnreadBlock → Want → Type 0) (at : ℕ) → IsLeafAt level spot block → ((d : Item) → le_item key (items block) ≡ Some (get_or (items block) at d)) → (B : Map) → WayOn B → Reads Is B level spot store (Ok loan) → Finds Is B root key store (Ok (Some (record { leaf = spot.addr; at = at; loan = loan })))
-    finds_some Is at leaf some B way reads =
+    pub finds_some : (Is : UnreadBlock → Want → Type 0) (at : ℕ) (until : Option Key) → IsLeafAt level spot block → at < length (items block) → until ≡ next_key (drop (at + 1) (items block)) spot.up → ((d : Item) → le_item key (items block) ≡ Some (get_or (items block) at d)) → (B : Map) → WayOn B → Reads Is B level spot store (Ok loan) → FindsAndReaches Is B root key store (Ok (Some (record { leaf = spot.addr; at = at; loan = loan; until = until })))
+    finds_some Is at until leaf lt until_is some B way reads =
         let d : Item = record { key = key; offset = 0; size = 0; body = [] } in
         let item : Item = get_or (items block) at d in (
-          Ok (Some (tree_item spot.addr item)),
-          some_block store loan block (λ b. (e : Item) → tree_item spot.addr (get_or (items b) at e) ≡ tree_item spot.addr item) is (λ e. ap (tree_item spot.addr) (same_some (get_or (items block) at e) item (sym (some e) ∙ some d))),
-          way_ends B key Is root.level level (root_spot root) spot (Ok (Some (tree_item spot.addr item))) way (leaf_ends B key Is level spot block (Some item) leaf (some d) (came Is B reads)),
+          (
+            Ok (Some (tree_item spot.addr item)),
+            some_block store loan block (λ b. (e : Item) → tree_item spot.addr (get_or (items b) at e) ≡ tree_item spot.addr item) is (λ e. ap (tree_item spot.addr) (same_some (get_or (items block) at e) item (sym (some e) ∙ some d))),
+            way_ends B key Is root.level level (root_spot root) spot (Ok (Some (tree_item spot.addr item))) way.0 (leaf_ends B key Is level spot block (Some item) leaf (some d) (came Is B reads)),
+          ),
+          subst (SameUpTo B root key) (sym until_is) (carries_end B key root level spot block at way.1 leaf lt some (came Is B reads)),
         )
 
-    pub finds_nothing : (Is : UnreadBlock → Want → Type 0) (after : Blocks) → IsInnerAt level spot block → le_child key (pointers block) spot.up ≡ None → (B : Map) → WayOn B → Reads Is B level spot store (Ok loan) → Finds Is B root key after (Ok None)
-    finds_nothing Is after inner none B way reads = (Ok None, tt, way_ends B key Is root.level level (root_spot root) spot (Ok None) way (inner_ends B key Is level spot block inner none (came Is B reads)))
+    pub finds_nothing : (Is : UnreadBlock → Want → Type 0) (after : Blocks) → IsInnerAt level spot block → le_child key (pointers block) spot.up ≡ None → (B : Map) → WayOn B → Reads Is B level spot store (Ok loan) → FindsAndReaches Is B root key after (Ok None)
+    finds_nothing Is after inner none B way reads = ((Ok None, tt, way_ends B key Is root.level level (root_spot root) spot (Ok None) way.0 (inner_ends B key Is level spot block inner none (came Is B reads))), tt)
 
-    pub goes_down : (Is : UnreadBlock → Want → Type 0) (child : Spot) → IsInnerAt level spot block → le_child key (pointers block) spot.up ≡ Some child → (B : Map) → WayOn B → Reads Is B level spot store (Ok loan) → Way B key root.level (root_spot root) (level - 1) child
-    goes_down Is child inner some B way reads = way_down B key root.level level (root_spot root) spot child block way inner some (came Is B reads)
+    pub goes_down : (Is : UnreadBlock → Want → Type 0) (child : Spot) → IsInnerAt level spot block → le_child key (pointers block) spot.up ≡ Some child → (B : Map) → WayOn B → Reads Is B level spot store (Ok loan) → Way B key root.level (root_spot root) (level - 1) child × Carries B key root (level - 1) child
+    goes_down Is child inner some B way reads = (way_down B key root.level level (root_spot root) spot child block way.0 inner some (came Is B reads), carries_down B key root level spot child block way.1 inner some (came Is B reads))
 
-    pub lends_leaf : (old old' : Blocks) (want : Want) (at : ℕ) → SameLoans old old' → IsLentBy old' store want loan → IsLeafAt level spot block → at < length (items block) → LendsLeaf old store (record { leaf = spot.addr; at = at; loan = loan })
-    lends_leaf old old' want at e t leaf lt = record {
+    pub lends_leaf : (old old' : Blocks) (want : Want) (at : ℕ) (until : Option Key) → SameLoans old old' → IsLentBy old' store want loan → IsLeafAt level spot block → at < length (items block) → LendsLeaf old store (record { leaf = spot.addr; at = at; loan = loan; until = until })
+    lends_leaf old old' want at until e t leaf lt = record {
       there = subst (λ (l : List (Option (List ℕ))). loan.slot < length l) e.loans t.there;
       free = ap (λ (l : List (Option (List ℕ))). get_or l loan.slot None) (sym e.loans) ∙ t.free;
       layout = t.layout ∙ e.layout;
@@ -102,5 +107,5 @@ unread_on layout {a} Q f = record { calls = calls_none (λ sure. on_all layout Q
     on_all layout Q f sure (Some images) = f (fate.fate images layout)
 
 -- less may be said of a block that could not be read
-pub finds_as : (B : Map) (Is Less : UnreadBlock → Want → Type 0) (root : RootPlace) (key : Key) (store : Blocks) (result : Result _ TreeFault) → ((u : UnreadBlock) (w : Want) → Is u w → Less u w) → Finds Is B root key store result → Finds Less B root key store result
-finds_as B Is Less root key store result weaker h = (h.0, h.1, follows_as Is Less weaker no_part [] (exec B (le root key)) [] (answer_of h.0) h.2)
+pub finds_as : (B : Map) (Is Less : UnreadBlock → Want → Type 0) (root : RootPlace) (key : Key) (store : Blocks) (result : Result _ TreeFault) → ((u : UnreadBlock) (w : Want) → Is u w → Less u w) → FindsAndReaches Is B root key store result → FindsAndReaches Less B root key store result
+finds_as B Is Less root key store result weaker h = ((h.0.0, h.0.1, follows_as Is Less weaker no_part [] (exec B (le root key)) [] (answer_of h.0.0) h.0.2), h.1)

@@ -3,6 +3,7 @@ pub mod Fetched
 pub mod Les
 pub mod Ways
 pub mod Lending
+pub mod Reaching
 pub mod Joined
 pub mod Shown
 pub mod Choosing

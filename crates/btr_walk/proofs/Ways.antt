@@ -104,7 +104,7 @@ module _ (B : BlockMap Want fate.Fault) (key : Key) where
   came : (level : ℕ) (spot : Spot) (block : List ℕ) (k : List ℕ → Prog Want fate.Fault ⊥ (Option TreeItem)) → B (want_of level spot) ≡ Ok block → first (Wants (want_of level spot)) (given (B (want_of level spot)) (λ b. exec B (k b))) ≡ prepend (Wants (want_of level spot) ∷ []) (exec B (k block))
   came level spot block k e = ap (λ x. first (Wants (want_of level spot)) (given x (λ b. exec B (k b)))) e
 
-  at_leaf : (spot : Spot) (block : List ℕ) (node : Option Node) → B (want_of 0 spot) ≡ Ok block → judged 0 spot block ≡ node → at 0 spot ≡ prepend (Wants (want_of 0 spot) ∷ []) (exec B (le_leaf key spot node))
+  pub at_leaf : (spot : Spot) (block : List ℕ) (node : Option Node) → B (want_of 0 spot) ≡ Ok block → judged 0 spot block ≡ node → at 0 spot ≡ prepend (Wants (want_of 0 spot) ∷ []) (exec B (le_leaf key spot node))
   at_leaf spot block node e is = came 0 spot block (λ b. le_leaf key spot (judged 0 spot b)) e ∙ ap (λ n. prepend (Wants (want_of 0 spot) ∷ []) (exec B (le_leaf key spot n))) is
 
   at_inner : (n : ℕ) (spot : Spot) (block : List ℕ) (node : Option Node) → B (want_of (suc n) spot) ≡ Ok block → judged (suc n) spot block ≡ node → at (suc n) spot ≡ prepend (Wants (want_of (suc n) spot) ∷ []) (exec B (le_inner (le_at n key) key spot node))
@@ -161,7 +161,7 @@ module _ (B : BlockMap Want fate.Fault) (key : Key) where
       (refl, refl)
 
   -- one level down
-  down_at : (level : ℕ) (spot child : Spot) (block : List ℕ) → IsInnerAt level spot block → le_child key (pointers block) spot.up ≡ Some child → B (want_of level spot) ≡ Ok block → at level spot ≡ prepend (Wants (want_of level spot) ∷ []) (at (level - 1) child)
+  pub down_at : (level : ℕ) (spot child : Spot) (block : List ℕ) → IsInnerAt level spot block → le_child key (pointers block) spot.up ≡ Some child → B (want_of level spot) ≡ Ok block → at level spot ≡ prepend (Wants (want_of level spot) ∷ []) (at (level - 1) child)
   down_at zero spot child block inner f e = let l = inner.some in absurd (omega (arith, l))
   down_at (suc n) spot child block inner f e =
       let m : n ≡ suc n - 1 = omega arith in

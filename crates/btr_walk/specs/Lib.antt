@@ -3,6 +3,7 @@ pub mod Le
 pub mod Range
 pub mod Reading
 pub mod Finding
+pub mod Reach
 pub mod Lending
 pub mod Showing
 pub mod Scans

@@ -8,6 +8,7 @@ use Rattle.btr_read.specs.declared.want.Want.{Want}
 use Rattle.btr_walk.specs.declared.place.RootPlace.{RootPlace}
 use Rattle.btr_walk.specs.declared.fault.TreeFault.{TreeFault}
 use Rattle.btr_walk.specs.declared.found.Found.{Found}
+use Rattle.btr_walk.specs.declared.found.Reach.{Reach}
 use Rattle.btr_walk.specs.Le.{TreeItem, le}
 use Rattle.btr_walk.specs.Reading.{Map, UnreadBlock, answer_of}
 
@@ -29,3 +30,15 @@ abbrev pub LendsWhere : Result (Option Found) TreeFault → Option Lent → Type
 LendsWhere (Ok (Some found)) loan = IsSome loan
 LendsWhere (Ok None) loan = loan ≡ None
 LendsWhere (Err f) loan = loan ≡ None
+
+-- the item of an answer, without how far it reaches
+abbrev pub found_of : Result (Option Reach) TreeFault → Result (Option Found) TreeFault
+found_of (Ok (Some reach)) = Ok (Some reach.found)
+found_of (Ok None) = Ok None
+found_of (Err f) = Err f
+
+abbrev pub ReachesItem : (UnreadBlock → Want → Type 0) → Map → RootPlace → Key → Result (Option Reach) TreeFault → Type 0
+ReachesItem Is B root key result = FindsItem Is B root key (found_of result)
+
+abbrev pub LendsReach : Result (Option Reach) TreeFault → Option Lent → Type 0
+LendsReach result loan = LendsWhere (found_of result) loan

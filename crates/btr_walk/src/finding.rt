@@ -6,17 +6,18 @@ ghost use Rattle.btr_read.specs.Serves.{Serves};
 ghost use Rattle.btr_rack.specs.Rack.{OnlyReads};
 ghost use Rattle.btr_read.specs.Store.{free_count};
 ghost use Rattle.btr_walk.specs.Le.{below, up_of, le_item, le_child};
+ghost use Rattle.btr_walk.specs.Reach.{next_key, FindsAndReaches, Reaches};
 ghost use Rattle.btr_walk.specs.Reading.{Tells, unread_by, HasCause};
 ghost use Rattle.std.specs.Borrow.{sem};
 ghost use Rattle.std.specs.Prelude.{None, Some};
 ghost use Rattle.btr_walk.specs.Le.{tree_item};
-ghost use Rattle.btr_walk.specs.Finding.{Finds, LendsItem};
+ghost use Rattle.btr_walk.specs.Finding.{LendsItem};
 ghost use Rattle.btr_walk.specs.Lending.{EndsWith};
-ghost use Rattle.btr_walk.specs.Showing.{item_of, FindsItem, LendsWhere};
+ghost use Rattle.btr_walk.specs.Showing.{item_of, FindsItem, LendsReach, LendsWhere, ReachesItem};
 
 use crate::reading::read_block;
 use crate::spot::Spot;
-use crate::{Found, RootPlace, TreeFault};
+use crate::{Found, Reach, RootPlace, TreeFault};
 use btr_base::Key;
 use btr_node::{Inner, Leaf};
 use btr_rack::Rack;
@@ -67,11 +68,29 @@ fn place_le(block: &[u8], key: Key) -> Option<usize>
     Leaf::of(block).seek_le(key)
 }
 
-/// Where an item stands: its leaf's address and loan, and its place there.
+// The key of the item behind a place, or the leaf's bound.
+fn key_behind(block: &[u8], at: usize, up: Option<Key>) -> Option<Key>
+    requires header { 101 ≤ length block.now }
+    requires good { IsTrue (is_leaf block.now) }
+    requires there { at < length (items block.now) }
+    ensures { result ≡ next_key (drop (at + 1) (items block.now)) up }
+{
+    let leaf = Leaf::of(block);
+    let count = leaf.count();
+    let next = at + 1;
+    if next < count {
+        Some(leaf.key(next))
+    } else {
+        up
+    }
+}
+
+/// Where an item stands: its leaf's address and loan, its place there, and the bound below which lookups find it too.
 pub(crate) struct Spotted {
     pub(crate) leaf: u64,
     pub(crate) at: usize,
     pub(crate) loan: Loan,
+    pub(crate) until: Option<Key>,
 }
 
 // Goes down to the greatest item at or below a key.
@@ -87,7 +106,7 @@ pub(crate) fn seek_le<R: Rack>(
     ensures reads { OnlyReads (R.seen rack.old) (R.seen rack.new) }
     ensures lent { LendsItem store.old store.new result }
     ensures cause { HasCause store.old.layout (R.seen rack.old) (R.seen rack.new) result }
-    ensures content { Tells store.old.layout (R.seen rack.old) (R.seen rack.new) (λ B. Finds (unread_by store.old.layout (R.seen rack.old) (R.seen rack.new)) B root.now key store.new result) }
+    ensures content { Tells store.old.layout (R.seen rack.old) (R.seen rack.new) (λ B. FindsAndReaches (unread_by store.old.layout (R.seen rack.old) (R.seen rack.new)) B root.now key store.new result) }
 {
     let mut level = root.level;
     let mut spot = Spot {
@@ -99,10 +118,12 @@ pub(crate) fn seek_le<R: Rack>(
     loop {
         let loan = read_block(level, &spot, rack, store)?;
         if level == 0 {
-            return match place_le(store.bytes(&loan), key) {
+            let block = store.bytes(&loan);
+            return match place_le(block, key) {
                 Some(at) => Ok(Some(Spotted {
                     leaf: spot.addr,
                     at,
+                    until: key_behind(block, at, spot.up),
                     loan,
                 })),
                 None => {
@@ -149,6 +170,49 @@ pub(crate) fn keep(place: &mut Option<Loan>, loan: Loan)
     }
 }
 
+/// Finds the greatest item at or below a key, and how far that answer reaches: up to which key the same way leads to the same item. The loan of its
+/// leaf is put into `loan`, which stays `None` where there is no item and after a fault. Four slots are free.
+///
+/// The faults are those of `find_le`.
+pub fn find_reach<'e, R: Rack>(
+    store: &'e mut Store,
+    root: &RootPlace,
+    key: Key,
+    rack: &mut R,
+    loan: &mut Option<Loan>,
+) -> Result<Option<Reach<'e>>, TreeFault>
+    requires serves { Serves (R.seen rack.old) store.old }
+    requires room { 4 ≤ free_count store.old }
+    requires empty { loan.old ≡ None }
+    ensures* after { sem 𝓛 (EndsWith (R.seen rack.new) store.entry loan.new) }
+    ensures reads { OnlyReads (R.seen rack.old) (R.seen rack.new) }
+    ensures lent { LendsReach result loan.new }
+    ensures cause { HasCause store.old.layout (R.seen rack.old) (R.seen rack.new) result }
+    ensures reach { Tells store.old.layout (R.seen rack.old) (R.seen rack.new) (λ B. Reaches B root.now key result) }
+    ensures content { Tells store.old.layout (R.seen rack.old) (R.seen rack.new) (λ B. ReachesItem (unread_by store.old.layout (R.seen rack.old) (R.seen rack.new)) B root.now key result) }
+{
+    match seek_le(root, key, rack, store) {
+        Err(fault) => Err(fault),
+        Ok(None) => Ok(None),
+        Ok(Some(spotted)) => {
+            let Spotted {
+                leaf,
+                at,
+                loan: taken,
+                until,
+            } = spotted;
+            keep(loan, taken);
+            let Some(held) = &*loan else {
+                unreachable!();
+            };
+            Ok(Some(Reach {
+                found: found_at(store.bytes(held), leaf, at),
+                until,
+            }))
+        }
+    }
+}
+
 /// Finds the greatest item at or below a key. The loan of its leaf is put into `loan`, which stays `None` where there is
 /// no item and after a fault. Four slots are free.
 ///
@@ -170,20 +234,9 @@ pub fn find_le<'e, R: Rack>(
     ensures cause { HasCause store.old.layout (R.seen rack.old) (R.seen rack.new) result }
     ensures content { Tells store.old.layout (R.seen rack.old) (R.seen rack.new) (λ B. FindsItem (unread_by store.old.layout (R.seen rack.old) (R.seen rack.new)) B root.now key result) }
 {
-    match seek_le(root, key, rack, store) {
+    match find_reach(store, root, key, rack, loan) {
         Err(fault) => Err(fault),
         Ok(None) => Ok(None),
-        Ok(Some(spotted)) => {
-            let Spotted {
-                leaf,
-                at,
-                loan: taken,
-            } = spotted;
-            keep(loan, taken);
-            let Some(held) = &*loan else {
-                unreachable!();
-            };
-            Ok(Some(found_at(store.bytes(held), leaf, at)))
-        }
+        Ok(Some(reach)) => Ok(Some(reach.found)),
     }
 }

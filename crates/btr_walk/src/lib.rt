@@ -37,10 +37,10 @@ mod tests;
 
 pub use block_scan::{BlockScan, next_block};
 pub use fault::TreeFault;
-pub use finding::{child_at, find_le, found_at};
+pub use finding::{child_at, find_le, find_reach, found_at};
 pub use folder::{FoldFault, Folder, Took};
 pub use folding::fold;
-pub use found::Found;
+pub use found::{Found, Reach};
 pub use found_block::FoundBlock;
 pub use place::RootPlace;
 pub use reading::read_block;

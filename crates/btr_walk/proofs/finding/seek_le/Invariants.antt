@@ -3,6 +3,7 @@ use Rattle.btr_read.specs.Serves.{Serves}
 use Rattle.btr_read.specs.Store.{SameLoans}
 use Rattle.btr_walk.specs.Le.{root_spot}
 use Rattle.btr_walk.specs.Reading.{Tells}
+use Rattle.btr_walk.proofs.Reaching.{Carries}
 use Rattle.btr_walk.proofs.Ways.{Way}
 use Rattle.btr_walk.proofs.finding.seek_le.Given as goal
 
@@ -11,7 +12,7 @@ invariant-loop-loan g l = record {
   reads : OnlyReads (g.R.Rack.seen l.fn.rack) (g.R.Rack.seen l.rack);
   serves : Serves (g.R.Rack.seen l.rack) l.store;
   same : SameLoans l.fn.store l.store;
-  tells : Tells l.fn.store.layout (g.R.Rack.seen l.fn.rack) (g.R.Rack.seen l.rack) (λ B. Way B l.key l.fn.root.level (root_spot l.fn.root) l.level l.spot);
+  tells : Tells l.fn.store.layout (g.R.Rack.seen l.fn.rack) (g.R.Rack.seen l.rack) (λ B. Way B l.key l.fn.root.level (root_spot l.fn.root) l.level l.spot × Carries B l.key l.fn.root l.level l.spot);
 }
 
 abbrev pub decreases-loop-loan : goal.decreases-loop-loan

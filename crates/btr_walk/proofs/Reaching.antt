@@ -1,0 +1,190 @@
+-- How far the way to an item is the same for greater keys.
+use Rattle.std.proofs.Common.{◌≡◌, ℕ, zero, suc, ◌+◌, ◌-◌, ◌<◌, ◌≤◌, Bool, true, false, ◌&&◌, cond, eqb, List, [], ◌∷◌, map, length, get_or, drop, All, Option, Some, None, Ok, refl, sym, ap, ◌∙◌, subst, arith}
+use Rattle.std.specs.List.{list_all}
+use Rattle.std.specs.Option.{option_map}
+use Rattle.std.proofs.lemmas.Bool.{and_parts, ltb-true, lt-ltb, leb-true, le-leb}
+use Rattle.std.proofs.lemmas.List.Elements.{All-cons, All-nil}
+use Rattle.btr_base.specs.declared.key.Key.{Key}
+use Rattle.btr_base.specs.Key.{key_number, key_lt, key_le}
+use Rattle.btr_node.specs.Block.{Item, KeyPointer, ascends, items, pointers, level_of}
+use Rattle.btr_node.specs.Node.{node_of}
+use Rattle.btr_node.specs.declared.node.Node.{Node}
+use Rattle.btr_node.specs.declared.node.Node.TheVariants.{Leaf, Inner}
+use Rattle.btr_node.proofs.Leaves.{ascends-items}
+use Rattle.btr_node.proofs.Inners.{ascends-pointers}
+use Rattle.btr_prog.specs.Prog.{Wants, Return, prepend, exec}
+use Rattle.btr_walk.specs.declared.place.RootPlace.{RootPlace}
+use Rattle.btr_walk.specs.declared.spot.Spot.{Spot}
+use Rattle.btr_walk.specs.Le.{tree_item, below, up_of, or_here, le_item, le_child, le_leaf, want_of, root_spot}
+use Rattle.btr_walk.specs.Reach.{next_key, SameUpTo}
+use Rattle.btr_walk.specs.Reading.{Map}
+use Rattle.btr_walk.specs.Spot.{begins, is_below, fits, fitting, keys_of, judged}
+use Rattle.btr_walk.proofs.Les.{none_child, some_le}
+use Rattle.btr_walk.proofs.Ways.{IsLeafAt, IsInnerAt, at, at_leaf, down_at}
+
+-- ---- lists of entries whose keys ascend
+
+module _ {X : Type 0} (key_of : X → Key) where
+  -- all entries stand above what the first stands above
+  all_above : (other : Key) (x : X) (xs : List X) → ascends (map key_of (x ∷ xs)) ≡ true → key_number other < key_number (key_of x) → All (λ y. key_number other < key_number (key_of y)) (x ∷ xs)
+  all_above other x [] up lt = All-cons (λ y. key_number other < key_number (key_of y)) x [] lt (All-nil (λ y. key_number other < key_number (key_of y)))
+  all_above other x (y ∷ ys) up lt =
+      let parts = and_parts (key_lt (key_of x) (key_of y)) (ascends (map key_of (y ∷ ys))) up in
+      let step : key_number (key_of x) < key_number (key_of y) = ltb-true _ _ parts.0 in
+      All-cons (λ z. key_number other < key_number (key_of z)) x (y ∷ ys) lt (all_above other y ys parts.1 (omega (arith, lt, step)))
+
+  ascends_behind : (x : X) (xs : List X) → ascends (map key_of (x ∷ xs)) ≡ true → ascends (map key_of xs) ≡ true
+  ascends_behind x [] up = refl
+  ascends_behind x (y ∷ ys) up = (and_parts (key_lt (key_of x) (key_of y)) (ascends (map key_of (y ∷ ys))) up).1
+
+  ascends_from : (n : ℕ) (xs : List X) → ascends (map key_of xs) ≡ true → ascends (map key_of (drop n xs)) ≡ true
+  ascends_from zero xs up = up
+  ascends_from (suc n) [] up = up
+  ascends_from (suc n) (x ∷ xs) up = ascends_from n xs (ascends_behind x xs up)
+
+  below_from : (up : Option Key) (n : ℕ) (xs : List X) → list_all (is_below up) (map key_of xs) ≡ true → list_all (is_below up) (map key_of (drop n xs)) ≡ true
+  below_from up zero xs all = all
+  below_from up (suc n) [] all = all
+  below_from up (suc n) (x ∷ xs) all = below_from up n xs (and_parts (is_below up (key_of x)) (list_all (is_below up) (map key_of xs)) all).1
+
+-- a key below one that is below a bound
+below_less : (up : Option Key) (a b : Key) → key_lt a b ≡ true → is_below up b ≡ true → is_below up a ≡ true
+below_less None a b less e = refl
+below_less (Some up) a b less e =
+    let first : key_number a < key_number b = ltb-true _ _ less in
+    let second : key_number b < key_number up = ltb-true _ _ e in
+    lt-ltb _ _ (omega (arith, first, second))
+
+-- what a judged block holds fits its spot
+fits_of : (spot : Spot) (node : Node) (b : Bool) (o : Option Node) → cond b (fitting spot o) None ≡ Some node → fits spot (keys_of node) ≡ true
+fits_of spot node true None e = absurd (cc e)
+fits_of spot node true (Some found) e = here (fits spot (keys_of found)) refl e
+  where
+    here : (fit : Bool) → fits spot (keys_of found) ≡ fit → cond fit (Some found) None ≡ Some node → fits spot (keys_of node) ≡ true
+    here true is same = let one : found ≡ node = cc same in ap (λ n. fits spot (keys_of n)) (sym one) ∙ is
+    here false is same = absurd (cc same)
+fits_of spot node false o e = absurd (cc e)
+
+all_below_up : (level : ℕ) (spot : Spot) (block : List ℕ) (node : Node) → judged level spot block ≡ Some node → list_all (is_below spot.up) (keys_of node) ≡ true
+all_below_up level spot block node is =
+    (and_parts (begins spot.first (keys_of node)) (list_all (is_below spot.up) (keys_of node)) (fits_of spot node (eqb (level_of block) level) (node_of block) is)).1
+
+-- ---- the child and the item of a greater key
+
+module _ (key other : Key) (le : key_number key ≤ key_number other) where
+  abbrev pointer_key : KeyPointer → Key
+  pointer_key p = p.key
+
+  abbrev item_key : Item → Key
+  item_key i = i.key
+
+  at_or_below : (k : Key) → key_le k key ≡ true → key_le k other ≡ true
+  at_or_below k e = let h : key_number k ≤ key_number key = leb-true _ _ e in le-leb _ _ (omega (arith, h, le))
+
+  none_behind : (ps : List KeyPointer) (up : Option Key) → ascends (map pointer_key ps) ≡ true → is_below (up_of ps up) other ≡ true → le_child other ps up ≡ None
+  none_behind [] up asc less = refl
+  none_behind (q ∷ qs) up asc less = none_child other (q ∷ qs) up (all_above pointer_key other q qs asc (ltb-true _ _ less))
+
+  same_child : (ps : List KeyPointer) (up : Option Key) (child : Spot) → ascends (map pointer_key ps) ≡ true → le_child key ps up ≡ Some child → is_below child.up other ≡ true → le_child other ps up ≡ Some child
+  same_child [] up child asc e less = absurd (cc e)
+  same_child (p ∷ ps) up child asc e less = of (le_child key ps up) refl e (λ h. same_child ps up child (ascends_behind pointer_key p ps asc) h less)
+    where
+      here : (b : Bool) → key_le p.key key ≡ b → or_here None b (below p (up_of ps up)) ≡ Some child → or_here (le_child other ps up) (key_le p.key other) (below p (up_of ps up)) ≡ Some child
+      here true is same =
+          let one : below p (up_of ps up) ≡ child = cc same in
+          let none : le_child other ps up ≡ None = none_behind ps up (ascends_behind pointer_key p ps asc) (ap (λ (s : Spot). is_below s.up other) one ∙ less) in
+          ap (λ o. or_here o (key_le p.key other) (below p (up_of ps up))) none ∙ ap (λ b. or_here None b (below p (up_of ps up))) (at_or_below p.key is) ∙ same
+      here false is same = absurd (cc same)
+
+      of : (o : Option Spot) → le_child key ps up ≡ o → or_here o (key_le p.key key) (below p (up_of ps up)) ≡ Some child → (le_child key ps up ≡ Some child → le_child other ps up ≡ Some child) → or_here (le_child other ps up) (key_le p.key other) (below p (up_of ps up)) ≡ Some child
+      of None is same rest = here (key_le p.key key) refl same
+      of (Some later) is same rest =
+          let one : later ≡ child = cc same in
+          ap (λ o. or_here o (key_le p.key other) (below p (up_of ps up))) (rest (is ∙ ap Some one))
+
+  -- a key below the child's bound is below the node's
+  child_below : (ps : List KeyPointer) (up : Option Key) (child : Spot) → list_all (is_below up) (map pointer_key ps) ≡ true → le_child key ps up ≡ Some child → is_below child.up other ≡ true → is_below up other ≡ true
+  child_below [] up child all e less = absurd (cc e)
+  child_below (p ∷ ps) up child all e less = of (le_child key ps up) refl e (λ h. child_below ps up child rest h less)
+    where
+      rest : list_all (is_below up) (map pointer_key ps) ≡ true
+      rest = (and_parts (is_below up p.key) (list_all (is_below up) (map pointer_key ps)) all).1
+
+      bound : (qs : List KeyPointer) → list_all (is_below up) (map pointer_key qs) ≡ true → is_below (up_of qs up) other ≡ true → is_below up other ≡ true
+      bound [] none h = h
+      bound (q ∷ qs) here h = below_less up other q.key h (and_parts (is_below up q.key) (list_all (is_below up) (map pointer_key qs)) here).0
+
+      here : (b : Bool) → or_here None b (below p (up_of ps up)) ≡ Some child → is_below up other ≡ true
+      here true same = let one : below p (up_of ps up) ≡ child = cc same in bound ps rest (ap (λ (s : Spot). is_below s.up other) one ∙ less)
+      here false same = absurd (cc same)
+
+      of : (o : Option Spot) → le_child key ps up ≡ o → or_here o (key_le p.key key) (below p (up_of ps up)) ≡ Some child → (le_child key ps up ≡ Some child → is_below up other ≡ true) → is_below up other ≡ true
+      of None is same further = here (key_le p.key key) same
+      of (Some later) is same further = let one : later ≡ child = cc same in further (is ∙ ap Some one)
+
+  -- the item that is found is at or below the key
+  found_le : (xs : List Item) (x : Item) → le_item key xs ≡ Some x → key_number x.key ≤ key_number key
+  found_le [] x e = absurd (cc e)
+  found_le (y ∷ ys) x e = of (le_item key ys) refl e (found_le ys x)
+    where
+      here : (b : Bool) → key_le y.key key ≡ b → or_here None b y ≡ Some x → key_number x.key ≤ key_number key
+      here true is same = let one : y ≡ x = cc same in subst (λ (z : Item). key_number z.key ≤ key_number key) one (leb-true _ _ is)
+      here false is same = absurd (cc same)
+
+      of : (o : Option Item) → le_item key ys ≡ o → or_here o (key_le y.key key) y ≡ Some x → (le_item key ys ≡ Some x → key_number x.key ≤ key_number key) → key_number x.key ≤ key_number key
+      of None is same rest = here (key_le y.key key) refl same
+      of (Some later) is same rest = let one : later ≡ x = cc same in rest (is ∙ ap Some one)
+
+  behind_all : (xs : List Item) (up : Option Key) → ascends (map item_key xs) ≡ true → is_below (next_key xs up) other ≡ true → All (λ x. key_number other < key_number x.key) xs
+  behind_all [] up asc less = All-nil (λ x. key_number other < key_number x.key)
+  behind_all (x ∷ xs) up asc less = all_above item_key other x xs asc (ltb-true _ _ less)
+
+  same_item : (xs : List Item) (i : ℕ) (up : Option Key) → i < length xs → ascends (map item_key xs) ≡ true → ((d : Item) → le_item key xs ≡ Some (get_or xs i d)) → is_below (next_key (drop (i + 1) xs) up) other ≡ true → (d : Item) → le_item other xs ≡ Some (get_or xs i d)
+  same_item xs i up lt asc some less d =
+      some_le other xs i d lt (let h = found_le xs (get_or xs i d) (some d) in omega (arith, h, le)) (behind_all (drop (i + 1) xs) up (ascends_from item_key (i + 1) xs asc) less)
+
+  -- a key below the next item's, or below the bound, is below the leaf's bound
+  leaf_below : (xs : List Item) (up : Option Key) → list_all (is_below up) (map item_key xs) ≡ true → is_below (next_key xs up) other ≡ true → is_below up other ≡ true
+  leaf_below [] up all less = less
+  leaf_below (x ∷ xs) up all less = below_less up other x.key less (and_parts (is_below up x.key) (list_all (is_below up) (map item_key xs)) all).0
+
+-- the key of the item at a place
+pub next_at : (xs : List Item) (n : ℕ) (up : Option Key) (key : Key) → n < length xs → ((d : Item) → (get_or xs n d).key ≡ key) → Some key ≡ next_key (drop n xs) up
+next_at [] n up key lt h = absurd (omega (arith, lt))
+next_at (x ∷ xs) zero up key lt h = ap Some (sym (h x))
+next_at (x ∷ xs) (suc n) up key lt h = next_at xs n up key (omega (arith, lt)) h
+
+-- ---- along a way
+
+module _ (B : Map) (key : Key) (root : RootPlace) where
+  -- where a greater key below the bound finds the same from here on, it finds the same from the root on
+  abbrev pub Carries : ℕ → Spot → Type 0
+  Carries level spot =
+      (other : Key) → key_number key ≤ key_number other → is_below spot.up other ≡ true → at B other level spot ≡ at B key level spot
+      → at B other root.level (root_spot root) ≡ at B key root.level (root_spot root)
+
+  pub carries_none : Carries root.level (root_spot root)
+  carries_none other le less same = same
+
+  pub carries_down : (level : ℕ) (spot child : Spot) (block : List ℕ) → Carries level spot → IsInnerAt level spot block → le_child key (pointers block) spot.up ≡ Some child → B (want_of level spot) ≡ Ok block → Carries (level - 1) child
+  carries_down level spot child block carries inner some came other le less same =
+      let all = all_below_up level spot block (Inner (pointers block)) inner.is in
+      let too : le_child other (pointers block) spot.up ≡ Some child = same_child key other le (pointers block) spot.up child (ascends-pointers block inner.good) some less in
+      carries other le (child_below key other le (pointers block) spot.up child all some less)
+      (down_at B other level spot child block inner too came ∙ ap (prepend (Wants (want_of level spot) ∷ [])) same ∙ sym (down_at B key level spot child block inner some came))
+
+  leaf_same : (level : ℕ) (spot : Spot) (block : List ℕ) (other : Key) → IsLeafAt level spot block → le_item other (items block) ≡ le_item key (items block) → B (want_of level spot) ≡ Ok block → at B other level spot ≡ at B key level spot
+  leaf_same zero spot block other leaf same came =
+      at_leaf B other spot block (Some (Leaf (items block))) came leaf.is
+      ∙ ap (λ o. prepend (Wants (want_of 0 spot) ∷ []) (exec B (Return (option_map (tree_item spot.addr) o)))) same
+      ∙ sym (at_leaf B key spot block (Some (Leaf (items block))) came leaf.is)
+  leaf_same (suc n) spot block other leaf same came = let l = leaf.zero_level in absurd (omega (arith, l))
+
+  pub carries_end : (level : ℕ) (spot : Spot) (block : List ℕ) (i : ℕ) → Carries level spot → IsLeafAt level spot block → i < length (items block) → ((d : Item) → le_item key (items block) ≡ Some (get_or (items block) i d)) → B (want_of level spot) ≡ Ok block
+      → SameUpTo B root key (next_key (drop (i + 1) (items block)) spot.up)
+  carries_end level spot block i carries leaf lt some came other le less =
+      let d : Item = record { key = key; offset = 0; size = 0; body = [] } in
+      let all = all_below_up level spot block (Leaf (items block)) leaf.is in
+      let too = same_item key other le (items block) i spot.up lt (ascends-items block leaf.good) some less d in
+      carries other le (leaf_below key other le (drop (i + 1) (items block)) spot.up (below_from (λ (x : Item). x.key) spot.up (i + 1) (items block) all) less)
+      (leaf_same level spot block other leaf (too ∙ sym (some d)) came)

@@ -1,0 +1,41 @@
+-- How far the answer of a lookup reaches: the keys from the one that was sought on for which the same way leads to the same item.
+use Rattle.std.specs.Prelude.{◌≡◌, ◌≤◌, true, List, [], ◌∷◌, Option, Some, None, Result, Ok, Err, ⊤}
+use Rattle.btr_base.specs.Key.{key_number}
+use Rattle.btr_base.specs.declared.key.Key.{Key}
+use Rattle.btr_node.specs.Block.{Item}
+use Rattle.btr_prog.specs.Prog.{exec}
+use Rattle.btr_read.specs.Store.{Blocks}
+use Rattle.btr_read.specs.declared.want.Want.{Want}
+use Rattle.btr_walk.specs.declared.fault.TreeFault.{TreeFault}
+use Rattle.btr_walk.specs.declared.finding.Spotted.{Spotted}
+use Rattle.btr_walk.specs.declared.found.Reach.{Reach}
+use Rattle.btr_walk.specs.declared.place.RootPlace.{RootPlace}
+use Rattle.btr_walk.specs.Finding.{Finds}
+use Rattle.btr_walk.specs.Le.{le}
+use Rattle.btr_walk.specs.Reading.{Map, UnreadBlock}
+use Rattle.btr_walk.specs.Spot.{is_below}
+
+-- the key of the first of some items, or the bound behind them
+abbrev pub next_key : List Item → Option Key → Option Key
+next_key [] up = up
+next_key (item ∷ items) up = Some item.key
+
+-- lookups at keys from this one on, below the bound, are the same
+abbrev pub SameUpTo : Map → RootPlace → Key → Option Key → Type 0
+SameUpTo B root key until =
+    (other : Key) → key_number key ≤ key_number other → is_below until other ≡ true → exec B (le {S = ⊥} root other) ≡ exec B (le {S = ⊥} root key)
+
+-- .. up to the bound that stands beside what was found
+abbrev pub SpottedReaches : Map → RootPlace → Key → Result (Option Spotted) TreeFault → Type 0
+SpottedReaches B root key (Ok (Some spotted)) = SameUpTo B root key spotted.until
+SpottedReaches B root key (Ok None) = ⊤
+SpottedReaches B root key (Err f) = ⊤
+
+-- what a lookup answers follows the program, and reaches so far
+abbrev pub FindsAndReaches : (UnreadBlock → Want → Type 0) → Map → RootPlace → Key → Blocks → Result (Option Spotted) TreeFault → Type 0
+FindsAndReaches Is B root key store result = Finds Is B root key store result × SpottedReaches B root key result
+
+abbrev pub Reaches : Map → RootPlace → Key → Result (Option Reach) TreeFault → Type 0
+Reaches B root key (Ok (Some reach)) = SameUpTo B root key reach.until
+Reaches B root key (Ok None) = ⊤
+Reaches B root key (Err f) = ⊤
