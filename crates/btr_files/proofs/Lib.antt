@@ -10,6 +10,8 @@ pub mod Reaching
 pub mod Passed
 pub mod Nextward
 pub mod AllMaps
+pub mod AheadSums
+pub mod AheadLooks
 pub mod Sectors
 pub mod Stepping
 pub mod Sectoring

@@ -40,7 +40,7 @@ use Rattle.btr_files.specs.Sums.{tree_behind, sum_at}
 use Rattle.btr_files.proofs.AllMaps.{maps-zero}
 
 -- ---- the want of a sector, by the checksum that was looked up
-copied_is : (o : Option (Bor TreeRoot)) → tree_behind o ≡ option_copied o
+pub copied_is : (o : Option (Bor TreeRoot)) → tree_behind o ≡ option_copied o
 copied_is None = refl
 copied_is (Some tree) = refl
 

@@ -1,5 +1,5 @@
 -- A file and its volume after a piece.
-use Rattle.std.proofs.Common.{◌≡◌, ℕ, ◌-◌, ◌<◌, List, [], Option, Some, None, IfSome, Result, Ok, sym, ap, ◌∙◌, subst, arith}
+use Rattle.std.proofs.Common.{◌≡◌, ℕ, ◌-◌, ◌<◌, List, [], Option, Some, None, IfSome, Result, Ok, Err, refl, sym, ap, ◌∙◌, subst, arith}
 use Rattle.std.specs.Prelude.{unwrap_or}
 use Rattle.btr_base.specs.declared.kind.SumKind.{SumKind}
 use Rattle.btr_rack.specs.Rack.{Seen}
@@ -20,44 +20,70 @@ use Rattle.btr_files.specs.declared.progress.Source.{Source}
 use Rattle.btr_files.specs.declared.streaming.Shown.TheVariants as shown
 use Rattle.btr_files.specs.declared.streaming.Span.{Span}
 use Rattle.btr_files.specs.declared.streaming.Step.{Step}
+use Rattle.btr_files.specs.declared.sums_ahead.SumsAhead.{SumsAhead}
+use Rattle.btr_files.specs.Aheads.{IsSummed}
 use Rattle.btr_files.specs.Content.{Piece}
 use Rattle.btr_files.specs.Giving.{span_piece, shown_piece, IsSpanLent, LendsShown, LendsNext, StepsOn, NextStepsOn, IsNextStep}
 use Rattle.btr_files.specs.Maps.{TellsAll}
-use Rattle.btr_files.specs.Streaming.{piece_of, GivesPiece, IsNextPiece, Streamed}
+use Rattle.btr_files.specs.Streaming.{piece_of, GivesPiece, IsNextPiece, IsUnderway, Streamed}
 use Rattle.btr_files.specs.Sums.{kind_in}
 use Rattle.btr_files.proofs.AllMaps.{all_drawn}
 
-abbrev pub file_at : FileBytes → Progress → Option Lent → FileBytes
-file_at file p loan = record { source = file.source; progress = p; loan = loan }
+abbrev pub file_at : FileBytes → Progress → SumsAhead → Option Lent → FileBytes
+file_at file p ahead loan = record { source = file.source; progress = p; ahead = ahead; loan = loan }
+
+-- what a step comes to where the checksums that are kept are those of the tree, and they are so behind it
+abbrev pub NextWithSums : SumKind → Source → (UnreadBlock → Want → Type 0) → (ℕ → Map) → Progress → Blocks → SumsAhead → SumsAhead → Result (Option Step) TreeFault → Type 0
+NextWithSums kind source Is Bs p store ahead ahead' result = IsSummed (Bs 0) source.sums ahead → IsNextStep kind source Is Bs p store result × IsSummed (Bs 0) source.sums ahead'
 
 -- a step with its piece
-gives : (kind : SumKind) (Is : UnreadBlock → Want → Type 0) (Bs : ℕ → Map) (file : FileBytes) (store : Blocks) (step : Step) (loan : Option Lent) (piece : Lending) → shown_piece store step.shown ≡ piece_of piece → IsNextStep kind file.source Is Bs file.progress store (Ok (Some step)) → IsNextPiece kind Is Bs file (file_at file step.progress loan) (Ok (Some piece))
-gives kind Is Bs file store step loan piece e h seen on =
-    let s = h seen on in
-    subst (GivesPiece kind Bs seen file (file_at file step.progress loan)) e (record { past = s.past; goes = s.goes; on = s.on })
+gives : (kind : SumKind) (Is : UnreadBlock → Want → Type 0) (Bs : ℕ → Map) (file : FileBytes) (store : Blocks) (ahead : SumsAhead) (step : Step) (loan : Option Lent) (piece : Lending) → shown_piece store step.shown ≡ piece_of piece → NextWithSums kind file.source Is Bs file.progress store file.ahead ahead (Ok (Some step)) → IsNextPiece kind Is Bs file (file_at file step.progress ahead loan) (Ok (Some piece))
+gives kind Is Bs file store ahead step loan piece e h seen on =
+    let both = h on.1 in
+    let s = both.0 seen on.0 in
+    subst (GivesPiece kind Bs seen file (file_at file step.progress ahead loan)) e (record { past = s.past; goes = s.goes; on = (s.on, both.1) })
 
 -- a store whose loan was given back serves
 pub served_back : (rack : Seen) (old new : Blocks) (loan : Option Lent) → new ≡ base old loan → Serves rack old → Serves rack new
 served_back rack old new loan back serves = subst (Serves rack) (sym back) (served_base rack old loan serves)
 
 module _ (old new : Volume) (mid : Blocks) (file : FileBytes) (taken : Option Lent) (is_taken : taken ≡ file.loan) (back : mid ≡ base old.store taken) (before now : Seen) where
-  layout_is : mid.layout ≡ old.store.layout
+  pub layout_is : mid.layout ≡ old.store.layout
   layout_is = ap (λ (s : Blocks). s.layout) back ∙ base_layout old.store taken
 
-  abbrev Told : Layout → Result (Option Step) TreeFault → Type 0
-  Told l r = TellsAll l before now (λ Bs. IsNextStep (kind_in old.sup) file.source (unread_by l before now) Bs file.progress new.store r)
+  abbrev Told : SumsAhead → Layout → Result (Option Step) TreeFault → Type 0
+  Told ahead l r = TellsAll l before now (λ Bs. NextWithSums (kind_in old.sup) file.source (unread_by l before now) Bs file.progress new.store file.ahead ahead r)
 
   -- after a step that gives a piece
-  pub streamed : (step : Step) (loan : Option Lent) (piece : Lending) → shown_piece new.store step.shown ≡ piece_of piece → new.sup ≡ old.sup → SameLoans mid (base new.store loan) → IfSome loan (IsLiveIn new.store) → Serves now new.store → StepsOn file.source file.progress step → Told mid.layout (Ok (Some step)) → Streamed old new file (file_at file step.progress loan) before now (Ok (Some piece))
-  streamed step loan piece e sup others live serves on told = record {
+  pub streamed : (ahead : SumsAhead) (step : Step) (loan : Option Lent) (piece : Lending) → shown_piece new.store step.shown ≡ piece_of piece → new.sup ≡ old.sup → SameLoans mid (base new.store loan) → IfSome loan (IsLiveIn new.store) → Serves now new.store → StepsOn file.source file.progress step → Told ahead mid.layout (Ok (Some step)) → Streamed old new file (file_at file step.progress ahead loan) before now (Ok (Some piece))
+  streamed ahead step loan piece e sup others live serves on told = record {
     sup = sup;
     others = subst (λ (s : Blocks). SameLoans s (base new.store loan)) (back ∙ ap (base old.store) is_taken) others;
     reading = record { serves = serves; held = live; underway = on.underway };
-    content = all_drawn old.store.layout (λ Bs. IsNextStep (kind_in old.sup) file.source (unread_by old.store.layout before now) Bs file.progress new.store (Ok (Some step)))
-        (λ Bs. IsNextPiece (kind_in old.sup) (unread_by old.store.layout before now) Bs file (file_at file step.progress loan) (Ok (Some piece)))
-        (λ Bs h. gives (kind_in old.sup) (unread_by old.store.layout before now) Bs file new.store step loan piece e h)
-        (subst (λ l. Told l (Ok (Some step))) layout_is told);
+    content = all_drawn old.store.layout (λ Bs. NextWithSums (kind_in old.sup) file.source (unread_by old.store.layout before now) Bs file.progress new.store file.ahead ahead (Ok (Some step)))
+        (λ Bs. IsNextPiece (kind_in old.sup) (unread_by old.store.layout before now) Bs file (file_at file step.progress ahead loan) (Ok (Some piece)))
+        (λ Bs h. gives (kind_in old.sup) (unread_by old.store.layout before now) Bs file new.store ahead step loan piece e h)
+        (subst (λ l. Told ahead l (Ok (Some step))) layout_is told);
   }
+
+  -- after a step that gives none: the end, or a fault
+  ended : (file' : FileBytes) (ahead : SumsAhead) (step : Result (Option Step) TreeFault) (result : Result (Option Lending) TreeFault) → ((Is : UnreadBlock → Want → Type 0) (Bs : ℕ → Map) → NextWithSums (kind_in old.sup) file.source Is Bs file.progress new.store file.ahead ahead step → IsNextPiece (kind_in old.sup) Is Bs file file' result)
+      → file'.source ≡ file.source → file'.progress ≡ file.progress → file'.loan ≡ None → new.sup ≡ old.sup → SameLoans mid new.store → Serves now new.store → IsUnderway file.source file.progress → Told ahead mid.layout step → Streamed old new file file' before now result
+  ended file' ahead step result f source progress loan sup same serves underway told = record {
+    sup = sup;
+    others = subst (λ (s : Blocks). SameLoans s (base new.store file'.loan)) (back ∙ ap (base old.store) is_taken) (subst (λ l. SameLoans mid (base new.store l)) (sym loan) same);
+    reading = record { serves = serves; held = subst (λ l. IfSome l (IsLiveIn new.store)) (sym loan) tt; underway = subst (λ (s : Source). IsUnderway s file'.progress) (sym source) (subst (IsUnderway file.source) (sym progress) underway) };
+    content = all_drawn old.store.layout (λ Bs. NextWithSums (kind_in old.sup) file.source (unread_by old.store.layout before now) Bs file.progress new.store file.ahead ahead step)
+        (λ Bs. IsNextPiece (kind_in old.sup) (unread_by old.store.layout before now) Bs file file' result)
+        (λ Bs h. f (unread_by old.store.layout before now) Bs h)
+        (subst (λ l. Told ahead l step) layout_is told);
+  }
+
+  pub streamed_none : (ahead : SumsAhead) (loan : Option Lent) → loan ≡ None → new.sup ≡ old.sup → SameLoans mid new.store → Serves now new.store → IsUnderway file.source file.progress → Told ahead mid.layout (Ok None) → Streamed old new file (file_at file file.progress ahead loan) before now (Ok None)
+  streamed_none ahead loan none = ended (file_at file file.progress ahead loan) ahead (Ok None) (Ok None) (λ Is Bs h seen on. (h on.1).0 seen on.0) refl refl none
+
+  pub streamed_err : (ahead later : SumsAhead) (loan : Option Lent) (fault : TreeFault) → loan ≡ None → new.sup ≡ old.sup → SameLoans mid new.store → Serves now new.store → IsUnderway file.source file.progress → Told ahead mid.layout (Err fault) → Streamed old new file (file_at file file.progress later loan) before now (Err fault)
+  streamed_err ahead later loan fault none = ended (file_at file file.progress later loan) ahead (Err fault) (Err fault) (λ Is Bs h seen on. (h on.1).0 seen on.0) refl refl none
 
 -- less is left of the file
 pub nearer : (file : FileBytes) (step : Step) → StepsOn file.source file.progress step → file.source.size - step.progress.at < file.source.size - file.progress.at

@@ -2,6 +2,7 @@ pub mod Names
 pub mod Entries
 pub mod Extents
 pub mod Sums
+pub mod Aheads
 pub mod Content
 pub mod FileAt
 pub mod Steps

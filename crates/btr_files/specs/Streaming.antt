@@ -23,6 +23,7 @@ use Rattle.btr_walk.specs.Rests.{rest_left, IsRestOn, HasMet, met_last}
 use Rattle.btr_volume.specs.Lookup.{Program, formed}
 use Rattle.btr_volume.specs.declared.volume.Volume.{Volume}
 use Rattle.btr_volume.specs.contracts.volume.Volume.{the_row}
+use Rattle.btr_files.specs.Aheads.{IsSummed}
 use Rattle.btr_files.specs.declared.file.FileBytes.{FileBytes}
 use Rattle.btr_files.specs.declared.piece.Piece.{Piece as Lending}
 use Rattle.btr_files.specs.declared.piece.Piece.TheVariants as lending
@@ -134,8 +135,9 @@ pub record IsGoing (B : Map) (seen : List Want) (p : Progress) : Type 0 where
   pub rest : IsRestOn B seen p.rest
   pub inline : IsInline (met_last B p.rest) p.todo
 
+-- .. and the checksums that are kept are those of the tree
 abbrev pub IsFileOn : Map → List Want → FileBytes → Type 0
-IsFileOn B seen file = IsGoing B seen file.progress
+IsFileOn B seen file = IsGoing B seen file.progress × IsSummed B file.source.sums file.ahead
 
 -- how many positions are still to come: the measure of a loop over a file
 abbrev pub bytes_left : FileBytes → ℕ

@@ -10,16 +10,19 @@ ghost use Rattle.btr_files.specs.Streaming.{Begins, IsFileOn, IsHeld, IsReading,
 
 use crate::lookup::{give_back, key_of};
 use crate::progress::{Progress, Source, Todo};
+use crate::sums_ahead::SumsAhead;
 use btr_items::item;
 use btr_read::Loan;
 use btr_volume::{TreeRoot, Volume};
 use btr_walk::Rest;
 
-/// The bytes of a file, piece by piece in ascending position. It keeps at most one loan: that of the piece that was lent last. It is not let go but by
+/// The bytes of a file, piece by piece in ascending position. The checksums of the sectors behind one that was looked up are kept, as far as they stand in
+/// one item of the checksum tree. It keeps at most one loan: that of the piece that was lent last. It is not let go but by
 /// `finish`.
 pub struct FileBytes {
     pub(crate) source: Source,
     pub(crate) progress: Progress,
+    pub(crate) ahead: SumsAhead,
     pub(crate) loan: Option<Loan>,
 }
 
@@ -40,6 +43,7 @@ impl FileBytes {
     {
         let lo = key_of(ino, item::EXTENT_DATA, 0);
         let hi = key_of(ino, item::EXTENT_DATA, u64::MAX);
+        let ahead = SumsAhead::new();
         let todo = if size == 0 { Todo::Over } else { Todo::Next };
         FileBytes {
             source: Source { size, nosum, sums },
@@ -49,6 +53,7 @@ impl FileBytes {
                 end: 0,
                 todo,
             },
+            ahead,
             loan: None,
         }
     }
@@ -63,6 +68,7 @@ impl FileBytes {
         let FileBytes {
             source: _,
             progress: _,
+            ahead: _,
             loan,
         } = self;
         give_back(&mut vol.store, loan);

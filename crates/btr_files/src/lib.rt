@@ -22,9 +22,11 @@ mod naming;
 mod piece;
 mod plan;
 mod progress;
+mod reading_ahead;
 mod sector;
 mod streaming;
 mod sums;
+mod sums_ahead;
 mod surveying;
 #[cfg(test)]
 mod tests;

@@ -4,15 +4,17 @@ ghost use Rattle.btr_rack.specs.Rack.{OnlyReads};
 ghost use Rattle.btr_read.specs.Fate.{is_plain};
 ghost use Rattle.btr_read.specs.Serves.{Serves};
 ghost use Rattle.btr_read.specs.Store.{free_count};
-ghost use Rattle.btr_walk.specs.Reading.{HasCause, unread_by};
-ghost use Rattle.btr_volume.specs.Looking.{Looks, SameVolume};
+ghost use Rattle.btr_walk.specs.Reading.{HasCause, Tells, unread_by};
+ghost use Rattle.btr_volume.specs.Looking.{SameVolume};
+ghost use Rattle.btr_files.specs.Aheads.{ComesOf, IsSummed};
 ghost use Rattle.btr_files.specs.Content.{sector_want};
 ghost use Rattle.btr_files.specs.Giving.{IsSectorWant, LendsSector, SectorComes};
 ghost use Rattle.btr_files.specs.Maps.{TellsAll};
 ghost use Rattle.btr_files.specs.Sums.{kind_in};
 
 use crate::progress::Source;
-use crate::sums::sum_of;
+use crate::sums::{kind_of, sum_ahead};
+use crate::sums_ahead::SumsAhead;
 use btr_rack::Rack;
 use btr_read::{Loan, Store, Want, fetch};
 use btr_volume::Volume;
@@ -32,6 +34,7 @@ pub(crate) fn is_tested(want: &Want) -> bool
 pub(crate) fn want_of<R: Rack>(
     source: &Source,
     addr: u64,
+    ahead: &mut SumsAhead,
     rack: &mut R,
     vol: &mut Volume,
 ) -> Result<Want, TreeFault>
@@ -43,12 +46,16 @@ pub(crate) fn want_of<R: Rack>(
     ensures volume { SameVolume vol.old vol.new }
     ensures sector { IfOk result IsSectorWant }
     ensures cause { HasCause vol.old.store.layout (R.seen rack.old) (R.seen rack.new) result }
-    ensures content { Looks vol.old.store.layout (R.seen rack.old) (R.seen rack.new) (sector_want (kind_in vol.old.sup) source.now.sums source.now.nosum addr) result }
+    ensures ahead { Tells vol.old.store.layout (R.seen rack.old) (R.seen rack.new) (λ B. IsSummed B source.now.sums ahead.old → IsSummed B source.now.sums ahead.new) }
+    ensures content { Tells vol.old.store.layout (R.seen rack.old) (R.seen rack.new) (λ B. IsSummed B source.now.sums ahead.old → ComesOf (unread_by vol.old.store.layout (R.seen rack.old) (R.seen rack.new)) B (sector_want (kind_in vol.old.sup) source.now.sums source.now.nosum addr) result) }
 {
     if source.nosum {
         return Ok(Want::Plain { addr });
     }
-    match sum_of(source.sums.as_ref(), addr, rack, vol) {
+    if let Some(sum) = ahead.get(kind_of(&vol.sup), addr) {
+        return Ok(Want::Sector { addr, sum });
+    }
+    match sum_ahead(source.sums.as_ref(), addr, ahead, rack, vol) {
         Err(fault) => Err(fault),
         Ok(None) => Ok(Want::Plain { addr }),
         Ok(Some(sum)) => Ok(Want::Sector { addr, sum }),

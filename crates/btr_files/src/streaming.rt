@@ -9,6 +9,7 @@ ghost use Rattle.btr_walk.specs.Reading.{HasCause, unread_by};
 ghost use Rattle.btr_walk.specs.Rests.{HasMet};
 ghost use Rattle.btr_files.specs.Giving.{behind_end, behind_sector, behind_zeros, body_at, span_piece, zeros_at, IsGiven, IsNextStep, IsSpan, LendsNext, LendsStep, StepsOn, NextStepsOn};
 ghost use Rattle.btr_files.specs.Ahead.{IsFound};
+ghost use Rattle.btr_files.specs.Aheads.{IsSummed};
 ghost use Rattle.btr_files.specs.Maps.{TellsAll};
 ghost use Rattle.btr_files.specs.Streaming.{piece_of, without_file, FitsTodo, IsPiece, IsReading, IsUnderway, PieceNears, SameFile, StreamEnds};
 ghost use Rattle.btr_files.specs.Sums.{kind_in};
@@ -17,6 +18,7 @@ use crate::extent::look_ahead;
 use crate::lookup::{give_back, keep};
 use crate::progress::{InlinePart, Progress, SectorPart, Source, Todo};
 use crate::sector::{is_tested, read_sector, want_of};
+use crate::sums_ahead::SumsAhead;
 use crate::{FileBytes, Piece};
 use btr_items::FileExtent;
 use btr_node::Leaf;
@@ -164,6 +166,7 @@ fn give_sector<R: Rack>(
     source: &Source,
     progress: &Progress,
     part: &SectorPart,
+    ahead: &mut SumsAhead,
     rack: &mut R,
     vol: &mut Volume,
 ) -> Result<Step, TreeFault>
@@ -178,9 +181,9 @@ fn give_sector<R: Rack>(
     ensures lent { LendsStep vol.old.store vol.new.store result }
     ensures on { IfOk result (StepsOn source.now progress.now) }
     ensures cause { HasCause vol.old.store.layout (R.seen rack.old) (R.seen rack.new) result }
-    ensures content { TellsAll vol.old.store.layout (R.seen rack.old) (R.seen rack.new) (λ Bs. IsGiven (kind_in vol.old.sup) source.now (unread_by vol.old.store.layout (R.seen rack.old) (R.seen rack.new)) Bs progress.now vol.new.store result) }
+    ensures content { TellsAll vol.old.store.layout (R.seen rack.old) (R.seen rack.new) (λ Bs. IsSummed (Bs 0) source.now.sums ahead.old → IsGiven (kind_in vol.old.sup) source.now (unread_by vol.old.store.layout (R.seen rack.old) (R.seen rack.new)) Bs progress.now vol.new.store result × IsSummed (Bs 0) source.now.sums ahead.new) }
 {
-    let want = want_of(source, part.addr, rack, vol)?;
+    let want = want_of(source, part.addr, ahead, rack, vol)?;
     let loan = read_sector(&want, rack, &mut vol.store)?;
     let left = source.size - part.start;
     let len = left.min(vol.store.bytes(&loan).len() as u64) as usize;
@@ -195,6 +198,7 @@ fn give_sector<R: Rack>(
 fn give<R: Rack>(
     source: &Source,
     progress: &Progress,
+    ahead: &mut SumsAhead,
     rack: &mut R,
     vol: &mut Volume,
 ) -> Result<Option<Step>, TreeFault>
@@ -208,7 +212,7 @@ fn give<R: Rack>(
     ensures lent { LendsNext vol.old.store vol.new.store result }
     ensures on { NextStepsOn source.now progress.now result }
     ensures cause { HasCause vol.old.store.layout (R.seen rack.old) (R.seen rack.new) result }
-    ensures content { TellsAll vol.old.store.layout (R.seen rack.old) (R.seen rack.new) (λ Bs. IsNextStep (kind_in vol.old.sup) source.now (unread_by vol.old.store.layout (R.seen rack.old) (R.seen rack.new)) Bs progress.now vol.new.store result) }
+    ensures content { TellsAll vol.old.store.layout (R.seen rack.old) (R.seen rack.new) (λ Bs. IsSummed (Bs 0) source.now.sums ahead.old → IsNextStep (kind_in vol.old.sup) source.now (unread_by vol.old.store.layout (R.seen rack.old) (R.seen rack.new)) Bs progress.now vol.new.store result × IsSummed (Bs 0) source.now.sums ahead.new) }
 {
     let zeros = zeros_at(source.size, progress);
     if zeros > 0 {
@@ -224,7 +228,7 @@ fn give<R: Rack>(
             Err(fault) => Err(fault),
             Ok(step) => Ok(Some(step)),
         },
-        Todo::Sectors(part) => match give_sector(source, progress, part, rack, vol) {
+        Todo::Sectors(part) => match give_sector(source, progress, part, ahead, rack, vol) {
             Err(fault) => Err(fault),
             Ok(step) => Ok(Some(step)),
         },
@@ -235,6 +239,7 @@ fn give<R: Rack>(
 fn next_step<R: Rack>(
     source: &Source,
     progress: &Progress,
+    ahead: &mut SumsAhead,
     rack: &mut R,
     vol: &mut Volume,
 ) -> Result<Option<Step>, TreeFault>
@@ -247,11 +252,11 @@ fn next_step<R: Rack>(
     ensures lent { LendsNext vol.old.store vol.new.store result }
     ensures on { NextStepsOn source.now progress.now result }
     ensures cause { HasCause vol.old.store.layout (R.seen rack.old) (R.seen rack.new) result }
-    ensures content { TellsAll vol.old.store.layout (R.seen rack.old) (R.seen rack.new) (λ Bs. IsNextStep (kind_in vol.old.sup) source.now (unread_by vol.old.store.layout (R.seen rack.old) (R.seen rack.new)) Bs progress.now vol.new.store result) }
+    ensures content { TellsAll vol.old.store.layout (R.seen rack.old) (R.seen rack.new) (λ Bs. IsSummed (Bs 0) source.now.sums ahead.old → IsNextStep (kind_in vol.old.sup) source.now (unread_by vol.old.store.layout (R.seen rack.old) (R.seen rack.new)) Bs progress.now vol.new.store result × IsSummed (Bs 0) source.now.sums ahead.new) }
 {
     match look_ahead(source, progress, rack, &mut vol.store) {
         Err(fault) => Err(fault),
-        Ok(ahead) => give(source, &ahead, rack, vol),
+        Ok(next) => give(source, &next, ahead, rack, vol),
     }
 }
 
@@ -299,8 +304,11 @@ pub fn next_piece<'e, R: Rack>(
 {
     let loan = file.loan.take();
     give_back(&mut vol.store, loan);
-    match next_step(&file.source, &file.progress, rack, vol) {
-        Err(fault) => Err(fault),
+    match next_step(&file.source, &file.progress, &mut file.ahead, rack, vol) {
+        Err(fault) => {
+            file.ahead = SumsAhead::new();
+            Err(fault)
+        }
         Ok(None) => Ok(None),
         Ok(Some(given)) => {
             let Step { progress, shown } = given;

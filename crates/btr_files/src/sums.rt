@@ -4,22 +4,25 @@ ghost use Rattle.btr_base.specs.Sum.{sum_size};
 ghost use Rattle.btr_rack.specs.Rack.{OnlyReads};
 ghost use Rattle.btr_read.specs.Serves.{Serves};
 ghost use Rattle.btr_read.specs.Store.{SameLoans, free_count};
-ghost use Rattle.btr_walk.specs.Reading.{HasCause};
+ghost use Rattle.btr_walk.specs.Reading.{HasCause, Tells};
 ghost use Rattle.btr_walk.specs.Showing.{item_of};
 ghost use Rattle.btr_volume.specs.Looking.{Judges, Looks, SameVolume};
+ghost use Rattle.btr_files.specs.Aheads.{IsAheadIn, IsSummed};
 ghost use Rattle.btr_files.specs.Sums.{is_sums, kind_in, sum_at, sum_found, sum_in, sum_under, tree_behind};
 
 use crate::lookup::{give_back, key_of};
+use crate::reading_ahead::read_ahead;
+use crate::sums_ahead::SumsAhead;
 use btr_base::{Key, Sum, SumKind};
 use btr_items::{SumRun, item};
 use btr_rack::Rack;
 use btr_read::Store;
 use btr_super::Super;
 use btr_volume::{TreeRoot, Volume};
-use btr_walk::{Found, RootPlace, TreeFault, find_le};
+use btr_walk::{Found, RootPlace, TreeFault, find_le, find_reach};
 
 /// The objectid of all checksums of data: minus 10.
-const SUMS: u64 = u64::MAX - 9;
+pub(crate) const SUMS: u64 = u64::MAX - 9;
 
 // The kind of a filesystem's checksums.
 pub(crate) fn kind_of(sup: &Super) -> SumKind
@@ -32,15 +35,15 @@ pub(crate) fn kind_of(sup: &Super) -> SumKind
 }
 
 // Whether this is the key of checksums of data.
-fn is_sums(key: Key) -> bool
+pub(crate) fn is_sums(key: Key) -> bool
     ensures { result ≡ is_sums key }
 {
     key.objectid == SUMS && key.kind == item::EXTENT_CSUM
 }
 
 // The checksum of the sector at an address, if the run in a body covers it.
-fn sum_in(kind: SumKind, addr: u64, body: &[u8], run: &SumRun) -> Option<Sum>
-    requires { run.now.count * sum_size kind ≡ length body.now }
+pub(crate) fn sum_in(kind: SumKind, addr: u64, body: &[u8], run: &SumRun) -> Option<Sum>
+    requires { run.now.count * sum_size kind ≤ length body.now }
     ensures { result ≡ sum_in kind addr body.now run.now }
 {
     if addr < run.start {
@@ -92,6 +95,69 @@ fn find_sum<R: Rack>(
     };
     give_back(store, loan);
     sum
+}
+
+// The same, and where a checksum is found those behind it in its item are kept.
+#[tactic(auto, using(btr_volume::proofs::Looked::served_base))]
+fn find_ahead<R: Rack>(
+    store: &mut Store,
+    root: &RootPlace,
+    kind: SumKind,
+    addr: u64,
+    ahead: &mut SumsAhead,
+    rack: &mut R,
+) -> Result<Option<Sum>, TreeFault>
+    requires serves { Serves (R.seen rack.old) store.old }
+    requires room { 4 ≤ free_count store.old }
+    ensures serves { Serves (R.seen rack.new) store.new }
+    ensures reads { OnlyReads (R.seen rack.old) (R.seen rack.new) }
+    ensures loans { SameLoans store.old store.new }
+    ensures cause { HasCause store.old.layout (R.seen rack.old) (R.seen rack.new) result }
+    ensures ahead { Tells store.old.layout (R.seen rack.old) (R.seen rack.new) (λ B. IsAheadIn B root.now ahead.old → IsAheadIn B root.now ahead.new) }
+    ensures content { Looks store.old.layout (R.seen rack.old) (R.seen rack.new) (sum_under kind root.now addr) result }
+{
+    let mut loan = None;
+    let key = key_of(SUMS, item::EXTENT_CSUM, addr);
+    let sum = match find_reach(store, root, key, rack, &mut loan) {
+        Err(fault) => Err(fault),
+        Ok(None) => Ok(None),
+        Ok(Some(reach)) => {
+            *ahead = read_ahead(kind, addr, &reach);
+            sum_found(kind, addr, &reach.found)
+        }
+    };
+    give_back(store, loan);
+    sum
+}
+
+/// The same as `sum_of`, where the checksums behind it in its item are kept.
+pub(crate) fn sum_ahead<R: Rack>(
+    sums: Option<&TreeRoot>,
+    addr: u64,
+    ahead: &mut SumsAhead,
+    rack: &mut R,
+    vol: &mut Volume,
+) -> Result<Option<Sum>, TreeFault>
+    requires serves { Serves (R.seen rack.old) vol.old.store }
+    requires room { 4 ≤ free_count vol.old.store }
+    ensures serves { Serves (R.seen rack.new) vol.new.store }
+    ensures reads { OnlyReads (R.seen rack.old) (R.seen rack.new) }
+    ensures volume { SameVolume vol.old vol.new }
+    ensures cause { HasCause vol.old.store.layout (R.seen rack.old) (R.seen rack.new) result }
+    ensures ahead { Tells vol.old.store.layout (R.seen rack.old) (R.seen rack.new) (λ B. IsSummed B (tree_behind sums.entry) ahead.old → IsSummed B (tree_behind sums.entry) ahead.new) }
+    ensures content { Looks vol.old.store.layout (R.seen rack.old) (R.seen rack.new) (sum_at (kind_in vol.old.sup) (tree_behind sums.entry) addr) result }
+{
+    match sums {
+        None => Ok(None),
+        Some(sums) => find_ahead(
+            &mut vol.store,
+            &sums.place,
+            kind_of(&vol.sup),
+            addr,
+            ahead,
+            rack,
+        ),
+    }
 }
 
 /// Answers the checksum of the sector at an address, which is a multiple of 4096; `None` exactly where no item of the checksum tree covers it, or there is

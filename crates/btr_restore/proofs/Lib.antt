@@ -1,4 +1,5 @@
 mod Extends
+pub mod Agreeing
 mod Plains
 mod Journeys
 mod Honests

@@ -76,7 +76,7 @@ module _ (plan : RestorePlan) (s : Super) (sums : Option TreeRoot) (Bs : ℕ →
   past_in (w ∷ ws) st q r h = (prepend (want_marks ws) r, refl, past_in ws st q r h)
 
   file_more : (file : FileBytes) (seen more : List Want) → IsFileOn (Bs 0) seen file → IsFileOn (Bs 0) (seen ++ more) file
-  file_more file seen more on = record { rest = rest_more (Bs 0) seen more file.progress.rest on.rest; inline = on.inline }
+  file_more file seen more on = (record { rest = rest_more (Bs 0) seen more file.progress.rest on.0.rest; inline = on.0.inline }, on.1)
 
   -- a file has some run
   some_file : (kind : SumKind) (file : FileBytes) → (q : Run Want Fault Piece (Unit {0})) × FileGoes kind Bs file q

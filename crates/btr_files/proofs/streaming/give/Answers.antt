@@ -3,11 +3,12 @@ use Rattle.btr_walk.specs.Reading.{unread_by}
 use Rattle.btr_files.specs.declared.progress.Progress.{Progress}
 use Rattle.btr_files.specs.declared.streaming.Shown.TheVariants as shown
 use Rattle.btr_files.specs.declared.streaming.Step.{Step}
-use Rattle.btr_files.specs.Giving.{behind_zeros, zeros_at, IsNextStep}
+use Rattle.btr_files.specs.Giving.{behind_zeros, zeros_at}
 use Rattle.btr_files.specs.Maps.{TellsAll}
 use Rattle.btr_files.specs.Sums.{kind_in}
 use Rattle.btr_files.proofs.AllMaps.{all_unread}
 use Rattle.btr_files.proofs.Stepping.{zeros_given, nothing_left}
+use Rattle.btr_files.proofs.Streamed.{NextWithSums}
 use Rattle.btr_files.proofs.streaming.give.Goals as goal
 
 pub returns-then-zeros-gt0-clause-content : goal.returns-then-zeros-gt0-clause-content
@@ -20,9 +21,9 @@ returns-then-zeros-gt0-clause-content g c =
     let is = unread_by store.layout a a in
     let zeros = c.zeros_at-zeros.result in
     let step : Progress → Step = λ x. record { progress = x; shown = shown.Gap zeros } in
-    subst (λ (x : Progress). TellsAll store.layout a a (λ Bs. IsNextStep kind source is Bs p store (Ok (Some (step x))))) (sym c.behind_zeros.ensures)
-    (all_unread store.layout (λ Bs. IsNextStep kind source is Bs p store (Ok (Some (step (behind_zeros p zeros)))))
-    (λ Bs. zeros_given kind source Bs p zeros c.if-zeros-gt0.true is store c.zeros_at-zeros.ensures))
+    subst (λ (x : Progress). TellsAll store.layout a a (λ Bs. NextWithSums kind source is Bs p store c.args.ahead.now c.args.ahead.now (Ok (Some (step x))))) (sym c.behind_zeros.ensures)
+    (all_unread store.layout (λ Bs. NextWithSums kind source is Bs p store c.args.ahead.now c.args.ahead.now (Ok (Some (step (behind_zeros p zeros)))))
+    (λ Bs summed. (zeros_given kind source Bs p zeros c.if-zeros-gt0.true is store c.zeros_at-zeros.ensures, summed)))
 
 pub returns-in-Over-clause-content : goal.returns-in-Over-clause-content
 returns-in-Over-clause-content g c =
@@ -33,5 +34,5 @@ returns-in-Over-clause-content g c =
     let a = g.R.Rack.seen c.args.rack.now in
     let is = unread_by store.layout a a in
     let none = c.zeros_at-zeros.ensures ∙ ap (zeros_at source.size p.at) c.in-Over.is in
-    all_unread store.layout (λ Bs. IsNextStep kind source is Bs p store (Ok None))
-    (λ Bs. nothing_left kind source Bs p is store c.in-Over.is (omega (arith, none, c.if-zeros-gt0.false)))
+    all_unread store.layout (λ Bs. NextWithSums kind source is Bs p store c.args.ahead.now c.args.ahead.now (Ok None))
+    (λ Bs summed. (nothing_left kind source Bs p is store c.in-Over.is (omega (arith, none, c.if-zeros-gt0.false)), summed))

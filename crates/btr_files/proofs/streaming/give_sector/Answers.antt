@@ -11,12 +11,13 @@ use Rattle.btr_files.specs.declared.streaming.Shown.TheVariants as shown
 use Rattle.btr_files.specs.declared.streaming.Span.TheVariants as span
 use Rattle.btr_files.specs.declared.streaming.Step.{Step}
 use Rattle.btr_files.specs.Content.{sector_want}
-use Rattle.btr_files.specs.Giving.{behind_sector, SectorComes, IsGiven}
+use Rattle.btr_files.specs.Giving.{behind_sector, SectorComes}
 use Rattle.btr_files.specs.Maps.{TellsAll}
 use Rattle.btr_files.specs.Streaming.{FitsTodo}
 use Rattle.btr_files.specs.Sums.{kind_in}
 use Rattle.btr_files.proofs.AllMaps.{all_of_one, all_joined}
 use Rattle.btr_files.proofs.Sectoring.{sector_given, sector_lacked, sum_lacked, comes_as}
+use Rattle.btr_files.proofs.AheadLooks.{GivenWithSums, with_sums, looked_with_sums}
 use Rattle.btr_files.proofs.streaming.give_sector.Goals as goal
 
 pub returns-in_err-want-clause-content : goal.returns-in_err-want-clause-content
@@ -33,10 +34,10 @@ returns-in_err-want-clause-content g c =
     let fault = c.in_err-want.field-0.0 in
     let some : 0 < part.count = (subst (FitsTodo source.size p.at p.end) c.requires.todo c.requires.underway.fits).1 in
     let looked = λ (r : Result Want TreeFault) (B : Map). Follows is no_part [] (exec B (sector_want kind source.sums source.nosum part.addr)) [] (answer_of r) in
-    passed_on (λ r. TellsAll layout a b (λ Bs. IsGiven kind source is Bs p new r)) c.from_residual.result fault c.from_residual.ensures.1
-    (all_of_one layout (looked c.want_of.result) (λ Bs. IsGiven kind source is Bs p new (Err fault))
-    (λ Bs h. sum_lacked kind source Bs p part c.requires.todo c.requires.begun some is new fault (subst (λ r. looked r (Bs 0)) (c.in_err-want.was {u = tt}) h))
-    c.want_of.ensures.content)
+    passed_on (λ r. TellsAll layout a b (λ Bs. GivenWithSums kind source is Bs p new c.args.ahead.now c.want_of.new.ahead r)) c.from_residual.result fault c.from_residual.ensures.1
+    (all_of_one layout (with_sums (looked c.want_of.result) source.sums c.args.ahead.now c.want_of.new.ahead) (λ Bs. GivenWithSums kind source is Bs p new c.args.ahead.now c.want_of.new.ahead (Err fault))
+    (λ Bs h summed. let both = h summed in (sum_lacked kind source Bs p part c.requires.todo c.requires.begun some is new fault (subst (λ r. looked r (Bs 0)) (c.in_err-want.was {u = tt}) both.0), both.1))
+    (looked_with_sums layout (looked c.want_of.result) source.sums c.args.ahead.now c.want_of.new.ahead c.want_of.ensures.content c.want_of.ensures.ahead))
 
 pub returns-in_err-loan-clause-content : goal.returns-in_err-loan-clause-content
 returns-in_err-loan-clause-content g c =
@@ -56,11 +57,14 @@ returns-in_err-loan-clause-content g c =
     let some : 0 < part.count = (subst (FitsTodo source.size p.at p.end) c.requires.todo c.requires.underway.fits).1 in
     let looked = λ (r : Result Want TreeFault) (B : Map). Follows (unread_by layout a b) no_part [] (exec B (sector_want kind source.sums source.nosum part.addr)) [] (answer_of r) in
     let comes = λ (r : Result Lent TreeFault) (Bs : ℕ → Map). SectorComes (unread_by mid b d) Bs want new r in
-    passed_on (λ r. TellsAll layout a d (λ Bs. IsGiven kind source is Bs p new r)) c.from_residual-in_err-loan.result fault c.from_residual-in_err-loan.ensures.1
-    (all_joined (λ Bs. looked c.want_of.result (Bs 0)) (comes c.read_sector.result) (λ Bs. IsGiven kind source is Bs p new (Err fault)) c.want_of.ensures.volume.store.layout
-    (λ Bs h k. sector_lacked kind source Bs p part c.requires.todo c.requires.begun some want (unread_by layout a b) (subst (λ r. looked r (Bs 0)) (c.in_ok-want.was {u = tt}) h) is new new fault
-    (comes_as (unread_by mid b d) is Bs want new fault (since layout mid c.want_of.ensures.volume.store.layout c.want_of.ensures.reads) (subst (λ r. comes r Bs) (c.in_err-loan.was {u = tt}) k)))
-    (all_of_one layout (looked c.want_of.result) (λ Bs. looked c.want_of.result (Bs 0)) (λ Bs h. h) c.want_of.ensures.content) c.read_sector.ensures.content)
+    passed_on (λ r. TellsAll layout a d (λ Bs. GivenWithSums kind source is Bs p new c.args.ahead.now c.want_of.new.ahead r)) c.from_residual-in_err-loan.result fault c.from_residual-in_err-loan.ensures.1
+    (all_joined (λ Bs. with_sums (looked c.want_of.result) source.sums c.args.ahead.now c.want_of.new.ahead (Bs 0)) (comes c.read_sector.result) (λ Bs. GivenWithSums kind source is Bs p new c.args.ahead.now c.want_of.new.ahead (Err fault)) c.want_of.ensures.volume.store.layout
+    (λ Bs h k summed. let both = h summed in (
+      sector_lacked kind source Bs p part c.requires.todo c.requires.begun some want (unread_by layout a b) (subst (λ r. looked r (Bs 0)) (c.in_ok-want.was {u = tt}) both.0) is new new fault
+          (comes_as (unread_by mid b d) is Bs want new fault (since layout mid c.want_of.ensures.volume.store.layout c.want_of.ensures.reads) (subst (λ r. comes r Bs) (c.in_err-loan.was {u = tt}) k)),
+      both.1,
+    ))
+    (all_of_one layout (with_sums (looked c.want_of.result) source.sums c.args.ahead.now c.want_of.new.ahead) (λ Bs. with_sums (looked c.want_of.result) source.sums c.args.ahead.now c.want_of.new.ahead (Bs 0)) (λ Bs h. h) (looked_with_sums layout (looked c.want_of.result) source.sums c.args.ahead.now c.want_of.new.ahead c.want_of.ensures.content c.want_of.ensures.ahead)) c.read_sector.ensures.content)
 
 pub returns-clause-content : goal.returns-clause-content
 returns-clause-content g c =
@@ -81,8 +85,11 @@ returns-clause-content g c =
     let looked = λ (r : Result Want TreeFault) (B : Map). Follows (unread_by layout a b) no_part [] (exec B (sector_want kind source.sums source.nosum part.addr)) [] (answer_of r) in
     let comes = λ (r : Result Lent TreeFault) (Bs : ℕ → Map). SectorComes (unread_by mid b d) Bs want new r in
     let step : Progress → Step = λ x. record { progress = x; shown = shown.Bytes loan (span.Sector c.min-len.result c.is_tested-verified.result) } in
-    subst (λ (x : Progress). TellsAll layout a d (λ Bs. IsGiven kind source is Bs p new (Ok (step x)))) (sym c.behind_sector.ensures)
-    (all_joined (λ Bs. looked c.want_of.result (Bs 0)) (comes c.read_sector.result) (λ Bs. IsGiven kind source is Bs p new (Ok (step (behind_sector source.size p part)))) c.want_of.ensures.volume.store.layout
-    (λ Bs h k. sector_given kind source Bs p part c.requires.todo c.requires.begun some want (unread_by layout a b) (subst (λ r. looked r (Bs 0)) (c.in_ok-want.was {u = tt}) h) is new loan c.bytes.result.now c.bytes.ensures.value c.min-len.result c.is_tested-verified.result c.min-len.ensures c.is_tested-verified.ensures
-    (subst (λ r. comes r Bs) (c.in_ok-loan.was {u = tt}) k))
-    (all_of_one layout (looked c.want_of.result) (λ Bs. looked c.want_of.result (Bs 0)) (λ Bs h. h) c.want_of.ensures.content) c.read_sector.ensures.content)
+    subst (λ (x : Progress). TellsAll layout a d (λ Bs. GivenWithSums kind source is Bs p new c.args.ahead.now c.want_of.new.ahead (Ok (step x)))) (sym c.behind_sector.ensures)
+    (all_joined (λ Bs. with_sums (looked c.want_of.result) source.sums c.args.ahead.now c.want_of.new.ahead (Bs 0)) (comes c.read_sector.result) (λ Bs. GivenWithSums kind source is Bs p new c.args.ahead.now c.want_of.new.ahead (Ok (step (behind_sector source.size p part)))) c.want_of.ensures.volume.store.layout
+    (λ Bs h k summed. let both = h summed in (
+      sector_given kind source Bs p part c.requires.todo c.requires.begun some want (unread_by layout a b) (subst (λ r. looked r (Bs 0)) (c.in_ok-want.was {u = tt}) both.0) is new loan c.bytes.result.now c.bytes.ensures.value c.min-len.result c.is_tested-verified.result c.min-len.ensures c.is_tested-verified.ensures
+          (subst (λ r. comes r Bs) (c.in_ok-loan.was {u = tt}) k),
+      both.1,
+    ))
+    (all_of_one layout (with_sums (looked c.want_of.result) source.sums c.args.ahead.now c.want_of.new.ahead) (λ Bs. with_sums (looked c.want_of.result) source.sums c.args.ahead.now c.want_of.new.ahead (Bs 0)) (λ Bs h. h) (looked_with_sums layout (looked c.want_of.result) source.sums c.args.ahead.now c.want_of.new.ahead c.want_of.ensures.content c.want_of.ensures.ahead)) c.read_sector.ensures.content)

@@ -22,9 +22,11 @@ returns-clause-program c kind Bs q h =
     ]
 
 pub returns-clause-on : goal.returns-clause-on
-returns-clause-on c B =
-    going_begun B c.new.result c.if-size-eq0.todo c.key_of-lo.result c.key_of-hi.result c.new.ensures.lo c.new.ensures.hi (c.new.ensures.on B)
-    (elim c.if-size-eq0.branch [
-      | then-size-eq0 w ↦ subst (IsInline (met_last B c.new.result)) (sym w.todo-is) tt
-      | else-size-eq0 w ↦ subst (IsInline (met_last B c.new.result)) (sym w.todo-is) tt
-    ])
+returns-clause-on c B = (
+  going_begun B c.new.result c.if-size-eq0.todo c.key_of-lo.result c.key_of-hi.result c.new.ensures.lo c.new.ensures.hi (c.new.ensures.on B)
+      (elim c.if-size-eq0.branch [
+        | then-size-eq0 w ↦ subst (IsInline (met_last B c.new.result)) (sym w.todo-is) tt
+        | else-size-eq0 w ↦ subst (IsInline (met_last B c.new.result)) (sym w.todo-is) tt
+      ]),
+  λ other sum kept. absurd (cc (sym (c.new-ahead.ensures other) ∙ kept)),
+)

@@ -1,0 +1,46 @@
+// Checksums of sectors that are read one behind another.
+ghost use Rattle.std.specs.Prelude.{◌*◌, ◌≤◌};
+ghost use Rattle.btr_base.specs.Sum.{sum_size};
+
+use crate::sums::sum_in;
+use btr_base::{Sum, SumKind};
+use btr_items::SumRun;
+
+/// How many bytes of checksums are kept: those of 1024 sectors by CRC-32C, and of 128 by SHA-256.
+pub(crate) const ROOM: usize = 4096;
+
+/// Checksums of sectors one behind another, all from one item of the checksum tree.
+#[derive(Clone, Copy)]
+pub(crate) struct SumsAhead {
+    pub(crate) kind: SumKind,
+    pub(crate) run: SumRun,
+    pub(crate) bytes: [u8; ROOM],
+    ghost fits: { run.count * sum_size kind ≤ 4096 },
+}
+
+impl SumsAhead {
+    ghost use Rattle.std.specs.Prelude.{◌≡◌, ℕ, None, Some};
+    ghost use Rattle.btr_base.specs.declared.stored.Sum.{Sum};
+    ghost use Rattle.btr_files.specs.Aheads.{kept_sum};
+
+    /// None are kept.
+    pub(crate) fn new() -> SumsAhead
+        ensures { (addr : ℕ) → kept_sum result addr ≡ None }
+    {
+        SumsAhead {
+            kind: SumKind::Crc32c,
+            run: SumRun { start: 0, count: 0 },
+            bytes: [0; ROOM],
+        }
+    }
+
+    /// The checksum of the sector at an address, if one of this kind is kept.
+    pub(crate) fn get(&self, kind: SumKind, addr: u64) -> Option<Sum>
+        ensures { (sum : Sum) → result ≡ Some sum → (self.now.kind ≡ kind) × (kept_sum self.now addr ≡ Some sum) }
+    {
+        if self.kind != kind {
+            return None;
+        }
+        sum_in(self.kind, addr, &self.bytes, &self.run)
+    }
+}
