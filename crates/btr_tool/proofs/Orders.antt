@@ -46,6 +46,7 @@ use Rattle.btr_tool.specs.Answers.{error_line}
 use Rattle.btr_tool.specs.Behind.{IsFault}
 use Rattle.btr_tool.specs.Faults.{open_answer, tree_answer}
 use Rattle.btr_tool.specs.Filesystem.{OpensAs, answer_as}
+use Rattle.btr_restore.proofs.Agreeing.{array_agreed}
 use Rattle.btr_tool.specs.Order.{AnswersAs, FollowsOrder, InOrder, IsAgreed, KeepsCommittedOrder, KeepsOrder, KeepsSo, KeepsTo}
 use Rattle.btr_tool.specs.Outcomes.{IsPut, Stands, due_after}
 use Rattle.btr_tool.specs.Words.{Words}
@@ -161,14 +162,14 @@ module _ (plan : RestorePlan) (dest : List ℕ) (images : Images) (start : Start
         ⊎_elim (λ none. absurd (cc (sym none ∙ begun)))
         (λ (table : (f : TableFault) × (refusal_of f ≡ refusal) × Starts images old new (Ok (Err f))).
         bare (Ok (Err (refusal_of table.0))) (open_answer refusal)
-        (refused (choices images) table.0 (scan_goes images start old new (Ok (Err table.0)) (scan_follows images start old new (Ok (Err table.0)) told agreed.array (subst (λ s. Scans s old new (Ok (Err table.0))) (same_start table.2.start table.2.is) table.2.scans))))
+        (refused (choices images) table.0 (scan_goes images start old new (Ok (Err table.0)) (scan_follows images start old new (Ok (Err table.0)) told (array_agreed images start agreed) (subst (λ s. Scans s old new (Ok (Err table.0))) (same_start table.2.start table.2.is) table.2.scans))))
         (ap open_answer (sym table.1))) why
 
     pub unopened_order : (refusal : OpenFault) → Opens images old new (Err refusal) → KeepsTo Journeys x x [] (open_answer refusal)
     unopened_order (opening.ImageFault slot) opens = bare (Err Broke) (open_answer (opening.ImageFault slot)) (nothing_done plan dest images start old new) (inl (slot, refl))
     unopened_order opening.Memory opens = bare (Err Broke) (open_answer opening.Memory) (nothing_done plan dest images start old new) (inr (inr (inr refl)))
     unopened_order (opening.Tree f) opens =
-        bare (Err (halt_of f)) (tree_answer f) (halted (choices images) (halt_of f) (scan_goes images start old new (Err (halt_of f)) (scan_follows images start old new (Err (halt_of f)) told agreed.array (subst (λ s. Scans s old new (Err (halt_of f))) (same_start opens.start opens.is) opens.scans)))) (tree_as f)
+        bare (Err (halt_of f)) (tree_answer f) (halted (choices images) (halt_of f) (scan_goes images start old new (Err (halt_of f)) (scan_follows images start old new (Err (halt_of f)) told (array_agreed images start agreed) (subst (λ s. Scans s old new (Err (halt_of f))) (same_start opens.start opens.is) opens.scans)))) (tree_as f)
     unopened_order (opening.NoSuper slot) opens = by_start (opening.NoSuper slot) opens
     unopened_order (opening.SumKind kind) opens = by_start (opening.SumKind kind) opens
     unopened_order (opening.Foreign slot) opens = by_start (opening.Foreign slot) opens
@@ -197,7 +198,7 @@ module _ (plan : RestorePlan) (dest : List ℕ) (images : Images) (start : Start
       same = same_start opens.start opens.is
 
       scan : Follows {S = ⊥} (unread_by (array_layout start) old mid) no_part [] (exec (fate images (array_layout start)) (table_scan start)) [] (Ok (Ok chunks))
-      scan = scan_follows images start old mid (Ok (Ok chunks)) told agreed.array (subst (λ s. Scans s old mid (Ok (Ok chunks))) same opens.scans)
+      scan = scan_follows images start old mid (Ok (Ok chunks)) told (array_agreed images start agreed) (subst (λ s. Scans s old mid (Ok (Ok chunks))) same opens.scans)
 
       scanned : Goes {S = ⊥} (unread_by (array_layout start) old new) no_part [] (λ n. choices images n (array_layout start)) (table_scan start) [] (Ok (Ok chunks))
       scanned = scan_goes images start old new (Ok (Ok chunks)) (scan.0, scan.1)
@@ -212,7 +213,7 @@ module _ (plan : RestorePlan) (dest : List ℕ) (images : Images) (start : Start
       table_is = ap (table_or start.array) scan.1
 
       agree : Agreed images volume.store.layout
-      agree = subst (Agreed images) (ap (layout_by start) table_is ∙ sym layout_is) agreed.table
+      agree = subst (Agreed images) (ap (layout_by start) table_is ∙ sym layout_is) agreed
 
       held : mid.held ≡ Some images
       held = ap (λ (s : Seen). s.held) first.same ∙ told

@@ -9,7 +9,7 @@ use Rattle.btr_restore.specs.Committed.{Commit, IsHonest, IsClosed, committed_ch
 use Rattle.btr_restore.specs.InOrder as journey
 use Rattle.btr_restore.specs.Running.{Outside}
 use Rattle.btr_restore.specs.Step.{Step}
-use Rattle.btr_volume.specs.Maps.{array_layout, table_of}
+use Rattle.btr_volume.specs.Maps.{table_of}
 use Rattle.btr_volume.specs.Start.{Images, Start, start_of, layout_by}
 use Rattle.btr_tool.specs.Answers.{error_line}
 use Rattle.btr_tool.specs.Behind.{IsFault}
@@ -21,10 +21,9 @@ use Rattle.btr_tool.specs.Words.{Words}
 use Rattle.btr_tool.specs.declared.answer.Answer.{Answer}
 use Rattle.btr_tool.specs.declared.answer.Answer.TheVariants.{Done, Unread}
 
--- The images agree: of each block that is tested all candidates that pass are equal, as the chunks of the system array find them, and as the table of the images does.
-pub record IsAgreed (images : Images) (start : Start) : Type 0 where
-  pub array : Agreed images (array_layout start)
-  pub table : Agreed images (layout_by start (table_of images start))
+-- The images agree: of each block that is tested all candidates that pass are equal, as the table of the images finds them.
+abbrev pub IsAgreed : Images → Start → Type 0
+IsAgreed images start = Agreed images (layout_by start (table_of images start))
 
 -- the answer of the program for one of the journey; where that was broken off an image, the sink or the output failed, or memory was wanted
 abbrev pub AnswersAs : journey.Answer → Answer → Type 0

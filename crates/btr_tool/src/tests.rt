@@ -1,7 +1,9 @@
 // The worked rows of the commands, over images and outputs in memory; here those of `super`.
-ghost use Rattle.std.specs.Prelude.{[], ◌<◌, ◌^◌};
+ghost use Rattle.std.specs.Prelude.{[], ◌≡◌, ◌<◌, ◌^◌};
+ghost use Rattle.btr_rack.specs.Sink.{NotStarted};
 
 mod dumping;
+mod hostile;
 mod opening;
 mod restoring;
 mod sinking;
@@ -10,7 +12,7 @@ mod wanting;
 use crate::answer::Answer;
 use crate::run::run;
 use btr_make::{put_super, seal};
-use btr_rack::{MemOut, MemRack, MemTree, Rack};
+use btr_rack::{MemOut, MemRack, MemTree, Out, Rack, TreeSink};
 use btr_super::Super;
 use std::alloc::{AllocError, Global};
 use std::process::Abort;
@@ -83,6 +85,20 @@ fn add(rack: &mut MemRack, name: &str, len: u64, place: u64, copy: &Super) -> Re
     Ok(())
 }
 
+/// Calls `run` without any of its clauses: what it promises is proved where it stands, and a test only looks at what it does. So no test carries those facts.
+fn called<R: Rack, T: TreeSink, O: Out>(
+    alloc: Global,
+    words: &[String],
+    rack: &mut R,
+    tree: &mut T,
+    out: &mut O,
+) -> Answer
+    requires closed { (R.seen rack.old).slots ≡ [] }
+    requires fresh { (T.sink tree.old).stage ≡ NotStarted }
+{
+    run(alloc, words, rack, tree, out)
+}
+
 fn answers(
     rt: &impl Abort,
     alloc: Global,
@@ -94,7 +110,7 @@ fn answers(
     let mut out = MemOut::new(alloc);
     let words = words(alloc, all)?;
     assert_eq!(rt; rack.count(), 0);
-    let answer = run(alloc, &words, rack, &mut MemTree::new(alloc), &mut out);
+    let answer = called(alloc, &words, rack, &mut MemTree::new(alloc), &mut out);
     assert_eq!(rt; out.text(), expected);
     assert_eq!(rt; answer.code(), code);
     Ok(())
@@ -192,7 +208,7 @@ fn shows(
     let mut out = MemOut::new(alloc);
     let words = words(alloc, all)?;
     assert_eq!(rt; rack.count(), 0);
-    let answer = run(alloc, &words, rack, &mut MemTree::new(alloc), &mut out);
+    let answer = called(alloc, &words, rack, &mut MemTree::new(alloc), &mut out);
     assert_eq!(rt; answer, Answer::Done { skipped: 0 });
     assert!(rt; out.text().starts_with(expected));
     Ok(())
@@ -311,7 +327,7 @@ fn a_failing_output(rt: HostRuntime) -> Result<(), Fail> {
         out.fail_call(1).map_err(|_| AllocError)?;
         let words = words(alloc, all)?;
         assert_eq!(rt; rack.count(), 0);
-        let answer = run(alloc, &words, &mut rack, &mut MemTree::new(alloc), &mut out);
+        let answer = called(alloc, &words, &mut rack, &mut MemTree::new(alloc), &mut out);
         assert_eq!(rt; answer, Answer::OutFault);
         assert_eq!(rt; answer.code(), 4);
         assert!(rt; out.text().is_empty());

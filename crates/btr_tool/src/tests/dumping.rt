@@ -1,7 +1,6 @@
 // The worked rows of the commands that show trees, over small volumes.
-use super::{answers, words};
+use super::{answers, called, words};
 use crate::answer::Answer;
-use crate::run::run;
 use btr_make::{RowVolume, row};
 use btr_rack::{MemOut, MemRack, MemTree, Rack};
 use std::alloc::Global;
@@ -122,7 +121,7 @@ fn text_of(
     let mut out = MemOut::new(alloc);
     let words = words(alloc, all)?;
     assert_eq!(rt; rack.count(), 0);
-    let answer = run(alloc, &words, rack, &mut MemTree::new(alloc), &mut out);
+    let answer = called(alloc, &words, rack, &mut MemTree::new(alloc), &mut out);
     assert_eq!(rt; answer, Answer::Done { skipped: 0 });
     Ok(out)
 }
@@ -239,7 +238,7 @@ fn refused_output(rt: &impl Abort, alloc: Global, n: u64, whole: &[u8]) -> Resul
     out.fail_call(n)?;
     let words = words(alloc, &[INSPECT, DUMP, "a"])?;
     assert_eq!(rt; rack.count(), 0);
-    let answer = run(alloc, &words, &mut rack, &mut MemTree::new(alloc), &mut out);
+    let answer = called(alloc, &words, &mut rack, &mut MemTree::new(alloc), &mut out);
     assert_eq!(rt; answer, Answer::OutFault);
     assert_eq!(rt; answer.code(), 4);
     assert!(rt; whole.starts_with(out.text()) && out.text().len() < whole.len());

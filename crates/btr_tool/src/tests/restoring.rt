@@ -1,6 +1,5 @@
 // Restores by the words of the command line, into memory.
-use super::words;
-use crate::run::run;
+use super::{called, words};
 use btr_make::{RowVolume, row};
 use btr_rack::{MemOut, MemRack, MemTree, Rack, Row};
 use std::alloc::Global;
@@ -20,7 +19,7 @@ pub(super) fn restores(
     let mut out = MemOut::new(alloc);
     let words = words(alloc, all)?;
     assert_eq!(rt; rack.count(), 0);
-    let answer = run(alloc, &words, rack, &mut tree, &mut out);
+    let answer = called(alloc, &words, rack, &mut tree, &mut out);
     assert_eq!(rt; out.text(), text);
     assert_eq!(rt; answer.code(), code);
     Ok(tree)

@@ -1,8 +1,7 @@
 // Restores that end before their end: a block is lost or can't be read, or the destination fails.
 use super::restoring::{restores, shown};
-use super::words;
+use super::{called, words};
 use crate::answer::Answer;
-use crate::run::run;
 use btr_make::{RowVolume, row};
 use btr_rack::{MemOut, MemRack, MemTree, Rack};
 use std::alloc::Global;
@@ -51,7 +50,7 @@ fn fails_at(rt: &impl Abort, alloc: Global, n: u64) -> Result<(), Fail> {
     let mut out = MemOut::new(alloc);
     let words = words(alloc, &["restore", "out", "a"])?;
     assert_eq!(rt; rack.count(), 0);
-    let answer = run(alloc, &words, &mut rack, &mut tree, &mut out);
+    let answer = called(alloc, &words, &mut rack, &mut tree, &mut out);
     assert_eq!(rt; answer, Answer::SinkFault);
     assert_eq!(rt; answer.code(), 4);
     assert_eq!(rt; out.text(), b"error: the destination failed\n".as_slice());

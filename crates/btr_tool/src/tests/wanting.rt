@@ -3,8 +3,7 @@ ghost use Rattle.std.specs.Prelude.{None, true, false};
 ghost use Rattle.btr_rack.specs.CallsLaws.{unsure_calm};
 
 use crate::answer::Answer;
-use crate::run::run;
-use crate::tests::words;
+use crate::tests::{called, words};
 use btr_rack::{MemRack, MemTree, Out, Rack, RackError, SinkError};
 use std::test::Fail;
 
@@ -86,7 +85,7 @@ fn want_of_memory_has_its_line(rt: HostRuntime) -> Result<(), Fail> {
         images: MemRack::new(rt.alloc()),
     };
     let words = words(rt.alloc(), &["super", "a"])?;
-    let answer = run(
+    let answer = called(
         rt.alloc(),
         &words,
         &mut rack,
