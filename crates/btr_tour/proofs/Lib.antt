@@ -6,3 +6,4 @@ pub mod Enters
 pub mod Ranking
 pub mod Nexts
 pub mod Ranges
+pub mod Marks

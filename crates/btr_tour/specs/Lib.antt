@@ -4,3 +4,4 @@ pub mod Place
 pub mod Shape
 pub mod Steps
 pub mod TourEnds
+pub mod Visits

@@ -1,3 +1,4 @@
 mod faults;
 mod tours;
+mod visits;
 mod volume;

@@ -1,0 +1,116 @@
+// A tree that is visited.
+ghost use Rattle.std.specs.Prelude.{◌≡◌, ◌≤◌};
+ghost use Rattle.btr_rack.specs.Rack.{OnlyReads};
+ghost use Rattle.btr_read.specs.Serves.{Serves};
+ghost use Rattle.btr_read.specs.Store.{SameLoans, free_count};
+ghost use Rattle.btr_tour.specs.TourEnds.{IsReady, without_leaf};
+ghost use Rattle.btr_walk.specs.Folding.{FoldCause};
+ghost use Rattle.btr_walk.specs.Reading.{Tells};
+ghost use Rattle.btr_tour.specs.Visits.{IsTaken, IsMet, MetNears, OnlyUnread, IsRun, Visits};
+
+use crate::visitor::Visitor;
+use crate::{Met, Tour, next};
+use btr_base::{Key, SumKind};
+use btr_rack::Rack;
+use btr_read::Store;
+use btr_walk::{FoldFault, RootPlace};
+
+// The first and the last key that there are.
+const FIRST_KEY: Key = Key {
+    objectid: 0,
+    kind: 0,
+    offset: 0,
+};
+
+const LAST_KEY: Key = Key {
+    objectid: u64::MAX,
+    kind: u8::MAX,
+    offset: u64::MAX,
+};
+
+// Treats what was met. There may be more.
+fn take_met<E, V: Visitor<E>>(visitor: &mut V, met: &Met<'_>) -> Result<bool, FoldFault<E>>
+    ensures { IsTaken V.step visitor.old met.now visitor.new result }
+{
+    match visitor.meet(met) {
+        Ok(()) => Ok(true),
+        Err(own) => Err(FoldFault::Own(own)),
+    }
+}
+
+// One mark further; the answer is whether there was one.
+fn meet_next<R: Rack, E, V: Visitor<E>>(
+    tour: &mut Tour,
+    rack: &mut R,
+    store: &mut Store,
+    visitor: &mut V,
+) -> Result<bool, FoldFault<E>>
+    requires ready { IsReady (R.seen rack.old) store.old tour.old }
+    requires room { 4 ≤ free_count (without_leaf store.old tour.old) }
+    ensures ready { IsReady (R.seen rack.new) store.new tour.new }
+    ensures reads { OnlyReads (R.seen rack.old) (R.seen rack.new) }
+    ensures others { SameLoans (without_leaf store.old tour.old) (without_leaf store.new tour.new) }
+    ensures scope { tour.new.scope ≡ tour.old.scope }
+    ensures nears { MetNears tour.old tour.new result }
+    ensures unread { OnlyUnread result }
+    ensures cause { FoldCause store.old.layout (R.seen rack.old) (R.seen rack.new) result }
+    ensures content { Tells store.old.layout (R.seen rack.old) (R.seen rack.new) (λ B. IsMet V.step B store.old store.new tour.old tour.new visitor.old visitor.new result) }
+{
+    match next(store, tour, rack) {
+        Err(fault) => Err(FoldFault::Tree(fault)),
+        Ok(None) => Ok(false),
+        Ok(Some(met)) => take_met(visitor, &met),
+    }
+}
+
+// All that a tour has still to meet.
+fn run<R: Rack, E, V: Visitor<E>>(
+    tour: &mut Tour,
+    rack: &mut R,
+    store: &mut Store,
+    visitor: &mut V,
+) -> Result<(), FoldFault<E>>
+    requires ready { IsReady (R.seen rack.old) store.old tour.old }
+    requires room { 4 ≤ free_count (without_leaf store.old tour.old) }
+    ensures ready { IsReady (R.seen rack.new) store.new tour.new }
+    ensures reads { OnlyReads (R.seen rack.old) (R.seen rack.new) }
+    ensures others { SameLoans (without_leaf store.old tour.old) (without_leaf store.new tour.new) }
+    ensures unread { OnlyUnread result }
+    ensures cause { FoldCause store.old.layout (R.seen rack.old) (R.seen rack.new) result }
+    ensures content { Tells store.old.layout (R.seen rack.old) (R.seen rack.new) (λ B. IsRun V.step B store.old tour.old visitor.old visitor.new result) }
+{
+    loop {
+        match meet_next(tour, rack, store, visitor) {
+            Err(fault) => return Err(fault),
+            Ok(true) => {}
+            Ok(false) => return Ok(()),
+        }
+    }
+}
+
+/// Visits all of a tree: treats each block, pointer, item and fault before the next block is read, in the order of a tour. Four slots
+/// are free; it takes no memory, and keeps no loan. Checksums in headers are of the kind `sums`.
+///
+/// The refusal of the tree is `Unread`, where a block could not be read; all else that is wrong with a block is met as a fault. `Own` is
+/// the visitor's refusal.
+pub fn visit<R: Rack, E, V: Visitor<E>>(
+    root: &RootPlace,
+    sums: SumKind,
+    rack: &mut R,
+    store: &mut Store,
+    visitor: &mut V,
+) -> Result<(), FoldFault<E>>
+    requires serves { Serves (R.seen rack.old) store.old }
+    requires room { 4 ≤ free_count store.old }
+    ensures serves { Serves (R.seen rack.new) store.new }
+    ensures reads { OnlyReads (R.seen rack.old) (R.seen rack.new) }
+    ensures loans { SameLoans store.old store.new }
+    ensures unread { OnlyUnread result }
+    ensures cause { FoldCause store.old.layout (R.seen rack.old) (R.seen rack.new) result }
+    ensures content { Tells store.old.layout (R.seen rack.old) (R.seen rack.new) (λ B. Visits V.step B root.now visitor.old visitor.new result) }
+{
+    let mut tour = Tour::new(root, FIRST_KEY, LAST_KEY, sums);
+    let ended = run(&mut tour, rack, store, visitor);
+    tour.finish(store);
+    ended
+}
