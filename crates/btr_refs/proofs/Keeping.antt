@@ -11,18 +11,19 @@ use Rattle.btr_walk.specs.Folds.{Go, Broken}
 use Rattle.btr_walk.specs.Le.{TreeItem}
 use Rattle.btr_walk.specs.Range.{range}
 use Rattle.btr_walk.specs.Reading.{Map}
+use Rattle.btr_walk.specs.declared.place.RootPlace.{RootPlace}
 use Rattle.btr_walk.proofs.Folds.{fold_run, exec_fold, fold_go, fold_broken}
 use Rattle.btr_refs.specs.declared.extent.Extent.{Extent}
 use Rattle.btr_refs.specs.Counts.{Counts, RefCounts, counted, counted_all}
 use Rattle.btr_refs.specs.Extents.{Kept, nothing_kept, kept_with, kept_step, is_formed, refs_in, extent_in, stored_in, extents_in}
-use Rattle.btr_refs.specs.Collecting.{StoredLaw}
+use Rattle.btr_refs.specs.Collecting.{StoredLaw, stored_of}
 use Rattle.btr_refs.proofs.Counting.{counts_law}
 
-abbrev formed_item : TreeItem → Bool
+abbrev pub formed_item : TreeItem → Bool
 formed_item item = is_formed item.key item.body
 
 -- what some items leave
-abbrev all_kept : Kept → List TreeItem → Kept
+abbrev pub all_kept : Kept → List TreeItem → Kept
 all_kept kept items = record { nodesize = kept.nodesize; refs = counted_all kept.refs (stored_in items); extents = kept.extents ++ extents_in kept.nodesize items }
 
 abbrev kept_as : ℕ → RefCounts → List Extent → Kept
@@ -76,6 +77,29 @@ module _ (B : Map) where
       by false formed more =
           let breaks : kept_step from item ≡ Broken = ap (λ (b : Bool). if b then Go (kept_with from item) else Broken) formed in
           absurd (not_both (fate.Malformed item.leaf) kept (subst (λ (r : Run Want fate.Fault ⊥ Kept). r.ending ≡ Ok kept) (fold_broken kept_step id_kept B from item (run marks ending) breaks) is))
+
+  both_true : (a b : Bool) → (a && b) ≡ true → (a ≡ true) × (b ≡ true)
+  both_true true b e = (refl, e)
+  both_true false b e = cc
+
+  -- where all items have their form, all is kept
+  keeps : (marks : List (Mark Want TreeItem)) (from : Kept) → list_all formed_item (steps_of marks) ≡ true → (fold_run kept_step id_kept B from (run marks (Ok tt))).ending ≡ Ok (all_kept from (steps_of marks))
+  keeps [] from all = ap answered (sym (kept_none from))
+  keeps (Wants w ∷ marks) from all = keeps marks from all
+  keeps (Does item ∷ marks) from all =
+      let both = both_true (formed_item item) (list_all formed_item (steps_of marks)) all in
+      let goes : kept_step from item ≡ Go (kept_with from item) = ap (λ (b : Bool). if b then Go (kept_with from item) else Broken) both.0 in
+      ap (λ (r : Run Want fate.Fault ⊥ Kept). r.ending) (fold_go kept_step id_kept B from (kept_with from item) item (run marks (Ok tt)) goes)
+      ∙ keeps marks (kept_with from item) both.1 ∙ ap answered (kept_one from item (steps_of marks))
+
+  -- a tree that comes to its end, and whose items have their forms, is collected
+  pub collected_all : (nodesize : ℕ) (root : RootPlace) → (exec B (range first_key last_key root)).ending ≡ Ok tt → list_all formed_item (steps_of (exec B (range first_key last_key root)).marks) ≡ true
+      → (exec B (stored_of nodesize root)).ending ≡ Ok (all_kept (nothing_kept nodesize) (steps_of (exec B (range first_key last_key root)).marks))
+  collected_all nodesize root ended all =
+      let items = exec B (range first_key last_key root) in
+      ap (λ (r : Run Want fate.Fault ⊥ Kept). r.ending) (exec_fold kept_step id_kept B (nothing_kept nodesize) (range first_key last_key root))
+      ∙ ap (λ e. (fold_run kept_step id_kept B (nothing_kept nodesize) (run items.marks e)).ending) ended
+      ∙ keeps items.marks (nothing_kept nodesize) all
 
 pub stored_law : StoredLaw
 stored_law B nodesize root kept is =

@@ -1,5 +1,7 @@
+pub mod Adding
 mod Counting
-mod Keeping
+pub mod Keeping
 mod Rows
-mod Sets
+pub mod Sets
+pub mod Used
 mod Using

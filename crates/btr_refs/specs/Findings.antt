@@ -1,5 +1,5 @@
 -- Findings, and the order that they are printed in.
-use Rattle.std.specs.Prelude.{◌≡◌, ℕ, ◌^◌, ◌-◌, min, Bool, List, [], ◌∷◌, ◌++◌, take, replicate, Option, Some, None, if◌then◌else◌}
+use Rattle.std.specs.Prelude.{◌≡◌, ℕ, ◌^◌, ◌-◌, min, Bool, List, [], ◌∷◌, ◌||◌, ◌++◌, take, replicate, Option, Some, None, if◌then◌else◌}
 use Rattle.std.specs.BTreeSet.{BTreeSet, insert_key, contains}
 use Rattle.std.specs.List.{list_any}
 use Rattle.std.specs.Ordering.{is_eq, nat_cmp, on, then_cmp}
@@ -42,3 +42,7 @@ has set one = contains finding_cmp set one
 -- a set has just these findings
 abbrev pub HasJust : List Finding → BTreeSet Finding → Type 0
 HasJust findings set = (one : Finding) → has set one ≡ is_one_of findings one
+
+-- a set has just what it had, and some findings
+abbrev pub Adds : List Finding → BTreeSet Finding → BTreeSet Finding → Type 0
+Adds findings old new = (one : Finding) → has new one ≡ (is_one_of findings one || has old one)

@@ -2,7 +2,8 @@
 ghost use Rattle.std.specs.Prelude.{◌≡◌, ◌||◌, List, OnOk, OnErr, IfOk};
 ghost use Rattle.std.specs.BTreeSet.{IsUnchanged};
 ghost use Rattle.btr_refs.specs.declared.finding.Finding.{Finding};
-ghost use Rattle.btr_refs.specs.Findings.{in_order, is_one_of, has, is_same, HasJust};
+ghost use Rattle.std.specs.Option.{option_to_list};
+ghost use Rattle.btr_refs.specs.Findings.{in_order, is_one_of, has, is_same, unless, Adds, HasJust};
 
 use crate::Finding;
 use btr_base::Memory;
@@ -18,6 +19,16 @@ pub fn insert(found: &mut BTreeSet<Finding>, finding: Finding) -> Result<(), Mem
         Ok(_) => Ok(()),
         Err(_) => Err(Memory),
     }
+}
+
+/// Puts a finding into a set, unless its rule is kept. `Memory`: there is no memory for it.
+pub fn put_unless(found: &mut BTreeSet<Finding>, kept: bool, finding: Finding) -> Result<(), Memory>
+    ensures { OnOk result (Adds (option_to_list (unless kept finding)) found.old found.new) }
+{
+    if kept {
+        return Ok(());
+    }
+    insert(found, finding)
 }
 
 /// The findings of a set, in ascending order. `Memory`: there is no memory for the list.

@@ -1,4 +1,11 @@
 //! References: what refers to each extent, what the extent tree says of it, and where the two differ.
+//!
+//! An extent is a range of logical addresses: a tree block, or data of files. `Stored` collects the extents and the references to
+//! them that the extent tree stores, in EXTENT_ITEMs, METADATA_ITEMs and items of their own; `Forward` counts the uses by trees, nodes and
+//! files. It is promised to the layer above that both are maps of what is there, and that `differences` answers exactly the
+//! findings by which they differ. A `Finding` is one thing that is wrong, and sets of findings are lists in ascending order.
+//!
+//! The definitions are in `specs/`: `Counts`, `Extents`, `Forward` and `Differences`, and `Findings` for all kinds.
 #![tactic(auto)]
 
 mod collect_fault;
@@ -22,7 +29,7 @@ pub use counts::{add, count_in, counts_law};
 pub use extent::Extent;
 pub use finding::Finding;
 pub use forward::Forward;
-pub use found::{insert, listed, set_law};
+pub use found::{insert, listed, put_unless, set_law};
 pub use ref_key::RefKey;
 pub use stored::Stored;
 pub use uses::{BlockUse, DataUse};
