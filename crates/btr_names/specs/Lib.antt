@@ -1,0 +1,9 @@
+pub mod Entry
+pub mod Items
+pub mod Names
+pub mod Packed
+pub mod Sets
+pub mod Shown
+pub mod ShownNames
+pub mod Subvolume
+pub mod Subvolumes

@@ -1,0 +1,15 @@
+-- What rows with a buffer of names of subvolumes say.
+use Rattle.std.specs.Prelude.{ℕ, List, All, map}
+use Rattle.btr_names.specs.declared.subvolume_list.SubvolumeRow.{SubvolumeRow}
+use Rattle.btr_names.specs.Packed.{IsWithin, name_in}
+use Rattle.btr_names.specs.Subvolume.{NamedSubvolume}
+
+-- the name of a row
+abbrev pub row_name : List ℕ → SubvolumeRow → NamedSubvolume
+row_name names row = record { parent = row.parent; dirid = row.dirid; index = row.index; child = row.child; name = name_in names row.name }
+
+abbrev pub row_names : List ℕ → List SubvolumeRow → List NamedSubvolume
+row_names names rows = map (row_name names) rows
+
+abbrev pub HasSubvolumeNames : List ℕ → List SubvolumeRow → Type 0
+HasSubvolumeNames names rows = All (λ (row : SubvolumeRow). IsWithin names row.name) rows

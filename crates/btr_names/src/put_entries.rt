@@ -1,0 +1,114 @@
+// What is wrong with the entries of directories and with the references of inodes: kinds 15 to 18.
+ghost use Rattle.std.specs.Prelude.{◌≡◌, ◌∷◌, ◌||◌, [], not, List, OnOk};
+ghost use Rattle.std.specs.List.{list_any};
+ghost use Rattle.btr_refs.specs.Findings.{found};
+ghost use Rattle.btr_names.specs.Entry.{entry_of, ref_of, NameRef};
+ghost use Rattle.btr_names.specs.Names.{entry_item, entry_index, entry_ref, ref_entry, leads_to_inode, ref_to, same_ref, asked};
+ghost use Rattle.btr_names.specs.Names as words;
+ghost use Rattle.btr_names.specs.Sets.{HasRefs, AddsBy};
+
+use crate::findings::of_entry;
+use crate::sets::{entries_of, entries_under_hashes, link_to, refs_asked, refs_of, under_hash};
+use crate::{DirEntry, EntryList, LinkList, LinkName};
+use btr_base::Memory;
+use btr_items::item;
+use btr_refs::{Finding, put_unless};
+use std::alloc::Global;
+use std::collections::BTreeSet;
+
+/// Kind 15: the entries at indexes that stand under no hash. `Memory`: there is no memory.
+pub(crate) fn put_entry_items(
+    alloc: Global,
+    found: &mut BTreeSet<Finding>,
+    tree: u64,
+    indexed: &EntryList,
+    hashed: &EntryList,
+) -> Result<(), Memory>
+    ensures { OnOk result (AddsBy (entry_item tree hashed.now) indexed.now found.old found.new) }
+{
+    let stands = entries_of(alloc, hashed)?;
+    for entry in indexed.iter() {
+        let kept = stands.contains(&under_hash(&entry));
+        put_unless(found, kept, of_entry(15, tree, &entry))?;
+    }
+    Ok(())
+}
+
+/// Kind 16: the entries under hashes that aren't as one at an index is to stand there. `Memory`: there is no memory.
+pub(crate) fn put_entry_indexes(
+    alloc: Global,
+    found: &mut BTreeSet<Finding>,
+    tree: u64,
+    indexed: &EntryList,
+    hashed: &EntryList,
+) -> Result<(), Memory>
+    ensures { OnOk result (AddsBy (entry_index tree indexed.now) hashed.now found.old found.new) }
+{
+    let stands = entries_under_hashes(alloc, indexed)?;
+    for entry in hashed.iter() {
+        let kept = stands.contains(&entry);
+        put_unless(found, kept, of_entry(16, tree, &entry))?;
+    }
+    Ok(())
+}
+
+// Whether the inode that an entry leads to has its reference, if it leads to one.
+fn has_ref<'a>(refs: &BTreeSet<LinkName<'a>>, entry: &DirEntry<'a>) -> bool
+    ensures { (list : List NameRef) → HasRefs list refs.now → result ≡ (not (leads_to_inode (entry_of entry.now)) || list_any (same_ref (ref_to (entry_of entry.now))) list) }
+{
+    entry.target.kind != item::INODE_ITEM || refs.contains(&link_to(entry))
+}
+
+/// Kind 17: the entries that lead to inodes without the reference. `Memory`: there is no memory.
+pub(crate) fn put_entry_refs(
+    alloc: Global,
+    found: &mut BTreeSet<Finding>,
+    tree: u64,
+    indexed: &EntryList,
+    refs: &LinkList,
+) -> Result<(), Memory>
+    ensures { OnOk result (AddsBy (entry_ref tree refs.now) indexed.now found.old found.new) }
+{
+    let stands = refs_of(alloc, refs)?;
+    for entry in indexed.iter() {
+        let kept = has_ref(&stands, &entry);
+        put_unless(found, kept, of_entry(17, tree, &entry))?;
+    }
+    Ok(())
+}
+
+// Whether a reference is that of the first directory to itself.
+fn is_free(dirid: u64, link: &LinkName<'_>) -> bool
+    ensures { result ≡ words.is_free dirid (ref_of link.now) }
+{
+    link.inode == dirid && link.parent == dirid && link.name == b"..".as_slice()
+}
+
+// What is wrong with a reference without its entry.
+fn of_link(tree: u64, link: &LinkName<'_>) -> Finding
+    ensures { result ≡ found 18 (tree ∷ link.now.inode ∷ link.now.parent ∷ link.now.index ∷ []) }
+{
+    Finding {
+        kind: 18,
+        n: [tree, link.inode, link.parent, link.index, 0, 0, 0],
+    }
+}
+
+/// Kind 18: the references that no entry asks for. `Memory`: there is no memory.
+pub(crate) fn put_ref_entries(
+    alloc: Global,
+    found: &mut BTreeSet<Finding>,
+    tree: u64,
+    dirid: u64,
+    indexed: &EntryList,
+    refs: &LinkList,
+) -> Result<(), Memory>
+    ensures { OnOk result (AddsBy (ref_entry tree dirid indexed.now) refs.now found.old found.new) }
+{
+    let asked = refs_asked(alloc, indexed)?;
+    for link in refs.iter() {
+        let kept = is_free(dirid, &link) || asked.contains(&link);
+        put_unless(found, kept, of_link(tree, &link))?;
+    }
+    Ok(())
+}

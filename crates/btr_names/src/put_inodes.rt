@@ -1,0 +1,117 @@
+// What is wrong with the inodes of a tree of files: kinds 19 to 22.
+ghost use Rattle.std.specs.Prelude.{◌≡◌, ◌==◌, ◌||◌, ℕ, not, List, OnOk};
+ghost use Rattle.std.specs.List.{list_any};
+ghost use Rattle.btr_names.specs.Entry.{entry_of};
+ghost use Rattle.btr_names.specs.Names.{entry_mode, link_count, dir_size, orphan, leads_to_inode, fits_mode, format_of};
+ghost use Rattle.btr_names.specs.Sets.{HasModes, HasNumbers, AddsBy};
+
+use crate::findings::{of_entry, of_orphan, of_sum};
+use crate::mode_at::{DIRECTORY, ModeAt, format_of, mode_of_kind};
+use crate::sets::{link_counts, modes_of, name_sizes, numbers_of, sum_at};
+use crate::{DirEntry, EntryList, InodeAt, LinkList};
+use btr_base::Memory;
+use btr_items::item;
+use btr_refs::{Finding, put_unless};
+use std::alloc::Global;
+use std::collections::BTreeSet;
+
+// Whether the inode that an entry leads to is there, and of its kind, if it leads to one.
+fn has_mode(modes: &BTreeSet<ModeAt>, entry: &DirEntry<'_>) -> bool
+    ensures { (inodes : List InodeAt) → HasModes inodes modes.now → result ≡ (not (leads_to_inode (entry_of entry.now)) || list_any (fits_mode (entry_of entry.now)) inodes) }
+{
+    let mode = ModeAt {
+        number: entry.target.objectid,
+        format: mode_of_kind(entry.kind),
+    };
+    entry.target.kind != item::INODE_ITEM || modes.contains(&mode)
+}
+
+/// Kind 19: the entries that lead to no inode, or to one of another kind. `Memory`: there is no memory.
+pub(crate) fn put_entry_modes(
+    alloc: Global,
+    found: &mut BTreeSet<Finding>,
+    tree: u64,
+    indexed: &EntryList,
+    inodes: &[InodeAt],
+) -> Result<(), Memory>
+    ensures { OnOk result (AddsBy (entry_mode tree inodes.now) indexed.now found.old found.new) }
+{
+    let modes = modes_of(alloc, inodes)?;
+    for entry in indexed.iter() {
+        let kept = has_mode(&modes, &entry);
+        put_unless(found, kept, of_entry(19, tree, &entry))?;
+    }
+    Ok(())
+}
+
+/// Kind 20: the inodes that state another number of references. `Memory`: there is no memory.
+pub(crate) fn put_link_counts(
+    alloc: Global,
+    found: &mut BTreeSet<Finding>,
+    tree: u64,
+    refs: &LinkList,
+    inodes: &[InodeAt],
+) -> Result<(), Memory>
+    ensures { OnOk result (AddsBy (link_count tree refs.now) inodes.now found.old found.new) }
+{
+    let counts = link_counts(alloc, refs)?;
+    for at in inodes {
+        let stated = u64::from(at.inode.nlink);
+        let links = sum_at(&counts, at.number);
+        let finding = of_sum(20, tree, at.number, stated, links);
+        put_unless(found, u128::from(stated) == links, finding)?;
+    }
+    Ok(())
+}
+
+/// Kind 21: the directories that aren't as large as the names in them, twice. `Memory`: there is no memory.
+pub(crate) fn put_dir_sizes(
+    alloc: Global,
+    found: &mut BTreeSet<Finding>,
+    tree: u64,
+    indexed: &EntryList,
+    inodes: &[InodeAt],
+) -> Result<(), Memory>
+    ensures { OnOk result (AddsBy (dir_size tree indexed.now) inodes.now found.old found.new) }
+{
+    let sizes = name_sizes(alloc, indexed)?;
+    for at in inodes {
+        let size = sum_at(&sizes, at.number);
+        let finding = of_sum(21, tree, at.number, at.inode.size, size);
+        let kept = has_size(at, size);
+        put_unless(found, kept, finding)?;
+    }
+    Ok(())
+}
+
+// Whether an inode has a size, if it is a directory.
+fn has_size(at: &InodeAt, size: u128) -> bool
+    ensures { result ≡ (not (format_of at.now.inode == 0o040000) || (at.now.inode.size == size)) }
+{
+    format_of(&at.inode) != DIRECTORY || u128::from(at.inode.size) == size
+}
+
+// Whether an inode without links is an orphan.
+fn is_kept(orphans: &BTreeSet<u64>, at: &InodeAt) -> bool
+    ensures { (list : List ℕ) → HasNumbers list orphans.now → result ≡ (not (at.now.inode.nlink == 0) || list_any (λ number. at.now.number == number) list) }
+{
+    at.inode.nlink != 0 || orphans.contains(&at.number)
+}
+
+/// Kind 22: the inodes without links that aren't orphans. `Memory`: there is no memory.
+pub(crate) fn put_orphans(
+    alloc: Global,
+    found: &mut BTreeSet<Finding>,
+    tree: u64,
+    orphans: &[u64],
+    inodes: &[InodeAt],
+) -> Result<(), Memory>
+    ensures { OnOk result (AddsBy (orphan tree orphans.now) inodes.now found.old found.new) }
+{
+    let numbers = numbers_of(alloc, orphans)?;
+    for at in inodes {
+        let kept = is_kept(&numbers, at);
+        put_unless(found, kept, of_orphan(tree, at))?;
+    }
+    Ok(())
+}

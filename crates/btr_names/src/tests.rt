@@ -1,0 +1,4 @@
+mod files;
+mod rows;
+mod subvolumes;
+mod trees;
