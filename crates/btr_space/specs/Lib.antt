@@ -1,0 +1,7 @@
+pub mod Cover
+pub mod Orders
+pub mod Groups
+pub mod Devices
+pub mod Sorted
+pub mod Given
+pub mod Items

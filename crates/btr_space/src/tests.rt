@@ -1,0 +1,4 @@
+mod collects;
+mod devices;
+mod groups;
+mod space;
