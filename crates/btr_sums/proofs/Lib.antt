@@ -1,0 +1,5 @@
+mod Counts
+mod Covered
+mod Keeping
+mod Numbers
+mod Sectors

@@ -1,0 +1,98 @@
+// Sectors that files use and that have no checksum.
+ghost use Rattle.std.specs.Prelude.{◌≡◌, ℕ, List, IfOk, OnOk, map, filter_map};
+ghost use Rattle.std.specs.List.Sorted.{IsPermutation};
+ghost use Rattle.btr_items.specs.declared.sum_run.SumRun.{SumRun};
+ghost use Rattle.btr_refs.specs.Findings.{Adds};
+ghost use Rattle.btr_sums.specs.Sums.{run_stretch, range_missing, tree_missing};
+ghost use Rattle.btr_sums.specs.Ranks.{Inodes};
+ghost use Rattle.btr_sums.specs.Sums as words;
+
+use crate::UsedRange;
+use crate::growing::push;
+use crate::rows::{row, shown};
+use btr_base::Memory;
+use btr_items::SumRun;
+use btr_refs::{Finding, put_unless};
+use btr_space::{Cover, Stretch};
+use std::alloc::Global;
+use std::collections::BTreeSet;
+
+/// The ranges of addresses that have checksums.
+pub fn sum_cover(alloc: Global, runs: &[SumRun]) -> Result<Cover, Memory>
+    ensures { IfOk result (IsPermutation (map run_stretch runs.now)) }
+{
+    let mut stretches = Vec::new(alloc);
+    for run in runs {
+        let start = u128::from(run.start);
+        let end = start + u128::from(run.count) * 4096;
+        push(&mut stretches, Stretch { start, end })?;
+    }
+    Cover::new(alloc, stretches)
+}
+
+// 12: the sectors of a range that have no checksum.
+fn put_range(
+    found: &mut BTreeSet<Finding>,
+    tree: u64,
+    range: &UsedRange,
+    sums: &Cover,
+) -> Result<(), Memory>
+    ensures { (runs : List SumRun) → IsPermutation (map run_stretch runs) sums.now → OnOk result (Adds (filter_map (words.sum_missing runs tree range.now.inode) (words.used_sectors range.now)) found.old found.new) }
+{
+    let start = u128::from(range.addr) + u128::from(range.skip);
+    for i in 0..range.len / 4096 {
+        let sector = start + u128::from(i) * 4096;
+        let is_kept = sums.holds(sector, sector + 1);
+        put_unless(found, is_kept, row(12, tree, range.inode, shown(sector)))?;
+    }
+    Ok(())
+}
+
+// 12: the same, unless the file has no checksums.
+fn put_range_missing(
+    found: &mut BTreeSet<Finding>,
+    tree: u64,
+    loose: &BTreeSet<u64>,
+    range: &UsedRange,
+    sums: &Cover,
+) -> Result<(), Memory>
+    ensures { (runs : List SumRun) → (inodes : List ℕ) → Inodes inodes loose.now → IsPermutation (map run_stretch runs) sums.now → OnOk result (Adds (range_missing runs tree inodes range.now) found.old found.new) }
+{
+    if loose.contains(&range.inode) {
+        return Ok(());
+    }
+    put_range(found, tree, range, sums)
+}
+
+// The inodes whose data has no checksums.
+fn inodes_of(alloc: Global, loose: &[u64]) -> Result<BTreeSet<u64>, Memory>
+    ensures { IfOk result (Inodes loose.now) }
+{
+    let mut inodes = BTreeSet::new(alloc);
+    for inode in loose {
+        match inodes.insert(*inode) {
+            Ok(_) => {}
+            Err(_) => return Err(Memory),
+        }
+    }
+    Ok(inodes)
+}
+
+/// Puts the findings of kind 12 on a tree of files: the sectors of the ranges that its files use, and that have no checksum, but for
+/// the files in `loose`, whose data has none. The addresses that have checksums are `sums`. `Memory`: there is no memory for them.
+pub fn put_missing_sums(
+    alloc: Global,
+    found: &mut BTreeSet<Finding>,
+    tree: u64,
+    loose: &[u64],
+    used: &[UsedRange],
+    sums: &Cover,
+) -> Result<(), Memory>
+    ensures { (runs : List SumRun) → IsPermutation (map run_stretch runs) sums.now → OnOk result (Adds (tree_missing runs tree loose.now used.now) found.old found.new) }
+{
+    let inodes = inodes_of(alloc, loose)?;
+    for range in used {
+        put_range_missing(found, tree, &inodes, range, sums)?;
+    }
+    Ok(())
+}
