@@ -1,0 +1,54 @@
+-- Blocks that are met, each once.
+use Rattle.std.proofs.Common.{◌≡◌, Bool, true, false, ◌||◌, List, [], ◌∷◌, ◌++◌, map, fold, if◌then◌else◌, refl, sym, ap, ◌∙◌, append_assoc, append-nil}
+use Rattle.std.proofs.lemmas.Cmp.{then_total, on_total, nat_cmp_total}
+use Rattle.std.specs.BTreeSet.{insert_key}
+use Rattle.std.specs.Cmp.{IsTotalOrder}
+use Rattle.std.specs.Ordering.{is_eq}
+use Rattle.btr_refs.proofs.Sets.{any-insert}
+use Rattle.btr_tour.specs.Tour.{Reached}
+use Rattle.btr_walk.specs.declared.place.RootPlace.{RootPlace}
+use Rattle.btr_check.specs.Trees.{is_among, place_of, place_cmp, first_met}
+use Rattle.btr_check.specs.Walking.{Places, no_places, with_place}
+use Rattle.btr_check.specs.declared.places.Place.{Place}
+
+place_total : IsTotalOrder place_cmp
+place_total = then_total (on_total (λ (p : Place). p.addr) nat_cmp_total) (then_total (on_total (λ (p : Place). p.generation) nat_cmp_total) (on_total (λ (p : Place). p.level) nat_cmp_total))
+
+abbrev at : Reached → RootPlace
+at one = one.place
+
+abbrev with_one : Places → RootPlace → Places
+with_one places one = record { keys = insert_key place_cmp places.keys (place_of one); list = places.list ++ one ∷ [] }
+
+abbrev kept : List Reached → Places → Places
+kept all places = fold with_place places (map at all)
+
+abbrev met_first : List Place → List Reached → List RootPlace
+met_first before all = map at (first_met before all)
+
+abbrev Same : List Place → Places → Type 0
+Same before places = (q : Place) → is_among places.keys q ≡ is_among before q
+
+-- one that was met, or that wasn't
+met_one : (before : List Place) (one : Reached) (more : List Reached) (places : Places) (b : Bool) → is_among before (place_of one.place) ≡ b → Same before places
+    → (kept more places).list ≡ places.list ++ met_first before more
+    → (kept more (with_one places one.place)).list ≡ (places.list ++ one.place ∷ []) ++ met_first (place_of one.place ∷ before) more
+    → (kept (one ∷ more) places).list ≡ places.list ++ met_first before (one ∷ more)
+met_one before one more places true is same old new =
+    ap (λ b. (kept more (if b then places else with_one places one.place)).list) (same (place_of one.place) ∙ is) ∙ old
+    ∙ ap (λ b. places.list ++ map at (if b then first_met before more else one ∷ first_met (place_of one.place ∷ before) more)) (sym is)
+met_one before one more places false is same old new =
+    ap (λ b. (kept more (if b then places else with_one places one.place)).list) (same (place_of one.place) ∙ is) ∙ new
+    ∙ append_assoc places.list (one.place ∷ []) (met_first (place_of one.place ∷ before) more)
+    ∙ ap (λ b. places.list ++ map at (if b then first_met before more else one ∷ first_met (place_of one.place ∷ before) more)) (sym is)
+
+met_all : (before : List Place) (all : List Reached) (places : Places) → Same before places → (kept all places).list ≡ places.list ++ met_first before all
+met_all before [] places same = sym (append-nil places.list)
+met_all before (one ∷ more) places same =
+    met_one before one more places (is_among before (place_of one.place)) refl same (met_all before more places same)
+    (met_all (place_of one.place ∷ before) more (with_one places one.place)
+    (λ q. any-insert place_cmp place_total q places.keys (place_of one.place) ∙ ap (λ b. is_eq (place_cmp q (place_of one.place)) || b) (same q)))
+
+-- from none on, what is kept is what is met first
+pub met_once : (all : List Reached) → (fold with_place no_places (map at all)).list ≡ map at (first_met [] all)
+met_once all = met_all [] all no_places (λ q. refl)

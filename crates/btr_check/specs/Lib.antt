@@ -1,0 +1,9 @@
+pub mod Trees
+pub mod Filesystem
+pub mod Before
+pub mod Walks
+pub mod Uses
+pub mod Running
+pub mod Walking
+pub mod Counting
+pub mod Text

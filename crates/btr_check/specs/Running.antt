@@ -1,0 +1,99 @@
+-- What a call of a check has done, and how it answered.
+use Rattle.std.specs.Prelude.{◌≡◌, ◌≤◌, Bool, true, false, Some, Result, Ok, Err, ⊤}
+use Rattle.btr_rack.specs.Rack.{Seen, OnlyReads}
+use Rattle.btr_read.specs.Layout.{Layout}
+use Rattle.btr_read.specs.Serves.{Serves}
+use Rattle.btr_read.specs.Store.{free_count}
+use Rattle.btr_walk.specs.Reading.{Map, Tells, FaultCause}
+use Rattle.btr_walk.specs.declared.fault.TreeFault.{TreeFault}
+use Rattle.btr_walk.specs.declared.fault.TreeFault.TheVariants.{Lost, Unread, Unmapped, Crosses, Malformed}
+use Rattle.btr_volume.specs.Looking.{SameVolume}
+use Rattle.btr_volume.specs.declared.stop.Stop.{Stop}
+use Rattle.btr_volume.specs.declared.stop.Stop.TheVariants.{NoTree, Tree, Deletion, Balance, Missing, Image, Sink, Out, Memory}
+use Rattle.btr_volume.specs.declared.volume.Volume.{Volume}
+use Rattle.btr_check.specs.Filesystem.{Filesystem}
+use Rattle.btr_check.specs.Before.{refusal}
+
+-- what is seen of a rack and a volume
+pub record World : Type 0 where
+  pub rack : Seen
+  pub vol : Volume
+
+abbrev pub world : Seen → Volume → World
+world rack vol = record { rack = rack; vol = vol }
+
+-- a volume can be read: four slots are free
+pub record IsReady (x : World) : Type 0 where
+  pub serves : Serves x.rack x.vol.store
+  pub room : 4 ≤ free_count x.vol.store
+
+-- the filesystem of a volume, by a block map
+abbrev pub filesystem : Volume → Map → Filesystem
+filesystem vol B = record { sup = vol.sup; chunks = vol.store.layout.chunks; blocks = B }
+
+-- that a block could not be read has its cause
+abbrev pub FaultUnread : Layout → Seen → Seen → TreeFault → Type 0
+FaultUnread layout old new (Lost addr) = ⊤
+FaultUnread layout old new (Unread addr slot) = FaultCause layout old new (Unread addr slot)
+FaultUnread layout old new (Unmapped addr) = ⊤
+FaultUnread layout old new (Crosses addr) = ⊤
+FaultUnread layout old new (Malformed addr) = ⊤
+
+abbrev pub StopUnread : Layout → Seen → Seen → Stop → Type 0
+StopUnread layout old new (NoTree id) = ⊤
+StopUnread layout old new (Tree f) = FaultUnread layout old new f
+StopUnread layout old new (Deletion id) = ⊤
+StopUnread layout old new Balance = ⊤
+StopUnread layout old new (Missing id) = ⊤
+StopUnread layout old new (Image slot) = ⊤
+StopUnread layout old new Sink = ⊤
+StopUnread layout old new Out = ⊤
+StopUnread layout old new Memory = ⊤
+
+abbrev pub UnreadCause : {A : Type 0} → Layout → Seen → Seen → Result A Stop → Type 0
+UnreadCause layout old new (Ok a) = ⊤
+UnreadCause layout old new (Err stop) = StopUnread layout old new stop
+
+-- a block could not be read, or there is no memory: such a stop may come at any place
+abbrev pub is_unread : TreeFault → Bool
+is_unread (Lost addr) = false
+is_unread (Unread addr slot) = true
+is_unread (Unmapped addr) = false
+is_unread (Crosses addr) = false
+is_unread (Malformed addr) = false
+
+abbrev pub is_outside : Stop → Bool
+is_outside (NoTree id) = false
+is_outside (Tree f) = is_unread f
+is_outside (Deletion id) = false
+is_outside Balance = false
+is_outside (Missing id) = false
+is_outside (Image slot) = false
+is_outside Sink = false
+is_outside Out = true
+is_outside Memory = true
+
+-- what is answered of a filesystem: a value, or its refusal
+abbrev pub Answers : {A : Type 0} → (A → Type 0) → Filesystem → Result A Stop → Type 0
+Answers P fs (Ok a) = P a
+Answers P fs (Err stop) = is_outside stop ≡ false → refusal fs ≡ Some stop
+
+-- a call stops for no other reason than that a block could not be read, or that there is no memory
+abbrev pub StopsOutside : {A : Type 0} → Result A Stop → Type 0
+StopsOutside (Ok a) = ⊤
+StopsOutside (Err stop) = is_outside stop ≡ true
+
+-- nothing is put by a call that reads
+abbrev pub PutsNothing : {A : Type 0} → Result A Stop → Type 0
+PutsNothing (Ok a) = ⊤
+PutsNothing (Err stop) = stop ≡ Out → ⊥
+
+-- A call that reads a volume: it only read, the volume can be read on, its fault has its cause, and so far as the calls were steady
+-- P holds of the filesystem.
+pub record Ran {A : Type 0} (P : Filesystem → Type 0) (x y : World) (answer : Result A Stop) : Type 0 where
+  pub reads : OnlyReads x.rack y.rack
+  pub volume : SameVolume x.vol y.vol
+  pub ready : IsReady y
+  pub cause : UnreadCause x.vol.store.layout x.rack y.rack answer
+  pub quiet : PutsNothing answer
+  pub told : Tells x.vol.store.layout x.rack y.rack (λ B. P (filesystem x.vol B))

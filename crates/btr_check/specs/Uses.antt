@@ -1,0 +1,65 @@
+-- Kinds 7 to 11: extents and what uses them.
+use Rattle.std.specs.Prelude.{ℕ, ◌==◌, Bool, true, false, List, [], ◌∷◌, ◌++◌, map, flat_map, Option, Some, None, if◌then◌else◌}
+use Rattle.std.specs.Option.{option_to_list}
+use Rattle.btr_items.specs.ExtentItem.{is_tree_block}
+use Rattle.btr_refs.specs.declared.finding.Finding.{Finding}
+use Rattle.btr_refs.specs.Findings.{found, unless}
+use Rattle.btr_refs.specs.declared.extent.Extent.{Extent}
+use Rattle.btr_refs.specs.Extents.{stored_in}
+use Rattle.btr_refs.specs.Counts.{Counted, RefCounts, counted_all}
+use Rattle.btr_refs.specs.Forward.{Used, TreeBlock, Data, Use, met}
+use Rattle.btr_check.specs.Trees.{uses}
+use Rattle.btr_refs.specs.Differences.{differences}
+use Rattle.btr_check.specs.Filesystem.{Filesystem, extents, tree_items}
+
+-- 9: a tree block is used as one, and data as data
+abbrev pub is_kind : Bool → Used → Bool
+is_kind true (TreeBlock level) = true
+is_kind true (Data len) = false
+is_kind false (TreeBlock level) = false
+is_kind false (Data len) = true
+
+abbrev pub extent_kind : Extent → Used → Option Finding
+extent_kind extent what = unless (is_kind (is_tree_block extent.flags) what) (found 9 (extent.addr ∷ extent.flags ∷ []))
+
+-- 10: an extent is as long as a node, or as a file says
+abbrev pub used_len : ℕ → Used → ℕ
+used_len nodesize (TreeBlock level) = nodesize
+used_len nodesize (Data len) = len
+
+abbrev pub extent_length : ℕ → Extent → Used → Option Finding
+extent_length nodesize extent what = unless (extent.len == used_len nodesize what) (found 10 (extent.addr ∷ extent.len ∷ used_len nodesize what ∷ []))
+
+-- 11: a tree block that states a level is used at it
+abbrev pub level_differs : ℕ → Option ℕ → Used → Option Finding
+level_differs addr None what = None
+level_differs addr (Some level) (TreeBlock found_level) = unless (level == found_level) (found 11 (addr ∷ level ∷ found_level ∷ []))
+level_differs addr (Some level) (Data len) = None
+
+abbrev pub extent_level : Extent → Used → Option Finding
+extent_level extent what = level_differs extent.addr extent.level what
+
+-- what is wrong with an extent that is used so
+abbrev pub misused : ℕ → Extent → Used → List Finding
+misused nodesize extent what = option_to_list (extent_kind extent what) ++ option_to_list (extent_length nodesize extent what) ++ option_to_list (extent_level extent what)
+
+-- the same by a use, where it is one of this extent
+abbrev pub misused_by : ℕ → Extent → Use → List Finding
+misused_by nodesize extent one = if one.addr == extent.addr then misused nodesize extent one.what else []
+
+-- what is wrong with an extent, by all that uses it
+abbrev pub extent_findings : ℕ → List Use → Extent → List Finding
+extent_findings nodesize uses extent = flat_map (misused_by nodesize extent) uses
+
+abbrev pub all_uses : Filesystem → List Use
+all_uses fs = uses fs.sup fs.blocks (extents fs)
+
+-- how often each of some references is met, in all
+abbrev pub counts_of : List Counted → RefCounts
+counts_of refs = counted_all [] refs
+
+-- 7, 8: the uses that are counted and the references that are stored differ
+abbrev pub reference_findings : Filesystem → List Finding
+reference_findings fs =
+    differences (counts_of (map met (all_uses fs))) (extents fs) (counts_of (stored_in (tree_items fs 2)))
+    ++ flat_map (extent_findings fs.sup.nodesize (all_uses fs)) (extents fs)

@@ -1,0 +1,127 @@
+// What uses extents, counted block by block.
+ghost use Rattle.std.specs.Prelude.{◌≡◌, fold, flat_map, map, ℕ, List, OnOk, IfOk, Ok};
+ghost use Rattle.std.specs.BTreeSet.{contains};
+ghost use Rattle.std.specs.Ordering.{nat_cmp};
+ghost use Rattle.btr_refs.specs.Forward.{with_use, root_use, block_uses};
+ghost use Rattle.btr_check.specs.Running.{world, IsReady, Ran};
+ghost use Rattle.btr_check.specs.Trees.{refers_by_address};
+ghost use Rattle.btr_check.specs.Counting.{BlockCounts, BlocksCount, UsesCount, IsFull};
+
+use btr_base::Memory;
+use btr_rack::Rack;
+use btr_read::{Want, fetch};
+use btr_refs::{Extent, Forward};
+use btr_volume::{Stop, TreeRoot, Volume};
+use btr_walk::{RootPlace, TreeFault};
+use std::alloc::Global;
+use std::collections::BTreeSet;
+
+// The flag of extents whose blocks refer by their own address.
+const FULL_BACKREF: u64 = 0x100;
+
+// The addresses of blocks that refer by their own address.
+fn full_backrefs(alloc: Global, extents: &[Extent]) -> Result<BTreeSet<u64>, Memory>
+    ensures { IfOk result (IsFull extents.now) }
+{
+    let mut full = BTreeSet::new(alloc);
+    for extent in extents {
+        if extent.flags & FULL_BACKREF != 0 {
+            match full.insert(extent.addr) {
+                Ok(_) => {}
+                Err(_) => return Err(Memory),
+            }
+        }
+    }
+    Ok(full)
+}
+
+// Counts the uses of the trees' root blocks.
+fn count_roots(forward: &mut Forward, trees: &[TreeRoot]) -> Result<(), Memory>
+    ensures { OnOk result (forward.new ≡ fold with_use forward.old (map root_use trees.now)) }
+{
+    for tree in trees {
+        forward.add_root(tree)?;
+    }
+    Ok(())
+}
+
+// Counts what a block uses.
+fn count_block<R: Rack>(
+    forward: &mut Forward,
+    place: &RootPlace,
+    by_address: bool,
+    rack: &mut R,
+    vol: &mut Volume,
+) -> Result<(), Stop>
+    requires ready { IsReady (world (R.seen rack.old) vol.old) }
+    ensures ran { Ran (λ fs. BlockCounts fs.blocks place.now by_address forward.old forward.new result) (world (R.seen rack.old) vol.old) (world (R.seen rack.new) vol.new) result }
+{
+    let want = Want::Tree {
+        addr: place.addr,
+        generation: place.generation,
+        level: place.level,
+    };
+    match fetch(&want, rack, &mut vol.store) {
+        Err(fault) => Err(Stop::Tree(TreeFault::from(fault))),
+        Ok(loan) => {
+            let block = vol.store.bytes(&loan);
+            let counted = forward.add_block(place.addr, place.level, by_address, block);
+            vol.store.give(loan);
+            match counted {
+                Ok(()) => Ok(()),
+                Err(Memory) => Err(Stop::Memory),
+            }
+        }
+    }
+}
+
+// Counts what blocks use.
+fn count_blocks<R: Rack>(
+    forward: &mut Forward,
+    places: &[RootPlace],
+    full: &BTreeSet<u64>,
+    rack: &mut R,
+    vol: &mut Volume,
+) -> Result<(), Stop>
+    requires ready { IsReady (world (R.seen rack.old) vol.old) }
+    ensures ran { Ran (λ fs. BlocksCount fs.blocks places.now full.now forward.old forward.new result) (world (R.seen rack.old) vol.old) (world (R.seen rack.new) vol.new) result }
+{
+    for place in places {
+        let by_address = full.contains(&place.addr);
+        match count_block(forward, place, by_address, rack, vol) {
+            Ok(()) => {}
+            Err(stop) => return Err(stop),
+        }
+    }
+    Ok(())
+}
+
+/// Counts what uses extents: trees use their root blocks, and the blocks at these places what they point to. A block refers by its
+/// address where an extent at that address says so. Each block is read again; four slots are free.
+///
+/// `Tree`: a block could not be had any more. `Memory`: there is no memory for what is counted.
+pub fn count_uses<R: Rack>(
+    alloc: Global,
+    trees: &[TreeRoot],
+    places: &[RootPlace],
+    extents: &[Extent],
+    rack: &mut R,
+    vol: &mut Volume,
+) -> Result<Forward, Stop>
+    requires ready { IsReady (world (R.seen rack.old) vol.old) }
+    ensures ran { Ran (λ fs. UsesCount fs.blocks trees.now places.now extents.now result) (world (R.seen rack.old) vol.old) (world (R.seen rack.new) vol.new) result }
+{
+    let mut forward = Forward::new(alloc);
+    let full = match full_backrefs(alloc, extents) {
+        Ok(full) => full,
+        Err(Memory) => return Err(Stop::Memory),
+    };
+    match count_roots(&mut forward, trees) {
+        Ok(()) => {}
+        Err(Memory) => return Err(Stop::Memory),
+    }
+    match count_blocks(&mut forward, places, &full, rack, vol) {
+        Ok(()) => Ok(forward),
+        Err(stop) => Err(stop),
+    }
+}

@@ -1,0 +1,31 @@
+//! Checking a filesystem: its trees, what is wrong with them, what uses extents, and how findings are printed.
+//!
+//! It reads the root tree, and then all blocks of all trees. `read_trees` answers the trees that there are, or why a filesystem
+//! isn't checked. `walk_trees` goes through all of them, behind faults too: what it finds are the findings of kinds 1 to 4, and it keeps where
+//! each block stands, once however many trees reach it. `count_uses` reads these blocks again, and counts what they use.
+//! `put_findings` puts the lines of findings. It is promised to the layer above that, so far as reads were steady, each is what the
+//! definitions say of the block map, and that an answer of a block that could not be read has its cause.
+//!
+//! The definitions are in `specs/`: `Trees` and `Filesystem` say what is checked, `Before` why it isn't, `Walks` has kinds 1 to 4, `Uses`
+//! kinds 7 to 11, and `Text` the lines. `Running` is what each call that reads promises.
+#![tactic(auto)]
+
+mod adding;
+mod block_fault;
+mod counting;
+mod form;
+mod places;
+mod refusing;
+mod root_walk;
+mod text;
+mod trees;
+mod visiting;
+mod walk;
+mod walking;
+
+pub use adding::put_walk_findings;
+pub use counting::count_uses;
+pub use text::put_findings;
+pub use trees::{all_trees, read_trees};
+pub use walk::Walk;
+pub use walking::walk_trees;
