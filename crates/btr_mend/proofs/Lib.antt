@@ -1,0 +1,5 @@
+pub mod Doing
+pub mod Copied
+pub mod Firsts
+pub mod Standing
+pub mod Outcomes

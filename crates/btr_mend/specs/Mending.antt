@@ -1,0 +1,81 @@
+-- What mending a block by its copies did.
+use Rattle.std.specs.Prelude.{◌≡◌, ◌<◌, ℕ, Bool, true, false, not, List, length, map, slice_index_or, Option, Some, None, IfSome, IsSome, Result, Ok, Err}
+use Rattle.std.specs.List.{filter, range_with_len}
+use Rattle.btr_chunk.specs.Chunk.{mirrors}
+use Rattle.btr_chunk.specs.declared.place.Part.{Part}
+use Rattle.btr_chunk.specs.declared.place.Part.TheVariants.{Mirror}
+use Rattle.btr_rack.specs.Rack.{Seen}
+use Rattle.btr_rack.specs.declared.place.Place.{Place as Range}
+use Rattle.btr_read.specs.Candidates.{Target, element, range_of}
+use Rattle.btr_read.specs.Cause.{IsOf}
+use Rattle.btr_read.specs.Fate.{sought}
+use Rattle.btr_read.specs.Layout.{Layout}
+use Rattle.btr_read.specs.declared.want.Want.{Want}
+use Rattle.btr_read.specs.Mirror.{HasMirror, mirror_candidate}
+use Rattle.btr_mend.specs.Blocks.{bad_parts, block_writes, copy_writes, is_good, is_lost}
+use Rattle.btr_mend.specs.Writes.{Does, Images, writes_if}
+use Rattle.btr_read.specs.Store.{Blocks, IsLentBy, SameLoans, block_of}
+use Rattle.btr_mend.specs.declared.finding.First.{First}
+use Rattle.btr_mend.specs.declared.mended.MendFault.{MendFault}
+use Rattle.btr_mend.specs.declared.mended.Mended.{Mended}
+
+-- a want has a position in a chunk with copies, each of which lies on a device that is given
+pub record IsCopied (layout : Layout) (want : Want) : Type 0 where
+  pub target : Target
+  pub is_sought : sought layout want ≡ Ok target
+  pub copies : IsSome (mirrors target.chunk)
+  pub stand : (mirror : ℕ) → HasMirror mirror target → IsSome (range_of target (Mirror mirror))
+
+-- a range lies in a copy of a block
+pub record IsOfCopy (t : Target) (range : Range) : Type 0 where
+  pub mirror : ℕ
+  pub has : HasMirror mirror t
+  pub lies : IsOf t range (mirror_candidate mirror)
+
+-- what comes of a block, which is written or only read
+abbrev pub mended_of : Images → Target → Bool → Mended
+mended_of images t write = record {
+  bad = length (bad_parts images t);
+  repaired = length (writes_if write (block_writes images t));
+  lost = is_lost images t;
+}
+
+-- the count of what came of it
+abbrev pub Counts : Option Images → Target → Bool → Result Mended MendFault → Type 0
+Counts held t write (Ok mended) = IfSome held (λ images. mended ≡ mended_of images t write)
+Counts held t write (Err fault) = Unit {0}
+
+-- A block was read, and written where it is bad: exactly the writes that mend it, or those up to one that failed. What was written is marked by its slot.
+pub record Mends (t : Target) (write : Bool) (marks marks' : List Bool) (old new : Seen) (result : Result Mended MendFault) : Type 0 where
+  pub does : Does (IsOfCopy t) (λ images. writes_if write (block_writes images t)) marks marks' old new result
+  pub counts : Counts old.held t write result
+
+-- a copy is the first that passes
+pub record IsFirst (images : Images) (t : Target) (mirror : ℕ) : Type 0 where
+  pub good : is_good images t (Mirror mirror) ≡ true
+  pub before : (k : ℕ) → k < mirror → is_good images t (Mirror k) ≡ false
+
+-- which copies are bad, and how many, of the first n
+pub record AreBad (images : Images) (t : Target) (n : ℕ) (bad : List Bool) (number : ℕ) : Type 0 where
+  pub flags : (k : ℕ) → k < n → slice_index_or bad k false ≡ not (is_good images t (Mirror k))
+  pub count : number ≡ length (filter (λ part. not (is_good images t part)) (map Mirror (range_with_len 0 n)))
+
+-- the first copy that passes is lent, if one does, and nothing else
+abbrev pub LendsFirst : Want → Blocks → Blocks → Result (Option First) MendFault → Type 0
+LendsFirst want old new (Ok (Some first)) = IsLentBy old new want first.loan
+LendsFirst want old new (Ok None) = SameLoans old new
+LendsFirst want old new (Err fault) = SameLoans old new
+
+-- its bytes are lent, or none of n copies passes
+abbrev pub FindsFirst : Images → Target → ℕ → Blocks → Result (Option First) MendFault → Type 0
+FindsFirst images t n store (Ok (Some first)) = IsFirst images t first.mirror × (block_of store first.loan ≡ Some (element images t (Mirror first.mirror)))
+FindsFirst images t n store (Ok None) = (k : ℕ) → k < n → is_good images t (Mirror k) ≡ false
+FindsFirst images t n store (Err fault) = Unit {0}
+
+-- those of the first n copies that have a flag
+abbrev pub flagged : List Bool → ℕ → List Part
+flagged flags n = map Mirror (filter (λ k. slice_index_or flags k false) (range_with_len 0 n))
+
+-- bytes are written over copies
+abbrev pub Overwrites : {A : Type 0} → Target → List ℕ → List Part → List Bool → List Bool → Seen → Seen → Result A MendFault → Type 0
+Overwrites t bytes parts marks marks' old new result = Does (IsOfCopy t) (λ images. copy_writes t bytes parts) marks marks' old new result

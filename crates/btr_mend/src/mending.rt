@@ -1,0 +1,106 @@
+// A block, mended by its copies.
+ghost use Rattle.std.specs.Prelude.{◌≡◌, ◌<◌, ◌≤◌, length, IsTrue, Ok, Some};
+ghost use Rattle.btr_chunk.specs.Chunk.{mirrors};
+ghost use Rattle.btr_chunk.specs.declared.place.Part.TheVariants.{Mirror};
+ghost use Rattle.btr_read.specs.Candidates.{Target, element};
+ghost use Rattle.btr_read.specs.Fate.{sought};
+ghost use Rattle.btr_read.specs.Serves.{Serves};
+ghost use Rattle.btr_read.specs.Store.{IsLiveIn, SameLoans, block_of, free_count};
+ghost use Rattle.btr_read.specs.Want.{len_of};
+ghost use Rattle.btr_mend.specs.Mending.{IsCopied, IsFirst, Mends};
+ghost use Rattle.btr_mend.specs.Writes.{AreWritable, Images};
+
+use crate::copies::copies_of;
+use crate::finding::{First, bad_copies, first_good};
+use crate::overwriting::write_over;
+use crate::{MendFault, Mended};
+use btr_rack::Rack;
+use btr_read::{Loan, Store, Want};
+
+// Mends a block whose first copy that passes is lent.
+fn mend_others<R: Rack>(
+    want: &Want,
+    write: bool,
+    first: u32,
+    copies: u32,
+    loan: &Loan,
+    rack: &mut R,
+    store: &mut Store,
+    marks: &mut [bool],
+) -> Result<Mended, MendFault>
+    requires serves { Serves (R.seen rack.old) store.old }
+    requires room { 1 ≤ free_count store.old }
+    requires writable { IsTrue write → AreWritable (R.seen rack.old).slots }
+    requires slots { length (R.seen rack.old).slots ≤ length marks.old }
+    requires copied { IsCopied store.old.layout want.now }
+    requires few { copies ≤ 4 }
+    requires below { first < copies }
+    requires copies { (t : Target) → sought store.old.layout want.now ≡ Ok t → mirrors t.chunk ≡ Some copies }
+    requires first { (t : Target) (images : Images) → sought store.old.layout want.now ≡ Ok t → (R.seen rack.old).held ≡ Some images → IsFirst images t first }
+    requires live { IsLiveIn store.old loan.now }
+    requires len { loan.now.len ≡ len_of store.old.layout.setting want.now }
+    requires bytes { (t : Target) (images : Images) → sought store.old.layout want.now ≡ Ok t → (R.seen rack.old).held ≡ Some images → block_of store.old loan.now ≡ Some (element images t (Mirror first)) }
+    ensures serves { Serves (R.seen rack.new) store.new }
+    ensures loans { SameLoans store.old store.new }
+    ensures mends { (t : Target) → sought store.old.layout want.now ≡ Ok t → Mends t write marks.old marks.new (R.seen rack.old) (R.seen rack.new) result }
+{
+    let bad = match bad_copies(want, first, copies, rack, store) {
+        Ok(bad) => bad,
+        Err(fault) => return Err(fault),
+    };
+    if !write {
+        return Ok(Mended {
+            bad: bad.count,
+            repaired: 0,
+            lost: false,
+        });
+    }
+    store.forget_kept();
+    match write_over(want, &bad, copies, loan, rack, store, marks) {
+        Ok(()) => Ok(Mended {
+            bad: bad.count,
+            repaired: bad.count,
+            lost: false,
+        }),
+        Err(fault) => Err(fault),
+    }
+}
+
+/// Mends a block by its copies: each copy that doesn't pass is written over with the bytes of the first that does, by one write each, in ascending
+/// order. Where none passes, or it is only to be read, nothing is written. The slots that were written are marked; a mark is never taken away.
+///
+/// The block lies in a chunk with copies, all of which stand. Where it is to be written, each image was opened for writing, and one slot is free.
+///
+/// `Image`: a read or a write of an image failed, and nothing was tried behind it. `Memory`: a write wanted memory.
+pub fn mend_copies<R: Rack>(
+    want: &Want,
+    write: bool,
+    rack: &mut R,
+    store: &mut Store,
+    marks: &mut [bool],
+) -> Result<Mended, MendFault>
+    requires serves { Serves (R.seen rack.old) store.old }
+    requires room { 2 ≤ free_count store.old }
+    requires writable { IsTrue write → AreWritable (R.seen rack.old).slots }
+    requires slots { length (R.seen rack.old).slots ≤ length marks.old }
+    requires copied { IsCopied store.old.layout want.now }
+    ensures serves { Serves (R.seen rack.new) store.new }
+    ensures loans { SameLoans store.old store.new }
+    ensures mends { (t : Target) → sought store.old.layout want.now ≡ Ok t → Mends t write marks.old marks.new (R.seen rack.old) (R.seen rack.new) result }
+{
+    let copies = copies_of(want, store);
+    match first_good(want, copies, rack, store) {
+        Err(fault) => Err(fault),
+        Ok(None) => Ok(Mended {
+            bad: copies,
+            repaired: 0,
+            lost: true,
+        }),
+        Ok(Some(first)) => {
+            let First { mirror, loan } = first;
+            let mended = mend_others(want, write, mirror, copies, &loan, rack, store, marks);
+            store.give(loan);
+            mended
+        }
+    }
+}
