@@ -1,0 +1,347 @@
+-- Calls that list the checked blocks, one after another.
+use Rattle.std.proofs.Common.{◌≡◌, ℕ, List, [], ◌∷◌, ◌++◌, Option, Some, None, Result, Ok, Err, OnOk, refl, sym, ap, ◌∙◌, subst, inl, inr, append-nil, append_assoc}
+use Rattle.std.specs.Prelude.{fold}
+use Rattle.btr_prog.specs.Answers.{Broke, Follows, no_part}
+use Rattle.btr_prog.specs.Calls.{Sure}
+use Rattle.btr_prog.specs.Prog.{Return, Stop, Emit, Mark, run, prepend, bind, exec, steps_of, wants_of}
+use Rattle.btr_prog.specs.Quiet.{quiet}
+use Rattle.btr_prog.proofs.Follow.{broke_here, follows_alone, follows_as, follows_behind, follows_halt, follows_then}
+use Rattle.btr_prog.proofs.Quieting.{follows_quiet}
+use Rattle.btr_prog.proofs.Runs.{after-ok, exec-bind, prepend-prepend, steps_of-append}
+use Rattle.btr_prog.proofs.Successive.{calls_none, calls_then}
+use Rattle.btr_rack.specs.Rack.{OnlyReads, Seen, next_count}
+use Rattle.btr_rack.proofs.Reading.{reads_more, reads_none}
+use Rattle.btr_read.specs.Fate as fate
+use Rattle.btr_read.specs.Fate.{fate}
+use Rattle.btr_read.specs.Layout.{Layout}
+use Rattle.btr_read.specs.Reading.{OnMap}
+use Rattle.btr_read.specs.Serves.{Serves}
+use Rattle.btr_read.specs.declared.want.Want.{Want}
+use Rattle.btr_walk.specs.declared.fault.TreeFault.{TreeFault}
+use Rattle.btr_walk.specs.declared.fault.TreeFault.TheVariants as tree
+use Rattle.btr_walk.specs.Reading.{FaultCause, HasCause, Map, Tells, halt_of, unread_by}
+use Rattle.btr_walk.proofs.Fetched.{cause_since, since}
+use Rattle.btr_super.specs.declared.superblock.Super.{Super}
+use Rattle.btr_volume.specs.Looking.{Looks, SameVolume}
+use Rattle.btr_volume.specs.Lookup.{Lookup}
+use Rattle.btr_volume.specs.declared.stop.Stop.{Stop as TheStop}
+use Rattle.btr_volume.specs.declared.stop.Stop.TheVariants as stop
+use Rattle.btr_volume.specs.declared.volume.Volume.{Volume}
+use Rattle.btr_volume.proofs.Looked.{drawn}
+use Rattle.btr_scrub.specs.Gathering.{Gathers, IsCrossing, Lists, ListsUnits, Reaches, Scene, TreeCause, StopCause, checked_among, count_met, ended, scene, stop_halt}
+use Rattle.btr_scrub.specs.Listed.{AddsTo, IsList, kept_wants}
+use Rattle.btr_scrub.specs.Units.{Checked, Meeting, Met, Unchecked}
+use Rattle.btr_scrub.specs.declared.gathered.Gathered.{Gathered}
+
+-- ---- what is listed
+
+among-append : (met more : List Met) → checked_among (met ++ more) ≡ checked_among met ++ checked_among more
+among-append [] more = refl
+among-append (Checked want ∷ met) more = ap (λ q. want ∷ q) (among-append met more)
+among-append (Unchecked addr ∷ met) more = among-append met more
+
+count-append : (n : ℕ) (met more : List Met) → fold count_met n (met ++ more) ≡ fold count_met (fold count_met n met) more
+count-append n [] more = refl
+count-append n (m ∷ met) more = count-append (count_met n m) met more
+
+pub lists_none : (x : Gathered) → IsList x.list → Lists x x []
+lists_none x is = record { is_list = is; kind = refl; wants = sym (append-nil (kept_wants x.list)); unchecked = refl }
+
+pub lists_then : (x y z : Gathered) (done more : List Met) → Lists x y done → Lists y z more → Lists x z (done ++ more)
+lists_then x y z done more h g = record {
+  is_list = g.is_list;
+  kind = g.kind ∙ h.kind;
+  wants = g.wants ∙ ap (λ q. q ++ checked_among more) h.wants ∙ append_assoc (kept_wants x.list) (checked_among done) (checked_among more) ∙ ap (λ q. kept_wants x.list ++ q) (sym (among-append done more));
+  unchecked = g.unchecked ∙ ap (λ n. fold count_met n more) h.unchecked ∙ sym (count-append x.unchecked done more);
+}
+
+pub lists_added : (x y : Gathered) (want : Want) → AddsTo x.list y.list want → y.unchecked ≡ x.unchecked → Lists x y (Checked want ∷ [])
+lists_added x y want a same = record { is_list = a.is_list; kind = a.kind; wants = a.wants; unchecked = same }
+
+pub lists_counted : (x y : Gathered) (addr : ℕ) → IsList x.list → y.list ≡ x.list → y.unchecked ≡ next_count x.unchecked → Lists x y (Unchecked addr ∷ [])
+lists_counted x y addr is same count = record {
+  is_list = subst IsList (sym same) is;
+  kind = ap (λ l. l.kind) same;
+  wants = ap kept_wants same ∙ sym (append-nil (kept_wants x.list));
+  unchecked = count;
+}
+
+-- ---- what is told
+
+on_both : (layout : Layout) (P Q R : Map → Type 0) → ((B : Map) → P B → Q B → R B) → (sure : Sure) (h : Option (List (List ℕ))) → OnMap layout P sure h → OnMap layout Q sure h → OnMap layout R sure h
+on_both layout P Q R f sure None p q = tt
+on_both layout P Q R f sure (Some images) p q = f (fate images layout) p q
+
+on_all : (layout : Layout) (Q : Map → Type 0) → ((B : Map) → Q B) → (sure : Sure) (h : Option (List (List ℕ))) → OnMap layout Q sure h
+on_all layout Q f sure None = tt
+on_all layout Q f sure (Some images) = f (fate images layout)
+
+-- what two calls over one layout tell
+pub joined : {layout layout' : Layout} {a b c : Seen} (P Q R : Map → Type 0) → layout' ≡ layout → ((B : Map) → P B → Q B → R B) → Tells layout a b P → Tells layout' b c Q → Tells layout a c R
+joined {layout} {layout'} {a} {b} {c} P Q R e f one two =
+    record { calls = calls_then (λ sure h p q. on_both layout P Q R f sure h p q) one.calls (subst (λ l. Tells l b c Q) e two).calls }
+
+-- and no call
+pub told_none : (layout : Layout) {a : Seen} (Q : Map → Type 0) → ((B : Map) → Q B) → Tells layout a a Q
+told_none layout {a} Q f = record { calls = calls_none (λ sure. on_all layout Q f sure a.held) }
+
+pub same_then : {a b c : Volume} → SameVolume a b → SameVolume b c → SameVolume a c
+same_then one two = record { sup = two.sup ∙ one.sup; store = record { layout = two.store.layout ∙ one.store.layout; loans = two.store.loans ∙ one.store.loans } }
+
+pub same_self : (vol : Volume) → SameVolume vol vol
+same_self vol = record { sup = refl; store = record { layout = refl; loans = refl } }
+
+-- what lies behind a fault of a later call
+tree_cause_since : {a b : Seen} (c : Seen) (layout layout' : Layout) (f : TreeFault) → layout' ≡ layout → OnlyReads a b → TreeCause layout' b c f → TreeCause layout a c f
+tree_cause_since c layout layout' (tree.Lost x) e reads h = cause_since c layout layout' (tree.Lost x) e reads h
+tree_cause_since c layout layout' (tree.Unread x slot) e reads h = cause_since c layout layout' (tree.Unread x slot) e reads h
+tree_cause_since c layout layout' (tree.Unmapped x) e reads h = cause_since c layout layout' (tree.Unmapped x) e reads h
+tree_cause_since c layout layout' (tree.Crosses x) e reads (inl h) = inl (cause_since c layout layout' (tree.Crosses x) e reads h)
+tree_cause_since c layout layout' (tree.Crosses x) e reads (inr h) = inr (subst (λ l. IsCrossing l x) e h)
+tree_cause_since c layout layout' (tree.Malformed x) e reads h = tt
+
+pub tree_cause : (layout : Layout) (a b : Seen) (f : TreeFault) → FaultCause layout a b f → TreeCause layout a b f
+tree_cause layout a b (tree.Lost x) h = h
+tree_cause layout a b (tree.Unread x slot) h = h
+tree_cause layout a b (tree.Unmapped x) h = h
+tree_cause layout a b (tree.Crosses x) h = inl h
+tree_cause layout a b (tree.Malformed x) h = tt
+
+-- what lies behind a stop of a later call
+pub stop_cause_since : {C : Type 0} {a b : Seen} (c : Seen) (layout layout' : Layout) (r : Result C TheStop) → layout' ≡ layout → OnlyReads a b → StopCause layout' b c r → StopCause layout a c r
+stop_cause_since c layout layout' (Ok v) e reads h = tt
+stop_cause_since c layout layout' (Err (stop.NoTree id)) e reads h = tt
+stop_cause_since c layout layout' (Err (stop.Tree f)) e reads h = tree_cause_since c layout layout' f e reads h
+stop_cause_since c layout layout' (Err (stop.Deletion id)) e reads h = absurd h
+stop_cause_since c layout layout' (Err stop.Balance) e reads h = absurd h
+stop_cause_since c layout layout' (Err (stop.Missing id)) e reads h = absurd h
+stop_cause_since c layout layout' (Err (stop.Image slot)) e reads h = absurd h
+stop_cause_since c layout layout' (Err stop.Sink) e reads h = absurd h
+stop_cause_since c layout layout' (Err stop.Out) e reads h = absurd h
+stop_cause_since c layout layout' (Err stop.Memory) e reads h = tt
+
+-- a stop has the same behind it, whatever was to be answered
+pub cause_kept : (A C : Type 0) (layout : Layout) (a b : Seen) (s : TheStop) → StopCause {A = A} layout a b (Err s) → StopCause {A = C} layout a b (Err s)
+cause_kept A C layout a b (stop.NoTree id) h = h
+cause_kept A C layout a b (stop.Tree f) h = h
+cause_kept A C layout a b (stop.Deletion id) h = h
+cause_kept A C layout a b stop.Balance h = h
+cause_kept A C layout a b (stop.Missing id) h = h
+cause_kept A C layout a b (stop.Image slot) h = h
+cause_kept A C layout a b stop.Sink h = h
+cause_kept A C layout a b stop.Out h = h
+cause_kept A C layout a b stop.Memory h = h
+
+on_ok : {A P Q : Type 0} (r : Result A TheStop) → (P → Q) → OnOk r P → OnOk r Q
+on_ok (Ok a) f h = f h
+on_ok (Err e) f h = tt
+
+-- ---- calls
+
+-- nothing was done
+pub gathers_value : {A : Type 0} (a : A) (x : Scene) → IsList x.list.list → Serves x.rack x.vol.store → Gathers (Return a) x x (Ok a)
+gathers_value a x is serves = record {
+  reads = reads_none x.rack;
+  volume = same_self x.vol;
+  serves = serves;
+  done = [];
+  lists = lists_none x.list is;
+  content = told_none x.vol.store.layout (λ B. Follows {S = Met} (unread_by x.vol.store.layout x.rack x.rack) no_part [] (run [] (Ok a)) [] (Ok a)) (λ B. (refl, refl));
+  cause = tt;
+}
+
+-- one block was met
+pub gathers_met : (m : Met) (rack : Seen) (vol : Volume) (x y : Gathered) → Lists x y (m ∷ []) → Serves rack vol.store → Gathers {A = Unit {0}} (Emit m (Return tt)) (scene rack vol x) (scene rack vol y) (Ok tt)
+gathers_met m rack vol x y l serves = record {
+  reads = reads_none rack;
+  volume = same_self vol;
+  serves = serves;
+  done = m ∷ [];
+  lists = l;
+  content = told_none vol.store.layout (λ B. Follows (unread_by vol.store.layout rack rack) no_part [] (exec B (Emit m (Return tt))) (m ∷ []) (Ok tt)) (λ B. (refl, refl));
+  cause = tt;
+}
+
+-- no memory was had
+pub gathers_memory : {A : Type 0} (p : Meeting A) (rack : Seen) (vol : Volume) (l m : Gathered) → Serves rack vol.store → Gathers p (scene rack vol l) (scene rack vol m) (Err stop.Memory)
+gathers_memory p rack vol l m serves = record {
+  reads = reads_none rack;
+  volume = same_self vol;
+  serves = serves;
+  done = [];
+  lists = tt;
+  content = told_none vol.store.layout (λ B. Follows (unread_by vol.store.layout rack rack) no_part [] (exec B p) [] (Err Broke)) (λ B. broke_here (unread_by vol.store.layout rack rack) no_part [] (exec B p));
+  cause = tt;
+}
+
+-- a rule was broken
+pub gathers_malformed : {A : Type 0} (leaf : ℕ) (x : Scene) → Serves x.rack x.vol.store → Gathers {A = A} (Stop (fate.Malformed leaf)) x x (Err (stop.Tree (tree.Malformed leaf)))
+gathers_malformed {A} leaf x serves = record {
+  reads = reads_none x.rack;
+  volume = same_self x.vol;
+  serves = serves;
+  done = [];
+  lists = tt;
+  content = told_none x.vol.store.layout (λ B. Follows {S = Met} {A = A} (unread_by x.vol.store.layout x.rack x.rack) no_part [] (run [] (Err (fate.Malformed leaf))) [] (Err (halt_of (tree.Malformed leaf)))) (λ B. (refl, refl));
+  cause = tt;
+}
+
+-- a lookup, which meets nothing
+module _ {A : Type 0} (p : Lookup A) (old new : Seen) (vol after : Volume) (list : Gathered) where
+  pub gathers_found : (a : A) → IsList list.list → Serves new after.store → OnlyReads old new → SameVolume vol after → Looks vol.store.layout old new p (Ok a) → Gathers (quiet p) (scene old vol list) (scene new after list) (Ok a)
+  gathers_found a is serves reads same l = record {
+    reads = reads;
+    volume = same;
+    serves = serves;
+    done = [];
+    lists = lists_none list is;
+    content = drawn vol.store.layout (λ B. Follows {S = ⊥} (unread_by vol.store.layout old new) no_part [] (exec B p) [] (Ok a)) (λ B. Follows {S = Met} (unread_by vol.store.layout old new) no_part [] (exec B (quiet p)) [] (Ok a))
+        (λ B f. follows_quiet (unread_by vol.store.layout old new) no_part [] B p [] (Ok a) f) l;
+    cause = tt;
+  }
+
+  pub gathers_fault : (f : TreeFault) → Serves new after.store → OnlyReads old new → SameVolume vol after → HasCause {A = A} vol.store.layout old new (Err f) → Looks vol.store.layout old new p (Err f) → Gathers (quiet p) (scene old vol list) (scene new after list) (Err (stop.Tree f))
+  gathers_fault f serves reads same cause l = record {
+    reads = reads;
+    volume = same;
+    serves = serves;
+    done = [];
+    lists = tt;
+    content = drawn vol.store.layout (λ B. Follows {S = ⊥} (unread_by vol.store.layout old new) no_part [] (exec B p) [] (Err (halt_of f))) (λ B. Follows {S = Met} (unread_by vol.store.layout old new) no_part [] (exec B (quiet p)) [] (Err (halt_of f)))
+        (λ B g. follows_quiet (unread_by vol.store.layout old new) no_part [] B p [] (Err (halt_of f)) g) l;
+    cause = tree_cause vol.store.layout old new f cause;
+  }
+
+-- one call after another
+module _ {A C : Type 0} (p : Meeting A) (k : A → Meeting C) (x y : Scene) where
+  pub gathers_then : (z : Scene) (a : A) (r : Result C TheStop) → Gathers p x y (Ok a) → Gathers (k a) y z r → Gathers (bind p k) x z r
+  gathers_then z a r h g =
+      let layout = x.vol.store.layout in
+      let same = h.volume.store.layout in
+      record {
+        reads = reads_more h.reads g.reads;
+        volume = same_then h.volume g.volume;
+        serves = g.serves;
+        done = h.done ++ g.done;
+        lists = on_ok r (λ l. lists_then x.list y.list z.list h.done g.done h.lists l) g.lists;
+        content = joined (λ B. Follows (unread_by layout x.rack y.rack) no_part [] (exec B p) h.done (Ok a)) (λ B. Follows (unread_by y.vol.store.layout y.rack z.rack) no_part [] (exec B (k a)) g.done (ended r)) (λ B. Follows (unread_by layout x.rack z.rack) no_part [] (exec B (bind p k)) (h.done ++ g.done) (ended r)) same
+            (λ B f t. subst (λ q. Follows (unread_by layout x.rack z.rack) no_part [] q (h.done ++ g.done) (ended r)) (sym (exec-bind B p k))
+            (follows_then (unread_by layout x.rack z.rack) no_part [] (exec B p) a (λ v. exec B (k v)) h.done g.done (ended r) f
+            (follows_alone (unread_by layout x.rack z.rack) no_part (wants_of (exec B p).marks) (exec B (k a)) g.done (ended r)
+            (follows_as (unread_by y.vol.store.layout y.rack z.rack) (unread_by layout x.rack z.rack) (since layout y.vol.store.layout same h.reads) no_part [] (exec B (k a)) g.done (ended r) t))))
+            h.content g.content;
+        cause = stop_cause_since z.rack layout y.vol.store.layout r same h.reads g.cause;
+      }
+
+  pub gathers_halt : (s : TheStop) → Gathers p x y (Err s) → Gathers (bind p k) x y (Err s)
+  gathers_halt s h = record {
+    reads = h.reads;
+    volume = h.volume;
+    serves = h.serves;
+    done = h.done;
+    lists = tt;
+    content = drawn x.vol.store.layout (λ B. Follows (unread_by x.vol.store.layout x.rack y.rack) no_part [] (exec B p) h.done (Err (stop_halt s))) (λ B. Follows (unread_by x.vol.store.layout x.rack y.rack) no_part [] (exec B (bind p k)) h.done (Err (stop_halt s)))
+        (λ B f. subst (λ q. Follows (unread_by x.vol.store.layout x.rack y.rack) no_part [] q h.done (Err (stop_halt s))) (sym (exec-bind B p k)) (follows_halt (unread_by x.vol.store.layout x.rack y.rack) no_part [] (exec B p) (λ v. exec B (k v)) h.done (stop_halt s) f)) h.content;
+    cause = cause_kept A C x.vol.store.layout x.rack y.rack s h.cause;
+  }
+
+-- ---- loops
+
+-- nothing is past yet
+pub reaches_none : {A : Type 0} (p : Meeting A) (x : Scene) → IsList x.list.list → Serves x.rack x.vol.store → Reaches p p x x
+reaches_none p x is serves = record {
+  reads = reads_none x.rack;
+  volume = same_self x.vol;
+  serves = serves;
+  done = [];
+  lists = lists_none x.list is;
+  content = told_none x.vol.store.layout (λ B. (before : List (Mark Want Met)) × (exec B p ≡ prepend before (exec B p)) × ([] ≡ steps_of before)) (λ B. ([], refl, refl));
+}
+
+module _ {A C : Type 0} (p : Meeting C) (q : Meeting A) (k : A → Meeting C) (x y : Scene) (h : Reaches p (bind q k) x y) where
+  -- one more call went well
+  pub reaches_step : (z : Scene) (a : A) → Gathers q y z (Ok a) → Reaches p (k a) x z
+  reaches_step z a g =
+      let layout = x.vol.store.layout in
+      record {
+        reads = reads_more h.reads g.reads;
+        volume = same_then h.volume g.volume;
+        serves = g.serves;
+        done = h.done ++ g.done;
+        lists = lists_then x.list y.list z.list h.done g.done h.lists g.lists;
+        content = joined (λ B. (before : List (Mark Want Met)) × (exec B p ≡ prepend before (exec B (bind q k))) × (h.done ≡ steps_of before)) (λ B. Follows (unread_by y.vol.store.layout y.rack z.rack) no_part [] (exec B q) g.done (Ok a)) (λ B. (before : List (Mark Want Met)) × (exec B p ≡ prepend before (exec B (k a))) × (h.done ++ g.done ≡ steps_of before)) h.volume.store.layout
+            (λ B b f. (
+              b.0 ++ (exec B q).marks,
+              b.1 ∙ ap (prepend b.0) (exec-bind B q k ∙ after-ok (exec B q) a (λ v. exec B (k v)) f.1) ∙ prepend-prepend b.0 (exec B q).marks (exec B (k a)),
+              ap (λ d. d ++ g.done) b.2 ∙ ap (λ d. steps_of b.0 ++ d) f.0 ∙ sym (steps_of-append b.0 (exec B q).marks),
+            )) h.content g.content;
+      }
+
+-- what is left was answered
+pub reaches_ends : {A : Type 0} (p q : Meeting A) (x y z : Scene) (r : Result A TheStop) → Reaches p q x y → Gathers q y z r → Gathers p x z r
+reaches_ends p q x y z r h g =
+    let layout = x.vol.store.layout in
+    let same = h.volume.store.layout in
+    record {
+      reads = reads_more h.reads g.reads;
+      volume = same_then h.volume g.volume;
+      serves = g.serves;
+      done = h.done ++ g.done;
+      lists = on_ok r (λ l. lists_then x.list y.list z.list h.done g.done h.lists l) g.lists;
+      content = joined (λ B. (before : List (Mark Want Met)) × (exec B p ≡ prepend before (exec B q)) × (h.done ≡ steps_of before)) (λ B. Follows (unread_by y.vol.store.layout y.rack z.rack) no_part [] (exec B q) g.done (ended r)) (λ B. Follows (unread_by layout x.rack z.rack) no_part [] (exec B p) (h.done ++ g.done) (ended r)) same
+          (λ B b f. subst (λ d. Follows (unread_by layout x.rack z.rack) no_part [] (exec B p) (d ++ g.done) (ended r)) (sym b.2)
+          (subst (λ t. Follows (unread_by layout x.rack z.rack) no_part [] t (steps_of b.0 ++ g.done) (ended r)) (sym b.1)
+          (follows_behind (unread_by layout x.rack z.rack) no_part [] b.0 (exec B q) g.done (ended r)
+          (follows_alone (unread_by layout x.rack z.rack) no_part (wants_of b.0) (exec B q) g.done (ended r)
+          (follows_as (unread_by y.vol.store.layout y.rack z.rack) (unread_by layout x.rack z.rack) (since layout y.vol.store.layout same h.reads) no_part [] (exec B q) g.done (ended r) f)))))
+          h.content g.content;
+      cause = stop_cause_since z.rack layout y.vol.store.layout r same h.reads g.cause;
+    }
+
+-- an extent crosses
+pub gathers_crossing : {A : Type 0} (addr : ℕ) (x : Scene) → Serves x.rack x.vol.store → IsCrossing x.vol.store.layout addr → Gathers {A = A} (Stop (fate.Crosses addr)) x x (Err (stop.Tree (tree.Crosses addr)))
+gathers_crossing {A} addr x serves crosses = record {
+  reads = reads_none x.rack;
+  volume = same_self x.vol;
+  serves = serves;
+  done = [];
+  lists = tt;
+  content = told_none x.vol.store.layout (λ B. Follows {S = Met} {A = A} (unread_by x.vol.store.layout x.rack x.rack) no_part [] (run [] (Err (fate.Crosses addr))) [] (Err (halt_of (tree.Crosses addr)))) (λ B. (refl, refl));
+  cause = inr crosses;
+}
+
+-- the scene after a call, seen as another
+pub gathers_from : {A : Type 0} (p q : Meeting A) (x y : Scene) (r : Result A TheStop) → p ≡ q → Gathers p x y r → Gathers q x y r
+gathers_from p q x y r e h = subst (λ t. Gathers t x y r) e h
+
+-- there is no such tree
+pub gathers_no_tree : {A : Type 0} (id : ℕ) (x : Scene) → Serves x.rack x.vol.store → Gathers {A = A} (Stop (fate.NoTree id)) x x (Err (stop.NoTree id))
+gathers_no_tree {A} id x serves = record {
+  reads = reads_none x.rack;
+  volume = same_self x.vol;
+  serves = serves;
+  done = [];
+  lists = tt;
+  content = told_none x.vol.store.layout (λ B. Follows {S = Met} {A = A} (unread_by x.vol.store.layout x.rack x.rack) no_part [] (run [] (Err (fate.NoTree id))) [] (Err (stop_halt (stop.NoTree id)))) (λ B. (refl, refl));
+  cause = tt;
+}
+
+-- what was listed behind an empty list
+pub lists_units : (p : Meeting (Unit {0})) (x y : Scene) → kept_wants x.list.list ≡ [] → x.list.unchecked ≡ 0 → Gathers p x y (Ok tt) → ListsUnits p x.vol.store.layout x.rack y.rack (Ok y.list)
+lists_units p x y none zero g = record {
+  done = g.done;
+  lists = record {
+    is_list = g.lists.is_list;
+    wants = g.lists.wants ∙ ap (λ q. q ++ checked_among g.done) none;
+    unchecked = g.lists.unchecked ∙ ap (λ n. fold count_met n g.done) zero;
+  };
+  content = g.content;
+  cause = tt;
+}
+
+pub lists_no_units : (p : Meeting (Unit {0})) (x y : Scene) (s : TheStop) → Gathers p x y (Err s) → ListsUnits p x.vol.store.layout x.rack y.rack (Err s)
+lists_no_units p x y s g = record { done = g.done; lists = tt; content = g.content; cause = cause_kept (Unit {0}) Gathered x.vol.store.layout x.rack y.rack s g.cause }
+
+-- the superblock and the layout as they were before calls that left them
+pub gathers_as : {A : Type 0} (p : Super → Layout → Meeting A) (s t : Super) (layout layout' : Layout) (x y : Scene) (r : Result A TheStop) → t ≡ s → layout' ≡ layout → Gathers (p t layout') x y r → Gathers (p s layout) x y r
+gathers_as p s t layout layout' x y r e h g = subst (λ l. Gathers (p s l) x y r) h (subst (λ u. Gathers (p u layout') x y r) e g)

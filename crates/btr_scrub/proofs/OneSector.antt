@@ -1,0 +1,128 @@
+-- A sector of a data extent.
+use Rattle.std.proofs.Common.{◌≡◌, ℕ, suc, ◌+◌, ◌<◌, ◌≤◌, Bool, true, false, cond, List, [], ◌∷◌, ◌++◌, drop, length, take, Option, Some, None, Result, Ok, Err, refl, sym, ap, ◌∙◌, subst, arith, length-append}
+use Rattle.std.specs.Prelude.{◌-◌, ◌/◌, ◌*◌, replicate}
+use Rattle.std.proofs.lemmas.List.{length-replicate, take-append-le, take-take}
+use Rattle.btr_base.specs.Sum.{stored_sum, sum_from, sum_size}
+use Rattle.btr_base.specs.declared.kind.SumKind.{SumKind}
+use Rattle.btr_base.specs.declared.stored.Sum.{Sum}
+use Rattle.btr_items.specs.SumRun.{sum_run_of}
+use Rattle.btr_items.specs.Types.{extent_csum}
+use Rattle.btr_items.specs.declared.fault.ItemFault.{ItemFault}
+use Rattle.btr_items.specs.declared.sum_run.SumRun.{SumRun}
+use Rattle.btr_prog.specs.Answers.{Follows, no_part}
+use Rattle.btr_prog.specs.Prog.{Emit, Mark, Return, Run, after, bind, exec}
+use Rattle.btr_prog.specs.Quiet.{quiet}
+use Rattle.btr_prog.proofs.Follow.{follows_then}
+use Rattle.btr_prog.proofs.Quieting.{follows_quiet}
+use Rattle.btr_prog.proofs.Runs.{exec-bind}
+use Rattle.btr_super.specs.declared.superblock.Super.{Super}
+use Rattle.btr_rack.specs.Rack.{OnlyReads, Seen}
+use Rattle.btr_read.specs.Fate as fate
+use Rattle.btr_read.specs.Serves.{Serves}
+use Rattle.btr_read.specs.declared.want.Want.{Want}
+use Rattle.btr_read.specs.declared.want.Want.TheVariants.{Sector}
+use Rattle.btr_walk.specs.Le.{TreeItem, le}
+use Rattle.btr_walk.specs.Reading.{Map, unread_by}
+use Rattle.btr_volume.specs.Looking.{Looks, SameVolume}
+use Rattle.btr_volume.specs.Lookup.{formed}
+use Rattle.btr_volume.specs.Tree.{key}
+use Rattle.btr_volume.specs.declared.root.TreeRoot.{TreeRoot}
+use Rattle.btr_volume.specs.declared.volume.Volume.{Volume}
+use Rattle.btr_volume.proofs.Looked.{drawn}
+use Rattle.btr_files.specs.Sums.{covers, is_sums, kind_in, sum_at, sum_found, sum_in, sums_objectid}
+use Rattle.btr_scrub.specs.Gathering.{Gathers, scene}
+use Rattle.btr_scrub.specs.Listed.{AddsTo}
+use Rattle.btr_scrub.specs.Units.{Checked, Meeting, Met, sector, sector_met, sectors}
+use Rattle.btr_scrub.specs.declared.gathered.Gathered.{Gathered}
+use Rattle.btr_scrub.proofs.Gathering.{lists_added}
+use Rattle.btr_scrub.proofs.Listing.{size_few}
+
+-- a checksum that is stored again is the same
+again : (kind : SumKind) (bytes : List ℕ) (sum : Sum) → length sum.bytes ≡ 32 → sum ≡ stored_sum kind bytes → stored_sum kind sum.bytes ≡ sum
+again kind bytes sum long e =
+    let size = sum_size kind in
+    let zeros = replicate (32 - size) 0 in
+    let is : sum.bytes ≡ take size bytes ++ zeros = ap (λ (s : Sum). s.bytes) e in
+    let all : length (take size bytes) + length zeros ≡ 32 = sym (length-append (take size bytes) zeros) ∙ sym (ap length is) ∙ long in
+    let behind : length zeros ≡ 32 - size = length-replicate (32 - size) 0 in
+    let few = size_few kind in
+    let le : size ≤ length (take size bytes) = omega (arith, all, behind, few) in
+    ap (stored_sum kind) is ∙ ap (sum_from kind) (take-append-le size (take size bytes) zeros le ∙ take-take size size bytes (omega arith)) ∙ sym e
+
+module _ (B : Map) (kind : SumKind) (addr : ℕ) (sum : Sum) where
+  abbrev Stored : Type 0
+  Stored = (bytes : List ℕ) × (sum ≡ stored_sum kind bytes)
+
+  abbrev Same : Result (Option Sum) fate.Fault → Result (Option Sum) fate.Fault → Type 0
+  Same a b = a ≡ b
+
+  covered : (b : Bool) (bytes : List ℕ) → Same (Ok (cond b (Some (stored_sum kind bytes)) None)) (Ok (Some sum)) → Stored
+  covered true bytes h = (bytes, let e : stored_sum kind bytes ≡ sum = cc in sym e)
+  covered false bytes h = cc
+
+  in_run : (item : TreeItem) (r : Result SumRun ItemFault) → (exec B (formed {S = ⊥} item r (λ run. Return (sum_in kind addr item.body run)))).ending ≡ Ok (Some sum) → Stored
+  in_run item (Ok run) h = covered (covers run addr) (drop ((addr - run.start) / 4096 * sum_size kind) item.body) h
+  in_run item (Err f) h = cc
+
+  in_item : (item : TreeItem) (b : Bool) → (exec B (cond b (formed {S = ⊥} item (sum_run_of kind item.key item.body) (λ run. Return (sum_in kind addr item.body run))) (Return None))).ending ≡ Ok (Some sum) → Stored
+  in_item item true h = in_run item (sum_run_of kind item.key item.body) h
+  in_item item false h = cc
+
+  in_found : (found : Option TreeItem) → (exec B (sum_found kind addr found)).ending ≡ Ok (Some sum) → Stored
+  in_found None h = cc
+  in_found (Some item) h = in_item item (is_sums item.key) h
+
+  behind : (ms : List (Mark Want ⊥)) (e : Result (Option TreeItem) fate.Fault) → (after ms e (λ found. exec B (sum_found kind addr found))).ending ≡ Ok (Some sum) → Stored
+  behind ms (Ok found) h = in_found found h
+  behind ms (Err f) h = cc
+
+  -- a checksum that was looked up stands in some bytes
+  is_stored : (sums : Option TreeRoot) → (exec B (sum_at kind sums addr)).ending ≡ Ok (Some sum) → Stored
+  is_stored None h = cc
+  is_stored (Some tree) h =
+      let p = le {S = ⊥} tree.place (key sums_objectid extent_csum addr) in
+      behind (exec B p).marks (exec B p).ending (sym (ap (λ (r : Run Want fate.Fault ⊥ (Option Sum)). r.ending) (exec-bind B p (sum_found kind addr))) ∙ h)
+
+abbrev met_of : ℕ → Option Sum → Meeting (Unit {0})
+met_of addr found = Emit (sector_met addr found) (Return tt)
+
+-- a sector was listed with the checksum that was looked up
+pub gathers_sector : (s : Super) (sums : Option TreeRoot) (addr : ℕ) (old new : Seen) (vol vol' : Volume) (x y : Gathered) (sum : Sum) → length sum.bytes ≡ 32 → Serves new vol'.store → OnlyReads old new → SameVolume vol vol'
+    → Looks vol.store.layout old new (sum_at (kind_in s) sums addr) (Ok (Some sum)) → AddsTo x.list y.list (Sector addr (stored_sum (kind_in s) sum.bytes)) → y.unchecked ≡ x.unchecked
+    → Gathers (sector s sums addr) (scene old vol x) (scene new vol' y) (Ok tt)
+gathers_sector s sums addr old new vol vol' x y sum long serves reads same l added count =
+    let layout = vol.store.layout in
+    let kind = kind_in s in
+    let p = sum_at kind sums addr in
+    let met : List Met = Checked (Sector addr (stored_sum kind sum.bytes)) ∷ [] in
+    record {
+      reads = reads;
+      volume = same;
+      serves = serves;
+      done = met;
+      lists = lists_added x y (Sector addr (stored_sum kind sum.bytes)) added count;
+      content = drawn layout (λ B. Follows {S = ⊥} (unread_by layout old new) no_part [] (exec B p) [] (Ok (Some sum))) (λ B. Follows (unread_by layout old new) no_part [] (exec B (sector s sums addr)) met (Ok tt))
+          (λ B f.
+          let stored = is_stored B kind addr sum sums f.1 in
+          subst (λ r. Follows (unread_by layout old new) no_part [] r met (Ok tt)) (sym (exec-bind B (quiet p) (met_of addr)))
+          (follows_then (unread_by layout old new) no_part [] (exec B (quiet p)) (Some sum) (λ found. exec B (met_of addr found)) [] met (Ok tt)
+          (follows_quiet (unread_by layout old new) no_part [] B p [] (Ok (Some sum)) f)
+          (ap (λ found. Checked (Sector addr found) ∷ []) (again kind stored.0 sum long stored.1), refl))) l;
+      cause = tt;
+    }
+
+-- one sector more
+pub sectors_first : (s : Super) (sums : Option TreeRoot) (count addr i : ℕ) → i < count → sectors s sums (count - i) (addr + i * 4096) ≡ bind (sector s sums (addr + i * 4096)) (λ u. sectors s sums (count - (i + 1)) (addr + (i + 1) * 4096))
+sectors_first s sums count addr i lt =
+    let more : count - i ≡ suc (count - (i + 1)) = omega (arith, lt) in
+    let next : addr + i * 4096 + 4096 ≡ addr + (i + 1) * 4096 = omega arith in
+    ap (λ n. sectors s sums n (addr + i * 4096)) more ∙ ap (λ a. bind (sector s sums (addr + i * 4096)) (λ u. sectors s sums (count - (i + 1)) a)) next
+
+pub sectors_all : (s : Super) (sums : Option TreeRoot) (count addr : ℕ) → sectors s sums count addr ≡ sectors s sums (count - 0) (addr + 0 * 4096)
+sectors_all s sums count addr =
+    let all : count ≡ count - 0 = omega arith in
+    let here : addr ≡ addr + 0 * 4096 = omega arith in
+    ap (λ n. sectors s sums n addr) all ∙ ap (λ a. sectors s sums (count - 0) a) here
+
+pub sectors_none : (s : Super) (sums : Option TreeRoot) (count addr i : ℕ) → count ≤ i → sectors s sums (count - i) addr ≡ Return tt
+sectors_none s sums count addr i le = let none : count - i ≡ 0 = omega (arith, le) in ap (λ n. sectors s sums n addr) none

@@ -1,0 +1,100 @@
+-- Each byte of a device is of one stripe, and of one element, at most.
+use Rattle.std.proofs.Common.{◌≡◌, ℕ, ◌+◌, ◌*◌, ◌<◌, ◌≤◌, true, ◌&&◌, eqb, leb, ltb, length, Option, Some, None, IsSome, IsSomeAnd, slice_get, refl, sym, ap, ◌∙◌, subst, arith}
+use Rattle.std.proofs.lemmas.Bool.{and_parts, eqb-true, leb-true, ltb-true}
+use Rattle.std.proofs.lemmas.Option.{same_Some}
+use Rattle.btr_chunk.specs.Chunk.{IsChunk}
+use Rattle.btr_chunk.specs.Mapping.{HasPart, IsPosition, place_at, stripe_of}
+use Rattle.btr_chunk.specs.Table.{IsTable}
+use Rattle.btr_chunk.specs.declared.place.Part.{Part}
+use Rattle.btr_chunk.specs.declared.place.Place.{Place}
+use Rattle.btr_chunk.specs.declared.position.Elements.{Elements}
+use Rattle.btr_chunk.specs.declared.stripe.Stripe.{Stripe}
+use Rattle.btr_chunk.proofs.Bytes.{placed_part}
+use Rattle.btr_chunk.proofs.Rows.{stripe_of-same}
+use Rattle.btr_chunk.proofs.Rule.{facts}
+use Rattle.btr_rack.specs.Rack.{range_in}
+use Rattle.btr_rack.specs.declared.place.Place.{Place as Range}
+use Rattle.btr_read.specs.Layout.{Layout, device_in}
+use Rattle.btr_read.specs.declared.device.Device.{Device}
+use Rattle.btr_chunk.specs.Apart.{LiesIn}
+use Rattle.btr_chunk.proofs.Apart.{stripes_apart}
+use Rattle.btr_scrub.specs.Places.{ElementsApart, IsOfElement}
+use Rattle.btr_scrub.specs.Repair.{covers}
+use Rattle.btr_scrub.specs.Rows.{Row, range_in_element}
+use Rattle.btr_scrub.proofs.Elements.{range_stands, stands_on}
+
+-- the byte's place on its device, and in its element
+pub record IsAt (layout : Layout) (row : Row) (part : Part) (slot off : ℕ) (number : ℕ) : Type 0 where
+  pub device : Device
+  pub stripe : Stripe
+  pub stripe_there : slice_get row.chunk.stripes (stripe_of row.chunk.profile (length row.chunk.stripes) part (record { row = row.number; index = 0; rest = 0 })) ≡ Some stripe
+  pub given : device_in layout.devices stripe.devid ≡ Some device
+  pub same_slot : device.slot ≡ slot
+  pub from : stripe.offset + row.number * 65536 ≤ off
+  pub to : off < stripe.offset + row.number * 65536 + 65536
+  pub lies : LiesIn layout.chunks (record { devid = stripe.devid; offset = off }) number (stripe_of row.chunk.profile (length row.chunk.stripes) part (record { row = row.number; index = 0; rest = 0 }))
+
+pub covering : (slot off : ℕ) (range : Range) → covers slot off range ≡ true → (range.slot ≡ slot) × (range.off ≤ off) × (off < range.off + range.len)
+covering slot off range e =
+    let a = and_parts (eqb range.slot slot && leb range.off off) (ltb off (range.off + range.len)) e in
+    let b = and_parts (eqb range.slot slot) (leb range.off off) a.0 in
+    (eqb-true range.slot slot b.0, leb-true range.off off b.1, ltb-true off (range.off + range.len) a.1)
+
+is_some_of : (o : Option Range) (P : Range → Type 0) → IsSomeAnd o P → IsSome o
+is_some_of None P h = absurd h
+is_some_of (Some r) P h = refl
+
+pub is_at : (layout : Layout) (row : Row) (part : Part) (slot off : ℕ) → IsTable layout.chunks → (e : IsOfElement layout row part slot off) → IsAt layout row part slot off e.number
+is_at layout row part slot off table e =
+    let at0 : Elements = record { row = row.number; index = 0; rest = 0 } in
+    let chunk : IsChunk row.chunk = (table.sound e.number row.chunk e.there).0 in
+    let position : IsPosition row.chunk at0 = record { index = e.position.index; inside = omega (arith, e.position.inside) } in
+    let p = placed_part row.chunk part at0 chunk e.has position in
+    let place = place_at row.chunk part at0 in
+    let stands : IsSome (range_in_element layout row part 0 65536) = is_some_of (range_in_element layout row part 0 65536) (λ range. covers slot off range ≡ true) e.covers in
+    let s = stands_on place.offset 65536 (device_in layout.devices place.devid) stands in
+    let is = range_stands place.offset 65536 (device_in layout.devices place.devid) s.device s.there s.within in
+    let c = covering slot off (range_in s.device.slot place.offset 65536) (subst (λ o. IsSomeAnd o (λ range. covers slot off range ≡ true)) is e.covers) in
+    let offset : place.offset ≡ p.stripe.offset + row.number * 65536 + 0 = ap (λ (q : Place). q.offset) p.place in
+    let devid : place.devid ≡ p.stripe.devid = ap (λ (q : Place). q.devid) p.place in
+    let from : p.stripe.offset + row.number * 65536 ≤ off = omega (arith, offset, c.1) in
+    let to : off < p.stripe.offset + row.number * 65536 + 65536 = omega (arith, offset, c.2) in
+    record {
+      device = s.device;
+      stripe = p.stripe;
+      stripe_there = p.there;
+      given = ap (device_in layout.devices) (sym devid) ∙ s.there;
+      same_slot = c.0;
+      from = from;
+      to = to;
+      lies = record {
+        chunk = row.chunk;
+        there = e.there;
+        stripe = p.stripe;
+        stripe_there = p.there;
+        inside = record { device = refl; begin = omega (arith, from); end = omega (arith, to, e.position.inside) };
+      };
+    }
+
+pub elements_apart : ElementsApart
+elements_apart layout one other part also slot off table own e f =
+    let a = is_at layout one part slot off table e in
+    let b = is_at layout other also slot off table f in
+    let devid : a.stripe.devid ≡ b.stripe.devid = own a.stripe.devid b.stripe.devid a.device b.device a.given b.given (a.same_slot ∙ sym b.same_slot) in
+    let both = stripes_apart layout.chunks (record { devid = a.stripe.devid; offset = off }) e.number f.number
+    (stripe_of one.chunk.profile (length one.chunk.stripes) part (record { row = one.number; index = 0; rest = 0 }))
+    (stripe_of other.chunk.profile (length other.chunk.stripes) also (record { row = other.number; index = 0; rest = 0 })) table a.lies
+    (subst (λ d. LiesIn layout.chunks (record { devid = d; offset = off }) f.number (stripe_of other.chunk.profile (length other.chunk.stripes) also (record { row = other.number; index = 0; rest = 0 }))) (sym devid) b.lies) in
+    let chunk : one.chunk ≡ other.chunk = same_Some one.chunk other.chunk (sym e.there ∙ ap (slice_get layout.chunks) both.0 ∙ f.there) in
+    let stripe : a.stripe ≡ b.stripe = same_Some a.stripe b.stripe (sym a.stripe_there ∙ ap (slice_get one.chunk.stripes) both.1 ∙ ap (λ c. slice_get c.stripes (stripe_of other.chunk.profile (length other.chunk.stripes) also (record { row = other.number; index = 0; rest = 0 }))) chunk ∙ b.stripe_there) in
+    let offset : a.stripe.offset ≡ b.stripe.offset = ap (λ (s : Stripe). s.offset) stripe in
+    let number : one.number ≡ other.number = omega (arith, offset, a.from, a.to, b.from, b.to) in
+    let on_one : stripe_of one.chunk.profile (length one.chunk.stripes) part (record { row = one.number; index = 0; rest = 0 })
+    ≡ stripe_of one.chunk.profile (length one.chunk.stripes) also (record { row = one.number; index = 0; rest = 0 }) =
+    both.1 ∙ ap (λ c. stripe_of c.profile (length c.stripes) also (record { row = other.number; index = 0; rest = 0 })) (sym chunk)
+    ∙ ap (λ n. stripe_of one.chunk.profile (length one.chunk.stripes) also (record { row = n; index = 0; rest = 0 })) (sym number) in (
+      chunk,
+      number,
+      stripe_of-same one.chunk.profile (length one.chunk.stripes) part also (record { row = one.number; index = 0; rest = 0 }) e.parity (facts one.chunk (table.sound e.number one.chunk e.there).0).count e.has
+          (subst (λ c. HasPart c.profile (length c.stripes) also) (sym chunk) f.has) on_one,
+    )

@@ -1,0 +1,220 @@
+-- A place in a list of checked blocks.
+use Rattle.std.proofs.Common.{◌≡◌, ◌≢◌, ℕ, zero, suc, ◌+◌, ◌-◌, ◌*◌, ◌^◌, ◌<◌, ◌≤◌, List, [], ◌∷◌, ◌++◌, length, drop, slice_get, Option, Some, None, refl, sym, ap, ◌∙◌, subst, arith}
+use Rattle.std.proofs.Math.Nat.{suc-mul}
+use Rattle.std.proofs.lemmas.List.{drop-drop, length-drop}
+use Rattle.std.proofs.lemmas.Option.{same_Some}
+use Rattle.btr_base.specs.Sum.{sum_size, stored_sum}
+use Rattle.btr_base.specs.declared.kind.SumKind.{SumKind}
+use Rattle.btr_base.specs.declared.kind.SumKind.TheVariants.{Crc32c, Sha256, Xxh64}
+use Rattle.btr_read.specs.declared.want.Want.{Want}
+use Rattle.btr_read.specs.declared.want.Want.TheVariants.{Tree, Sector}
+use Rattle.btr_scrub.specs.declared.run.Run.{Run}
+use Rattle.btr_scrub.specs.declared.run.RunKind.{RunKind}
+use Rattle.btr_scrub.specs.declared.run.RunKind.TheVariants.{TreeBlock, Sectors}
+use Rattle.btr_scrub.specs.declared.run.TreeMark.{TreeMark}
+use Rattle.btr_scrub.specs.Listed.{AreRuns, Gives, IsPast, IsPlace, IsRun, Kept, StandsIn, all_sectors, all_trees, left_in, run_left, run_wants, sectors_from, sectors_of, trees_of, wants_left, wants_of}
+use Rattle.btr_scrub.proofs.Listing.{times_sum}
+
+-- a list from a place on
+pub drop_none : {X : Type 0} (xs : List X) (i : ℕ) → slice_get xs i ≡ None → drop i xs ≡ []
+drop_none [] zero e = refl
+drop_none [] (suc i) e = refl
+drop_none (x ∷ xs) zero e = cc
+drop_none (x ∷ xs) (suc i) e = drop_none xs i e
+
+pub drop_suc : {X : Type 0} (xs : List X) (i : ℕ) (x : X) → slice_get xs i ≡ Some x → drop i xs ≡ x ∷ drop (suc i) xs
+drop_suc [] i x e = cc
+drop_suc (y ∷ ys) zero x e = ap (λ q. q ∷ ys) (same_Some y x e)
+drop_suc (y ∷ ys) (suc i) x e = drop_suc ys i x e
+
+pub drop_some : {X : Type 0} (xs : List X) (i : ℕ) (x : X) → slice_get xs i ≡ Some x → drop i xs ≡ x ∷ drop (i + 1) xs
+drop_some xs i x e = let next : suc i ≡ i + 1 = omega arith in drop_suc xs i x e ∙ ap (λ n. x ∷ drop n xs) next
+
+module _ (kind : SumKind) where
+  run_start : (addr : ℕ) (k : RunKind) (sums : List ℕ) (ms : List TreeMark) → run_left kind addr k 0 sums ms ≡ run_wants kind addr k sums ms
+  run_start addr TreeBlock sums ms = refl
+  run_start addr (Sectors n) sums ms =
+      let here : addr + 0 * 4096 ≡ addr = omega arith in
+      let all : n - 0 ≡ n = omega arith in
+      ap (λ a. sectors_from kind a (n - 0) sums) here ∙ ap (λ m. sectors_from kind addr m sums) all
+
+  -- nothing of the first run is past
+  pub left_start : (runs : List Run) (sums : List ℕ) (ms : List TreeMark) → wants_left kind runs 0 sums ms ≡ wants_of kind runs sums ms
+  left_start [] sums ms = refl
+  left_start (run ∷ runs) sums ms =
+      let all : sectors_of run.kind - 0 ≡ sectors_of run.kind = omega arith in
+      ap (λ q. q ++ wants_of kind runs (drop ((sectors_of run.kind - 0) * sum_size kind) sums) (drop (trees_of run.kind) ms)) (run_start run.addr run.kind sums ms)
+      ∙ ap (λ n. run_wants kind run.addr run.kind sums ms ++ wants_of kind runs (drop (n * sum_size kind) sums) (drop (trees_of run.kind) ms)) all
+
+  past_none : (runs : List Run) → AreRuns runs → IsPast runs 0
+  past_none [] h = refl
+  past_none (run ∷ runs) h = by run.addr run.kind h.0
+    where
+      by : (addr : ℕ) (k : RunKind) → IsRun addr k → 0 + 1 ≤ sectors_of k + trees_of k
+      by addr TreeBlock h = omega arith
+      by addr (Sectors n) h = omega (arith, h.0)
+
+  module _ (run : Run) (runs : List Run) (past : ℕ) (sums : List ℕ) where
+    -- the first run is a tree block
+    pub tree_left : (mark : TreeMark) (ms : List TreeMark) → run.kind ≡ TreeBlock → IsPlace kind (run ∷ runs) past sums (mark ∷ ms)
+        → (wants_left kind (run ∷ runs) past sums (mark ∷ ms) ≡ Tree run.addr mark.generation mark.level ∷ wants_left kind runs past sums ms) × IsPlace kind runs past sums ms
+    tree_left mark ms e p =
+        let size = sum_size kind in
+        let none : sectors_of run.kind ≡ 0 = ap sectors_of e in
+        let one : trees_of run.kind ≡ 1 = ap trees_of e in
+        let zero_past : past ≡ 0 = omega (arith, none, one, p.is_past) in
+        let no_bytes : (0 - past) * size ≡ 0 = let h : 0 - past ≡ 0 = omega arith in ap (λ n. n * size) h ∙ omega arith in
+        let left : wants_left kind (run ∷ runs) past sums (mark ∷ ms) ≡ Tree run.addr mark.generation mark.level ∷ wants_of kind runs sums ms =
+        ap (λ k. run_left kind run.addr k past sums (mark ∷ ms) ++ wants_of kind runs (drop ((sectors_of k - past) * size) sums) (drop (trees_of k) (mark ∷ ms))) e
+        ∙ ap (λ n. Tree run.addr mark.generation mark.level ∷ wants_of kind runs (drop n sums) ms) no_bytes in
+        let more : wants_of kind runs sums ms ≡ wants_left kind runs past sums ms = sym (left_start runs sums ms) ∙ ap (λ n. wants_left kind runs n sums ms) (sym zero_past) in
+        let count : all_sectors (run ∷ runs) ≡ all_sectors runs = ap (λ n. n + all_sectors runs) none ∙ omega arith in (
+          left ∙ ap (λ q. Tree run.addr mark.generation mark.level ∷ q) more,
+          record {
+            is_past = subst (IsPast runs) (sym zero_past) (past_none runs p.runs_fit.1);
+            runs_fit = p.runs_fit.1;
+            sums_fit = p.sums_fit ∙ ap (λ n. n * size) count;
+            marks_fit = omega (arith, p.marks_fit, one);
+          },
+        )
+
+    -- it has so many sectors
+    module _ (n : ℕ) (ms : List TreeMark) (e : run.kind ≡ Sectors n) (p : IsPlace kind (run ∷ runs) past sums ms) where
+      pub one_left : past + 1 ≤ n
+      one_left = let a : sectors_of run.kind ≡ n = ap sectors_of e in let b : trees_of run.kind ≡ 0 = ap trees_of e in omega (arith, a, b, p.is_past)
+
+      pub in_range : run.addr + past * 4096 < 2 ^ 64
+      in_range = let h = subst (IsRun run.addr) e p.runs_fit.0 in omega (arith, one_left, h.1)
+
+      counted : length sums + past * sum_size kind ≡ n * sum_size kind + all_sectors runs * sum_size kind
+      counted = p.sums_fit ∙ ap (λ k. (sectors_of k + all_sectors runs) * sum_size kind) e ∙ times_sum n (all_sectors runs) (sum_size kind)
+
+      -- what stands of n sectors behind `past` of them
+      split : n * sum_size kind ≡ past * sum_size kind + (sum_size kind + (n - (past + 1)) * sum_size kind)
+      split =
+          let size = sum_size kind in
+          let is : n ≡ past + suc (n - (past + 1)) = omega (arith, one_left) in
+          ap (λ m. m * size) is ∙ times_sum past (suc (n - (past + 1))) size ∙ ap (λ m. past * size + m) (suc-mul (n - (past + 1)) size ∙ omega arith)
+
+      pub sum_left : sum_size kind ≤ length sums
+      sum_left = omega (arith, counted, split)
+
+      left_is : wants_left kind (run ∷ runs) past sums ms ≡ Sector (run.addr + past * 4096) (stored_sum kind sums) ∷ (sectors_from kind (run.addr + (past + 1) * 4096) (n - (past + 1)) (drop (sum_size kind) sums) ++ wants_of kind runs (drop ((n - (past + 1)) * sum_size kind) (drop (sum_size kind) sums)) ms)
+      left_is =
+          let size = sum_size kind in
+          let m = n - (past + 1) in
+          let next : n - past ≡ suc m = omega (arith, one_left) in
+          let behind : run.addr + past * 4096 + 4096 ≡ run.addr + (past + 1) * 4096 = omega arith in
+          let bytes : suc m * size ≡ size + m * size = suc-mul m size ∙ omega arith in
+          ap (λ k. run_left kind run.addr k past sums ms ++ wants_of kind runs (drop ((sectors_of k - past) * size) sums) (drop (trees_of k) ms)) e
+          ∙ ap (λ q. sectors_from kind (run.addr + past * 4096) q sums ++ wants_of kind runs (drop (q * size) sums) ms) next
+          ∙ ap (λ q. Sector (run.addr + past * 4096) (stored_sum kind sums) ∷ (sectors_from kind q m (drop size sums) ++ wants_of kind runs (drop (suc m * size) sums) ms)) behind
+          ∙ ap (λ q. Sector (run.addr + past * 4096) (stored_sum kind sums) ∷ (sectors_from kind (run.addr + (past + 1) * 4096) m (drop size sums) ++ wants_of kind runs q ms)) (ap (λ q. drop q sums) bytes ∙ sym (drop-drop (m * size) size sums))
+
+      marks_left : length ms ≡ all_trees runs
+      marks_left = let b : trees_of run.kind ≡ 0 = ap trees_of e in omega (arith, b, p.marks_fit)
+
+      -- the last of them
+      pub last_left : past + 1 ≡ n → (wants_left kind (run ∷ runs) past sums ms ≡ Sector (run.addr + past * 4096) (stored_sum kind sums) ∷ wants_left kind runs 0 (drop (sum_size kind) sums) ms) × IsPlace kind runs 0 (drop (sum_size kind) sums) ms
+      last_left h =
+          let size = sum_size kind in
+          let none : n - (past + 1) ≡ 0 = omega (arith, h) in
+          let no_bytes : 0 * size ≡ 0 = omega arith in
+          let long = length-drop size sums in
+          let zeros : (n - (past + 1)) * size ≡ 0 = ap (λ q. q * size) none ∙ no_bytes in (
+            left_is
+                ∙ ap (λ q. Sector (run.addr + past * 4096) (stored_sum kind sums) ∷ (sectors_from kind (run.addr + (past + 1) * 4096) q (drop size sums) ++ wants_of kind runs (drop (q * size) (drop size sums)) ms)) none
+                ∙ ap (λ q. Sector (run.addr + past * 4096) (stored_sum kind sums) ∷ wants_of kind runs (drop q (drop size sums)) ms) no_bytes
+                ∙ ap (λ q. Sector (run.addr + past * 4096) (stored_sum kind sums) ∷ q) (sym (left_start runs (drop size sums) ms)),
+            record {
+              is_past = past_none runs p.runs_fit.1;
+              runs_fit = p.runs_fit.1;
+              sums_fit = omega (arith, counted, split, long, zeros, no_bytes);
+              marks_fit = marks_left;
+            },
+          )
+
+      -- one that others follow
+      pub next_left : past + 1 ≢ n → (wants_left kind (run ∷ runs) past sums ms ≡ Sector (run.addr + past * 4096) (stored_sum kind sums) ∷ wants_left kind (run ∷ runs) (past + 1) (drop (sum_size kind) sums) ms) × IsPlace kind (run ∷ runs) (past + 1) (drop (sum_size kind) sums) ms
+      next_left h =
+          let size = sum_size kind in
+          let long = length-drop size sums in
+          let less : past + 1 + 1 ≤ n = omega (arith, one_left, h) in
+          let a : sectors_of run.kind ≡ n = ap sectors_of e in
+          let times = times_sum past 1 size in
+          let all : all_sectors (run ∷ runs) * size ≡ n * size + all_sectors runs * size = ap (λ k. (sectors_of k + all_sectors runs) * size) e ∙ times_sum n (all_sectors runs) size in (
+            left_is ∙ ap (λ k. Sector (run.addr + past * 4096) (stored_sum kind sums) ∷ (run_left kind run.addr k (past + 1) (drop size sums) ms ++ wants_of kind runs (drop ((sectors_of k - (past + 1)) * size) (drop size sums)) (drop (trees_of k) ms))) (sym e),
+            record {
+              is_past = omega (arith, less, a);
+              runs_fit = p.runs_fit;
+              sums_fit = omega (arith, counted, split, long, times) ∙ sym all;
+              marks_fit = p.marks_fit;
+            },
+          )
+
+size_some : (kind : SumKind) → 4 ≤ sum_size kind
+size_some Crc32c = omega arith
+size_some Sha256 = omega arith
+size_some Xxh64 = omega arith
+
+-- a reader that stands at a place
+module _ (kept : Kept) (run past sum mark : ℕ) where
+  pub at_end : slice_get kept.runs run ≡ None → left_in kept run past sum mark ≡ []
+  at_end e = ap (λ q. wants_left kept.kind q past (drop sum kept.sums) (drop mark kept.marks)) (drop_none kept.runs run e)
+
+  module _ (stands : StandsIn kept run past sum mark) (r : Run) (there : slice_get kept.runs run ≡ Some r) where
+    runs_are : drop run kept.runs ≡ r ∷ drop (run + 1) kept.runs
+    runs_are = drop_some kept.runs run r there
+
+    place : IsPlace kept.kind (r ∷ drop (run + 1) kept.runs) past (drop sum kept.sums) (drop mark kept.marks)
+    place = subst (λ q. IsPlace kept.kind q past (drop sum kept.sums) (drop mark kept.marks)) runs_are stands
+
+    left_here : left_in kept run past sum mark ≡ wants_left kept.kind (r ∷ drop (run + 1) kept.runs) past (drop sum kept.sums) (drop mark kept.marks)
+    left_here = ap (λ q. wants_left kept.kind q past (drop sum kept.sums) (drop mark kept.marks)) runs_are
+
+    pub some_mark : r.kind ≡ TreeBlock → slice_get kept.marks mark ≡ None → ⊥
+    some_mark e none =
+        let one : trees_of r.kind ≡ 1 = ap trees_of e in
+        let nothing : length (drop mark kept.marks) ≡ 0 = ap length (drop_none kept.marks mark none) in
+        omega (arith, place.marks_fit, one, nothing)
+
+    pub at_tree : (m : TreeMark) → r.kind ≡ TreeBlock → slice_get kept.marks mark ≡ Some m → (left_in kept run past sum mark ≡ Tree r.addr m.generation m.level ∷ left_in kept (run + 1) past sum (mark + 1)) × StandsIn kept (run + 1) past sum (mark + 1)
+    at_tree m e is =
+        let marks = drop_some kept.marks mark m is in
+        let t = tree_left kept.kind r (drop (run + 1) kept.runs) past (drop sum kept.sums) m (drop (mark + 1) kept.marks) e (subst (λ q. IsPlace kept.kind (r ∷ drop (run + 1) kept.runs) past (drop sum kept.sums) q) marks place) in
+        (left_here ∙ ap (λ q. wants_left kept.kind (r ∷ drop (run + 1) kept.runs) past (drop sum kept.sums) q) marks ∙ t.0, t.1)
+
+    module _ (n : ℕ) (e : r.kind ≡ Sectors n) where
+      pub one_more : past + 1 ≤ n
+      one_more = one_left kept.kind r (drop (run + 1) kept.runs) past (drop sum kept.sums) n (drop mark kept.marks) e place
+
+      pub addr_fits : r.addr + past * 4096 < 2 ^ 64
+      addr_fits = in_range kept.kind r (drop (run + 1) kept.runs) past (drop sum kept.sums) n (drop mark kept.marks) e place
+
+      pub some_sum : sum + sum_size kept.kind ≤ length kept.sums
+      some_sum =
+          let h = sum_left kept.kind r (drop (run + 1) kept.runs) past (drop sum kept.sums) n (drop mark kept.marks) e place in
+          let long = length-drop sum kept.sums in
+          let some = size_some kept.kind in
+          omega (arith, h, long, some)
+
+      pub at_last : past + 1 ≡ n → (size : ℕ) → size ≡ sum_size kept.kind → (left_in kept run past sum mark ≡ Sector (r.addr + past * 4096) (stored_sum kept.kind (drop sum kept.sums)) ∷ left_in kept (run + 1) 0 (sum + size) mark) × StandsIn kept (run + 1) 0 (sum + size) mark
+      at_last h size is =
+          let t = last_left kept.kind r (drop (run + 1) kept.runs) past (drop sum kept.sums) n (drop mark kept.marks) e place h in
+          let bytes : drop (sum_size kept.kind) (drop sum kept.sums) ≡ drop (sum + size) kept.sums = drop-drop (sum_size kept.kind) sum kept.sums ∙ ap (λ q. drop (sum + q) kept.sums) (sym is) in (
+            left_here ∙ t.0 ∙ ap (λ q. Sector (r.addr + past * 4096) (stored_sum kept.kind (drop sum kept.sums)) ∷ wants_left kept.kind (drop (run + 1) kept.runs) 0 q (drop mark kept.marks)) bytes,
+            subst (λ q. IsPlace kept.kind (drop (run + 1) kept.runs) 0 q (drop mark kept.marks)) bytes t.1,
+          )
+
+      pub at_next : past + 1 ≢ n → (size : ℕ) → size ≡ sum_size kept.kind → (left_in kept run past sum mark ≡ Sector (r.addr + past * 4096) (stored_sum kept.kind (drop sum kept.sums)) ∷ left_in kept run (past + 1) (sum + size) mark) × StandsIn kept run (past + 1) (sum + size) mark
+      at_next h size is =
+          let t = next_left kept.kind r (drop (run + 1) kept.runs) past (drop sum kept.sums) n (drop mark kept.marks) e place h in
+          let bytes : drop (sum_size kept.kind) (drop sum kept.sums) ≡ drop (sum + size) kept.sums = drop-drop (sum_size kept.kind) sum kept.sums ∙ ap (λ q. drop (sum + q) kept.sums) (sym is) in (
+            left_here ∙ t.0 ∙ ap (λ q. Sector (r.addr + past * 4096) (stored_sum kept.kind (drop sum kept.sums)) ∷ wants_left kept.kind (r ∷ drop (run + 1) kept.runs) (past + 1) q (drop mark kept.marks)) bytes
+                ∙ ap (λ q. Sector (r.addr + past * 4096) (stored_sum kept.kind (drop sum kept.sums)) ∷ wants_left kept.kind q (past + 1) (drop (sum + size) kept.sums) (drop mark kept.marks)) (sym runs_are),
+            subst (λ q. IsPlace kept.kind q (past + 1) (drop (sum + size) kept.sums) (drop mark kept.marks)) (sym runs_are)
+                (subst (λ q. IsPlace kept.kind (r ∷ drop (run + 1) kept.runs) (past + 1) q (drop mark kept.marks)) bytes t.1),
+          )
+
+pub gives_end : (old : List Want) (result : Option Want) → old ≡ [] → result ≡ None → Gives old result old
+gives_end old result e is = subst (λ r. Gives old r old) (sym is) (e, e)

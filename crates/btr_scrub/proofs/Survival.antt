@@ -1,0 +1,222 @@
+-- The blocks of a full stripe as they should be.
+use Rattle.std.proofs.Common.{◌≡◌, ℕ, ◌+◌, ◌-◌, ◌<◌, ◌≤◌, Bool, true, false, cond, eqb, List, [], ◌∷◌, ◌++◌, length, get_or, take, drop, slice_range, Option, Some, None, IsSome, IfSome, IsNone, All, refl, sym, ap, ◌∙◌, subst, inl, inr, arith}
+use Rattle.std.proofs.lemmas.Bool.{false≢true, eq-eqb, cases_lt}
+use Rattle.std.proofs.lemmas.List.{get_or-take, get_or-drop, get_or_past, same_lists}
+use Rattle.std.proofs.lemmas.List.Elements.{All-append, All-nil, All-take, All-drop}
+use Rattle.std.proofs.lemmas.List.FromFn.{length-map-range_with_len, get_or-map-range_with_len}
+use Rattle.std.specs.List.{Contains, filter, fold}
+use Rattle.std.specs.Option.{option_map_or}
+use Rattle.btr_chunk.specs.Chunk.{data_count, mirror_count}
+use Rattle.btr_chunk.specs.Mapping.{HasPart, place_at}
+use Rattle.btr_chunk.specs.declared.place.Part.{Part}
+use Rattle.btr_chunk.specs.declared.place.Part.TheVariants as part
+use Rattle.btr_parity.specs.Slices.{IsSlice, parity_p, parity_q}
+use Rattle.btr_parity.specs.Ways.{Stripe, IsConsistent}
+use Rattle.btr_rack.specs.Rack.{bytes_of, image_of, pasted}
+use Rattle.btr_rack.specs.declared.place.Place.{Place as Range}
+use Rattle.btr_read.specs.Candidates.{Target, candidates, parts_read, size_of, slice_count, stands, value_of}
+use Rattle.btr_read.specs.Layout.{Layout, device_in}
+use Rattle.btr_read.proofs.Pieces.{length-slice_range}
+use Rattle.btr_scrub.specs.Glue.{In, IsNearly, right_bytes}
+use Rattle.btr_scrub.specs.Right.{Committed, HasFewWrong, committed_for}
+use Rattle.btr_scrub.specs.Rows as rows
+use Rattle.btr_scrub.specs.Rows.{Row, blocks_at, element, element_with, parities, range_in_element, slice_with, slices_with, with_block}
+use Rattle.btr_scrub.specs.Survival.{AreBehind, ElementsAreSlices, IsSoundRow, KeepsRight, RowSurvives}
+use Rattle.btr_scrub.proofs.Elements.{range_stands, stands_on}
+use Rattle.btr_scrub.proofs.Pasting.{length-pasted, pasted-below, pasted-within}
+use Rattle.btr_scrub.proofs.Stripes.{any_of, no_mirror, row_gives_blocks}
+use Rattle.btr_mend.specs.Writes.{Images}
+
+-- ---- ranges by their bytes
+
+at_range : (xs : List ℕ) (a b i d : ℕ) → i < b - a → get_or (slice_range xs a b) i d ≡ get_or xs (a + i) d
+at_range xs a b i d lt = get_or-take (b - a) (drop a xs) i d lt ∙ get_or-drop a xs i d
+
+pub range_ext : (xs ys : List ℕ) (a b : ℕ) → b ≤ length xs → length xs ≡ length ys → ((i d : ℕ) → a ≤ i → i < b → get_or xs i d ≡ get_or ys i d) → slice_range xs a b ≡ slice_range ys a b
+range_ext xs ys a b le long same =
+    let lx = length-slice_range xs a b le in
+    same_lists (slice_range xs a b) (slice_range ys a b) (lx ∙ sym (length-slice_range ys a b (omega (arith, le, long))))
+    (λ i d below. let lt : i < b - a = omega (arith, below, lx) in at_range xs a b i d lt ∙ same (a + i) d (omega arith) (omega (arith, lt)) ∙ sym (at_range ys a b i d lt))
+
+range_pasted : (xs : List ℕ) (off : ℕ) (bytes : List ℕ) → off + length bytes ≤ length xs → slice_range (pasted xs off bytes) off (off + length bytes) ≡ bytes
+range_pasted xs off bytes fits =
+    let to = off + length bytes in
+    let long = length-slice_range (pasted xs off bytes) off to (omega (arith, fits, length-pasted xs off bytes fits)) in
+    same_lists (slice_range (pasted xs off bytes) off to) bytes (long ∙ omega arith)
+    (λ i d below. let lt : i < to - off = omega (arith, below, long) in
+    at_range (pasted xs off bytes) off to i d lt ∙ pasted-within xs off bytes fits (off + i) d (omega arith) (omega (arith, lt)) ∙ ap (λ j. get_or bytes j d) (omega arith))
+
+slice_pasted : (n : ℕ) (xs : List ℕ) (off : ℕ) (bytes : List ℕ) → off + length bytes ≤ n → IsSlice n xs → All (λ b. b < 256) bytes → IsSlice n (pasted xs off bytes)
+slice_pasted n xs off bytes fits is small = record {
+  long = length-pasted xs off bytes (omega (arith, fits, is.long)) ∙ is.long;
+  bytes = All-append (λ b. b < 256) (take off xs ++ bytes) (drop (off + length bytes) xs)
+      (All-append (λ b. b < 256) (take off xs) bytes (All-take (λ b. b < 256) off xs is.bytes) small)
+      (All-drop (λ b. b < 256) (off + length bytes) xs is.bytes);
+}
+
+-- ---- a slice with its blocks' bytes
+
+module _ (images : Images) (layout : Layout) (given : Target → Option (List ℕ)) where
+  -- what is given for a block fits it
+  pub record Fits (t : Target) : Type 0 where
+    pub inside : t.at.rest + size_of t ≤ 65536
+    pub bytes : IfSome (given t) (IsSlice (size_of t))
+
+  one_slice : (t : Target) (o : Option (List ℕ)) (xs : List ℕ) → t.at.rest + size_of t ≤ 65536 → IfSome o (IsSlice (size_of t)) → IsSlice 65536 xs → IsSlice 65536 (option_map_or (pasted xs t.at.rest) o xs)
+  one_slice t None xs inside fits is = is
+  one_slice t (Some b) xs inside fits is = slice_pasted 65536 xs t.at.rest b (omega (arith, inside, fits.long)) is fits.bytes
+
+  pub fold_slice : (ts : List Target) (xs : List ℕ) → ((t : Target) → In t ts → Fits t) → IsSlice 65536 xs → IsSlice 65536 (fold (with_block images layout given) xs ts)
+  fold_slice [] xs fit is = is
+  fold_slice (t ∷ ts) xs fit is =
+      let f = fit t (inl refl) in
+      fold_slice ts (with_block images layout given xs t) (λ u i. fit u (inr i)) (one_slice t (given t) xs f.inside f.bytes is)
+
+  -- blocks behind a place leave what is before it
+  one_keeps : (t : Target) (o : Option (List ℕ)) (xs : List ℕ) (a b : ℕ) → b ≤ t.at.rest → t.at.rest + size_of t ≤ 65536 → IfSome o (IsSlice (size_of t)) → IsSlice 65536 xs
+      → slice_range (option_map_or (pasted xs t.at.rest) o xs) a b ≡ slice_range xs a b
+  one_keeps t None xs a b le inside fits is = refl
+  one_keeps t (Some bytes) xs a b le inside fits is =
+      let within : t.at.rest + length bytes ≤ length xs = omega (arith, inside, fits.long, is.long) in
+      let long = length-pasted xs t.at.rest bytes within in
+      range_ext (pasted xs t.at.rest bytes) xs a b (omega (arith, le, within, long)) long (λ i d from to. pasted-below xs t.at.rest bytes within i d (omega (arith, to, le)))
+
+  fold_keeps : (ts : List Target) (xs : List ℕ) (a b end : ℕ) → b ≤ end → AreBehind end ts → ((t : Target) → In t ts → Fits t) → IsSlice 65536 xs
+      → slice_range (fold (with_block images layout given) xs ts) a b ≡ slice_range xs a b
+  fold_keeps [] xs a b end le behind fit is = refl
+  fold_keeps (t ∷ ts) xs a b end le behind fit is =
+      let f = fit t (inl refl) in
+      fold_keeps ts (with_block images layout given xs t) a b (t.at.rest + size_of t) (omega (arith, le, behind.0)) behind.1 (λ u i. fit u (inr i)) (one_slice t (given t) xs f.inside f.bytes is)
+      ∙ one_keeps t (given t) xs a b (omega (arith, le, behind.0)) f.inside f.bytes is
+
+  -- a block's own place has what is given for it
+  pub fold_block : (ts : List Target) (xs : List ℕ) (end : ℕ) (t : Target) (b : List ℕ) → AreBehind end ts → ((t : Target) → In t ts → Fits t) → IsSlice 65536 xs → In t ts → given t ≡ Some b
+      → slice_range (fold (with_block images layout given) xs ts) t.at.rest (t.at.rest + size_of t) ≡ b
+  fold_block [] xs end t b behind fit is i e = absurd i
+  fold_block (u ∷ ts) xs end t b behind fit is (inl same) e =
+      subst (λ v. slice_range (fold (with_block images layout given) xs (u ∷ ts)) v.at.rest (v.at.rest + size_of v) ≡ b) same (
+      let f = fit u (inl refl) in
+      let here : given u ≡ Some b = ap given same ∙ e in
+      let slice : IsSlice (size_of u) b = subst (λ o. IfSome o (IsSlice (size_of u))) here f.bytes in
+      let pasted_in : with_block images layout given xs u ≡ pasted xs u.at.rest b = ap (λ o. option_map_or (pasted xs u.at.rest) o xs) here in
+      fold_keeps ts (with_block images layout given xs u) u.at.rest (u.at.rest + size_of u) (u.at.rest + size_of u) (omega arith) behind.1 (λ v j. fit v (inr j)) (one_slice u (given u) xs f.inside f.bytes is)
+      ∙ ap (λ ys. slice_range ys u.at.rest (u.at.rest + size_of u)) pasted_in
+      ∙ ap (λ n. slice_range (pasted xs u.at.rest b) u.at.rest (u.at.rest + n)) (sym slice.long)
+      ∙ range_pasted xs u.at.rest b (omega (arith, f.inside, slice.long, is.long)))
+  fold_block (u ∷ ts) xs end t b behind fit is (inr i) e =
+      let f = fit u (inl refl) in
+      fold_block ts (with_block images layout given xs u) (u.at.rest + size_of u) t b behind.1 (λ v j. fit v (inr j)) (one_slice u (given u) xs f.inside f.bytes is) i e
+
+-- ---- elements
+
+bytes_in : (images : Images) (slot : ℕ) → All (λ (image : List ℕ). All (λ b. b < 256) image) images → All (λ b. b < 256) (image_of images slot)
+bytes_in images slot all = elim (cases_lt slot (length images)) [
+  | inl lt ↦ all slot [] lt
+  | inr le ↦ subst (All (λ b. b < 256)) (sym (get_or_past images slot [] le)) (All-nil (λ b. b < 256))
+]
+
+pub elements_are_slices : ElementsAreSlices
+elements_are_slices images layout row q all lengths h =
+    let place = place_at row.chunk q (record { row = row.number; index = 0; rest = 0 }) in
+    let s = stands_on place.offset 65536 (device_in layout.devices place.devid) h in
+    let e = range_stands place.offset 65536 (device_in layout.devices place.devid) s.device s.there s.within in
+    let image = image_of images s.device.slot in
+    let long = length-slice_range image place.offset (place.offset + 65536) (omega (arith, s.within, lengths place.devid s.device s.there)) in
+    let cut : IsSlice 65536 (slice_range image place.offset (place.offset + 65536)) = record {
+      long = long ∙ omega arith;
+      bytes = All-take (λ b. b < 256) (place.offset + 65536 - place.offset) (drop place.offset image) (All-drop (λ b. b < 256) place.offset image (bytes_in images s.device.slot all));
+    } in
+    subst (λ (o : Option Range). IsSlice 65536 (option_map_or (λ range. bytes_of images range.slot range.off range.len) o [])) (sym e) cut
+
+-- ---- the row
+
+pub in_filter : {X : Type 0} (p : X → Bool) (x : X) (xs : List X) → In x xs → p x ≡ true → In x (filter p xs)
+in_filter p x [] i e = absurd i
+in_filter p x (y ∷ xs) i e = by (p y) refl i (λ j. in_filter p x xs j e)
+  where
+    by : (b : Bool) → p y ≡ b → In x (y ∷ xs) → (In x xs → In x (filter p xs)) → In x (cond b (y ∷ filter p xs) (filter p xs))
+    by true q (inl same) rest = inl same
+    by true q (inr j) rest = inr (rest j)
+    by false q (inl same) rest = absurd (false≢true (sym q ∙ ap p same ∙ e))
+    by false q (inr j) rest = rest j
+
+pub of_filter : {X : Type 0} (p : X → Bool) (x : X) (xs : List X) → In x (filter p xs) → In x xs
+of_filter p x [] i = absurd i
+of_filter p x (y ∷ xs) i = by (p y) i (λ j. of_filter p x xs j)
+  where
+    by : (b : Bool) → In x (cond b (y ∷ filter p xs) (filter p xs)) → (In x (filter p xs) → In x xs) → In x (y ∷ xs)
+    by true (inl same) rest = inl same
+    by true (inr j) rest = inr (rest j)
+    by false j rest = inr (rest j)
+
+pub some_of : {X : Type 0} (o : Option X) → IsSome o → (x : X) × (o ≡ Some x)
+some_of None h = absurd (false≢true h)
+some_of (Some x) h = (x, refl)
+
+module _ (images : Images) (layout : Layout) (C : Committed) (row : Row) (sound : IsSoundRow images layout C row) where
+  abbrev given : Target → Option (List ℕ)
+  given = committed_for C
+
+  abbrev right : Stripe
+  right = record {
+    slices = slices_with images layout given row;
+    p = parity_p 65536 (slices_with images layout given row);
+    q = parity_q 65536 (slices_with images layout given row);
+  }
+
+  pub at_slice : (i : ℕ) (d : List ℕ) → i < rows.slice_count row → get_or right.slices i d ≡ slice_with images layout given row i
+  at_slice i d lt = get_or-map-range_with_len (slice_with images layout given row) 0 (rows.slice_count row) i i d lt (omega arith)
+
+  fits : (i : ℕ) (t : Target) → In t (blocks_at row i) → Fits images layout given t
+  fits i t among = let b = sound.blocks t (of_filter (λ u. eqb u.at.index i) t row.blocks among) in record { inside = b.lies.inside; bytes = b.bytes }
+
+  pub slice_there : (i : ℕ) → i < rows.slice_count row → HasPart row.chunk.profile (length row.chunk.stripes) (part.Slice i)
+  slice_there i lt = (subst IsNone (sym sound.parity) refl, lt)
+
+  right_slice : (i : ℕ) → i < rows.slice_count row → IsSlice 65536 (slice_with images layout given row i)
+  right_slice i lt = fold_slice images layout given (blocks_at row i) (element images layout row (part.Slice i)) (fits i) (sound.bytes (part.Slice i) (slice_there i lt))
+
+  pub right_is : IsConsistent 65536 (rows.slice_count row) right
+  right_is =
+      let long = length-map-range_with_len (slice_with images layout given row) 0 (rows.slice_count row) in
+      record {
+        count = long;
+        sizes = λ i d below. let lt : i < rows.slice_count row = omega (arith, below, long) in subst (IsSlice 65536) (sym (at_slice i d lt)) (right_slice i lt);
+        p = refl;
+        q = refl;
+      }
+
+  right_part : (q : Part) → HasPart row.chunk.profile (length row.chunk.stripes) q → element_with images layout given row q ≡ right_bytes (rows.slice_count row) right q
+  right_part (part.Mirror i) has = absurd (no_mirror (mirror_count row.chunk.profile (length row.chunk.stripes)) i sound.parity has)
+  right_part (part.Slice i) has = sym (at_slice i [] has.1)
+  right_part part.P has = refl
+  right_part part.Q has = refl
+
+  pub near : (left : Images) (few : HasFewWrong images layout C row) → KeepsRight images left layout C row → IsNearly left layout row right few.wrong
+  near left few keeps = record {
+    few = few.few;
+    stand = sound.stand;
+    others = λ q has fine. let is = few.others q has fine in keeps q has is ∙ is ∙ right_part q has;
+  }
+
+  -- the right slice has a block's committed bytes in the block's place
+  pub block_there : (t : Target) (b : List ℕ) → In t row.blocks → t.at.index < rows.slice_count row → C t.want ≡ Some b
+      → slice_range (get_or right.slices t.at.index []) t.at.rest (t.at.rest + size_of t) ≡ b
+  block_there t b among lt e =
+      ap (λ xs. slice_range xs t.at.rest (t.at.rest + size_of t)) (at_slice t.at.index [] lt)
+      ∙ fold_block images layout given (blocks_at row t.at.index) (element images layout row (part.Slice t.at.index)) 0 t b (sound.spaced t.at.index) (fits t.at.index)
+      (sound.bytes (part.Slice t.at.index) (slice_there t.at.index lt))
+      (in_filter (λ u. eqb u.at.index t.at.index) t row.blocks among (eq-eqb t.at.index t.at.index refl)) e
+
+pub row_survives : RowSurvives
+row_survives images left layout C row t sound few keeps among =
+    let block = sound.blocks t among in
+    let b = some_of (C t.want) block.committed in
+    let n : slice_count t ≡ rows.slice_count row = ap (λ c. data_count c.profile (length c.stripes)) block.lies.chunk in
+    let lt : t.at.index < rows.slice_count row = omega (arith, n, block.in_row.target.position.index) in
+    let there = block_there images layout C row sound t b.0 among lt b.1 in
+    let bytes = slice_range (get_or (slices_with images layout (committed_for C) row) t.at.index []) t.at.rest (t.at.rest + size_of t) in
+    any_of (λ c. (stands t c ≡ true) × All (λ q. ¬ (Contains (parts_read (slice_count t) t.at.index c) q)) few.wrong × (value_of left t c ≡ bytes))
+    (λ c. (stands t c ≡ true) × (C t.want ≡ Some (value_of left t c))) (candidates t)
+    (λ c h. (h.0, b.1 ∙ ap Some (sym (h.2 ∙ there))))
+    (row_gives_blocks left layout row (right images layout C row sound) few.wrong t block.in_row block.lies (right_is images layout C row sound) (near images layout C row sound left few keeps))

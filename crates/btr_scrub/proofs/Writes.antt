@@ -1,0 +1,199 @@
+-- The writes of a full stripe lie in wrong elements.
+use Rattle.std.proofs.Common.{◌≡◌, ◌⊎◌, ℕ, ◌+◌, ◌*◌, ◌<◌, Bool, true, false, not, cond, ◌&&◌, ◌||◌, List, [], ◌∷◌, ◌++◌, map, length, slice_get, Option, Some, None, IsNone, IsSomeAnd, is_some, refl, sym, ap, ◌∙◌, subst, inl, inr, arith}
+use Rattle.std.proofs.lemmas.Bool.{false≢true, and_parts}
+use Rattle.std.proofs.lemmas.Option.{same_Some}
+use Rattle.std.specs.List.{filter, filter_map, cons_option, flat_map, list_any, range_with_len}
+use Rattle.std.specs.Option.{option_map, option_map_or}
+use Rattle.btr_chunk.specs.Chunk.{IsChunk, mirror_count, mirrors}
+use Rattle.btr_chunk.specs.Mapping.{HasPart, place_at, place_on}
+use Rattle.btr_chunk.specs.Table.{IsTable}
+use Rattle.btr_chunk.specs.declared.place.Part.{Part}
+use Rattle.btr_chunk.specs.declared.place.Part.TheVariants as part
+use Rattle.btr_chunk.specs.declared.place.Place.{Place}
+use Rattle.btr_chunk.specs.declared.position.Elements.{Elements}
+use Rattle.btr_chunk.specs.declared.profile.Profile.{Profile}
+use Rattle.btr_chunk.specs.declared.profile.Profile.TheVariants.{Raid5, Raid6}
+use Rattle.btr_chunk.proofs.Bytes.{placed_part}
+use Rattle.btr_chunk.proofs.Rows.{without_copies}
+use Rattle.btr_rack.specs.Rack.{range_in}
+use Rattle.btr_rack.specs.declared.place.Place.{Place as Range}
+use Rattle.btr_read.specs.Candidates.{Target, range_of, size_of}
+use Rattle.btr_read.specs.Layout.{Layout, device_in}
+use Rattle.btr_read.proofs.Ones.{in_below}
+use Rattle.btr_mend.specs.Blocks.{accepted, bad_parts, block_writes, is_good, own_parts, written_over}
+use Rattle.btr_scrub.specs.Glue.{In}
+use Rattle.btr_scrub.specs.Repair.{covers}
+use Rattle.btr_scrub.specs.Right.{Committed, IsRight}
+use Rattle.btr_scrub.specs.Rows.{Row, column_of, differing, differs, element_with, is_decided, parities, parity_writes, range_in_element, row_writes, sector_write}
+use Rattle.btr_scrub.specs.Staying.{IsInWrong, IsRowOf, RowWritesAreWrong}
+use Rattle.btr_scrub.specs.Survival.{AcceptsRight, IsParity, IsSoundRow, RightPasses}
+use Rattle.btr_scrub.proofs.Elements.{has_ranges, range_stands, stands_on, stripe-row}
+use Rattle.btr_scrub.proofs.Places.{covering}
+use Rattle.btr_scrub.proofs.Staying.{covered}
+use Rattle.btr_scrub.proofs.Wrong.{bad_block_is_wrong, differing_parity_is_wrong}
+use Rattle.btr_mend.specs.Writes.{Images, Write}
+
+-- ---- lists
+
+any_append : {X : Type 0} (f : X → Bool) (xs ys : List X) → list_any f (xs ++ ys) ≡ true → (list_any f xs ≡ true) ⊎ (list_any f ys ≡ true)
+any_append f [] ys h = inr h
+any_append f (x ∷ xs) ys h = by (f x) (list_any f xs) (any_append f xs ys) h
+  where
+    by : (b c : Bool) → (list_any f (xs ++ ys) ≡ true → (c ≡ true) ⊎ (list_any f ys ≡ true)) → (b || list_any f (xs ++ ys)) ≡ true → ((b || c) ≡ true) ⊎ (list_any f ys ≡ true)
+    by true c rest h = inl refl
+    by false c rest h = rest h
+
+any_map : {X Y : Type 0} (f : Y → Bool) (g : X → Y) (xs : List X) → list_any f (map g xs) ≡ list_any (λ x. f (g x)) xs
+any_map f g [] = refl
+any_map f g (x ∷ xs) = ap (λ b. f (g x) || b) (any_map f g xs)
+
+any_flat : {X Y : Type 0} (f : Y → Bool) (g : X → List Y) (xs : List X) → list_any f (flat_map g xs) ≡ true → (x : X) × In x xs × (list_any f (g x) ≡ true)
+any_flat f g [] h = absurd (false≢true h)
+any_flat f g (x ∷ xs) h = elim (any_append f (g x) (flat_map g xs) h) [
+  | inl here ↦ (x, inl refl, here)
+  | inr later ↦ let r = any_flat f g xs later in (r.0, inr r.1, r.2)
+]
+
+any_filter_map : {X Y : Type 0} (f : Y → Bool) (g : X → Option Y) (xs : List X) → list_any f (filter_map g xs) ≡ true → (x : X) × In x xs × ((y : Y) × (g x ≡ Some y) × (f y ≡ true))
+any_filter_map f g [] h = absurd (false≢true h)
+any_filter_map f g (x ∷ xs) h = by (g x) refl h (any_filter_map f g xs)
+  where
+    by : (o : Option _) → g x ≡ o → list_any f (cons_option o (filter_map g xs)) ≡ true → (list_any f (filter_map g xs) ≡ true → (z : _) × In z xs × ((y : _) × (g z ≡ Some y) × (f y ≡ true)))
+        → (z : _) × In z (x ∷ xs) × ((y : _) × (g z ≡ Some y) × (f y ≡ true))
+    by None e h rest = let r = rest h in (r.0, inr r.1, r.2)
+    by (Some y) e h rest = or (f y) refl h rest
+      where
+        or : (b : Bool) → f y ≡ b → (b || list_any f (filter_map g xs)) ≡ true → (list_any f (filter_map g xs) ≡ true → (z : _) × In z xs × ((y : _) × (g z ≡ Some y) × (f y ≡ true)))
+            → (z : _) × In z (x ∷ xs) × ((y : _) × (g z ≡ Some y) × (f y ≡ true))
+        or true t h rest = (x, inl refl, (y, e, t))
+        or false t h rest = let r = rest h in (r.0, inr r.1, r.2)
+
+passing_filter : {X : Type 0} (p : X → Bool) (x : X) (xs : List X) → In x (filter p xs) → In x xs × (p x ≡ true)
+passing_filter p x [] h = absurd h
+passing_filter p x (y ∷ xs) h = by (p y) refl h (passing_filter p x xs)
+  where
+    by : (b : Bool) → p y ≡ b → In x (cond b (y ∷ filter p xs) (filter p xs)) → (In x (filter p xs) → In x xs × (p x ≡ true)) → In x (y ∷ xs) × (p x ≡ true)
+    by true e (inl same) rest = (inl same, ap p (sym same) ∙ e)
+    by true e (inr i) rest = let r = rest i in (inr r.0, r.1)
+    by false e i rest = let r = rest i in (inr r.0, r.1)
+
+not_good : (b : Bool) → not b ≡ true → b ≡ false
+not_good true e = absurd (false≢true e)
+not_good false e = refl
+
+mapped : {X Y : Type 0} (g : X → Y) (o : Option X) (y : Y) → option_map g o ≡ Some y → (x : X) × (o ≡ Some x) × (g x ≡ y)
+mapped g None y e = absurd (false≢true (ap is_some e))
+mapped g (Some x) y e = (x, refl, same_Some (g x) y e)
+
+-- ---- one row
+
+module _ (images : Images) (layout : Layout) (C : Committed) (blocks : List Target) (row : Row) (slot off : ℕ) (table : IsTable layout.chunks) (is_row : IsRowOf layout blocks row) (sound : IsSoundRow images layout C row) where
+  wrong_at : (q : Part) → HasPart row.chunk.profile (length row.chunk.stripes) q → IsSomeAnd (range_in_element layout row q 0 65536) (λ range. covers slot off range ≡ true) → ¬ (IsRight images layout C row q) → IsInWrong images layout C blocks slot off
+  wrong_at q has covers wrong = record {
+    row = row;
+    is_row = is_row;
+    part = q;
+    of = record { number = is_row.number; there = is_row.there; parity = is_row.parity; position = is_row.position; has = has; covers = covers };
+    wrong = wrong;
+  }
+
+  -- a block's range in its own slice
+  block_covers : (t : Target) (range : Range) → In t row.blocks → range_of t (part.Slice t.at.index) ≡ Some range → covers slot off range ≡ true
+      → (HasPart row.chunk.profile (length row.chunk.stripes) (part.Slice t.at.index)) × IsSomeAnd (range_in_element layout row (part.Slice t.at.index) 0 65536) (λ range. covers slot off range ≡ true)
+  block_covers t range among e c =
+      let block = sound.blocks t among in
+      let mine : HasPart t.chunk.profile (length t.chunk.stripes) (part.Slice t.at.index) = (subst IsNone (sym block.in_row.parity) refl, block.in_row.target.position.index) in
+      let has : HasPart row.chunk.profile (length row.chunk.stripes) (part.Slice t.at.index) = subst (λ c. HasPart c.profile (length c.stripes) (part.Slice t.at.index)) block.lies.chunk mine in
+      let r = has_ranges images layout row t (part.Slice t.at.index) block.in_row block.lies mine (sound.stand (part.Slice t.at.index) has) in
+      let same : range ≡ range_in r.slot (r.off + t.at.rest) (size_of t) = same_Some range (range_in r.slot (r.off + t.at.rest) (size_of t)) (sym e ∙ r.block) in
+      let at = covering slot off (range_in r.slot (r.off + t.at.rest) (size_of t)) (ap (covers slot off) (sym same) ∙ c) in (
+        has,
+        subst (λ o. IsSomeAnd o (λ range. covers slot off range ≡ true)) (sym r.element)
+            (subst (λ s. covers slot off (range_in s r.off 65536) ≡ true) (sym at.0) (covered slot r.off 65536 off (omega (arith, at.1)) (omega (arith, at.2, block.lies.inside)))),
+      )
+
+  own_part : (t : Target) (q : Part) → mirrors t.chunk ≡ None → In q (own_parts t) → part.Slice t.at.index ≡ q
+  own_part t q none i = by (subst (λ o. In q (option_map_or (λ copies. map part.Mirror (range_with_len 0 copies)) o (part.Slice t.at.index ∷ []))) none i)
+    where
+      by : In q (part.Slice t.at.index ∷ []) → part.Slice t.at.index ≡ q
+      by (inl e) = e
+      by (inr h) = absurd h
+
+  of_block : (t : Target) (o : Option (List ℕ)) → In t row.blocks → RightPasses C t → list_any (λ (w : Write). covers slot off w.range) (option_map_or (written_over images t) o []) ≡ true → IsInWrong images layout C blocks slot off
+  of_block t None among pass h = absurd (false≢true h)
+  of_block t (Some bytes) among pass h =
+      let f = any_filter_map (λ (w : Write). covers slot off w.range) (λ q. option_map (λ range. record { range = range; bytes = bytes }) (range_of t q)) (bad_parts images t) h in
+      let bad = passing_filter (λ q. not (is_good images t q)) f.0 (own_parts t) f.1 in
+      let q : part.Slice t.at.index ≡ f.0 = own_part t f.0 (sound.blocks t among).in_row.parity bad.0 in
+      let w = f.2.0 in
+      let m = mapped (λ range. record { range = range; bytes = bytes }) (range_of t f.0) w f.2.1 in
+      let range : range_of t (part.Slice t.at.index) ≡ Some m.0 = ap (range_of t) q ∙ m.1 in
+      let cover : covers slot off m.0 ≡ true = ap (λ (w : Write). covers slot off w.range) m.2 ∙ f.2.2 in
+      let fails : is_good images t (part.Slice t.at.index) ≡ false = ap (is_good images t) q ∙ not_good (is_good images t f.0) bad.1 in
+      let c = block_covers t m.0 among range cover in
+      wrong_at (part.Slice t.at.index) c.0 c.1 (bad_block_is_wrong images layout C row t sound among pass fails)
+
+  -- a sector of a parity in its element
+  sector_covers : (q : Part) (column : ℕ) (range : Range) → HasPart row.chunk.profile (length row.chunk.stripes) q → column < 16 → range_in_element layout row q (column * 4096) 4096 ≡ Some range → covers slot off range ≡ true
+      → IsSomeAnd (range_in_element layout row q 0 65536) (λ range. covers slot off range ≡ true)
+  sector_covers q column range has few e c =
+      let at0 : Elements = record { row = row.number; index = 0; rest = 0 } in
+      let at1 : Elements = record { row = row.number; index = 0; rest = column * 4096 } in
+      let chunk : IsChunk row.chunk = (table.sound is_row.number row.chunk is_row.there).0 in
+      let p = placed_part row.chunk q at0 chunk has (record { index = is_row.position.index; inside = omega (arith, is_row.position.inside) }) in
+      let r = placed_part row.chunk q at1 chunk has (record { index = is_row.position.index; inside = omega (arith, is_row.position.inside, few) }) in
+      let place = place_at row.chunk q at0 in
+      let behind = place_at row.chunk q at1 in
+      let same : p.stripe ≡ r.stripe = same_Some p.stripe r.stripe (sym p.there ∙ ap (slice_get row.chunk.stripes) (stripe-row row.chunk.profile (length row.chunk.stripes) q at0 at1 is_row.parity refl) ∙ r.there) in
+      let devid : behind.devid ≡ place.devid = ap (λ (x : Place). x.devid) (r.place ∙ ap (λ s. place_on s at1) (sym same)) ∙ sym (ap (λ (x : Place). x.devid) p.place) in
+      let offset : behind.offset ≡ p.stripe.offset + row.number * 65536 + column * 4096 = ap (λ (x : Place). x.offset) (r.place ∙ ap (λ s. place_on s at1) (sym same)) in
+      let start : place.offset ≡ p.stripe.offset + row.number * 65536 + 0 = ap (λ (x : Place). x.offset) p.place in
+      let s = stands_on place.offset 65536 (device_in layout.devices place.devid) (sound.stand q has) in
+      let whole = range_stands place.offset 65536 (device_in layout.devices place.devid) s.device s.there s.within in
+      let part_there : device_in layout.devices behind.devid ≡ Some s.device = ap (device_in layout.devices) devid ∙ s.there in
+      let piece = range_stands behind.offset 4096 (device_in layout.devices behind.devid) s.device part_there (omega (arith, s.within, offset, start, few)) in
+      let is : range ≡ range_in s.device.slot behind.offset 4096 = same_Some range (range_in s.device.slot behind.offset 4096) (sym e ∙ piece) in
+      let at = covering slot off (range_in s.device.slot behind.offset 4096) (ap (covers slot off) (sym is) ∙ c) in
+      subst (λ o. IsSomeAnd o (λ range. covers slot off range ≡ true)) (sym whole)
+      (subst (λ n. covers slot off (range_in n place.offset 65536) ≡ true) (sym at.0) (covered slot place.offset 65536 off (omega (arith, at.1, offset, start)) (omega (arith, at.2, offset, start, few))))
+
+  of_parity : (q : Part) → IsParity q → HasPart row.chunk.profile (length row.chunk.stripes) q → ((t : Target) → In t row.blocks → AcceptsRight images C t)
+      → list_any (λ (w : Write). covers slot off w.range) (parity_writes images layout row q) ≡ true → IsInWrong images layout C blocks slot off
+  of_parity q parity has right h =
+      let f = any_filter_map (λ (w : Write). covers slot off w.range) (sector_write images layout row q) (differing images layout row q) h in
+      let column = f.0 in
+      let d = passing_filter (λ column. is_decided images layout row column && differs images layout row q column) column (range_with_len 0 16) f.1 in
+      let few : column < 16 = in_below 16 column d.0 in
+      let both = and_parts (is_decided images layout row column) (differs images layout row q column) d.1 in
+      let m = mapped (λ range. record { range = range; bytes = column_of column (element_with images layout (accepted images) row q) }) (range_in_element layout row q (column * 4096) 4096) f.2.0 f.2.1 in
+      let cover : covers slot off m.0 ≡ true = ap (λ (w : Write). covers slot off w.range) m.2 ∙ f.2.2 in
+      wrong_at q has (sector_covers q column m.0 has few m.1 cover) (differing_parity_is_wrong images layout C row q column sound right parity few both.0 both.1)
+
+  parity_of : (p : Profile) (n : ℕ) (q : Part) → mirror_count p n ≡ None → In q (parities p) → IsParity q × HasPart p n q
+  parity_of p n q none i = elim (without_copies p n none) [
+    | inl five ↦ subst (λ p. IsParity q × HasPart p n q) (sym five) (with_five (subst (λ p. In q (parities p)) five i))
+    | inr six ↦ subst (λ p. IsParity q × HasPart p n q) (sym six) (with_six (subst (λ p. In q (parities p)) six i))
+  ]
+    where
+      with_five : In q (part.P ∷ []) → IsParity q × HasPart Raid5 n q
+      with_five (inl e) = subst (λ q. IsParity q × HasPart Raid5 n q) e (tt, refl)
+      with_five (inr h) = absurd h
+
+      with_six : In q (part.P ∷ part.Q ∷ []) → IsParity q × HasPart Raid6 n q
+      with_six (inl e) = subst (λ q. IsParity q × HasPart Raid6 n q) e (tt, refl)
+      with_six (inr (inl e)) = subst (λ q. IsParity q × HasPart Raid6 n q) e (tt, refl)
+      with_six (inr (inr h)) = absurd h
+
+pub row_writes_are_wrong : RowWritesAreWrong
+row_writes_are_wrong images layout C blocks row slot off table is_row sound right h =
+    let W = λ (w : Write). covers slot off w.range in
+    let any : list_any W (row_writes images layout row) ≡ true = sym (any_map (covers slot off) (λ (w : Write). w.range) (row_writes images layout row)) ∙ h in
+    elim (any_append W (flat_map (block_writes images) row.blocks) (flat_map (parity_writes images layout row) (parities row.chunk.profile)) any) [
+      | inl bad ↦
+          let f = any_flat W (block_writes images) row.blocks bad in
+          of_block images layout C blocks row slot off table is_row sound f.0 (accepted images f.0) f.1 (right f.0 f.1).0 f.2
+      | inr parity ↦
+          let f = any_flat W (parity_writes images layout row) (parities row.chunk.profile) parity in
+          let p = parity_of images layout C blocks row slot off table is_row sound row.chunk.profile (length row.chunk.stripes) f.0 is_row.parity f.1 in
+          of_parity images layout C blocks row slot off table is_row sound f.0 p.0 p.1 (λ t among. (right t among).1) f.2
+    ]

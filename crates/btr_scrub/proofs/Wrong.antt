@@ -1,0 +1,185 @@
+-- What is to be written lies in wrong elements.
+use Rattle.std.proofs.Common.{◌≡◌, ◌⊎◌, ℕ, ◌+◌, ◌-◌, ◌*◌, ◌<◌, ◌≤◌, Bool, true, false, not, ◌&&◌, ◌||◌, eqb, ltb, List, [], ◌∷◌, map, length, get_or, slice_range, Option, Some, None, IfSome, is_some, refl, sym, ap, ◌∙◌, subst, inl, inr, arith}
+use Rattle.std.proofs.lemmas.Bool.{false≢true, and_parts, cases_lt, lt-ltb}
+use Rattle.std.proofs.lemmas.List.{same_lists, length-map, get_or-map}
+use Rattle.std.proofs.lemmas.List.FromFn.{length-map-range_with_len, get_or-map-range_with_len}
+use Rattle.std.proofs.lemmas.Slice.Eq.{bytes_eq-Decides}
+use Rattle.std.specs.List.{fold, list_all, list_any}
+use Rattle.std.specs.Option.{option_map_or}
+use Rattle.std.specs.Str.{bytes_eq}
+use Rattle.btr_chunk.specs.Chunk.{data_count}
+use Rattle.btr_chunk.specs.Mapping.{HasPart}
+use Rattle.btr_chunk.specs.declared.place.Part.{Part}
+use Rattle.btr_chunk.specs.declared.place.Part.TheVariants as part
+use Rattle.btr_parity.specs.Slices.{IsSlice, parity_p, parity_q}
+use Rattle.btr_rack.specs.Rack.{pasted}
+use Rattle.btr_read.specs.Candidates.{Target, size_of, slice_count}
+use Rattle.btr_read.specs.Candidates as read
+use Rattle.btr_read.specs.Layout.{Layout}
+use Rattle.btr_read.specs.Want.{passes}
+use Rattle.btr_mend.specs.Blocks.{accepted}
+use Rattle.btr_scrub.specs.Glue.{In, ranges_of}
+use Rattle.btr_scrub.specs.Right.{committed_for}
+use Rattle.btr_scrub.specs.Rows as rows
+use Rattle.btr_scrub.specs.Rows.{Row, blocks_at, column_of, element, element_with, meets, slice_with, slices_with, with_block}
+use Rattle.btr_scrub.specs.Survival.{BadBlockIsWrong, DifferingParityIsWrong, IsParity}
+use Rattle.btr_scrub.proofs.Elements.{block_of_element}
+use Rattle.btr_scrub.proofs.Ranges.{parity_of_ranges}
+use Rattle.btr_scrub.proofs.Pasting.{length-pasted, pasted-above, pasted-below, pasted-within}
+use Rattle.btr_scrub.proofs.Survival.{block_there, at_slice, slice_there, some_of, of_filter, range_ext}
+use Rattle.btr_mend.specs.Writes.{Images}
+
+-- a bad block's slice isn't right, since committed bytes pass
+pub bad_block_is_wrong : BadBlockIsWrong
+bad_block_is_wrong images layout C row t sound among pass bad right =
+    let block = sound.blocks t among in
+    let b = some_of (C t.want) block.committed in
+    let n : slice_count t ≡ rows.slice_count row = ap (λ c. data_count c.profile (length c.stripes)) block.lies.chunk in
+    let lt : t.at.index < rows.slice_count row = omega (arith, n, block.in_row.target.position.index) in
+    let has : HasPart row.chunk.profile (length row.chunk.stripes) (part.Slice t.at.index) = slice_there images layout C row sound t.at.index lt in
+    let mine : HasPart t.chunk.profile (length t.chunk.stripes) (part.Slice t.at.index) = subst (λ c. HasPart c.profile (length c.stripes) (part.Slice t.at.index)) (sym block.lies.chunk) has in
+    let value : read.element images t (part.Slice t.at.index) ≡ b.0 =
+    block_of_element images layout row t (part.Slice t.at.index) block.in_row block.lies mine (sound.stand (part.Slice t.at.index) has)
+    ∙ ap (λ xs. slice_range xs t.at.rest (t.at.rest + size_of t)) (right ∙ sym (at_slice images layout C row sound t.at.index [] lt))
+    ∙ block_there images layout C row sound t b.0 among lt b.1 in
+    let passing : passes t.setting t.want b.0 ≡ true = subst (λ o. IfSome o (λ bytes. passes t.setting t.want bytes ≡ true)) b.1 pass in
+    false≢true (sym bad ∙ ap (passes t.setting t.want) value ∙ passing)
+
+-- ---- decided columns
+
+all_at : {X : Type 0} (f : X → Bool) (xs : List X) (x : X) → list_all f xs ≡ true → In x xs → f x ≡ true
+all_at f [] x h i = absurd i
+all_at f (y ∷ xs) x h (inl e) = ap f (sym e) ∙ (and_parts (f y) (list_all f xs) h).0
+all_at f (y ∷ xs) x h (inr i) = all_at f xs x (and_parts (f y) (list_all f xs) h).1 i
+
+-- the bytes of a column are the same
+abbrev pub SameIn : ℕ → List ℕ → List ℕ → Type 0
+SameIn c xs ys = (i d : ℕ) → c * 4096 ≤ i → i < c * 4096 + 4096 → get_or xs i d ≡ get_or ys i d
+
+outside : (t : Target) (o : Option (List ℕ)) (xs : List ℕ) (i d : ℕ) → t.at.rest + size_of t ≤ length xs → IfSome o (IsSlice (size_of t)) → (i < t.at.rest) ⊎ (t.at.rest + size_of t ≤ i)
+    → get_or (option_map_or (pasted xs t.at.rest) o xs) i d ≡ get_or xs i d
+outside t None xs i d fits is out = refl
+outside t (Some b) xs i d fits is (inl lt) = pasted-below xs t.at.rest b (omega (arith, fits, is.long)) i d lt
+outside t (Some b) xs i d fits is (inr le) = pasted-above xs t.at.rest b (omega (arith, fits, is.long)) i d (omega (arith, le, is.long))
+
+inside : (t : Target) (o : Option (List ℕ)) (xs ys : List ℕ) (i d : ℕ) → t.at.rest + size_of t ≤ length xs → t.at.rest + size_of t ≤ length ys → IfSome o (IsSlice (size_of t))
+    → t.at.rest ≤ i → i < t.at.rest + size_of t → get_or xs i d ≡ get_or ys i d
+    → get_or (option_map_or (pasted xs t.at.rest) o xs) i d ≡ get_or (option_map_or (pasted ys t.at.rest) o ys) i d
+inside t None xs ys i d fx fy is le lt same = same
+inside t (Some b) xs ys i d fx fy is le lt same =
+    pasted-within xs t.at.rest b (omega (arith, fx, is.long)) i d le (omega (arith, lt, is.long))
+    ∙ sym (pasted-within ys t.at.rest b (omega (arith, fy, is.long)) i d le (omega (arith, lt, is.long)))
+
+long_after : (t : Target) (o : Option (List ℕ)) (xs : List ℕ) → t.at.rest + size_of t ≤ length xs → IfSome o (IsSlice (size_of t)) → length (option_map_or (pasted xs t.at.rest) o xs) ≡ length xs
+long_after t None xs fits is = refl
+long_after t (Some b) xs fits is = length-pasted xs t.at.rest b (omega (arith, fits, is.long))
+
+module _ (images : Images) (layout : Layout) (g h : Target → Option (List ℕ)) (c : ℕ) where
+  -- two lists of what is given for blocks fit, and agree where a block meets the column
+  pub record Agrees (t : Target) : Type 0 where
+    pub inside : t.at.rest + size_of t ≤ 65536
+    pub one : IfSome (g t) (IsSlice (size_of t))
+    pub other : IfSome (h t) (IsSlice (size_of t))
+    pub same : meets c t ≡ true → g t ≡ h t
+
+  step : (t : Target) (xs ys : List ℕ) → Agrees t → length xs ≡ 65536 → length ys ≡ 65536 → SameIn c xs ys → SameIn c (with_block images layout g xs t) (with_block images layout h ys t)
+  step t xs ys a lx ly same i d from to = elim (cases_lt i t.at.rest) [
+    | inl below ↦ out (inl below)
+    | inr above ↦ elim (cases_lt i (t.at.rest + size_of t)) [
+      | inl within ↦
+          let met : meets c t ≡ true = ap (λ b. b && ltb (c * 4096) (t.at.rest + size_of t)) (lt-ltb t.at.rest (c * 4096 + 4096) (omega (arith, above, to))) ∙ lt-ltb (c * 4096) (t.at.rest + size_of t) (omega (arith, from, within)) in
+          inside t (g t) xs ys i d (omega (arith, a.inside, lx)) (omega (arith, a.inside, ly)) a.one above within (same i d from to)
+          ∙ ap (λ o. get_or (option_map_or (pasted ys t.at.rest) o ys) i d) (a.same met)
+      | inr past ↦ out (inr past)
+    ]
+  ]
+    where
+      out : (i < t.at.rest) ⊎ (t.at.rest + size_of t ≤ i) → get_or (with_block images layout g xs t) i d ≡ get_or (with_block images layout h ys t) i d
+      out o = outside t (g t) xs i d (omega (arith, a.inside, lx)) a.one o ∙ same i d from to ∙ sym (outside t (h t) ys i d (omega (arith, a.inside, ly)) a.other o)
+
+  pub record FoldsAgree (xs ys : List ℕ) : Type 0 where
+    pub one_long : length xs ≡ 65536
+    pub other_long : length ys ≡ 65536
+    pub same : SameIn c xs ys
+
+  folds : (ts : List Target) (xs ys : List ℕ) → ((t : Target) → In t ts → Agrees t) → FoldsAgree xs ys → FoldsAgree (fold (with_block images layout g) xs ts) (fold (with_block images layout h) ys ts)
+  folds [] xs ys agrees f = f
+  folds (t ∷ ts) xs ys agrees f =
+      let a = agrees t (inl refl) in
+      folds ts (with_block images layout g xs t) (with_block images layout h ys t) (λ u i. agrees u (inr i)) (record {
+        one_long = long_after t (g t) xs (omega (arith, a.inside, f.one_long)) a.one ∙ f.one_long;
+        other_long = long_after t (h t) ys (omega (arith, a.inside, f.other_long)) a.other ∙ f.other_long;
+        same = step t xs ys a f.one_long f.other_long f.same;
+      })
+
+  -- so the columns of a slice are the same
+  pub columns : (row : Row) (i : ℕ) → c < 16 → ((t : Target) → In t (blocks_at row i) → Agrees t) → IsSlice 65536 (element images layout row (part.Slice i))
+      → column_of c (slice_with images layout g row i) ≡ column_of c (slice_with images layout h row i)
+  columns row i few agrees is =
+      let e = element images layout row (part.Slice i) in
+      let f = folds (blocks_at row i) e e agrees (record { one_long = is.long; other_long = is.long; same = λ j d from to. refl }) in
+      range_ext (slice_with images layout g row i) (slice_with images layout h row i) (c * 4096) (c * 4096 + 4096) (omega (arith, few, f.one_long)) (f.one_long ∙ sym f.other_long) f.same
+
+  pub all_columns : (row : Row) → c < 16 → ((i : ℕ) (t : Target) → In t (blocks_at row i) → Agrees t) → ((i : ℕ) → i < rows.slice_count row → IsSlice 65536 (element images layout row (part.Slice i)))
+      → ranges_of (c * 4096) (c * 4096 + 4096) (slices_with images layout g row) ≡ ranges_of (c * 4096) (c * 4096 + 4096) (slices_with images layout h row)
+  all_columns row few agrees are =
+      let n = rows.slice_count row in
+      let cut = λ (xs : List ℕ). slice_range xs (c * 4096) (c * 4096 + 4096) in
+      let gs = slices_with images layout g row in
+      let hs = slices_with images layout h row in
+      let lg : length gs ≡ n = length-map-range_with_len (slice_with images layout g row) 0 n in
+      let lh : length hs ≡ n = length-map-range_with_len (slice_with images layout h row) 0 n in
+      same_lists (map cut gs) (map cut hs) (length-map gs cut ∙ lg ∙ sym (length-map hs cut ∙ lh)) (λ i d below.
+      let lt : i < n = omega (arith, below, length-map gs cut, lg) in
+      get_or-map cut gs i [] d (omega (arith, lt, lg)) ∙ ap cut (get_or-map-range_with_len (slice_with images layout g row) 0 n i i [] lt (omega arith))
+      ∙ columns row i few (agrees i) (are i lt)
+      ∙ sym (get_or-map cut hs i [] d (omega (arith, lt, lh)) ∙ ap cut (get_or-map-range_with_len (slice_with images layout h row) 0 n i i [] lt (omega arith))))
+
+not_lost : (b : Bool) (o : Option (List ℕ)) → (not b || is_some o) ≡ true → b ≡ true → is_some o ≡ true
+not_lost true o h e = h
+not_lost false o h e = absurd (false≢true e)
+
+accepted_is : (o p : Option (List ℕ)) → IfSome o (λ bytes. p ≡ Some bytes) → is_some o ≡ true → o ≡ p
+accepted_is None p h e = absurd (false≢true e)
+accepted_is (Some b) p h e = sym h
+
+accepted_slice : (size : ℕ) (o p : Option (List ℕ)) → IfSome o (λ bytes. p ≡ Some bytes) → IfSome p (IsSlice size) → IfSome o (IsSlice size)
+accepted_slice size None p h is = tt
+accepted_slice size (Some b) p h is = subst (λ q. IfSome q (IsSlice size)) h is
+
+column_fits : (c : ℕ) → c < 16 → c * 4096 + 4096 ≤ 65536
+column_fits c lt = omega (arith, lt)
+
+pub differing_parity_is_wrong : DifferingParityIsWrong
+differing_parity_is_wrong images layout C row q c sound right parity few decided differ is =
+    let all = (and_parts (list_any (meets c) row.blocks) (list_all (λ t. not (meets c t) || is_some (accepted images t)) row.blocks) decided).1 in
+    let agrees = λ (i : ℕ) (t : Target) (among : In t (blocks_at row i)). by i t among all in
+    let same = all_columns images layout (accepted images) (committed_for C) c row few agrees (λ i lt. sound.bytes (part.Slice i) (slice_there images layout C row sound i lt)) in
+    let equal : column_of c (element images layout row q) ≡ column_of c (element_with images layout (accepted images) row q) = ap (column_of c) is ∙ sym (parts q parity same) in
+    let yes : bytes_eq (column_of c (element images layout row q)) (column_of c (element_with images layout (accepted images) row q)) ≡ true =
+    (let d = bytes_eq-Decides (column_of c (element images layout row q)) (column_of c (element_with images layout (accepted images) row q)) in d.1 equal) in
+    false≢true (sym (ap not yes) ∙ differ)
+  where
+    by : (i : ℕ) (t : Target) → In t (blocks_at row i) → list_all (λ t. not (meets c t) || is_some (accepted images t)) row.blocks ≡ true → Agrees images layout (accepted images) (committed_for C) c t
+    by i t among all =
+        let there : In t row.blocks = of_filter (λ u. eqb u.at.index i) t row.blocks among in
+        let block = sound.blocks t there in
+        record {
+          inside = block.lies.inside;
+          one = accepted_slice (size_of t) (accepted images t) (C t.want) (right t there) block.bytes;
+          other = block.bytes;
+          same = λ met. accepted_is (accepted images t) (C t.want) (right t there) (not_lost (meets c t) (accepted images t) (all_at (λ u. not (meets c u) || is_some (accepted images u)) row.blocks t all there) met);
+        }
+
+    parts : (q : Part) → IsParity q → ranges_of (c * 4096) (c * 4096 + 4096) (slices_with images layout (accepted images) row) ≡ ranges_of (c * 4096) (c * 4096 + 4096) (slices_with images layout (committed_for C) row)
+        → column_of c (element_with images layout (accepted images) row q) ≡ column_of c (element_with images layout (committed_for C) row q)
+    parts (part.Mirror i) h same = absurd h
+    parts (part.Slice i) h same = absurd h
+    parts part.P h same =
+        sym (parity_of_ranges.of_p 65536 (c * 4096) (c * 4096 + 4096) (slices_with images layout (accepted images) row) (omega arith) (column_fits c few))
+        ∙ ap (parity_p (c * 4096 + 4096 - c * 4096)) same
+        ∙ parity_of_ranges.of_p 65536 (c * 4096) (c * 4096 + 4096) (slices_with images layout (committed_for C) row) (omega arith) (column_fits c few)
+    parts part.Q h same =
+        sym (parity_of_ranges.of_q 65536 (c * 4096) (c * 4096 + 4096) (slices_with images layout (accepted images) row) (omega arith) (column_fits c few))
+        ∙ ap (parity_q (c * 4096 + 4096 - c * 4096)) same
+        ∙ parity_of_ranges.of_q 65536 (c * 4096) (c * 4096 + 4096) (slices_with images layout (committed_for C) row) (omega arith) (column_fits c few)

@@ -1,0 +1,161 @@
+use Rattle.std.proofs.Common.{◌≡◌, Some, Ok, Err, refl, sym, ap, ◌∙◌, subst, arith}
+use Rattle.std.specs.Prelude.{Contains}
+use Rattle.btr_read.specs.Layout.{Layout}
+use Rattle.btr_files.specs.Sums.{kind_in, tree_behind}
+use Rattle.btr_volume.specs.declared.volume.Volume.{Volume}
+use Rattle.btr_walk.specs.ScanEnds.{rank_of, without_leaf}
+use Rattle.btr_scrub.specs.Gathering.{Gathers, scene}
+use Rattle.btr_scrub.specs.Units.{extent_met}
+use Rattle.btr_scrub.specs.Scanning.{ItemNears, NextTold}
+use Rattle.btr_scrub.proofs.Scanning.{ready_same, room_beside, room_same, same_layout, without_same}
+use Rattle.btr_scrub.proofs.Underways.{scanned_broken, scanned_ends, scanned_fault, scanned_stops, underway_extent, underway_first, underway_other}
+use Rattle.btr_scrub.proofs.collecting.gather_items.Goals as goal
+
+pub loop-fault-init : goal.loop-fault-init
+loop-fault-init g c = record {
+  ready = c.requires.ready;
+  room = c.requires.room;
+  sup = refl;
+  layout = refl;
+  is_list = c.requires.is_list;
+  kind = refl;
+  underway = λ chunk span there. underway_first c.args.vol.now.sup (tree_behind c.args.sums) chunk (scene (g.R.Rack.seen c.args.rack.now) c.args.vol.now c.args.gathered.now) c.args.scan.now c.requires.ready c.requires.is_list c.requires.on;
+}
+
+pub next_extent-requires-clause-ready : goal.next_extent-requires-clause-ready
+next_extent-requires-clause-ready g c = c.loop-fault.invariant.ready
+
+pub next_extent-requires-clause-room : goal.next_extent-requires-clause-room
+next_extent-requires-clause-room g c = let room = c.loop-fault.invariant.room in omega (arith, room)
+
+pub returns-in-Err-clause-ready : goal.returns-in-Err-clause-ready
+returns-in-Err-clause-ready g c = c.in-Err.ensures.ready
+
+pub returns-in-Err-clause-scanned : goal.returns-in-Err-clause-scanned
+returns-in-Err-clause-scanned g c chunk span there =
+    let inv = c.loop-fault.invariant in
+    let after : Volume = record { store = c.next_extent.new.store; sup = c.loop-fault.vol.sup } in
+    let sums = tree_behind c.args.sums in
+    scanned_fault c.args.vol.now.sup sums chunk (scene (g.R.Rack.seen c.args.rack.now) c.args.vol.now c.args.gathered.now) c.args.scan.now
+    (scene (g.R.Rack.seen c.loop-fault.rack) c.loop-fault.vol c.loop-fault.gathered) c.loop-fault.scan c.next_extent.new.scan c.loop-fault.end (inv.underway chunk span there)
+    (g.R.Rack.seen c.next_extent.new.rack) after refl c.in-Err.ensures.reads c.in-Err.ensures.others c.in-Err.ensures.ready c.in-Err.fault c.in-Err.ensures.cause
+    (subst (λ s. NextTold s (g.R.Rack.seen c.loop-fault.rack) (g.R.Rack.seen c.next_extent.new.rack) c.loop-fault.vol.store c.next_extent.new.store c.loop-fault.scan c.next_extent.new.scan (Err c.in-Err.fault)) inv.sup c.in-Err.ensures.content)
+
+pub returns-in-Ok-End-clause-ready : goal.returns-in-Ok-End-clause-ready
+returns-in-Ok-End-clause-ready g c = c.in-Ok-End.ensures.ready
+
+pub returns-in-Ok-End-clause-scanned : goal.returns-in-Ok-End-clause-scanned
+returns-in-Ok-End-clause-scanned g c chunk span there =
+    let inv = c.loop-fault.invariant in
+    let after : Volume = record { store = c.next_extent.new.store; sup = c.loop-fault.vol.sup } in
+    let sums = tree_behind c.args.sums in
+    scanned_ends c.args.vol.now.sup sums chunk (scene (g.R.Rack.seen c.args.rack.now) c.args.vol.now c.args.gathered.now) c.args.scan.now
+    (scene (g.R.Rack.seen c.loop-fault.rack) c.loop-fault.vol c.loop-fault.gathered) c.loop-fault.scan c.next_extent.new.scan c.loop-fault.end (inv.underway chunk span there)
+    (g.R.Rack.seen c.next_extent.new.rack) after refl c.in-Ok-End.ensures.reads c.in-Ok-End.ensures.others c.in-Ok-End.ensures.ready
+    (subst (λ v. NextTold c.args.vol.now.sup (g.R.Rack.seen c.loop-fault.rack) (g.R.Rack.seen c.next_extent.new.rack) c.loop-fault.vol.store c.next_extent.new.store c.loop-fault.scan c.next_extent.new.scan (Ok v)) c.in-Ok-End.field-0-is (subst (λ s. NextTold s (g.R.Rack.seen c.loop-fault.rack) (g.R.Rack.seen c.next_extent.new.rack) c.loop-fault.vol.store c.next_extent.new.store c.loop-fault.scan c.next_extent.new.scan (Ok c.in-Ok-End.field-0)) inv.sup c.in-Ok-End.ensures.content))
+
+pub loop-fault-smaller-in-Ok-Other : goal.loop-fault-smaller-in-Ok-Other
+loop-fault-smaller-in-Ok-Other g c = subst (λ v. ItemNears (rank_of c.loop-fault.scan) (rank_of c.next_extent.new.scan) (Ok v)) c.in-Ok-Other.field-0-is c.in-Ok-Other.ensures.nears
+
+pub loop-fault-preserved-in-Ok-Other : goal.loop-fault-preserved-in-Ok-Other
+loop-fault-preserved-in-Ok-Other g c =
+    let inv = c.loop-fault.invariant in
+    let after : Volume = record { store = c.next_extent.new.store; sup = c.loop-fault.vol.sup } in
+    let sums = tree_behind c.args.sums in
+    record {
+      ready = c.in-Ok-Other.ensures.ready;
+      room = room_same (without_leaf c.loop-fault.vol.store c.loop-fault.scan) (without_leaf c.next_extent.new.store c.next_extent.new.scan) 5 c.in-Ok-Other.ensures.others inv.room;
+      sup = inv.sup;
+      layout = same_layout c.loop-fault.vol.store c.next_extent.new.store c.loop-fault.scan c.next_extent.new.scan c.in-Ok-Other.ensures.others ∙ inv.layout;
+      is_list = inv.is_list;
+      kind = inv.kind;
+      underway = λ chunk span there.
+          underway_other c.args.vol.now.sup sums chunk (scene (g.R.Rack.seen c.args.rack.now) c.args.vol.now c.args.gathered.now) c.args.scan.now
+          (scene (g.R.Rack.seen c.loop-fault.rack) c.loop-fault.vol c.loop-fault.gathered) c.loop-fault.scan c.next_extent.new.scan c.loop-fault.end (inv.underway chunk span there)
+          (g.R.Rack.seen c.next_extent.new.rack) after refl c.in-Ok-Other.ensures.reads c.in-Ok-Other.ensures.others c.in-Ok-Other.ensures.ready c.in-Ok-Other.ensures.lo c.in-Ok-Other.ensures.hi
+          (subst (λ v. NextTold c.args.vol.now.sup (g.R.Rack.seen c.loop-fault.rack) (g.R.Rack.seen c.next_extent.new.rack) c.loop-fault.vol.store c.next_extent.new.store c.loop-fault.scan c.next_extent.new.scan (Ok v)) c.in-Ok-Other.field-0-is (subst (λ s. NextTold s (g.R.Rack.seen c.loop-fault.rack) (g.R.Rack.seen c.next_extent.new.rack) c.loop-fault.vol.store c.next_extent.new.store c.loop-fault.scan c.next_extent.new.scan (Ok c.in-Ok-Other.field-0)) inv.sup c.in-Ok-Other.ensures.content));
+    }
+
+pub returns-in-Ok-Broken-clause-ready : goal.returns-in-Ok-Broken-clause-ready
+returns-in-Ok-Broken-clause-ready g c = c.in-Ok-Broken.ensures.ready
+
+pub returns-in-Ok-Broken-clause-scanned : goal.returns-in-Ok-Broken-clause-scanned
+returns-in-Ok-Broken-clause-scanned g c chunk span there =
+    let inv = c.loop-fault.invariant in
+    let after : Volume = record { store = c.next_extent.new.store; sup = c.loop-fault.vol.sup } in
+    let sums = tree_behind c.args.sums in
+    scanned_broken c.args.vol.now.sup sums chunk (scene (g.R.Rack.seen c.args.rack.now) c.args.vol.now c.args.gathered.now) c.args.scan.now
+    (scene (g.R.Rack.seen c.loop-fault.rack) c.loop-fault.vol c.loop-fault.gathered) c.loop-fault.scan c.next_extent.new.scan c.loop-fault.end (inv.underway chunk span there)
+    (g.R.Rack.seen c.next_extent.new.rack) after refl c.in-Ok-Broken.ensures.reads c.in-Ok-Broken.ensures.others c.in-Ok-Broken.ensures.ready c.in-Ok-Broken.ensures.lo c.in-Ok-Broken.ensures.hi c.in-Ok-Broken.leaf
+    (subst (λ v. NextTold c.args.vol.now.sup (g.R.Rack.seen c.loop-fault.rack) (g.R.Rack.seen c.next_extent.new.rack) c.loop-fault.vol.store c.next_extent.new.store c.loop-fault.scan c.next_extent.new.scan (Ok v)) c.in-Ok-Broken.field-0-is (subst (λ s. NextTold s (g.R.Rack.seen c.loop-fault.rack) (g.R.Rack.seen c.next_extent.new.rack) c.loop-fault.vol.store c.next_extent.new.store c.loop-fault.scan c.next_extent.new.scan (Ok c.in-Ok-Broken.field-0)) inv.sup c.in-Ok-Broken.ensures.content))
+
+pub gather_extent-requires-clause-serves : goal.gather_extent-requires-clause-serves
+gather_extent-requires-clause-serves g c = c.in-Ok-Found.ensures.ready.serves
+
+pub gather_extent-requires-clause-room : goal.gather_extent-requires-clause-room
+gather_extent-requires-clause-room g c =
+    room_beside (g.R.Rack.seen c.next_extent.new.rack) c.next_extent.new.store c.next_extent.new.scan 4 c.in-Ok-Found.ensures.ready
+    (room_same (without_leaf c.loop-fault.vol.store c.loop-fault.scan) (without_leaf c.next_extent.new.store c.next_extent.new.scan) 5 c.in-Ok-Found.ensures.others c.loop-fault.invariant.room)
+
+pub gather_extent-requires-clause-is_list : goal.gather_extent-requires-clause-is_list
+gather_extent-requires-clause-is_list g c = c.loop-fault.invariant.is_list
+
+pub gather_extent-requires-clause-kind : goal.gather_extent-requires-clause-kind
+gather_extent-requires-clause-kind g c = c.loop-fault.invariant.kind ∙ c.requires.kind ∙ ap kind_in (sym c.loop-fault.invariant.sup)
+
+pub gather_extent-requires-clause-span : goal.gather_extent-requires-clause-span
+gather_extent-requires-clause-span g c = c.requires.span
+
+pub loop-fault-smaller : goal.loop-fault-smaller
+loop-fault-smaller g c = subst (λ v. ItemNears (rank_of c.loop-fault.scan) (rank_of c.next_extent.new.scan) (Ok v)) c.in-Ok-Found.field-0-is c.in-Ok-Found.ensures.nears
+
+pub loop-fault-preserved : goal.loop-fault-preserved
+loop-fault-preserved g c =
+    let inv = c.loop-fault.invariant in
+    let after : Volume = record { store = c.next_extent.new.store; sup = c.loop-fault.vol.sup } in
+    let sums = tree_behind c.args.sums in
+    let others = c.in-Ok-Found.ensures.others in
+    let ready = c.in-Ok-Found.ensures.ready in
+    let layout : c.next_extent.new.store.layout ≡ c.args.vol.now.store.layout = same_layout c.loop-fault.vol.store c.next_extent.new.store c.loop-fault.scan c.next_extent.new.scan others ∙ inv.layout in
+    let of = c.requires.chunk in
+    let one = (subst (λ s. Gathers (extent_met s sums of.chunk c.loop-fault.end c.in-Ok-Found.leaf (Some c.in-Ok-Found.extent)) (scene (g.R.Rack.seen c.next_extent.new.rack) after c.loop-fault.gathered) (scene (g.R.Rack.seen c.gather_extent.new.rack) c.gather_extent.new.vol c.gather_extent.new.gathered) (Ok c.in-Ok.next)) inv.sup (c.in-Ok.ensures of.chunk of.is (subst (λ (l : Layout). Contains l.chunks of.chunk) (sym layout) of.there))) in
+    record {
+      ready = ready_same (g.R.Rack.seen c.next_extent.new.rack) (g.R.Rack.seen c.gather_extent.new.rack) c.next_extent.new.store c.gather_extent.new.vol.store c.next_extent.new.scan one.volume.store one.serves ready;
+      room = room_same (without_leaf c.next_extent.new.store c.next_extent.new.scan) (without_leaf c.gather_extent.new.vol.store c.next_extent.new.scan) 5 (without_same c.next_extent.new.store c.gather_extent.new.vol.store c.next_extent.new.scan one.volume.store)
+          (room_same (without_leaf c.loop-fault.vol.store c.loop-fault.scan) (without_leaf c.next_extent.new.store c.next_extent.new.scan) 5 others inv.room);
+      sup = one.volume.sup ∙ inv.sup;
+      layout = one.volume.store.layout ∙ layout;
+      is_list = one.lists.is_list;
+      kind = one.lists.kind ∙ inv.kind;
+      underway = λ chunk span there. underway_extent c.args.vol.now.sup sums chunk (scene (g.R.Rack.seen c.args.rack.now) c.args.vol.now c.args.gathered.now) c.args.scan.now
+          (scene (g.R.Rack.seen c.loop-fault.rack) c.loop-fault.vol c.loop-fault.gathered) c.loop-fault.scan c.next_extent.new.scan c.loop-fault.end (inv.underway chunk span there)
+          (g.R.Rack.seen c.next_extent.new.rack) after refl c.in-Ok-Found.ensures.reads others ready c.in-Ok-Found.ensures.lo c.in-Ok-Found.ensures.hi c.in-Ok-Found.extent c.in-Ok-Found.leaf
+          (subst (λ v. NextTold c.args.vol.now.sup (g.R.Rack.seen c.loop-fault.rack) (g.R.Rack.seen c.next_extent.new.rack) c.loop-fault.vol.store c.next_extent.new.store c.loop-fault.scan c.next_extent.new.scan (Ok v)) c.in-Ok-Found.field-0-is (subst (λ s. NextTold s (g.R.Rack.seen c.loop-fault.rack) (g.R.Rack.seen c.next_extent.new.rack) c.loop-fault.vol.store c.next_extent.new.store c.loop-fault.scan c.next_extent.new.scan (Ok c.in-Ok-Found.field-0)) inv.sup c.in-Ok-Found.ensures.content))
+          (scene (g.R.Rack.seen c.gather_extent.new.rack) c.gather_extent.new.vol c.gather_extent.new.gathered) c.in-Ok.next (subst (λ s. Gathers (extent_met s sums chunk c.loop-fault.end c.in-Ok-Found.leaf (Some c.in-Ok-Found.extent)) (scene (g.R.Rack.seen c.next_extent.new.rack) after c.loop-fault.gathered) (scene (g.R.Rack.seen c.gather_extent.new.rack) c.gather_extent.new.vol c.gather_extent.new.gathered) (Ok c.in-Ok.next)) inv.sup (c.in-Ok.ensures chunk span (subst (λ (l : Layout). Contains l.chunks chunk) (sym layout) there)));
+    }
+
+pub returns-in-Err-gather_extent-clause-ready : goal.returns-in-Err-gather_extent-clause-ready
+returns-in-Err-gather_extent-clause-ready g c =
+    let inv = c.loop-fault.invariant in
+    let after : Volume = record { store = c.next_extent.new.store; sup = c.loop-fault.vol.sup } in
+    let sums = tree_behind c.args.sums in
+    let others = c.in-Ok-Found.ensures.others in
+    let ready = c.in-Ok-Found.ensures.ready in
+    let layout : c.next_extent.new.store.layout ≡ c.args.vol.now.store.layout = same_layout c.loop-fault.vol.store c.next_extent.new.store c.loop-fault.scan c.next_extent.new.scan others ∙ inv.layout in
+    let of = c.requires.chunk in
+    let one = (subst (λ s. Gathers (extent_met s sums of.chunk c.loop-fault.end c.in-Ok-Found.leaf (Some c.in-Ok-Found.extent)) (scene (g.R.Rack.seen c.next_extent.new.rack) after c.loop-fault.gathered) (scene (g.R.Rack.seen c.gather_extent.new.rack) c.gather_extent.new.vol c.gather_extent.new.gathered) (Err c.in-Err-gather_extent.stop)) inv.sup (c.in-Err-gather_extent.ensures of.chunk of.is (subst (λ (l : Layout). Contains l.chunks of.chunk) (sym layout) of.there))) in
+    ready_same (g.R.Rack.seen c.next_extent.new.rack) (g.R.Rack.seen c.gather_extent.new.rack) c.next_extent.new.store c.gather_extent.new.vol.store c.next_extent.new.scan one.volume.store one.serves ready
+
+pub returns-in-Err-gather_extent-clause-scanned : goal.returns-in-Err-gather_extent-clause-scanned
+returns-in-Err-gather_extent-clause-scanned g c chunk span there =
+    let inv = c.loop-fault.invariant in
+    let after : Volume = record { store = c.next_extent.new.store; sup = c.loop-fault.vol.sup } in
+    let sums = tree_behind c.args.sums in
+    let others = c.in-Ok-Found.ensures.others in
+    let ready = c.in-Ok-Found.ensures.ready in
+    let layout : c.next_extent.new.store.layout ≡ c.args.vol.now.store.layout = same_layout c.loop-fault.vol.store c.next_extent.new.store c.loop-fault.scan c.next_extent.new.scan others ∙ inv.layout in
+    scanned_stops c.args.vol.now.sup sums chunk (scene (g.R.Rack.seen c.args.rack.now) c.args.vol.now c.args.gathered.now) c.args.scan.now
+    (scene (g.R.Rack.seen c.loop-fault.rack) c.loop-fault.vol c.loop-fault.gathered) c.loop-fault.scan c.next_extent.new.scan c.loop-fault.end (inv.underway chunk span there)
+    (g.R.Rack.seen c.next_extent.new.rack) after refl c.in-Ok-Found.ensures.reads others ready c.in-Ok-Found.ensures.lo c.in-Ok-Found.ensures.hi c.in-Ok-Found.extent c.in-Ok-Found.leaf
+    (subst (λ v. NextTold c.args.vol.now.sup (g.R.Rack.seen c.loop-fault.rack) (g.R.Rack.seen c.next_extent.new.rack) c.loop-fault.vol.store c.next_extent.new.store c.loop-fault.scan c.next_extent.new.scan (Ok v)) c.in-Ok-Found.field-0-is (subst (λ s. NextTold s (g.R.Rack.seen c.loop-fault.rack) (g.R.Rack.seen c.next_extent.new.rack) c.loop-fault.vol.store c.next_extent.new.store c.loop-fault.scan c.next_extent.new.scan (Ok c.in-Ok-Found.field-0)) inv.sup c.in-Ok-Found.ensures.content))
+    (scene (g.R.Rack.seen c.gather_extent.new.rack) c.gather_extent.new.vol c.gather_extent.new.gathered) c.in-Err-gather_extent.stop (subst (λ s. Gathers (extent_met s sums chunk c.loop-fault.end c.in-Ok-Found.leaf (Some c.in-Ok-Found.extent)) (scene (g.R.Rack.seen c.next_extent.new.rack) after c.loop-fault.gathered) (scene (g.R.Rack.seen c.gather_extent.new.rack) c.gather_extent.new.vol c.gather_extent.new.gathered) (Err c.in-Err-gather_extent.stop)) inv.sup (c.in-Err-gather_extent.ensures chunk span (subst (λ (l : Layout). Contains l.chunks chunk) (sym layout) there)))

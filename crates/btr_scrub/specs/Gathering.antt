@@ -1,0 +1,140 @@
+-- What calls that list the checked blocks did, and how they answered.
+use Rattle.std.specs.Prelude.{◌≡◌, ◌⊎◌, ℕ, true, Contains, ◌≤◌, List, [], ◌∷◌, ◌++◌, fold, Result, Ok, Err, OnOk}
+use Rattle.btr_prog.specs.Answers.{Halt, Fault as halt_fault, Broke, Follows, no_part}
+use Rattle.btr_prog.specs.Prog.{Mark, exec, prepend, steps_of}
+use Rattle.btr_rack.specs.Rack.{Seen, OnlyReads, next_count}
+use Rattle.btr_read.specs.Fate as fate
+use Rattle.btr_read.specs.Layout.{Layout}
+use Rattle.btr_read.specs.Serves.{Serves}
+use Rattle.btr_read.specs.Store.{free_count}
+use Rattle.btr_read.specs.declared.want.Want.{Want}
+use Rattle.btr_walk.specs.Reading.{FaultCause, Tells, UnreadBlock, halt_of, unread_by}
+use Rattle.btr_walk.specs.declared.fault.TreeFault.{TreeFault}
+use Rattle.btr_walk.specs.declared.fault.TreeFault.TheVariants as tree
+use Rattle.btr_chunk.specs.declared.chunk.Chunk.{Chunk}
+use Rattle.btr_volume.specs.Looking.{SameVolume}
+use Rattle.btr_volume.specs.declared.stop.Stop.{Stop}
+use Rattle.btr_volume.specs.declared.stop.Stop.TheVariants.{NoTree, Tree, Deletion, Balance, Missing, Image, Sink, Out, Memory}
+use Rattle.btr_volume.specs.declared.volume.Volume.{Volume}
+use Rattle.btr_scrub.specs.Listed.{IsList, kept_wants}
+use Rattle.btr_scrub.specs.Units.{Meeting, Met, Checked, Unchecked, is_crossing}
+use Rattle.btr_scrub.specs.declared.extent.Extent.{Extent}
+use Rattle.btr_scrub.specs.declared.gathered.Gathered.{Gathered}
+
+-- the wants of the checked blocks among what was met
+abbrev pub checked_among : List Met → List Want
+checked_among [] = []
+checked_among (Checked want ∷ met) = want ∷ checked_among met
+checked_among (Unchecked addr ∷ met) = checked_among met
+
+-- a count of the sectors without a checksum, after what was met
+abbrev pub count_met : ℕ → Met → ℕ
+count_met n (Checked want) = n
+count_met n (Unchecked addr) = next_count n
+
+-- what was met was listed behind what was listed before
+pub record Lists (old new : Gathered) (done : List Met) : Type 0 where
+  pub is_list : IsList new.list
+  pub kind : new.list.kind ≡ old.list.kind
+  pub wants : kept_wants new.list ≡ kept_wants old.list ++ checked_among done
+  pub unchecked : new.unchecked ≡ fold count_met old.unchecked done
+
+-- how a stop ends a run: by its fault, or at any place
+abbrev pub stop_halt : Stop → Halt fate.Fault UnreadBlock
+stop_halt (NoTree id) = halt_fault (fate.NoTree id)
+stop_halt (Tree f) = halt_of f
+stop_halt (Deletion id) = Broke
+stop_halt Balance = Broke
+stop_halt (Missing id) = Broke
+stop_halt (Image slot) = Broke
+stop_halt Sink = Broke
+stop_halt Out = Broke
+stop_halt Memory = Broke
+
+abbrev pub ended : {A : Type 0} → Result A Stop → Result A (Halt fate.Fault UnreadBlock)
+ended (Ok a) = Ok a
+ended (Err stop) = Err (stop_halt stop)
+
+-- an extent at an address passes the end of a chunk of the table, or is a tree block that crosses an element of it
+pub record IsCrossing (layout : Layout) (addr : ℕ) : Type 0 where
+  pub chunk : Chunk
+  pub there : Contains layout.chunks chunk
+  pub extent : Extent
+  pub at : extent.addr ≡ addr
+  pub crosses : is_crossing chunk extent ≡ true
+
+-- what lies behind a tree's fault
+abbrev pub TreeCause : Layout → Seen → Seen → TreeFault → Type 0
+TreeCause layout old new (tree.Lost a) = FaultCause layout old new (tree.Lost a)
+TreeCause layout old new (tree.Unread a slot) = FaultCause layout old new (tree.Unread a slot)
+TreeCause layout old new (tree.Unmapped a) = FaultCause layout old new (tree.Unmapped a)
+TreeCause layout old new (tree.Crosses a) = FaultCause layout old new (tree.Crosses a) ⊎ IsCrossing layout a
+TreeCause layout old new (tree.Malformed a) = Unit {0}
+
+-- what lies behind a stop: a tree's fault has its cause; no other stop than these is answered
+abbrev pub StopCause : {A : Type 0} → Layout → Seen → Seen → Result A Stop → Type 0
+StopCause layout old new (Ok a) = Unit {0}
+StopCause layout old new (Err (NoTree id)) = Unit {0}
+StopCause layout old new (Err (Tree f)) = TreeCause layout old new f
+StopCause layout old new (Err (Deletion id)) = ⊥
+StopCause layout old new (Err Balance) = ⊥
+StopCause layout old new (Err (Missing id)) = ⊥
+StopCause layout old new (Err (Image slot)) = ⊥
+StopCause layout old new (Err Sink) = ⊥
+StopCause layout old new (Err Out) = ⊥
+StopCause layout old new (Err Memory) = Unit {0}
+
+-- what is seen of a rack, a volume and a list
+pub record Scene : Type 0 where
+  pub rack : Seen
+  pub vol : Volume
+  pub list : Gathered
+
+abbrev pub scene : Seen → Volume → Gathered → Scene
+scene rack vol list = record { rack = rack; vol = vol; list = list }
+
+-- a volume can be read: four slots are free for a block, and one for the leaf of a scan
+pub record IsReady (rack : Seen) (vol : Volume) (n : ℕ) : Type 0 where
+  pub serves : Serves rack vol.store
+  pub room : n ≤ free_count vol.store
+
+-- Calls only read, and the blocks that they met were listed: what they did follows a program, and they answered as it ends. After a stop nothing is said of the list.
+pub record Gathers {A : Type 0} (p : Meeting A) (x y : Scene) (answer : Result A Stop) : Type 0 where
+  pub reads : OnlyReads x.rack y.rack
+  pub volume : SameVolume x.vol y.vol
+  pub serves : Serves y.rack y.vol.store
+  pub done : List Met
+  pub lists : OnOk answer (Lists x.list y.list done)
+  pub content : Tells x.vol.store.layout x.rack y.rack (λ B. Follows (unread_by x.vol.store.layout x.rack y.rack) no_part [] (exec B p) done (ended answer))
+  pub cause : StopCause x.vol.store.layout x.rack y.rack answer
+
+-- A program has come so far: some marks of it are past, whose steps are listed, and what is left is another program.
+pub record Reaches {A : Type 0} (p q : Meeting A) (x y : Scene) : Type 0 where
+  pub reads : OnlyReads x.rack y.rack
+  pub volume : SameVolume x.vol y.vol
+  pub serves : Serves y.rack y.vol.store
+  pub done : List Met
+  pub lists : Lists x.list y.list done
+  pub content : Tells x.vol.store.layout x.rack y.rack (λ B. (before : List (Mark Want Met)) × (exec B p ≡ prepend before (exec B q)) × (done ≡ steps_of before))
+
+-- blocks were listed: the wants of those that are checked, and the count of the sectors without a checksum
+pub record AreListed (gathered : Gathered) (done : List Met) : Type 0 where
+  pub is_list : IsList gathered.list
+  pub wants : kept_wants gathered.list ≡ checked_among done
+  pub unchecked : gathered.unchecked ≡ fold count_met 0 done
+
+abbrev pub ListsDone : Result Gathered Stop → List Met → Type 0
+ListsDone (Ok gathered) done = AreListed gathered done
+ListsDone (Err stop) done = Unit {0}
+
+-- an answer without its list
+abbrev pub without_list : Result Gathered Stop → Result (Unit {0}) Stop
+without_list (Ok gathered) = Ok tt
+without_list (Err stop) = Err stop
+
+-- The blocks that a program meets were listed: what was done follows it, and was answered as it ends; a stop has its cause.
+pub record ListsUnits (p : Meeting (Unit {0})) (layout : Layout) (old new : Seen) (result : Result Gathered Stop) : Type 0 where
+  pub done : List Met
+  pub lists : ListsDone result done
+  pub content : Tells layout old new (λ B. Follows (unread_by layout old new) no_part [] (exec B p) done (ended (without_list result)))
+  pub cause : StopCause layout old new result

@@ -1,0 +1,16 @@
+pub mod Filesystem
+pub mod Units
+pub mod Rows
+pub mod Repair
+pub mod Devices
+pub mod Leaves
+pub mod Right
+pub mod Glue
+pub mod Survival
+pub mod Places
+pub mod Pages
+pub mod Listed
+pub mod Staying
+pub mod Gathering
+pub mod Extents
+pub mod Scanning

@@ -1,0 +1,151 @@
+-- The checked blocks as they are listed in memory: runs of what follows each other, and apart from them the checksums of the sectors, one behind another, and
+-- what is wanted of the tree blocks.
+use Rattle.std.specs.Prelude.{◌≡◌, ◌≢◌, ℕ, zero, suc, ◌+◌, ◌-◌, ◌*◌, ◌^◌, ◌<◌, ◌≤◌, List, [], ◌∷◌, ◌++◌, length, drop, Option, Some, None, IsSomeAnd}
+use Rattle.btr_base.specs.Sum.{sum_size, stored_sum}
+use Rattle.btr_base.specs.declared.kind.SumKind.{SumKind}
+use Rattle.btr_read.specs.declared.want.Want.{Want}
+use Rattle.btr_read.specs.declared.want.Want.TheVariants.{Tree, Sector}
+use Rattle.btr_scrub.specs.declared.run.Run.{Run}
+use Rattle.btr_scrub.specs.declared.run.RunKind.{RunKind}
+use Rattle.btr_scrub.specs.declared.run.RunKind.TheVariants.{TreeBlock, Sectors}
+use Rattle.btr_scrub.specs.declared.run.TreeMark.{TreeMark}
+
+-- how many sectors a run has, and how many tree blocks
+abbrev pub sectors_of : RunKind → ℕ
+sectors_of TreeBlock = 0
+sectors_of (Sectors n) = n
+
+abbrev pub trees_of : RunKind → ℕ
+trees_of TreeBlock = 1
+trees_of (Sectors n) = 0
+
+-- how many sectors runs have, and how many tree blocks
+abbrev pub all_sectors : List Run → ℕ
+all_sectors [] = 0
+all_sectors (run ∷ runs) = sectors_of run.kind + all_sectors runs
+
+abbrev pub all_trees : List Run → ℕ
+all_trees [] = 0
+all_trees (run ∷ runs) = trees_of run.kind + all_trees runs
+
+-- a run of sectors has one, and their addresses are numbers of 64 bits
+abbrev pub IsRun : ℕ → RunKind → Type 0
+IsRun addr TreeBlock = Unit {0}
+IsRun addr (Sectors n) = (1 ≤ n) × (addr + (n - 1) * 4096 < 2 ^ 64)
+
+-- the tree block at an address, of the first of some marks
+abbrev pub tree_from : ℕ → List TreeMark → List Want
+tree_from addr [] = []
+tree_from addr (mark ∷ marks) = Tree addr mark.generation mark.level ∷ []
+
+abbrev pub AreRuns : List Run → Type 0
+AreRuns [] = Unit {0}
+AreRuns (run ∷ runs) = IsRun run.addr run.kind × AreRuns runs
+
+module _ (kind : SumKind) where
+  -- n sectors from an address on, with the first n checksums of some bytes
+  abbrev pub sectors_from : ℕ → ℕ → List ℕ → List Want
+  sectors_from addr zero sums = []
+  sectors_from addr (suc n) sums = Sector addr (stored_sum kind sums) ∷ sectors_from (addr + 4096) n (drop (sum_size kind) sums)
+
+  -- the blocks of a run
+  abbrev pub run_wants : ℕ → RunKind → List ℕ → List TreeMark → List Want
+  run_wants addr TreeBlock sums marks = tree_from addr marks
+  run_wants addr (Sectors n) sums marks = sectors_from addr n sums
+
+  -- the blocks of runs, each run with those of the checksums and marks that come behind the ones of the runs before it
+  abbrev pub wants_of : List Run → List ℕ → List TreeMark → List Want
+  wants_of [] sums marks = []
+  wants_of (run ∷ runs) sums marks =
+      run_wants run.addr run.kind sums marks ++ wants_of runs (drop (sectors_of run.kind * sum_size kind) sums) (drop (trees_of run.kind) marks)
+
+  -- there are as many checksums and marks as sectors and tree blocks
+  pub record IsWhole (runs : List Run) (sums : List ℕ) (marks : List TreeMark) : Type 0 where
+    pub runs_fit : AreRuns runs
+    pub sums_fit : length sums ≡ all_sectors runs * sum_size kind
+    pub marks_fit : length marks ≡ all_trees runs
+
+-- a list of blocks
+pub record Kept : Type 0 where
+  pub kind : SumKind
+  pub runs : List Run
+  pub sums : List ℕ
+  pub marks : List TreeMark
+
+-- .. and the blocks that it has
+abbrev pub kept_wants : Kept → List Want
+kept_wants kept = wants_of kept.kind kept.runs kept.sums kept.marks
+
+-- it has a checksum and a mark for each of them
+abbrev pub IsList : Kept → Type 0
+IsList kept = IsWhole kept.kind kept.runs kept.sums kept.marks
+
+-- a block was put behind the others
+pub record AddsTo (old new : Kept) (want : Want) : Type 0 where
+  pub is_list : IsList new
+  pub kind : new.kind ≡ old.kind
+  pub wants : kept_wants new ≡ kept_wants old ++ want ∷ []
+
+-- a run was put behind the others
+pub record Begins (old new : Kept) (run : Run) : Type 0 where
+  pub kind : new.kind ≡ old.kind
+  pub runs : new.runs ≡ old.runs ++ run ∷ []
+  pub sums : new.sums ≡ old.sums
+  pub marks : new.marks ≡ old.marks
+
+-- a run of sectors has one more, at an address
+pub record Lengthens (run : Run) (addr : ℕ) (longer : Run) : Type 0 where
+  pub count : ℕ
+  pub sectors : run.kind ≡ Sectors count
+  pub more : longer ≡ record { addr = run.addr; kind = Sectors (count + 1) }
+  pub next : addr ≡ run.addr + count * 4096
+
+-- the run that comes last has one more sector, if the address is the next of its sectors
+abbrev pub IsLonger : Option Run → ℕ → Option Run → Type 0
+IsLonger last addr None = Unit {0}
+IsLonger last addr (Some longer) = IsSomeAnd last (λ run. Lengthens run addr longer)
+
+-- fewer sectors of the first run are past than it has; of a tree block none
+abbrev pub IsPast : List Run → ℕ → Type 0
+IsPast [] past = past ≡ 0
+IsPast (run ∷ runs) past = past + 1 ≤ sectors_of run.kind + trees_of run.kind
+
+module _ (kind : SumKind) where
+  -- what is left of a run behind some of its sectors
+  abbrev pub run_left : ℕ → RunKind → ℕ → List ℕ → List TreeMark → List Want
+  run_left addr TreeBlock past sums marks = tree_from addr marks
+  run_left addr (Sectors n) past sums marks = sectors_from kind (addr + past * 4096) (n - past) sums
+
+  -- what is left of runs behind some sectors of the first, of the checksums and marks from there on
+  abbrev pub wants_left : List Run → ℕ → List ℕ → List TreeMark → List Want
+  wants_left [] past sums marks = []
+  wants_left (run ∷ runs) past sums marks =
+      run_left run.addr run.kind past sums marks ++ wants_of kind runs (drop ((sectors_of run.kind - past) * sum_size kind) sums) (drop (trees_of run.kind) marks)
+
+  -- a place in a list: there are as many checksums and marks behind it as sectors and tree blocks
+  pub record IsPlace (runs : List Run) (past : ℕ) (sums : List ℕ) (marks : List TreeMark) : Type 0 where
+    pub is_past : IsPast runs past
+    pub runs_fit : AreRuns runs
+    pub sums_fit : length sums + past * sum_size kind ≡ all_sectors runs * sum_size kind
+    pub marks_fit : length marks ≡ all_trees runs
+
+-- what a reader has still to give, which stands at these places
+abbrev pub left_in : Kept → ℕ → ℕ → ℕ → ℕ → List Want
+left_in kept run past sum mark = wants_left kept.kind (drop run kept.runs) past (drop sum kept.sums) (drop mark kept.marks)
+
+abbrev pub StandsIn : Kept → ℕ → ℕ → ℕ → ℕ → Type 0
+StandsIn kept run past sum mark = IsPlace kept.kind (drop run kept.runs) past (drop sum kept.sums) (drop mark kept.marks)
+
+-- what a reader gives: the next block, or nothing at the end
+abbrev pub Gives : List Want → Option Want → List Want → Type 0
+Gives old None new = (old ≡ []) × (new ≡ [])
+Gives old (Some want) new = old ≡ want ∷ new
+
+-- the sectors that are past behind the next one of so many, if another follows
+abbrev pub IsBehind : ℕ → ℕ → Option ℕ → Type 0
+IsBehind past count None = past + 1 ≡ count
+IsBehind past count (Some next) = (next ≡ past + 1) × (past + 1 ≢ count)
+
+-- a run has 16 bytes of memory, and so has a mark: a list takes at most 48 bytes for each sector, and 32 for each tree block
+abbrev pub FewBytes : Type 0
+FewBytes = (kept : Kept) → IsList kept → length kept.runs * 16 + length kept.sums + length kept.marks * 16 ≤ all_sectors kept.runs * 48 + all_trees kept.runs * 32

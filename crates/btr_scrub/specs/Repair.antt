@@ -1,0 +1,140 @@
+-- All of it: the writes in order, the images that they make, the ranges, and the counts.
+use Rattle.std.specs.Prelude.{ℕ, ◌+◌, ◌/◌, ◌-◌, Bool, true, false, ◌&&◌, ◌==◌, nat_le, nat_lt, List, [], length, map, Option, Some, None, Result, Ok, Err, is_none, slice_get, slice_index, if◌then◌else◌, count_by}
+use Rattle.std.specs.List.{filter, filter_map, flat_map, fold, find, range_with_len, sum_by}
+use Rattle.std.specs.Option.{option_map_or}
+use Rattle.btr_chunk.specs.Chunk.{stripe_length, mirrors}
+use Rattle.btr_chunk.specs.declared.chunk.Chunk.{Chunk}
+use Rattle.btr_chunk.specs.declared.stripe.Stripe.{Stripe}
+use Rattle.btr_prog.specs.Prog.{Run, exec, steps_of}
+use Rattle.btr_rack.specs.Rack.{image_of}
+use Rattle.btr_rack.specs.declared.place.Place.{Place as Range}
+use Rattle.btr_read.specs.Candidates.{Target, range_on}
+use Rattle.btr_read.specs.Fate as fate
+use Rattle.btr_read.specs.Fate.{Fault, fate, sought}
+use Rattle.btr_read.specs.Layout.{Layout, device_in}
+use Rattle.btr_read.specs.declared.device.Member.{Member}
+use Rattle.btr_read.specs.declared.want.Want.{Want}
+use Rattle.btr_walk.specs.declared.fault.TreeFault.TheVariants as tree
+use Rattle.btr_volume.specs.declared.stop.Stop.{Stop}
+use Rattle.btr_volume.specs.declared.stop.Stop.TheVariants as stop
+use Rattle.btr_scrub.specs.declared.tally.Tally.{Tally}
+use Rattle.btr_scrub.specs.Filesystem.{Filesystem}
+use Rattle.btr_scrub.specs.Units.{Met, Checked, Unchecked, units}
+use Rattle.btr_mend.specs.Blocks.{bad_parts, is_lost, block_writes}
+use Rattle.btr_scrub.specs.Rows.{Row, parities, parity_writes, row_writes}
+use Rattle.btr_mend.specs.Writes.{Write, write_on}
+
+-- a stripe has no place of its length on a device that is given
+abbrev pub is_missing : List Member → ℕ → Stripe → Bool
+is_missing devices len stripe = is_none (range_on stripe.offset len (device_in devices stripe.devid))
+
+-- the first of all stripes, by chunk and then by its number there, that has none
+abbrev pub first_missing : Layout → Option Stripe
+first_missing layout = slice_get (flat_map (λ chunk. filter (is_missing layout.devices (stripe_length chunk)) chunk.stripes) layout.chunks) 0
+
+abbrev pub ok_or_none : {T E : Type 0} → Result T E → Option T
+ok_or_none (Ok x) = Some x
+ok_or_none (Err e) = None
+
+abbrev pub checked_target : Layout → Met → Option Target
+checked_target layout (Checked want) = ok_or_none (sought layout want)
+checked_target layout (Unchecked addr) = None
+
+abbrev pub is_unchecked : Met → Bool
+is_unchecked (Checked want) = false
+is_unchecked (Unchecked addr) = true
+
+-- a block lies in a chunk, and in a row of it
+abbrev pub is_in_chunk : Chunk → Target → Bool
+is_in_chunk chunk t = t.chunk.start == chunk.start
+
+abbrev pub is_in_row : Chunk → ℕ → Target → Bool
+is_in_row chunk number t = is_in_chunk chunk t && (t.at.row == number)
+
+-- the row of a number, with those of the blocks that lie in it
+abbrev pub row_of : List Target → Chunk → ℕ → Row
+row_of blocks chunk number = record { chunk = chunk; number = number; blocks = filter (is_in_row chunk number) blocks }
+
+-- the full stripes of a chunk; with copies there are none
+abbrev pub rows_in : List Target → Chunk → List Row
+rows_in blocks chunk = if is_none (mirrors chunk) then map (row_of blocks chunk) (range_with_len 0 (stripe_length chunk / 65536)) else []
+
+-- the byte at a place of a slot
+abbrev pub byte_at : List (List ℕ) → ℕ → ℕ → ℕ
+byte_at images slot off = slice_index (image_of images slot) off
+
+-- a range has a byte
+abbrev pub covers : ℕ → ℕ → Range → Bool
+covers slot off range = (range.slot == slot) && nat_le range.off off && nat_lt off (range.off + range.len)
+
+-- the byte at a place after writes that have no byte in common
+abbrev pub byte_after : List (List ℕ) → List Write → ℕ → ℕ → ℕ
+byte_after images writes slot off = option_map_or (λ (write : Write). slice_index write.bytes (off - write.range.off)) (find (λ (write : Write). covers slot off write.range) writes) (byte_at images slot off)
+
+module _ (images : List (List ℕ)) (fs : Filesystem) where
+  -- what is met on the way, and how it ends
+  abbrev pub meeting : Run Want Fault Met (Unit {0})
+  meeting = exec (fate images fs.layout) (units fs)
+
+  abbrev pub met : List Met
+  met = steps_of meeting.marks
+
+  -- the checked blocks, each with its position
+  abbrev pub blocks : List Target
+  blocks = filter_map (checked_target fs.layout) met
+
+  abbrev pub rows : List Row
+  rows = flat_map (rows_in blocks) fs.layout.chunks
+
+  -- the writes in a chunk: block by block where there are copies, and full stripe by full stripe where there is parity
+  abbrev pub chunk_writes : Chunk → List Write
+  chunk_writes chunk =
+      if is_none (mirrors chunk)
+      then flat_map (row_writes images fs.layout) (rows_in blocks chunk)
+      else flat_map (block_writes images) (filter (is_in_chunk chunk) blocks)
+
+  -- the writes in their order
+  abbrev pub writes : List Write
+  writes = flat_map chunk_writes fs.layout.chunks
+
+  -- the images that they make, and their ranges
+  abbrev pub repaired : List (List ℕ)
+  repaired = fold write_on images writes
+
+  abbrev pub ranges : List Range
+  ranges = map (λ (write : Write). write.range) writes
+
+  -- the counts of scrub, which writes or only reads
+  abbrev pub tally : Bool → Tally
+  tally write = record {
+    blocks = length blocks;
+    bad = sum_by (λ t. length (bad_parts images t)) blocks;
+    repaired = if write then sum_by (λ t. length (block_writes images t)) blocks else 0;
+    lost = count_by (is_lost images) blocks;
+    parity = sum_by (λ (row : Row). sum_by (λ part. length (parity_writes images fs.layout row part)) (parities row.chunk.profile)) rows;
+    unchecked = count_by is_unchecked met;
+  }
+
+-- what a fault of the lookups is answered as
+abbrev pub stop_of : Fault → Stop
+stop_of (fate.NoTree id) = stop.NoTree id
+stop_of (fate.Lost addr) = stop.Tree (tree.Lost addr)
+stop_of (fate.Unmapped addr) = stop.Tree (tree.Unmapped addr)
+stop_of (fate.Crosses addr) = stop.Tree (tree.Crosses addr)
+stop_of (fate.Malformed addr) = stop.Tree (tree.Malformed addr)
+
+-- what scrub comes to: its answer, and the images behind it
+pub record Effect : Type 0 where
+  pub answer : Result Tally Stop
+  pub images : List (List ℕ)
+
+abbrev pub effect_of_ending : Bool → List (List ℕ) → Filesystem → Result (Unit {0}) Fault → Effect
+effect_of_ending write images fs (Ok _) = record { answer = Ok (tally images fs write); images = if write then repaired images fs else images }
+effect_of_ending write images fs (Err fault) = record { answer = Err (stop_of fault); images = images }
+
+abbrev pub effect_unless : Bool → List (List ℕ) → Filesystem → Option Stripe → Effect
+effect_unless write images fs (Some stripe) = record { answer = Err (stop.Missing stripe.devid); images = images }
+effect_unless write images fs None = effect_of_ending write images fs (meeting images fs).ending
+
+abbrev pub effect : Bool → List (List ℕ) → Filesystem → Effect
+effect write images fs = effect_unless write images fs (first_missing fs.layout)

@@ -1,0 +1,71 @@
+-- Why right elements stay: what is written lies in wrong elements, or in copies.
+use Rattle.std.specs.Prelude.{◌≡◌, ◌⊎◌, ℕ, true, List, map, None, Some, IsSome, slice_get}
+use Rattle.std.specs.List.{list_any}
+use Rattle.btr_chunk.specs.Chunk.{mirrors}
+use Rattle.btr_chunk.specs.Mapping.{IsPosition}
+use Rattle.btr_chunk.specs.Table.{IsTable}
+use Rattle.btr_chunk.specs.declared.place.Part.{Part}
+use Rattle.btr_rack.specs.declared.place.Place.{Place as Range}
+use Rattle.btr_read.specs.Candidates.{Target}
+use Rattle.btr_read.specs.Layout.{HaveOwnSlots, Layout, device_in}
+use Rattle.btr_read.specs.declared.device.Device.{Device}
+use Rattle.btr_scrub.specs.Glue.{In}
+use Rattle.btr_scrub.specs.Leaves.{KeepsOutside}
+use Rattle.btr_chunk.specs.Apart.{LiesIn}
+use Rattle.btr_scrub.specs.Places.{IsOfElement}
+use Rattle.btr_scrub.specs.Repair.{covers, row_of}
+use Rattle.btr_scrub.specs.Right.{Committed, HasFewWrong, IsRight, StandsFor}
+use Rattle.btr_scrub.specs.Rows.{Row, row_writes}
+use Rattle.btr_scrub.specs.Survival.{AcceptsRight, HaveLengths, IsSoundRow, KeepsRight, RightPasses}
+use Rattle.btr_mend.specs.Writes.{Images, Write}
+
+-- a row of a chunk of the table, with those of the blocks that lie in it
+pub record IsRowOf (layout : Layout) (blocks : List Target) (row : Row) : Type 0 where
+  pub number : ℕ
+  pub there : slice_get layout.chunks number ≡ Some row.chunk
+  pub parity : mirrors row.chunk ≡ None
+  pub position : IsPosition row.chunk (record { row = row.number; index = 0; rest = 65535 })
+  pub made : row ≡ row_of blocks row.chunk row.number
+
+-- a byte lies in a wrong element of such a row
+pub record IsInWrong (images : Images) (layout : Layout) (C : Committed) (blocks : List Target) (slot off : ℕ) : Type 0 where
+  pub row : Row
+  pub is_row : IsRowOf layout blocks row
+  pub part : Part
+  pub of : IsOfElement layout row part slot off
+  pub wrong : ¬ (IsRight images layout C row part)
+
+-- a byte lies in a stripe of a chunk with copies
+pub record IsInCopies (layout : Layout) (slot off : ℕ) : Type 0 where
+  pub devid : ℕ
+  pub device : Device
+  pub given : device_in layout.devices devid ≡ Some device
+  pub same_slot : device.slot ≡ slot
+  pub number : ℕ
+  pub stripe : ℕ
+  pub lies : LiesIn layout.chunks (record { devid = devid; offset = off }) number stripe
+  pub copies : IsSome (mirrors lies.chunk)
+
+-- each byte of some ranges lies in a wrong element, or in a chunk with copies
+abbrev pub AvoidRight : Images → Layout → Committed → List Target → List Range → Type 0
+AvoidRight images layout C blocks ranges = (slot off : ℕ) → list_any (covers slot off) ranges ≡ true → IsInWrong images layout C blocks slot off ⊎ IsInCopies layout slot off
+
+-- then the right elements of each row stay, whatever is written in the ranges
+abbrev pub RightStays : Type 0
+RightStays = (images left : Images) (layout : Layout) (C : Committed) (blocks : List Target) (row : Row) (ranges : List Range)
+    → IsTable layout.chunks → HaveOwnSlots layout.devices → HaveLengths images layout → IsRowOf layout blocks row
+    → AvoidRight images layout C blocks ranges → KeepsOutside ranges images left → KeepsRight images left layout C row
+
+-- so each block of such a row has a candidate with its committed bytes
+abbrev pub RowOutlivesWrites : Type 0
+RowOutlivesWrites = (images left : Images) (layout : Layout) (C : Committed) (blocks : List Target) (row : Row) (ranges : List Range) (t : Target)
+    → IsTable layout.chunks → HaveOwnSlots layout.devices → HaveLengths images layout → IsRowOf layout blocks row
+    → AvoidRight images layout C blocks ranges → KeepsOutside ranges images left
+    → IsSoundRow images layout C row → HasFewWrong images layout C row → In t row.blocks → StandsFor left C t
+
+-- each byte that the writes of a row change lies in a wrong element of it
+abbrev pub RowWritesAreWrong : Type 0
+RowWritesAreWrong = (images : Images) (layout : Layout) (C : Committed) (blocks : List Target) (row : Row) (slot off : ℕ)
+    → IsTable layout.chunks → IsRowOf layout blocks row → IsSoundRow images layout C row
+    → ((t : Target) → In t row.blocks → RightPasses C t × AcceptsRight images C t)
+    → list_any (covers slot off) (map (λ (write : Write). write.range) (row_writes images layout row)) ≡ true → IsInWrong images layout C blocks slot off

@@ -1,0 +1,103 @@
+// The checked blocks of the chunks, one chunk after another.
+ghost use Rattle.std.specs.Prelude.{◌≡◌, ◌+◌, ◌-◌, ◌<◌, ◌≤◌, ◌^◌, Contains, length};
+ghost use Rattle.btr_chunk.specs.declared.chunk.Chunk.{Chunk};
+ghost use Rattle.btr_read.specs.Serves.{Serves};
+ghost use Rattle.btr_read.specs.Store.{free_count};
+ghost use Rattle.btr_files.specs.Sums.{kind_in, tree_behind};
+ghost use Rattle.btr_volume.specs.Tree.{key, last};
+ghost use Rattle.btr_scrub.specs.Extents.{span_of};
+ghost use Rattle.btr_scrub.specs.Gathering.{Gathers, scene};
+ghost use Rattle.btr_scrub.specs.Listed.{IsList};
+ghost use Rattle.btr_scrub.specs.Scanning.{IsSpanAt, IsSpanIn};
+ghost use Rattle.btr_scrub.specs.Units as units;
+
+use crate::collecting::gather_items;
+use crate::extent::{Span, span_of};
+use crate::gathered::Gathered;
+use btr_base::Key;
+use btr_rack::Rack;
+use btr_volume::{Stop, TreeRoot, Volume};
+use btr_walk::Scan;
+
+// The span of the chunk of a number.
+fn span_at(vol: &Volume, i: usize) -> Span
+    requires { i < length vol.now.store.layout.chunks }
+    ensures { IsSpanAt vol.now.store.layout i result }
+{
+    span_of(vol.store.chunks().at(i))
+}
+
+// The first key that an extent in a span can have.
+fn first_key(span: &Span) -> Key
+    ensures { result ≡ key span.now.start 0 0 }
+{
+    Key {
+        objectid: span.start,
+        kind: 0,
+        offset: 0,
+    }
+}
+
+// The last one.
+fn last_key(span: &Span) -> Key
+    requires range { span.now.start + span.now.length < 2 ^ 64 }
+    requires some { 1 ≤ span.now.length }
+    ensures { result ≡ key (span.now.start + span.now.length - 1) 255 last }
+{
+    Key {
+        objectid: span.start + span.length - 1,
+        kind: u8::MAX,
+        offset: u64::MAX,
+    }
+}
+
+// Lists the blocks of the extents that begin in a chunk; answers where the last one ends.
+fn gather_chunk<R: Rack>(
+    extents: &TreeRoot,
+    sums: Option<&TreeRoot>,
+    span: &Span,
+    rack: &mut R,
+    vol: &mut Volume,
+    gathered: &mut Gathered,
+) -> Result<u64, Stop>
+    requires serves { Serves (R.seen rack.old) vol.old.store }
+    requires room { 5 ≤ free_count vol.old.store }
+    requires is_list { IsList gathered.old.list }
+    requires kind { gathered.old.list.kind ≡ kind_in vol.old.sup }
+    requires span { span.now.start + span.now.length < 2 ^ 64 }
+    requires some { 1 ≤ span.now.length }
+    requires chunk { IsSpanIn vol.old.store.layout span.now }
+    ensures { (chunk : Chunk) → span.now ≡ span_of chunk → Contains vol.old.store.layout.chunks chunk
+        → Gathers (units.in_chunk vol.old.sup (tree_behind sums.entry) chunk extents.now) (scene (R.seen rack.old) vol.old gathered.old) (scene (R.seen rack.new) vol.new gathered.new) result }
+{
+    let mut scan = Scan::new(&extents.place, first_key(span), last_key(span));
+    let end = gather_items(sums, span, &mut scan, rack, vol, gathered);
+    scan.finish(&mut vol.store);
+    end
+}
+
+/// Lists the blocks of all chunks, by ascending start. Five slots are free.
+///
+/// `Tree` where a block of the two trees can't be had or is malformed, or an extent breaks a rule, and `Memory` for want of memory.
+pub(crate) fn gather_chunks<R: Rack>(
+    extents: &TreeRoot,
+    sums: Option<&TreeRoot>,
+    rack: &mut R,
+    vol: &mut Volume,
+    gathered: &mut Gathered,
+) -> Result<(), Stop>
+    requires serves { Serves (R.seen rack.old) vol.old.store }
+    requires room { 5 ≤ free_count vol.old.store }
+    requires is_list { IsList gathered.old.list }
+    requires kind { gathered.old.list.kind ≡ kind_in vol.old.sup }
+    ensures { Gathers (units.in_chunks vol.old.sup (tree_behind sums.entry) extents.now vol.old.store.layout.chunks) (scene (R.seen rack.old) vol.old gathered.old) (scene (R.seen rack.new) vol.new gathered.new) result }
+{
+    for i in 0..vol.store.chunks().count() {
+        let span = span_at(vol, i);
+        match gather_chunk(extents, sums, &span, rack, vol, gathered) {
+            Ok(_) => {}
+            Err(stop) => return Err(stop),
+        }
+    }
+    Ok(())
+}

@@ -1,0 +1,10 @@
+use crate::listed::Listed;
+
+/// What was met of a filesystem's blocks.
+#[derive(Drop)]
+pub struct Gathered {
+    /// The checked blocks.
+    pub list: Listed,
+    /// How many sectors of data have no checksum.
+    pub unchecked: u64,
+}

@@ -1,0 +1,167 @@
+// The checked blocks, listed in memory.
+ghost use Rattle.std.specs.Prelude.{◌≡◌, ◌++◌, length, take, OnOk};
+ghost use Rattle.btr_base.specs.Sum.{sum_size};
+ghost use Rattle.btr_scrub.specs.Listed.{IsLonger};
+
+use crate::pages::Pages;
+use crate::run::{Run, RunKind, TreeMark};
+use btr_base::{Memory, Sum, SumKind};
+use std::alloc::Global;
+use std::marker::Model;
+
+/// The checked blocks of a filesystem in their order. Sectors of data that follow each other are one run of 16 bytes, and each has its checksum of 4, 8
+/// or 32 bytes; a tree block has 16 bytes beside its run.
+#[derive(Drop)]
+pub struct Listed {
+    kind: SumKind,
+    runs: Pages<Run>,
+    // The run that comes last, which may still grow.
+    last: Option<Run>,
+    sums: Pages<u8>,
+    marks: Pages<TreeMark>,
+}
+
+impl Model for Listed {
+    ghost use Rattle.std.specs.Prelude.{◌++◌};
+    ghost use Rattle.std.specs.Option.{option_to_list};
+    ghost use Rattle.btr_scrub.specs.Listed.{Kept};
+
+    ghost Value = { Kept };
+
+    ghost view = { λ s. record { kind = s.kind; runs = s.runs ++ option_to_list s.last; sums = s.sums; marks = s.marks } };
+}
+
+// The last run with one more sector, if the address is the next of its sectors.
+fn lengthened(last: Option<Run>, addr: u64) -> Option<Run>
+    ensures { IsLonger last addr result }
+{
+    let run = last?;
+    let RunKind::Sectors(count) = run.kind else {
+        return None;
+    };
+    if count == u32::MAX || addr < run.addr || addr - run.addr != u64::from(count) * 4096 {
+        return None;
+    }
+    Some(Run {
+        addr: run.addr,
+        kind: RunKind::Sectors(count + 1),
+    })
+}
+
+// Puts the bytes of a checksum behind the others.
+fn push_sum(sums: &mut Pages<u8>, kind: SumKind, sum: &Sum) -> Result<(), Memory>
+    ensures pushed { OnOk result (sums.new ≡ sums.old ++ take (sum_size kind) sum.now.bytes) }
+    ensures long { length sum.now.bytes ≡ 32 }
+{
+    for i in 0..kind.size() {
+        sums.push(sum.bytes[i])?;
+    }
+    Ok(())
+}
+
+impl Listed {
+    ghost use Rattle.std.specs.Prelude.{◌≡◌, ◌+◌, ◌<◌, ◌≤◌, ◌^◌, [], drop, length, slice_get, OnOk};
+    ghost use Rattle.btr_base.specs.Sum.{stored_sum, sum_size};
+    ghost use Rattle.btr_scrub.specs.Listed.{AddsTo, Begins, IsList, kept_wants};
+    ghost use Rattle.btr_read.specs.declared.want.Want.TheVariants.{Tree, Sector};
+
+    /// A list of no blocks, for checksums of this kind.
+    pub(crate) fn new(alloc: Global, kind: SumKind) -> Listed
+        ensures kind { result.kind ≡ kind }
+        ensures is_list { IsList result }
+        ensures wants { kept_wants result ≡ [] }
+    {
+        Listed {
+            kind,
+            runs: Pages::new(alloc),
+            last: None,
+            sums: Pages::new(alloc),
+            marks: Pages::new(alloc),
+        }
+    }
+
+    // Puts a run behind the others.
+    fn begin(&mut self, run: Run) -> Result<(), Memory>
+        ensures { OnOk result (Begins self.old self.new run) }
+    {
+        if let Some(last) = self.last {
+            self.runs.push(last)?;
+        }
+        self.last = Some(run);
+        Ok(())
+    }
+
+    /// Puts a tree block behind the others. After `Memory` the list isn't used again.
+    pub(crate) fn push_tree(&mut self, addr: u64, generation: u64, level: u8) -> Result<(), Memory>
+        requires { IsList self.old }
+        ensures { OnOk result (AddsTo self.old self.new (Tree addr generation level)) }
+    {
+        self.begin(Run {
+            addr,
+            kind: RunKind::TreeBlock,
+        })?;
+        self.marks.push(TreeMark { generation, level })
+    }
+
+    /// Puts a sector of data with its checksum behind the others. After `Memory` the list isn't used again.
+    pub(crate) fn push_sector(&mut self, addr: u64, sum: &Sum) -> Result<(), Memory>
+        requires { IsList self.old }
+        ensures added { OnOk result (AddsTo self.old self.new (Sector addr (stored_sum self.old.kind sum.now.bytes))) }
+        ensures long { OnOk result (length sum.now.bytes ≡ 32) }
+    {
+        match lengthened(self.last, addr) {
+            Some(run) => {
+                self.last = Some(run);
+                push_sum(&mut self.sums, self.kind, sum)
+            }
+            None => {
+                self.begin(Run {
+                    addr,
+                    kind: RunKind::Sectors(1),
+                })?;
+                push_sum(&mut self.sums, self.kind, sum)
+            }
+        }
+    }
+
+    /// The run of a number, if there is one.
+    pub(crate) fn run_at(&self, i: usize) -> Option<Run>
+        ensures run { result ≡ slice_get self.now.runs i }
+        ensures few { length self.now.runs ≤ 2 ^ 63 }
+    {
+        let count = self.runs.len();
+        if i < count {
+            self.runs.get(i)
+        } else if i == count {
+            self.last
+        } else {
+            None
+        }
+    }
+
+    /// The mark of a number, if there is one.
+    pub(crate) fn mark_at(&self, i: usize) -> Option<TreeMark>
+        ensures mark { result ≡ slice_get self.now.marks i }
+        ensures few { length self.now.marks < 2 ^ 63 }
+    {
+        self.marks.get(i)
+    }
+
+    /// The checksum whose bytes stand at a place.
+    pub(crate) fn sum_at(&self, at: usize) -> Sum
+        requires { at + sum_size self.now.kind ≤ length self.now.sums }
+        ensures sum { result ≡ stored_sum self.now.kind (drop at self.now.sums) }
+        ensures few { length self.now.sums < 2 ^ 63 }
+    {
+        let mut bytes = [0; 32];
+        self.sums.copy_out(at, &mut bytes[..self.kind.size()]);
+        Sum::read(self.kind, &bytes)
+    }
+
+    /// The kind of the checksums.
+    pub(crate) fn kind(&self) -> SumKind
+        ensures { result ≡ self.now.kind }
+    {
+        self.kind
+    }
+}
