@@ -69,7 +69,7 @@ fn mend_others<R: Rack>(
 /// Mends a block by its copies: each copy that doesn't pass is written over with the bytes of the first that does, by one write each, in ascending
 /// order. Where none passes, or it is only to be read, nothing is written. The slots that were written are marked; a mark is never taken away.
 ///
-/// The block lies in a chunk with copies, all of which stand. Where it is to be written, each image was opened for writing, and one slot is free.
+/// The block lies in a chunk with copies, all of which stand, and two slots are free. Where it is to be written, each image was opened for writing.
 ///
 /// `Image`: a read or a write of an image failed, and nothing was tried behind it. `Memory`: a write wanted memory.
 pub fn mend_copies<R: Rack>(
