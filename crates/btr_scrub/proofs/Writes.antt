@@ -24,7 +24,7 @@ use Rattle.btr_mend.specs.Blocks.{accepted, bad_parts, block_writes, is_good, ow
 use Rattle.btr_scrub.specs.Glue.{In}
 use Rattle.btr_scrub.specs.Repair.{covers}
 use Rattle.btr_scrub.specs.Right.{Committed, IsRight}
-use Rattle.btr_scrub.specs.Rows.{Row, column_of, differing, differs, element_with, is_decided, parities, parity_writes, range_in_element, row_writes, sector_write}
+use Rattle.btr_row.specs.Rows.{Row, column_of, differing, differs, element_with, is_decided, parities, parity_writes, range_in_element, row_writes, sector_write}
 use Rattle.btr_scrub.specs.Staying.{IsInWrong, IsRowOf, RowWritesAreWrong}
 use Rattle.btr_scrub.specs.Survival.{AcceptsRight, IsParity, IsSoundRow, RightPasses}
 use Rattle.btr_scrub.proofs.Elements.{has_ranges, range_stands, stands_on, stripe-row}

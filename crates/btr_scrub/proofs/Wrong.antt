@@ -20,8 +20,8 @@ use Rattle.btr_read.specs.Want.{passes}
 use Rattle.btr_mend.specs.Blocks.{accepted}
 use Rattle.btr_scrub.specs.Glue.{In, ranges_of}
 use Rattle.btr_scrub.specs.Right.{committed_for}
-use Rattle.btr_scrub.specs.Rows as rows
-use Rattle.btr_scrub.specs.Rows.{Row, blocks_at, column_of, element, element_with, meets, slice_with, slices_with, with_block}
+use Rattle.btr_row.specs.Rows as rows
+use Rattle.btr_row.specs.Rows.{Row, blocks_at, column_of, element, element_with, meets, slice_with, slices_with, with_block}
 use Rattle.btr_scrub.specs.Survival.{BadBlockIsWrong, DifferingParityIsWrong, IsParity}
 use Rattle.btr_scrub.proofs.Elements.{block_of_element}
 use Rattle.btr_scrub.proofs.Ranges.{parity_of_ranges}

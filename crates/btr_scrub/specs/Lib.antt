@@ -1,6 +1,5 @@
 pub mod Filesystem
 pub mod Units
-pub mod Rows
 pub mod Repair
 pub mod Devices
 pub mod Leaves

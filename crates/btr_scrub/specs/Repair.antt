@@ -21,7 +21,7 @@ use Rattle.btr_scrub.specs.declared.tally.Tally.{Tally}
 use Rattle.btr_scrub.specs.Filesystem.{Filesystem}
 use Rattle.btr_scrub.specs.Units.{Met, Checked, Unchecked, units}
 use Rattle.btr_mend.specs.Blocks.{bad_parts, is_lost, block_writes}
-use Rattle.btr_scrub.specs.Rows.{Row, parities, parity_writes, row_writes}
+use Rattle.btr_row.specs.Rows.{Row, parities, parity_writes, row_writes}
 use Rattle.btr_mend.specs.Writes.{Write, write_on}
 
 -- a stripe has no place of its length on a device that is given

@@ -15,7 +15,7 @@ use Rattle.btr_chunk.specs.Apart.{LiesIn}
 use Rattle.btr_scrub.specs.Places.{IsOfElement}
 use Rattle.btr_scrub.specs.Repair.{covers, row_of}
 use Rattle.btr_scrub.specs.Right.{Committed, HasFewWrong, IsRight, StandsFor}
-use Rattle.btr_scrub.specs.Rows.{Row, row_writes}
+use Rattle.btr_row.specs.Rows.{Row, row_writes}
 use Rattle.btr_scrub.specs.Survival.{AcceptsRight, HaveLengths, IsSoundRow, KeepsRight, RightPasses}
 use Rattle.btr_mend.specs.Writes.{Images, Write}
 

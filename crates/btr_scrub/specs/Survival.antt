@@ -12,7 +12,7 @@ pub use Rattle.btr_scrub.specs.Devices.{HaveLengths}
 use Rattle.btr_read.specs.Layout.{Layout}
 use Rattle.btr_scrub.specs.Glue.{In, IsInRow, LiesInRow}
 use Rattle.btr_scrub.specs.Right.{AreBytes, Committed, HasFewWrong, IsRight, StandsFor}
-use Rattle.btr_scrub.specs.Rows.{Row, blocks_at, differs, element, is_decided, range_in_element}
+use Rattle.btr_row.specs.Rows.{Row, blocks_at, differs, element, is_decided, range_in_element}
 use Rattle.btr_mend.specs.Writes.{Images}
 
 -- blocks of a slice, each of which begins at or behind the end of the one before
