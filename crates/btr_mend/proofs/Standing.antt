@@ -1,5 +1,5 @@
 -- Where a copy lies, and a write over it.
-use Rattle.std.proofs.Common.{◌≡◌, ℕ, ◌+◌, ◌<◌, ◌≤◌, Bool, true, false, cond, List, [], ◌∷◌, ◌++◌, length, get_or, set, Option, Some, None, IsSomeAnd, Ok, Err, leb, refl, sym, ap, ◌∙◌, subst, inl, inr, arith}
+use Rattle.std.proofs.Common.{◌≡◌, ℕ, ◌+◌, ◌<◌, ◌≤◌, Bool, true, false, cond, List, [], ◌∷◌, ◌++◌, length, get_or, set, Option, Some, None, IsSome, IsSomeAnd, is_some, Ok, Err, leb, le-leb, refl, sym, ap, ◌∙◌, subst, inl, inr, arith}
 use Rattle.std.proofs.lemmas.Bool.{cases_eq, leb-true}
 use Rattle.std.proofs.lemmas.List.{get_or-set_other, get_or-set_same}
 use Rattle.std.proofs.lemmas.List.Elements.{All-cons, All-nil}
@@ -138,3 +138,7 @@ module _ (t : Target) (m : ℕ) (bytes : List ℕ) (place : Range) (marks : List
         held = leaves_err a.held b.held error.Memory Memory held;
         account = account;
       })
+
+-- bytes that end on a device stand
+pub stands_on : (off len : ℕ) (o : Option Device) (device : Device) → o ≡ Some device → off + len ≤ device.len → IsSome (range_on off len o)
+stands_on off len o device e le = ap (λ d. is_some (range_on off len d)) e ∙ ap (λ b. is_some (cond b (Some (range_in device.slot off len)) None)) (le-leb (off + len) device.len le)

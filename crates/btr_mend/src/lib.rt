@@ -10,6 +10,8 @@ mod finding;
 mod mended;
 mod mending;
 mod overwriting;
+#[cfg(test)]
+mod tests;
 
 pub use mended::{MendFault, Mended};
 pub use mending::mend_copies;
