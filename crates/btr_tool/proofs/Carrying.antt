@@ -12,11 +12,13 @@ use Rattle.btr_prog.specs.Answers.{Broke}
 use Rattle.btr_read.specs.Fate.{choices}
 use Rattle.btr_restore.specs.InOrder as journey
 use Rattle.btr_restore.specs.Running.{Outside}
+use Rattle.btr_read.specs.Layout.{Layout}
 use Rattle.btr_volume.specs.Start.{Start}
+use Rattle.btr_walk.specs.Reading.{FaultCause}
 use Rattle.btr_tool.specs.Answers.{error_line}
-use Rattle.btr_tool.specs.Behind.{IsBehind, IsFault, HasTreeCause}
+use Rattle.btr_tool.specs.Behind.{IsBehind, IsFault}
 use Rattle.btr_tool.specs.Causes.{IsBehindWords, opened_with}
-use Rattle.btr_tool.specs.Commands.{command_outcome, MayCome, MayFail, MayWant}
+use Rattle.btr_tool.specs.Commands.{command_outcome, MayCome, MayFail, MayWant, TellsCause}
 use Rattle.btr_tool.specs.Effects.{FollowsWords, IsDecided, IsOutcome, MayFollow, MayWantBy, images_outcome}
 use Rattle.btr_tool.specs.Images.{AreUnchanged, IsMissing, most_images, taken}
 use Rattle.btr_tool.specs.Opening.{HasTooMany, OpeningCause, OpeningFailed, OpensAll, opening_answer}
@@ -34,7 +36,7 @@ use Rattle.btr_tool.specs.declared.answer.Answer.{Answer}
 use Rattle.btr_tool.specs.declared.answer.Answer.TheVariants.{Usage, Limit, ImageFault, SinkFault, OutFault}
 use Rattle.btr_tool.proofs.Causing.{none_failed_yet, none_failed_twice, opened_again}
 use Rattle.btr_tool.proofs.Coming.{comes_bare, comes_also}
-use Rattle.btr_tool.proofs.Faulting.{tree_in, untreed}
+use Rattle.btr_tool.proofs.Faulting.{no_tree, tree_in}
 use Rattle.btr_tool.proofs.Openings.{Images}
 use Rattle.btr_tool.proofs.Orders.{nothing_done, nothing_stands}
 use Rattle.btr_tool.proofs.Sentences.{one_plan}
@@ -89,7 +91,7 @@ module _ (words : Words) (at : ℕ) (usage : IsUsageAt words at) where
     shut = λ more. absurd (omega (arith, more));
     hidden = inl (none_failed_yet seen.account);
     sure = λ slot is. absurd (cc is);
-    tree = untreed (opened_with seen.account seen) seen (Usage at) refl;
+    tree = λ fault e. absurd (no_tree (Usage at) refl fault e);
   }
 
 opening_line : (fault : OpeningFault) → error_line (opening_answer fault) ≢ []
@@ -205,7 +207,7 @@ module _ (words names : Words) (plan : Plan) (sentence : IsSentence plan words) 
           shut = λ more. absurd (omega (arith, none.shut, more));
           hidden = inl none;
           sure = λ slot is. absurd (other slot is);
-          tree = untreed (opened_with old.account new) new (opening_answer f) (opening_no_tree f);
+          tree = λ fault e. absurd (no_tree (opening_answer f) (opening_no_tree f) fault e);
         }
 
         of : (f : OpeningFault) → OpeningCause names old new (Err f) → ((slot : ℕ) → f ≡ Failed slot → old.sure ≡ true → IsMissing names old.shelf slot) → IsBehindWords words old new (opening_answer f)
@@ -221,11 +223,11 @@ module _ (words names : Words) (plan : Plan) (sentence : IsSentence plan words) 
                 sentence = sentence;
                 missing = subst (λ l. IsMissing l old.shelf other) (sym named) (sure other (cc) certain);
               };
-              tree = untreed (opened_with old.account new) new (ImageFault slot) refl;
+              tree = λ fault e. absurd (no_tree (ImageFault slot) refl fault e);
             }
 
   -- the images are open, and the command was done, or not
-  module _ (old mid new : Seen) (few : length names ≤ most_images) (opened : NoneFailed old.account mid.account) (answer : Answer) (behind : IsBehind (MayFail plan.command) mid new answer) where
+  module _ (old mid new : Seen) (few : length names ≤ most_images) (opened : NoneFailed old.account mid.account) (answer : Answer) (behind : IsBehind (MayFail plan.command) (TellsCause plan.command) mid new answer) where
     may_want : (x : Outside) → MayWant plan.command x.out_calls → MayWantBy words x.out_calls
     may_want x may = ⊎_elim (λ scarce. inl scarce) (λ writes. inr (plan, sentence, writes)) may
 
@@ -281,7 +283,11 @@ module _ (words names : Words) (plan : Plan) (sentence : IsSentence plan words) 
       shut = λ more. absurd (omega (arith, more, behind.reads.same_shut, opened.shut));
       hidden = ⊎_elim (λ none. inl (none_failed_twice old.account mid.account new.account opened none)) (λ rest. ⊎_elim (λ fault. inr (inl fault)) (λ may. inr (inr (plan, sentence, may))) rest) behind.hidden;
       sure = λ slot is certain. absurd (cc (sym certain ∙ sym kept ∙ (behind.image slot is).unsure));
-      tree = subst (λ s. HasTreeCause s new answer) (opened_again old mid new opened behind.reads.same) behind.tree;
+      tree = λ fault e. record {
+        plan = plan;
+        sentence = sentence;
+        cause = λ told. subst (λ s. (layout : Layout) × FaultCause layout s new fault) (opened_again old mid new opened behind.reads.same) (behind.tree fault e told);
+      };
     }
       where
         since : {slot : ℕ} → SuperUnread mid new slot → SuperUnread old new slot

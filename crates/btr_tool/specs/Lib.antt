@@ -12,6 +12,7 @@ pub mod Behind
 pub mod Newest
 pub mod Filesystem
 pub mod Trees
+pub mod Checked
 pub mod Restored
 pub mod Commands
 pub mod Causes

@@ -87,8 +87,8 @@ pub fn run<R: Rack, T: TreeSink, O: Out>(
     ensures sink { result ≡ Answer.SinkFault → CallFailed (T.account tree.old) (T.account tree.new) }
     ensures out { result ≡ Answer.OutFault → CallFailed (O.account out.old) (O.account out.new) }
 
-    // A fault of a tree is answered only with its cause, whatever failed.
-    ensures tree { TreeCause (R.seen rack.old) (R.seen rack.new) result }
+    // A fault of a tree is answered only with its cause, whatever failed; a check tells that of a block that could not be read.
+    ensures tree { TreeCause (map string_bytes words.now) (R.seen rack.old) (R.seen rack.new) result }
 
     // Nothing is answered in place of a failed call on an image, whatever failed before.
     ensures hidden { HidesNone (map string_bytes words.now) (R.seen rack.old).account (R.seen rack.new).account result }
