@@ -19,3 +19,4 @@ pub mod Restorings
 pub mod Performing
 pub mod Promises
 pub mod Orders
+pub mod Agreements

@@ -19,3 +19,4 @@ pub mod Causes
 pub mod Effects
 pub mod Promise
 pub mod Order
+pub mod Agreeing

@@ -1,5 +1,6 @@
 // The command `check`.
-ghost use Rattle.std.specs.Prelude.{◌≡◌, ◌<◌, length, Some};
+ghost use Rattle.std.specs.Prelude.{◌≡◌, ◌<◌, length, IfSome, Some};
+ghost use Rattle.btr_tool.specs.Agreeing.{AreAgreed, IsCheckOrUnread};
 ghost use Rattle.btr_tool.specs.Answers.{answer_of};
 ghost use Rattle.btr_tool.specs.Behind.{IfSteady, IsBehind, IsUnread};
 ghost use Rattle.btr_tool.specs.Checked.{IsCheckOutcome, check_outcome, found};
@@ -26,6 +27,9 @@ pub(crate) fn show_findings<R: Rack, O: Out>(
     requires { 0 < length (R.seen rack.old).slots }
     ensures effect { IfSteady (R.seen rack.old).held (R.seen rack.old).account (R.seen rack.new).account (λ images.
         Shows (OrMemory (λ outcome. Some (check_outcome read_data images) ≡ Some outcome))
+        (O.text out.old) (O.text out.new) (O.account out.old) (O.account out.new) (answer_of result)) }
+    ensures agreed { IfSome (R.seen rack.old).held (λ images. AreAgreed images →
+        Shows (IsCheckOrUnread read_data images)
         (O.text out.old) (O.text out.new) (O.account out.old) (O.account out.new) (answer_of result)) }
     ensures told { Shows (OrBare IsCheckOutcome)
         (O.text out.old) (O.text out.new) (O.account out.old) (O.account out.new) (answer_of result) }

@@ -10,7 +10,7 @@ use Rattle.btr_tool.specs.declared.plan.Command.TheVariants.{Super, Dump, Roots,
 use Rattle.btr_tool.proofs.Causing.{name_at}
 use Rattle.btr_tool.proofs.Coming.{comes_also}
 use Rattle.btr_tool.proofs.Ending.{when_told}
-use Rattle.btr_tool.proofs.Performing.{restored_order, shown_effect, shown_told, writing_comes}
+use Rattle.btr_tool.proofs.Performing.{restored_order, shown_checked, shown_effect, shown_told, writing_comes}
 use Rattle.btr_tool.proofs.commands.perform.Goals as goal
 
 pub returns-in-Super-clause-effect : goal.returns-in-Super-clause-effect
@@ -112,3 +112,22 @@ returns-in-Restore-clause-order g c = λ number plan is.
     (outside (g.T.TreeSink.sink c.restore_files.new.tree) (g.T.TreeSink.account c.restore_files.new.tree) (g.O.Out.text c.restore_files.new.out) (g.O.Out.account c.restore_files.new.out)) (answer_of c.restore_files.result)
     (name_at c.args.words.now c.in-Restore.dest c.index-words-dest.result c.as_str.result.now (subst (λ command. HasWords command (length c.args.words.now)) c.in-Restore.is c.requires.words) c.as_str.ensures.value c.index-words-dest.is)
     c.restore_files.ensures.order
+
+pub returns-in-Super-clause-checked : goal.returns-in-Super-clause-checked
+returns-in-Super-clause-checked g c = λ read_data is. absurd (cc (sym c.in-Super.is ∙ is))
+
+pub returns-in-Dump-clause-checked : goal.returns-in-Dump-clause-checked
+returns-in-Dump-clause-checked g c = λ read_data is. absurd (cc (sym c.in-Dump.is ∙ is))
+
+pub returns-in-Roots-clause-checked : goal.returns-in-Roots-clause-checked
+returns-in-Roots-clause-checked g c = λ read_data is. absurd (cc (sym c.in-Roots.is ∙ is))
+
+pub returns-in-Restore-clause-checked : goal.returns-in-Restore-clause-checked
+returns-in-Restore-clause-checked g c = λ read_data is. absurd (cc (sym c.in-Restore.is ∙ is))
+
+pub returns-in-Check-clause-checked : goal.returns-in-Check-clause-checked
+returns-in-Check-clause-checked g c = λ read_data is.
+    shown_checked c.args.command
+    (outside (g.T.TreeSink.sink c.args.tree.now) (g.T.TreeSink.account c.args.tree.now) (g.O.Out.text c.args.out.now) (g.O.Out.account c.args.out.now))
+    (outside (g.T.TreeSink.sink c.args.tree.now) (g.T.TreeSink.account c.args.tree.now) (g.O.Out.text c.show_findings.new.out) (g.O.Out.account c.show_findings.new.out)) refl refl (answer_of c.show_findings.result)
+    c.in-Check.read_data read_data (sym c.in-Check.is ∙ is) (g.R.Rack.seen c.args.rack.now).held c.show_findings.ensures.agreed
