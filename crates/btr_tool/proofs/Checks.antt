@@ -1,5 +1,5 @@
 -- What a check comes to.
-use Rattle.std.proofs.Common.{◌≡◌, ◌≢◌, ◌⊎◌, inl, inr, ⊎_elim, ℕ, zero, suc, false, Bool, List, [], length, Option, Some, None, Result, Ok, Err, refl, sym, ap, ◌∙◌, subst, arith}
+use Rattle.std.proofs.Common.{◌≡◌, ◌≢◌, inl, inr, ℕ, true, false, Bool, cond, eqb, List, [], ◌∷◌, length, Option, Some, None, Result, Ok, Err, refl, sym, ap, ◌∙◌, subst, arith}
 use Rattle.std.specs.Option.{IfSome}
 use Rattle.std.specs.declared.alloc.Global.{Global}
 use Rattle.btr_check.specs.Before.{refusal}
@@ -47,7 +47,7 @@ steady_both P Q old mid new first second p q = of old.held p (subst (λ held. If
 
 -- a stop of a check is none of the faults of the output and of the sink, has a line, and is none of what the words or the superblocks alone decide
 module _ (end : Stop) (reading : OfReading end) where
-  stop_calm : IsNoFault (stop_answer end)
+  pub stop_calm : IsNoFault (stop_answer end)
   stop_calm = of end reading
     where
       of : (s : Stop) → OfReading s → IsNoFault (stop_answer s)
@@ -186,40 +186,52 @@ module _ (read_data : Bool) (old mid new : Seen) (first : OnlyReads old mid) (se
     no_limit = λ n e. subst NoneOf e (stop_none end reading);
   })
 
--- the answer behind a list of findings
+-- the answer behind a list of findings, by whether there are none
+calm_by : (none : Bool) (count : ℕ) → IsNoFault (cond none (Done 0) (Found count))
+calm_by true count = record { no_out = λ e. cc; no_sink = λ e. cc }
+calm_by false count = record { no_out = λ e. cc; no_sink = λ e. cc }
+
 found_calm : (count : ℕ) → IsNoFault (found count)
-found_calm zero = record { no_out = λ e. cc; no_sink = λ e. cc }
-found_calm (suc n) = record { no_out = λ e. cc; no_sink = λ e. cc }
+found_calm count = calm_by (eqb count 0) count
+
+none_by : (none : Bool) (count : ℕ) (put : Result Unit SinkError) → NoneOf (due_after put (cond none (Done 0) (Found count)))
+none_by true count (Ok u) = tt
+none_by false count (Ok u) = tt
+none_by none count (Err Failed) = tt
+none_by none count (Err memory_fault) = tt
 
 listed_none : (count : ℕ) (put : Result Unit SinkError) → NoneOf (due_after put (found count))
-listed_none zero (Ok u) = tt
-listed_none (suc n) (Ok u) = tt
-listed_none count (Err Failed) = tt
-listed_none count (Err memory_fault) = tt
+listed_none count put = none_by (eqb count 0) count put
+
+no_tree_by : (none : Bool) (count : ℕ) (put : Result Unit SinkError) → tree_in (due_after put (cond none (Done 0) (Found count))) ≡ None
+no_tree_by true count (Ok u) = refl
+no_tree_by false count (Ok u) = refl
+no_tree_by none count (Err Failed) = refl
+no_tree_by none count (Err memory_fault) = refl
 
 listed_no_tree : (count : ℕ) (put : Result Unit SinkError) → tree_in (due_after put (found count)) ≡ None
-listed_no_tree zero (Ok u) = refl
-listed_no_tree (suc n) (Ok u) = refl
-listed_no_tree count (Err Failed) = refl
-listed_no_tree count (Err memory_fault) = refl
+listed_no_tree count put = no_tree_by (eqb count 0) count put
+
+no_image_by : (none : Bool) (count : ℕ) (put : Result Unit SinkError) (slot : ℕ) → due_after put (cond none (Done 0) (Found count)) ≢ ImageFault slot
+no_image_by true count (Ok u) slot e = cc
+no_image_by false count (Ok u) slot e = cc
+no_image_by none count (Err Failed) slot e = cc
+no_image_by none count (Err memory_fault) slot e = cc
 
 listed_no_image : (count : ℕ) (put : Result Unit SinkError) (slot : ℕ) → due_after put (found count) ≢ ImageFault slot
-listed_no_image zero (Ok u) slot e = cc
-listed_no_image (suc n) (Ok u) slot e = cc
-listed_no_image count (Err Failed) slot e = cc
-listed_no_image count (Err memory_fault) slot e = cc
+listed_no_image count put slot = no_image_by (eqb count 0) count put slot
 
 -- The filesystem is open, it was checked, and a list of findings was put.
 module _ (read_data : Bool) (old mid new : Seen) (first : OnlyReads old mid) (second : OnlyReads mid new) (all : List Finding) (put : Result Unit SinkError) (answer : Answer) (due : answer ≡ due_after put (found (length all))) where
   module _ (text text' : Option Text) (before after : CallAccount) (puts : Puts text text' (findings_text all) put) (counts : Counts before after put) where
-    listed : (IsOne : Outcome → Type 0) → IsOne (showing (listing all)) → Shows IsOne text text' before after answer
+    pub listed : (IsOne : Outcome → Type 0) → IsOne (showing (listing all)) → Shows IsOne text text' before after answer
     listed IsOne one = record { shown = listing all; is_one = one; no_fault = found_calm (length all); put = record { put = put; puts = puts; counts = counts; due = due } }
 
     pub listed_effect : (volume : Volume) → IfSteady old.held old.account mid.account (λ images. OpensFilesystem images (Ok volume))
         → IfSteady mid.held mid.account new.account (λ images. (refusal (filesystem_by images (filesystem_in volume)) ≡ None) × (all ≡ findings read_data (filesystem_by images (filesystem_in volume))))
         → IfSteady old.held old.account new.account (λ images. Shows (OrMemory (λ outcome. Some (check_outcome read_data images) ≡ Some outcome)) text text' before after answer)
     listed_effect volume opens told =
-        when_told old.held (λ images. Steady old.account.faults new.account.faults → OpensFilesystem images (Ok volume) × (refusal (filesystem_by images (filesystem_in volume)) ≡ None) × (all ≡ findings read_data (filesystem_by images (filesystem_in volume))))
+        when_told old.held (λ images. Steady old.account.faults new.account.faults → OpensFilesystem images (Ok volume) × ((refusal (filesystem_by images (filesystem_in volume)) ≡ None) × (all ≡ findings read_data (filesystem_by images (filesystem_in volume)))))
         (λ images. Steady old.account.faults new.account.faults → Shows (OrMemory (λ outcome. Some (check_outcome read_data images) ≡ Some outcome)) text text' before after answer)
         (λ images both steady. let h = both steady in listed (OrMemory (λ outcome. Some (check_outcome read_data images) ≡ Some outcome)) (inl (ap (λ f. Some (check_in read_data images f)) h.0
         ∙ ap (λ r. Some (unless_refused r (listing (findings read_data (filesystem_by images (filesystem_in volume)))))) h.1.0 ∙ ap (λ l. Some (showing (listing l))) (sym h.1.1))))
