@@ -10,8 +10,8 @@ _btrfs_offline() {
     COMPREPLY=()
     [[ ${COMP_WORDS[1]-} == --build ]] && first=2
     if ((COMP_CWORD <= first)); then
-        local words='super inspect-internal restore help --help -h --version --build'
-        ((first == 2)) && words='super inspect-internal restore'
+        local words='super inspect-internal check restore help --help -h --version --build'
+        ((first == 2)) && words='super inspect-internal check restore'
         mapfile -t COMPREPLY < <(compgen -W "$words" -- "$current")
         return
     fi
@@ -34,6 +34,13 @@ _btrfs_offline() {
         else
             _btrfs_offline_images "$current"
         fi
+        ;;
+    check)
+        if [[ $current == -* ]]; then
+            ((COMP_CWORD == first + 1)) && mapfile -t COMPREPLY < <(compgen -W '--check-data-csum --help -h' -- "$current")
+            return
+        fi
+        _btrfs_offline_images "$current"
         ;;
     restore)
         if [[ ${COMP_WORDS[COMP_CWORD - 1]} == -r ]]; then

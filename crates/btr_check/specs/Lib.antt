@@ -7,3 +7,4 @@ pub mod Running
 pub mod Walking
 pub mod Counting
 pub mod Text
+pub mod Findings

@@ -11,6 +11,7 @@
 #![tactic(auto)]
 
 mod adding;
+mod checking;
 mod block_fault;
 mod counting;
 mod form;
@@ -24,6 +25,7 @@ mod walk;
 mod walking;
 
 pub use adding::put_walk_findings;
+pub use checking::check;
 pub use counting::count_uses;
 pub use text::put_findings;
 pub use trees::{all_trees, read_trees};

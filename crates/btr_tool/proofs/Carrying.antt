@@ -1,5 +1,5 @@
 -- What doing what the words say comes to, by the step that ended it.
-use Rattle.std.proofs.Common.{◌≡◌, ◌≢◌, inl, inr, ⊎_elim, true, false, ltb, cond, ℕ, ◌<◌, ◌≤◌, ◌-◌, List, [], get_or, length, map, take, drop, String, Option, Some, None, Ok, Err, refl, sym, ap, ◌∙◌, subst, arith}
+use Rattle.std.proofs.Common.{◌≡◌, ◌≢◌, inl, inr, ⊎_elim, Bool, true, false, ltb, cond, ℕ, ◌<◌, ◌≤◌, ◌-◌, List, [], get_or, length, map, take, drop, String, Option, Some, None, Ok, Err, refl, sym, ap, ◌∙◌, subst, arith}
 use Rattle.std.specs.Option.{IfSome, option_and_then}
 use Rattle.std.specs.String.{string_bytes}
 use Rattle.std.specs.declared.alloc.Global.{Global}
@@ -12,11 +12,14 @@ use Rattle.btr_prog.specs.Answers.{Broke}
 use Rattle.btr_read.specs.Fate.{choices}
 use Rattle.btr_restore.specs.InOrder as journey
 use Rattle.btr_restore.specs.Running.{Outside}
+use Rattle.btr_read.specs.Layout.{Layout}
 use Rattle.btr_volume.specs.Start.{Start}
+use Rattle.btr_walk.specs.Reading.{FaultCause}
+use Rattle.btr_tool.specs.Agreeing.{AreAgreed, FollowsCheck, IsCheckOrUnread}
 use Rattle.btr_tool.specs.Answers.{error_line}
-use Rattle.btr_tool.specs.Behind.{IsBehind, IsFault, HasTreeCause}
+use Rattle.btr_tool.specs.Behind.{IsBehind, IsFault}
 use Rattle.btr_tool.specs.Causes.{IsBehindWords, opened_with}
-use Rattle.btr_tool.specs.Commands.{command_outcome, MayCome, MayFail, MayWant}
+use Rattle.btr_tool.specs.Commands.{command_outcome, MayCome, MayFail, MayWant, TellsCause}
 use Rattle.btr_tool.specs.Effects.{FollowsWords, IsDecided, IsOutcome, MayFollow, MayWantBy, images_outcome}
 use Rattle.btr_tool.specs.Images.{AreUnchanged, IsMissing, most_images, taken}
 use Rattle.btr_tool.specs.Opening.{HasTooMany, OpeningCause, OpeningFailed, OpensAll, opening_answer}
@@ -24,7 +27,7 @@ use Rattle.btr_tool.specs.Order.{FollowsOrder, InOrder, KeepsTo}
 use Rattle.btr_tool.specs.Outcomes.{Outcome, refused, Comes, IsNoFault, OrBare, OrMemory}
 use Rattle.btr_tool.specs.Words.{Words, IsSentence, IsUsageAt, images_of}
 use Rattle.btr_tool.specs.declared.plan.Command.{Command}
-use Rattle.btr_tool.specs.declared.plan.Command.TheVariants.{Restore}
+use Rattle.btr_tool.specs.declared.plan.Command.TheVariants.{Check, Restore}
 use Rattle.btr_tool.specs.declared.plan.Plan.{Plan}
 use Rattle.btr_tool.specs.declared.opening.OpeningFault.{OpeningFault}
 use Rattle.btr_tool.specs.declared.opening.OpeningFault.TheVariants.{TooMany, Failed, Memory as memory_fault}
@@ -34,7 +37,7 @@ use Rattle.btr_tool.specs.declared.answer.Answer.{Answer}
 use Rattle.btr_tool.specs.declared.answer.Answer.TheVariants.{Usage, Limit, ImageFault, SinkFault, OutFault}
 use Rattle.btr_tool.proofs.Causing.{none_failed_yet, none_failed_twice, opened_again}
 use Rattle.btr_tool.proofs.Coming.{comes_bare, comes_also}
-use Rattle.btr_tool.proofs.Faulting.{tree_in, untreed}
+use Rattle.btr_tool.proofs.Faulting.{no_tree, tree_in}
 use Rattle.btr_tool.proofs.Openings.{Images}
 use Rattle.btr_tool.proofs.Orders.{nothing_done, nothing_stands}
 use Rattle.btr_tool.proofs.Sentences.{one_plan}
@@ -76,6 +79,9 @@ module _ (words : Words) (at : ℕ) (usage : IsUsageAt words at) where
   pub usage_order : (shelf : Option Shelf) (old new : Seen) (x : Outside) → IfSome shelf (λ s. FollowsOrder words s old new x x (Usage at))
   usage_order shelf old new x = all_told shelf _ (λ s plan dest images from. absurd (usage.no_sentence _ from.sentence))
 
+  pub usage_checked : (shelf : Option Shelf) (x : Outside) → IfSome shelf (λ s. FollowsCheck words s x x (Usage at))
+  usage_checked shelf x = all_told shelf _ (λ s read_data images from. absurd (usage.no_sentence _ from.sentence))
+
   pub usage_decided : (answer : Answer) → IsDecided words answer → Usage at ≡ answer
   usage_decided answer decided =
       ⊎_elim (λ other. ap (λ k. Usage k) (usage_once words at other.0 usage other.1) ∙ sym other.2) (λ many. absurd (usage.no_sentence many.0 many.1)) decided
@@ -89,7 +95,7 @@ module _ (words : Words) (at : ℕ) (usage : IsUsageAt words at) where
     shut = λ more. absurd (omega (arith, more));
     hidden = inl (none_failed_yet seen.account);
     sure = λ slot is. absurd (cc is);
-    tree = untreed (opened_with seen.account seen) seen (Usage at) refl;
+    tree = λ fault e. absurd (no_tree (Usage at) refl fault e);
   }
 
 opening_line : (fault : OpeningFault) → error_line (opening_answer fault) ≢ []
@@ -177,6 +183,18 @@ module _ (words names : Words) (plan : Plan) (sentence : IsSentence plan words) 
         of p dest images start few (Failed slot) many is = bare p dest images start (inl (slot, is))
         of p dest images start few memory_fault many is = bare p dest images start (inr (inr (inr is)))
 
+    pub opening_checked : (shelf : Option Shelf) (x : Outside) (result : Answer) → result ≡ opening_answer fault → IfSome shelf (λ s. FollowsCheck words s x x result)
+    opening_checked shelf x result is =
+        all_told shelf _ (λ s read_data images from agreed.
+        subst (λ a. Comes (MayWantBy words x.out_calls) (IsCheckOrUnread read_data images) x x a) (sym is)
+        (comes_bare (MayWantBy words x.out_calls) (IsCheckOrUnread read_data images) x (opening_answer fault)
+        (of read_data images (subst (λ l. length l ≤ most_images) (ap (λ (q : Plan). images_of q words) (one_plan words _ plan from.sentence sentence) ∙ named) from.few) fault many) (opening_no_fault fault)))
+      where
+        of : (read_data : Bool) (images : Images) → length names ≤ most_images → (f : OpeningFault) → HasTooMany names (Err f) → IsCheckOrUnread read_data images (refused (opening_answer f))
+        of read_data images few (TooMany count) many = absurd (omega (arith, few, many.0, many.1))
+        of read_data images few (Failed slot) many = inr (inr (inl (slot, refl)))
+        of read_data images few memory_fault many = inr (inr (inr refl))
+
     pub opening_decided : (result answer : Answer) → result ≡ opening_answer fault → IsDecided words answer → (most_images < length names) × (result ≡ answer)
     opening_decided result answer is decided = let all = too_many_decided answer decided in (all.0, is ∙ of fault many all.0 ∙ sym all.1)
       where
@@ -205,7 +223,7 @@ module _ (words names : Words) (plan : Plan) (sentence : IsSentence plan words) 
           shut = λ more. absurd (omega (arith, none.shut, more));
           hidden = inl none;
           sure = λ slot is. absurd (other slot is);
-          tree = untreed (opened_with old.account new) new (opening_answer f) (opening_no_tree f);
+          tree = λ fault e. absurd (no_tree (opening_answer f) (opening_no_tree f) fault e);
         }
 
         of : (f : OpeningFault) → OpeningCause names old new (Err f) → ((slot : ℕ) → f ≡ Failed slot → old.sure ≡ true → IsMissing names old.shelf slot) → IsBehindWords words old new (opening_answer f)
@@ -221,11 +239,11 @@ module _ (words names : Words) (plan : Plan) (sentence : IsSentence plan words) 
                 sentence = sentence;
                 missing = subst (λ l. IsMissing l old.shelf other) (sym named) (sure other (cc) certain);
               };
-              tree = untreed (opened_with old.account new) new (ImageFault slot) refl;
+              tree = λ fault e. absurd (no_tree (ImageFault slot) refl fault e);
             }
 
   -- the images are open, and the command was done, or not
-  module _ (old mid new : Seen) (few : length names ≤ most_images) (opened : NoneFailed old.account mid.account) (answer : Answer) (behind : IsBehind (MayFail plan.command) mid new answer) where
+  module _ (old mid new : Seen) (few : length names ≤ most_images) (opened : NoneFailed old.account mid.account) (answer : Answer) (behind : IsBehind (MayFail plan.command) (TellsCause plan.command) mid new answer) where
     may_want : (x : Outside) → MayWant plan.command x.out_calls → MayWantBy words x.out_calls
     may_want x may = ⊎_elim (λ scarce. inl scarce) (λ writes. inr (plan, sentence, writes)) may
 
@@ -269,6 +287,22 @@ module _ (words names : Words) (plan : Plan) (sentence : IsSentence plan words) 
             (subst (λ d. InOrder p d images mid new x y answer) from.named
             (subst (λ i. InOrder p (get_or words from.number []) i mid new x y answer) (the_images held images same) (order from.number p (sym (ap (λ (q : Plan). q.command) one)))))
 
+    pub command_checked : (x y : Outside) → OpensAll names old.shelf mid.held (Ok tt)
+        → ((read_data : Bool) → plan.command ≡ Check read_data → IfSome mid.held (λ images. AreAgreed images → Comes (MayWant plan.command x.out_calls) (IsCheckOrUnread read_data images) x y answer))
+        → IfSome old.shelf (λ shelf. FollowsCheck words shelf x y answer)
+    command_checked x y = of old.shelf mid.held
+      where
+        of : (shelf : Option Shelf) (held : Option Images) → OpensAll names shelf held (Ok tt)
+            → ((read_data : Bool) → plan.command ≡ Check read_data → IfSome held (λ images. AreAgreed images → Comes (MayWant plan.command x.out_calls) (IsCheckOrUnread read_data images) x y answer))
+            → IfSome shelf (λ shelf. FollowsCheck words shelf x y answer)
+        of None held opens checked = tt
+        of (Some at) None opens checked = absurd opens
+        of (Some at) (Some held) opens checked = λ read_data images from agreed.
+            let one = one_plan words _ plan from.sentence sentence in
+            let same : ◌≡◌ {A = Option Images} (Some held) (Some images) = sym opens ∙ sym (ap (λ (q : Plan). taken (images_of q words) at) one ∙ ap (λ l. taken l at) named) ∙ from.from in
+            comes_also (MayWant plan.command x.out_calls) (MayWantBy words x.out_calls) (IsCheckOrUnread read_data images) (IsCheckOrUnread read_data images) x y answer (may_want x) (λ outcome o. o)
+            (subst (λ i. AreAgreed i → Comes (MayWant plan.command x.out_calls) (IsCheckOrUnread read_data i) x y answer) (the_images held images same) (checked read_data (sym (ap (λ (q : Plan). q.command) one))) agreed)
+
     pub none_decided : (other : Answer) → IsDecided words other → ⊥
     none_decided other decided = omega (arith, few, (too_many_decided other decided).0)
 
@@ -281,7 +315,11 @@ module _ (words names : Words) (plan : Plan) (sentence : IsSentence plan words) 
       shut = λ more. absurd (omega (arith, more, behind.reads.same_shut, opened.shut));
       hidden = ⊎_elim (λ none. inl (none_failed_twice old.account mid.account new.account opened none)) (λ rest. ⊎_elim (λ fault. inr (inl fault)) (λ may. inr (inr (plan, sentence, may))) rest) behind.hidden;
       sure = λ slot is certain. absurd (cc (sym certain ∙ sym kept ∙ (behind.image slot is).unsure));
-      tree = subst (λ s. HasTreeCause s new answer) (opened_again old mid new opened behind.reads.same) behind.tree;
+      tree = λ fault e. record {
+        plan = plan;
+        sentence = sentence;
+        cause = λ told. subst (λ s. (layout : Layout) × FaultCause layout s new fault) (opened_again old mid new opened behind.reads.same) (behind.tree fault e told);
+      };
     }
       where
         since : {slot : ℕ} → SuperUnread mid new slot → SuperUnread old new slot

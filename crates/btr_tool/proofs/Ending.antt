@@ -5,15 +5,16 @@ use Rattle.std.proofs.lemmas.List.{take_all}
 use Rattle.btr_rack.specs.Rack.{Seen, Rose, Steady, Shelf}
 use Rattle.btr_rack.specs.Out.{CallAccount}
 use Rattle.btr_restore.specs.Running.{Outside}
+use Rattle.btr_tool.specs.Agreeing.{FollowsCheck, IsCheckOrUnread, KeepsCheck}
 use Rattle.btr_tool.specs.Answers.{error_line}
-use Rattle.btr_tool.specs.Causes.{HidesNone, ImageCause, IsBehindWords, IsMissingImage, IsShut, TreeCause, opened_with}
+use Rattle.btr_tool.specs.Causes.{HidesNone, ImageCause, IsBehindWords, IsMissingImage, IsShut, TreeCause}
 use Rattle.btr_tool.specs.Effects.{FollowsWords, HasEffect, HasPart, IsOutcome, IsTold, MayFollow, MayWantBy}
 use Rattle.btr_tool.specs.Outcomes.{Outcome, refused, CallFailed, Comes, HasFirstPart, IsPrinted, IsPut, MayEnd, OrBare, OrMemory, Stands, StandsPartly}
 use Rattle.btr_tool.specs.Words.{Words}
 use Rattle.btr_tool.specs.declared.answer.Answer.{Answer}
 use Rattle.btr_tool.specs.declared.answer.Answer.TheVariants.{ImageFault, SinkFault, OutFault, Memory}
 use Rattle.btr_tool.proofs.Coming.{comes_printed, put_ends, whole_first, with_line}
-use Rattle.btr_tool.proofs.Faulting.{tree_in, untreed}
+use Rattle.btr_tool.proofs.Faulting.{no_tree, tree_in}
 
 -- where something is told, a clause on it
 pub when_told : {X : Type 0} (o : Option X) (P Q : X → Type 0) → ((x : X) → P x → Q x) → IfSome o P → IfSome o Q
@@ -70,6 +71,9 @@ module _ (words : Words) (x y : Outside) (new : Option (List ℕ)) (after : Call
   pub is_told : Comes May (OrBare (MayFollow words)) x y answer → IsTold words x z result
   is_told comes = (comes.outcome, comes.is_one, print (OrBare (MayFollow words)) comes)
 
+  pub keeps_check : (shelf : Shelf) → FollowsCheck words shelf x y answer → KeepsCheck words shelf x z result
+  keeps_check shelf follows read_data images from agreed = let comes = follows read_data images from agreed in (comes.outcome, comes.is_one, print (IsCheckOrUnread read_data images) comes)
+
   pub out_failed : (IsOne : Outcome → Type 0) → Comes May IsOne x y answer → result ≡ OutFault → CallFailed x.out_calls after
   out_failed IsOne comes is =
       ⊎_elim (λ done. absurd (comes.no_fault.no_out (sym done.0 ∙ is)))
@@ -103,10 +107,10 @@ module _ (words : Words) (x y : Outside) (new : Option (List ℕ)) (after : Call
     pub shut : seen.account.shut < seen'.account.shut → IsShut words seen seen' result
     shut more = let failed = behind.shut more in ⊎_elim (λ same. inl (failed.0, same ∙ failed.1, failed.2)) (λ rest. inr rest) ends
 
-    pub tree : TreeCause seen seen' result
+    pub tree : TreeCause words seen seen' result
     tree =
-        ⊎_elim (λ same. subst (TreeCause seen seen') (sym same) behind.tree)
-        (λ rest. ⊎_elim (λ out. untreed (opened_with seen.account seen') seen' result (ap tree_in out)) (λ want. untreed (opened_with seen.account seen') seen' result (ap tree_in want)) rest) ends
+        ⊎_elim (λ same. subst (TreeCause words seen seen') (sym same) behind.tree)
+        (λ rest. ⊎_elim (λ out fault e. absurd (no_tree result (ap tree_in out) fault e)) (λ want fault e. absurd (no_tree result (ap tree_in want) fault e)) rest) ends
 
     pub hidden : HidesNone words seen.account seen'.account result
     hidden =

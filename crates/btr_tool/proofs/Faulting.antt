@@ -3,7 +3,7 @@ use Rattle.std.proofs.Common.{◌≡◌, Option, Some, None, refl, sym, ap, ◌�
 use Rattle.btr_walk.specs.declared.fault.TreeFault.{TreeFault}
 use Rattle.btr_walk.specs.declared.fault.TreeFault.TheVariants as tree
 use Rattle.btr_rack.specs.Rack.{Seen}
-use Rattle.btr_tool.specs.Behind.{HasTreeCause}
+use Rattle.btr_tool.specs.Behind.{AnyFault, HasToldCause}
 use Rattle.btr_tool.specs.Faults.{tree_answer}
 use Rattle.btr_tool.specs.declared.answer.Answer.{Answer}
 use Rattle.btr_tool.specs.declared.answer.Answer.TheVariants.{Lost, Malformed, Unmapped, Crosses, Unread}
@@ -25,8 +25,8 @@ tree_back (tree.Crosses addr) = refl
 tree_back (tree.Malformed addr) = refl
 
 -- an answer that is none
-no_tree : (answer : Answer) → tree_in answer ≡ None → (fault : TreeFault) → answer ≡ tree_answer fault → ⊥
+pub no_tree : (answer : Answer) → tree_in answer ≡ None → (fault : TreeFault) → answer ≡ tree_answer fault → ⊥
 no_tree answer none fault is = cc (sym none ∙ ap tree_in is ∙ tree_back fault)
 
-pub untreed : (old new : Seen) (answer : Answer) → tree_in answer ≡ None → HasTreeCause old new answer
-untreed old new answer none fault is = absurd (no_tree answer none fault is)
+pub untold : (old new : Seen) (answer : Answer) → tree_in answer ≡ None → HasToldCause AnyFault old new answer
+untold old new answer none fault is told = absurd (no_tree answer none fault is)

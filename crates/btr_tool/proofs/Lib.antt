@@ -14,7 +14,9 @@ pub mod Shows
 pub mod Carrying
 pub mod Ending
 pub mod TreesShown
+pub mod Checks
 pub mod Restorings
 pub mod Performing
 pub mod Promises
 pub mod Orders
+pub mod Agreements

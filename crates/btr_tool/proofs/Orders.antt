@@ -95,7 +95,7 @@ each_first images layout [] = tt
 each_first images layout (w ∷ ws) = ((0, choices-zero images layout w), each_first images layout ws)
 
 -- a scan of the chunk tree, where the copies agree
-scan_follows : (images : Images) (start : Start) (old new : Seen) (answer : Result TableResult (Halt Fault UnreadBlock)) → old.held ≡ Some images → Agreed images (array_layout start) → Scans start old new answer
+pub scan_follows : (images : Images) (start : Start) (old new : Seen) (answer : Result TableResult (Halt Fault UnreadBlock)) → old.held ≡ Some images → Agreed images (array_layout start) → Scans start old new answer
     → Follows {S = ⊥} (unread_by (array_layout start) old new) no_part [] (exec (fate images (array_layout start)) (table_scan start)) [] answer
 scan_follows images start old new answer told agreed scans =
     subst (λ (o : Option Images). IfSome o (λ i. Follows {S = ⊥} (unread_by (array_layout start) old new) no_part [] (exec (fate i (array_layout start)) (table_scan start)) [] answer)) told

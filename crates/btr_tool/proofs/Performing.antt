@@ -1,9 +1,10 @@
 -- What a command that only shows something comes to, as a command among others.
-use Rattle.std.proofs.Common.{◌≡◌, inl, inr, ⊎_elim, ℕ, List, [], get_or, Option, Some, None, sym, ap, ◌∙◌, subst}
+use Rattle.std.proofs.Common.{◌≡◌, inl, inr, ⊎_elim, ℕ, Bool, List, [], get_or, Option, Some, None, sym, ap, ◌∙◌, subst}
 use Rattle.std.specs.Option.{IfSome}
 use Rattle.btr_files.specs.declared.plan.RestorePlan.{RestorePlan}
 use Rattle.btr_rack.specs.Rack.{Account, Seen, Steady}
 use Rattle.btr_restore.specs.Running.{Outside}
+use Rattle.btr_tool.specs.Agreeing.{AreAgreed, IsCheckOrUnread}
 use Rattle.btr_tool.specs.Behind.{IfSteady}
 use Rattle.btr_tool.specs.Commands.{MayWant, command_outcome}
 use Rattle.btr_tool.specs.Order.{InOrder}
@@ -12,7 +13,7 @@ use Rattle.btr_tool.specs.Restored.{restored}
 use Rattle.btr_tool.specs.Words.{Words}
 use Rattle.btr_tool.specs.declared.answer.Answer.{Answer}
 use Rattle.btr_tool.specs.declared.plan.Command.{Command}
-use Rattle.btr_tool.specs.declared.plan.Command.TheVariants.{Restore}
+use Rattle.btr_tool.specs.declared.plan.Command.TheVariants.{Check, Restore}
 use Rattle.btr_tool.proofs.Coming.{comes_also, comes_shown}
 use Rattle.btr_tool.proofs.Ending.{when_told}
 use Rattle.btr_tool.proofs.Openings.{Images}
@@ -27,6 +28,17 @@ module _ (command : Command) (x y : Outside) (same : y.sink ≡ x.sink) (same_ca
 
   pub shown_told : (IsOne : Outcome → Type 0) → Shows (OrBare IsOne) x.text y.text x.out_calls y.out_calls answer → Comes (MayWant command x.out_calls) (OrBare IsOne) x y answer
   shown_told IsOne shows = comes_shown (MayWant command x.out_calls) (OrBare IsOne) x y answer same same_calls (λ scarce. inl scarce) shows
+
+  -- .. a check, by its words
+  pub shown_checked : (given read_data : Bool) → Check given ≡ Check read_data → (held : Option Images) → IfSome held (λ images. AreAgreed images → Shows (IsCheckOrUnread given images) x.text y.text x.out_calls y.out_calls answer)
+      → IfSome held (λ images. AreAgreed images → Comes (MayWant command x.out_calls) (IsCheckOrUnread read_data images) x y answer)
+  shown_checked given read_data is held =
+      when_told held (λ images. AreAgreed images → Shows (IsCheckOrUnread given images) x.text y.text x.out_calls y.out_calls answer) (λ images. AreAgreed images → Comes (MayWant command x.out_calls) (IsCheckOrUnread read_data images) x y answer)
+      (λ images shows agreed. comes_shown (MayWant command x.out_calls) (IsCheckOrUnread read_data images) x y answer same same_calls (λ scarce. inl scarce)
+      (subst (λ b. Shows (IsCheckOrUnread b images) x.text y.text x.out_calls y.out_calls answer) same_choice (shows agreed)))
+    where
+      same_choice : given ≡ read_data
+      same_choice = cc is
 
 -- a command that writes into a destination, whose name is a word
 pub writing_comes : (number : ℕ) (plan : RestorePlan) (words : Words) (dest : List ℕ) (x y : Outside) (answer : Answer) → get_or words number [] ≡ dest → (images : Images) → Comes (Unit {0}) (OrMemory (λ outcome. restored plan dest images ≡ outcome)) x y answer

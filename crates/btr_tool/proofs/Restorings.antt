@@ -31,7 +31,7 @@ use Rattle.btr_volume.specs.declared.volume.Volume.{Volume}
 use Rattle.btr_walk.specs.Reading.{Map, FaultCause, unread_by}
 use Rattle.btr_walk.specs.declared.fault.TreeFault.TheVariants as tree
 use Rattle.btr_tool.specs.Answers.{error_line}
-use Rattle.btr_tool.specs.Behind.{IfSteady, IsBehind, HasTreeCause}
+use Rattle.btr_tool.specs.Behind.{AnyFault, IfSteady, IsBehind, HasTreeCause}
 use Rattle.btr_tool.specs.Faults.{tree_answer}
 use Rattle.btr_tool.specs.Filesystem.{IsRefusal, MayMend, OpensFilesystem, filesystem_in, filesystem_of}
 use Rattle.btr_tool.specs.Outcomes.{Outcome, refused, Comes, IsFirstPart, IsNoFault, Stands, StandsOf, StandsPartly, Whole, SinkFailed, OutFailed, Wanted, OrBare, OrMemory}
@@ -248,11 +248,11 @@ module _ (p : Program Step Counts) (old mid new : Seen) (first : OnlyReads old m
       of (Err (stop.Missing id)) cause e = absurd cause
       of (Err (stop.Image other)) cause e = absurd cause
 
-  pub restored_behind : IsBehind MayMend old new answer
-  restored_behind = subst (IsBehind MayMend old new) (sym is) (record {
+  pub restored_behind : IsBehind MayMend AnyFault old new answer
+  restored_behind = subst (IsBehind MayMend AnyFault old new) (sym is) (record {
     reads = reads_more first ran.reads;
     image = λ slot e. absurd (no_image slot e);
-    tree = tree_cause;
+    tree = λ fault is told. tree_cause fault is;
     hidden = inr (inr (mends_of (call_answer result) none_of));
     no_usage = λ at e. subst NoneOf e none_of;
     no_limit = λ n e. subst NoneOf e none_of;

@@ -18,11 +18,11 @@ use Rattle.btr_tool.proofs.Numerals.{number_read, number_sound}
 use Rattle.btr_tool.proofs.Machine.{reached, reached_from, reached_stuck}
 use Rattle.btr_tool.proofs.RestoreWords.{all_counted, more_free, more_given, more_words, no_more_words, walked}
 use Rattle.btr_tool.specs.declared.plan.Command.{Command}
-use Rattle.btr_tool.specs.declared.plan.Command.TheVariants.{Super, Dump, Roots, Restore as restoring}
+use Rattle.btr_tool.specs.declared.plan.Command.TheVariants.{Super, Dump, Roots, Check as checking, Restore as restoring}
 use Rattle.btr_tool.specs.declared.plan.DumpChoice.TheVariants.{All as all_trees, Block, Tree, RootLines}
 use Rattle.btr_tool.specs.declared.plan.Plan.{Plan}
 use Rattle.btr_tool.specs.declared.progress.Progress.{Progress}
-use Rattle.btr_tool.specs.declared.progress.Progress.TheVariants.{Start, Inspect, DumpTree, Address, TreeId, Restore, RootId, FirstImage, Images}
+use Rattle.btr_tool.specs.declared.progress.Progress.TheVariants.{Start, Inspect, DumpTree, Address, TreeId, Check, Restore, RootId, FirstImage, Images}
 
 -- the walk from a place over these words ends with this plan
 abbrev Accepts : Progress → Words → Plan → Type 0
@@ -42,6 +42,7 @@ Led Inspect words = words ≡ codes "inspect-internal" ∷ []
 Led DumpTree words = words ≡ dump_words []
 Led Address words = words ≡ dump_words (codes "-b" ∷ [])
 Led TreeId words = words ≡ dump_words (codes "-t" ∷ [])
+Led Check words = words ≡ codes "check" ∷ []
 Led (Restore given) words = IsGiven given words
 Led (RootId given) words = (before : Words) × IsGiven given before × (given.root ≡ None) × (words ≡ before ++ codes "-r" ∷ [])
 Led (FirstImage plan) words = Asks plan.command words × (plan.images ≡ length words)
@@ -174,8 +175,10 @@ led_more Start next words word led on =
     (λ other.
     ⊎_elim (λ one. subst (λ p. Led p (words ++ word ∷ [])) one.1 (then words [] word (codes "inspect-internal") led one.0))
     (λ other.
+    ⊎_elim (λ one. subst (λ p. Led p (words ++ word ∷ [])) one.1 (then words [] word (codes "check") led one.0))
+    (λ other.
     ⊎_elim (λ one. subst (λ p. Led p (words ++ word ∷ [])) one.1 (record { options = []; free = tt; given_is = refl; words_are = then words [] word (codes "restore") led one.0 })) (nowhere_led next (words ++ word ∷ []))
-    (one_or word (codes "restore") (Restore no_options) next None other)) (one_or word (codes "inspect-internal") Inspect next _ other)) (one_or word (codes "super") (behind_all Super 1) next _ on)
+    (one_or word (codes "restore") (Restore no_options) next None other)) (one_or word (codes "check") Check next _ other)) (one_or word (codes "inspect-internal") Inspect next _ other)) (one_or word (codes "super") (behind_all Super 1) next _ on)
 led_more Inspect next words word led on =
     ⊎_elim (λ one. subst (λ p. Led p (words ++ word ∷ [])) one.1 (then words (codes "inspect-internal" ∷ []) word (codes "dump-tree") led one.0)) (nowhere_led next (words ++ word ∷ []))
     (one_or word (codes "dump-tree") DumpTree next None on)
@@ -197,6 +200,12 @@ led_more TreeId next words word led on =
     let read = numbered word (λ id. behind_all (Dump (Tree id)) 4) next on in
     let is = then words (dump_words (codes "-t" ∷ [])) word word led refl in
     subst (λ p. Led p (words ++ word ∷ [])) read.2 ((word, read.1, is), sym (ap (λ (l : Words). length l) is))
+led_more Check next words word led on =
+    ⊎_elim (λ one. let is = then words (codes "check" ∷ []) word (codes "--check-data-csum") led one.0 in subst (λ p. Led p (words ++ word ∷ [])) one.1 (is, sym (ap (λ (l : Words). length l) is)))
+    (λ other.
+    let one = taken (is_name word) (Images (plan_for (checking false) 1)) next other in
+    subst (λ p. Led p (words ++ word ∷ [])) one.1 (first_led (plan_for (checking false) 1) words word led (sym (ap (λ (l : Words). length l) led)) one.0))
+    (one_or word (codes "--check-data-csum") (behind_all (checking true) 2) next _ on)
 led_more (Restore given) next words word led on =
     ⊎_elim (λ one. roots_led given next words word led one.0 one.1)
     (λ other.
@@ -236,6 +245,7 @@ sound plan words = of (reached Start words) refl
     at_end DumpTree led e = absurd (cc)
     at_end Address led e = absurd (cc)
     at_end TreeId led e = absurd (cc)
+    at_end Check led e = absurd (cc)
     at_end (Restore given) led e = absurd (cc)
     at_end (RootId given) led e = absurd (cc)
     at_end (FirstImage p) led e = absurd (cc)
@@ -273,6 +283,10 @@ all_dumped name is =
     no_option name (codes "-b") Address _ is refl ∙ no_option name (codes "-t") TreeId _ is refl ∙ no_option name (codes "-r") (behind_all (Dump RootLines) 3) _ is refl
     ∙ ap (λ b. cond b (Some (Images (plan_for (Dump all_trees) 2))) None) is
 
+-- a name behind `check`
+checked : (name : List ℕ) → is_name name ≡ true → next_of Check name ≡ Some (Images (plan_for (checking false) 1))
+checked name is = no_option name (codes "--check-data-csum") (behind_all (checking true) 2) _ is refl ∙ ap (λ b. cond b (Some (Images (plan_for (checking false) 1))) None) is
+
 -- behind these words the first name leads to the images
 by_name : (plan : Plan) (name : List ℕ) → is_name name ≡ true → reached (FirstImage plan) (name ∷ []) ≡ Some (Images plan)
 by_name plan name is = ap (λ b. option_and_then (λ p. reached p []) (cond b (Some (Images plan)) None)) is
@@ -297,6 +311,11 @@ asked (Dump RootLines) head first asks name =
     ap (λ (l : Words). reached Start (l ++ first ∷ [])) asks ∙ by_name (plan_for (Dump RootLines) 3) first name ∙ ap (λ (l : Words). Some (Images (plan_for (Dump RootLines) (length l)))) (sym asks)
 asked Roots head first asks name =
     ap (λ (l : Words). reached Start (l ++ first ∷ [])) asks ∙ by_name (plan_for Roots 2) first name ∙ ap (λ (l : Words). Some (Images (plan_for Roots (length l)))) (sym asks)
+asked (checking false) head first asks name =
+    ap (λ (l : Words). reached Start (l ++ first ∷ [])) asks ∙ ap (option_and_then (λ p. reached p [])) (checked first name)
+    ∙ ap (λ (l : Words). Some (Images (plan_for (checking false) (length l)))) (sym asks)
+asked (checking true) head first asks name =
+    ap (λ (l : Words). reached Start (l ++ first ∷ [])) asks ∙ by_name (plan_for (checking true) 2) first name ∙ ap (λ (l : Words). Some (Images (plan_for (checking true) (length l)))) (sym asks)
 asked (restoring dest plan) head first asks name =
     ap (λ (l : Words). reached Start (l ++ first ∷ [])) asks.words_are
     ∙ ap (reached (Restore no_options)) (append_assoc (options_words asks.options) (asks.name ∷ []) (first ∷ []))
@@ -356,6 +375,7 @@ live Inspect = (codes "dump-tree" ∷ some_name ∷ [], plan_for (Dump all_trees
 live DumpTree = (some_name ∷ [], plan_for (Dump all_trees) 2, refl)
 live Address = (codes "0" ∷ some_name ∷ [], plan_for (Dump (Block 0)) 4, ap (option_and_then plan_of) (by_number (λ n. behind_all (Dump (Block n)) 4) 0 (codes "0") (some_name ∷ []) zero_is))
 live TreeId = (codes "0" ∷ some_name ∷ [], plan_for (Dump (Tree 0)) 4, ap (option_and_then plan_of) (by_number (λ n. behind_all (Dump (Tree n)) 4) 0 (codes "0") (some_name ∷ []) zero_is))
+live Check = (some_name ∷ [], plan_for (checking false) 1, refl)
 live (Restore given) = (some_name ∷ some_name ∷ [], plan_for (restoring (words_in given) (plan_by given)) (words_in given + 1), refl)
 live (RootId given) = let after = with_option given (Root 5) in (
   codes "5" ∷ some_name ∷ some_name ∷ [],
@@ -409,5 +429,6 @@ has_words plan words s = of plan.command s.asks
     of Super asks = tt
     of (Dump choice) asks = tt
     of Roots asks = tt
+    of (checking read_data) asks = tt
     of (restoring dest p) asks =
         omega (arith, asks.dest_is, ap (λ (l : Words). length l) asks.words_are, length-append (options_words asks.options) (asks.name ∷ []), ap (λ (l : Words). length l) s.words_are, length-append s.head (s.first ∷ s.more))

@@ -12,7 +12,7 @@ use Rattle.btr_rack.specs.declared.error.SinkError.{SinkError}
 use Rattle.btr_rack.specs.declared.error.SinkError.TheVariants.{Failed as failed_fault, Memory as memory_fault}
 use Rattle.btr_super.specs.Newest.{newest, newest_index, is_newest}
 use Rattle.btr_super.specs.declared.superblock.Super.{Super}
-use Rattle.btr_tool.specs.Behind.{IsBehind}
+use Rattle.btr_tool.specs.Behind.{AnyFault, IsBehind}
 use Rattle.btr_tool.specs.Newest.{shown, newest_shown, super_outcome, IsSuperOutcome}
 use Rattle.btr_tool.specs.Faults.{open_answer}
 use Rattle.btr_tool.specs.Outcomes.{Outcome, due_after, refused, showing, Shows, OrBare, OrMemory}
@@ -26,7 +26,7 @@ use Rattle.btr_volume.specs.declared.which.Which.{Which}
 use Rattle.btr_volume.specs.declared.which.Which.TheVariants.{Images as images_limit, Stripes as stripes_limit, Chunks as chunks_limit}
 use Rattle.btr_tool.specs.declared.answer.Answer.TheVariants.{Done, Usage, Limit, ImageFault}
 use Rattle.btr_tool.proofs.Coming.{shows_bare}
-use Rattle.btr_tool.proofs.Faulting.{tree_in, untreed}
+use Rattle.btr_tool.proofs.Faulting.{tree_in, untold}
 use Rattle.btr_tool.proofs.Refusals.{open_line, open_no_fault, open_no_usage}
 use Rattle.btr_tool.proofs.Openings.{Images}
 
@@ -115,26 +115,26 @@ module _ (old new : Seen) (refusal : OpenFault) (cause : SupersCause {T = Vec Su
   pub refusal_told : (IsOne : Outcome → Type 0) (text : Option (List ℕ)) (account : CallAccount) (result : Answer) → result ≡ open_answer refusal → Shows (OrBare IsOne) text text account account result
   refusal_told IsOne text account result is = subst (λ a. Shows (OrBare IsOne) text text account account a) (sym is) (shows_bare (OrBare IsOne) text account (open_answer refusal) (inr (refl, open_line refusal)) (open_no_fault refusal))
 
-  pub refusal_behind : (MayFail : Answer → Type 0) (result : Answer) → result ≡ open_answer refusal → OnlyCounts old new → IsBehind MayFail old new result
-  refusal_behind MayFail result is same = subst (IsBehind MayFail old new) (sym is) (of refusal cause)
+  pub refusal_behind : (MayFail : Answer → Type 0) (result : Answer) → result ≡ open_answer refusal → OnlyCounts old new → IsBehind MayFail AnyFault old new result
+  refusal_behind MayFail result is same = subst (IsBehind MayFail AnyFault old new) (sym is) (of refusal cause)
     where
       reads : OnlyReads old new
       reads = supers_read {T = Vec Super Global} old new (Err refusal) same cause
 
-      calm : (r : OpenFault) → NoneFailed old.account new.account → tree_in (open_answer r) ≡ None → ((slot : ℕ) → open_answer r ≢ ImageFault slot) → ((n : ℕ) → open_answer r ≢ Limit images_limit n) → IsBehind MayFail old new (open_answer r)
+      calm : (r : OpenFault) → NoneFailed old.account new.account → tree_in (open_answer r) ≡ None → ((slot : ℕ) → open_answer r ≢ ImageFault slot) → ((n : ℕ) → open_answer r ≢ Limit images_limit n) → IsBehind MayFail AnyFault old new (open_answer r)
       calm r none no_tree no_image no_limit =
-          record { reads = reads; image = λ slot e. absurd (no_image slot e); tree = untreed old new (open_answer r) no_tree; hidden = inl none; no_usage = open_no_usage r; no_limit = no_limit }
+          record { reads = reads; image = λ slot e. absurd (no_image slot e); tree = untold old new (open_answer r) no_tree; hidden = inl none; no_usage = open_no_usage r; no_limit = no_limit }
 
       counted : (which : Which) (n m : ℕ) → IsCounted which → open_answer (opening.Limit which n) ≢ Limit images_limit m
       counted images_limit n m counts e = counts
       counted stripes_limit n m counts e = cc
       counted chunks_limit n m counts e = cc
 
-      of : (r : OpenFault) → SupersCause {T = Vec Super Global} old new (Err r) → IsBehind MayFail old new (open_answer r)
+      of : (r : OpenFault) → SupersCause {T = Vec Super Global} old new (Err r) → IsBehind MayFail AnyFault old new (open_answer r)
       of (opening.ImageFault slot) cause = record {
         reads = reads;
         image = λ other e. subst (SuperUnread old new) (cc e) cause;
-        tree = untreed old new (ImageFault slot) refl;
+        tree = untold old new (ImageFault slot) refl;
         hidden = inr (inl (inl (slot, refl)));
         no_usage = open_no_usage (opening.ImageFault slot);
         no_limit = λ n e. cc;
@@ -154,11 +154,11 @@ module _ (old new : Seen) (refusal : OpenFault) (cause : SupersCause {T = Vec Su
 
 -- where a superblock's text was put, wholly or in part
 pub shown_behind : (MayFail : Answer → Type 0) (old new : Seen) (put : Result Unit SinkError) → OnlyReads old new → NoneFailed old.account new.account → (result : Answer) → result ≡ due_after put (Done 0)
-    → IsBehind MayFail old new result
-shown_behind MayFail old new put reads none result due = subst (IsBehind MayFail old new) (sym due) (record {
+    → IsBehind MayFail AnyFault old new result
+shown_behind MayFail old new put reads none result due = subst (IsBehind MayFail AnyFault old new) (sym due) (record {
   reads = reads;
   image = λ slot is. absurd (no_image put slot is);
-  tree = untreed old new (due_after put (Done 0)) (put_no_tree put);
+  tree = untold old new (due_after put (Done 0)) (put_no_tree put);
   hidden = inl none;
   no_usage = no_usage put;
   no_limit = no_limit put;

@@ -27,10 +27,10 @@ use Rattle.btr_walk.specs.Reading.{Map, UnreadBlock, FaultCause, Tells, unread_b
 use Rattle.btr_walk.specs.declared.fault.TreeFault.{TreeFault}
 use Rattle.btr_walk.specs.declared.fault.TreeFault.TheVariants as tree
 use Rattle.btr_tool.specs.Answers.{error_line}
-use Rattle.btr_tool.specs.Behind.{IfSteady, IsBehind, IsFault, HasTreeCause}
+use Rattle.btr_tool.specs.Behind.{AnyFault, IfSteady, IsBehind, IsFault, HasTreeCause}
 use Rattle.btr_tool.specs.Faults.{open_answer, tree_answer}
-use Rattle.btr_tool.specs.Filesystem.{OpensFilesystem, IsBySupers, IsRefusal, MayMend, filesystem_in, filesystem_of}
-use Rattle.btr_tool.specs.Outcomes.{IsNoFault, Shows, OrBare, OrMemory, refused, showing}
+use Rattle.btr_tool.specs.Filesystem.{Filesystem, OpensFilesystem, IsBySupers, IsRefusal, MayMend, filesystem_in, filesystem_of}
+use Rattle.btr_tool.specs.Outcomes.{Outcome, IsNoFault, Shows, OrBare, OrMemory, refused, showing}
 use Rattle.btr_tool.specs.Trees.{IsTreesOutcome, asked_answer, call_answer, shown_by, trees_in, trees_outcome, trees_shown, whole_answer}
 use Rattle.btr_tool.specs.declared.plan.DumpChoice.{DumpChoice}
 use Rattle.btr_tool.specs.declared.answer.Answer.{Answer}
@@ -59,7 +59,7 @@ module _ (layout : Layout) (old new : Seen) where
   Is = unread_by layout old new
 
   -- what calls tell where no read failed
-  steadily : (P : Map → Type 0) → Tells layout old new P → IfSteady old.held old.account new.account (λ images. P (fate images layout))
+  pub steadily : (P : Map → Type 0) → Tells layout old new P → IfSteady old.held old.account new.account (λ images. P (fate images layout))
   steadily P tells = told_where old.held (Steady old.account.faults new.account.faults) (λ images. P (fate images layout)) (λ steady. tells.calls.content First (omega (arith, tells.calls.later, steady.0), steady.1))
 
   steadily_block : (addr : ℕ) (P : Map → Type 0) → TellsBlock layout addr old new P → IfSteady old.held old.account new.account (λ images. P (fate images layout))
@@ -93,26 +93,27 @@ module _ (answer result : Answer) (is : result ≡ answer) (refusal : IsRefusal 
   no_fault : IsNoFault answer
   no_fault = subst IsNoFault (sym refusal.is) (open_no_fault refusal.refusal)
 
-  pub unopened_effect : (choice : DumpChoice) (old new : Account) (held : Option Images) (text : Option Text) (account : CallAccount) → IfSteady held old new (λ images. OpensFilesystem images (Err answer))
-      → IfSteady held old new (λ images. Shows (OrMemory (λ outcome. Some (trees_outcome choice images) ≡ Some outcome)) text text account account result)
-  unopened_effect choice old new held text account =
+  pub unopened_effect : (outcome_in : Images → Result Filesystem Answer → Outcome) (bare : (images : Images) (a : Answer) → outcome_in images (Err a) ≡ refused a)
+      (old new : Account) (held : Option Images) (text : Option Text) (account : CallAccount) → IfSteady held old new (λ images. OpensFilesystem images (Err answer))
+      → IfSteady held old new (λ images. Shows (OrMemory (λ outcome. Some (outcome_in images (filesystem_of images)) ≡ Some outcome)) text text account account result)
+  unopened_effect outcome_in bare old new held text account =
       when_told held (λ images. Steady old.faults new.faults → OpensFilesystem images (Err answer))
-      (λ images. Steady old.faults new.faults → Shows (OrMemory (λ outcome. Some (trees_outcome choice images) ≡ Some outcome)) text text account account result)
-      (λ images opens steady. subst (λ a. Shows (OrMemory (λ outcome. Some (trees_outcome choice images) ≡ Some outcome)) text text account account a) (sym is)
-      (shows_bare (OrMemory (λ outcome. Some (trees_outcome choice images) ≡ Some outcome)) text account answer
-      (⊎_elim (λ none. inl (ap (λ f. Some (trees_in choice images f)) none)) (λ want. inr (ap refused want)) (opens steady)) no_fault))
+      (λ images. Steady old.faults new.faults → Shows (OrMemory (λ outcome. Some (outcome_in images (filesystem_of images)) ≡ Some outcome)) text text account account result)
+      (λ images opens steady. subst (λ a. Shows (OrMemory (λ outcome. Some (outcome_in images (filesystem_of images)) ≡ Some outcome)) text text account account a) (sym is)
+      (shows_bare (OrMemory (λ outcome. Some (outcome_in images (filesystem_of images)) ≡ Some outcome)) text account answer
+      (⊎_elim (λ none. inl (ap (λ f. Some (outcome_in images f)) none ∙ ap (λ o. Some o) (bare images answer))) (λ want. inr (ap refused want)) (opens steady)) no_fault))
 
-  pub unopened_told : (text : Option Text) (account : CallAccount) → Shows (OrBare IsTreesOutcome) text text account account result
-  unopened_told text account =
-      subst (λ a. Shows (OrBare IsTreesOutcome) text text account account a) (sym is)
-      (shows_bare (OrBare IsTreesOutcome) text account answer (inr (refl, λ e. open_line refusal.refusal (ap error_line (sym refusal.is) ∙ e))) no_fault)
+  pub unopened_told : (IsOne : Outcome → Type 0) (text : Option Text) (account : CallAccount) → Shows (OrBare IsOne) text text account account result
+  unopened_told IsOne text account =
+      subst (λ a. Shows (OrBare IsOne) text text account account a) (sym is)
+      (shows_bare (OrBare IsOne) text account answer (inr (refl, λ e. open_line refusal.refusal (ap error_line (sym refusal.is) ∙ e))) no_fault)
 
-  pub unopened_behind : (old new : Seen) → OnlyReads old new → ((slot : ℕ) → answer ≡ ImageFault slot → SuperUnread old new slot) → HasTreeCause old new answer
-      → NoneFailed old.account new.account ⊎ IsFault answer ⊎ MayMend answer → ((n : ℕ) → answer ≢ Limit images_limit n) → IsBehind MayMend old new result
-  unopened_behind old new reads image cause hidden counted = record {
+  pub unopened_behind : (IsTold : TreeFault → Type 0) (old new : Seen) → OnlyReads old new → ((slot : ℕ) → answer ≡ ImageFault slot → SuperUnread old new slot) → HasTreeCause old new answer
+      → NoneFailed old.account new.account ⊎ IsFault answer ⊎ MayMend answer → ((n : ℕ) → answer ≢ Limit images_limit n) → IsBehind MayMend IsTold old new result
+  unopened_behind IsTold old new reads image cause hidden counted = record {
     reads = reads;
     image = λ slot e. image slot (sym is ∙ e);
-    tree = λ fault e. cause fault (sym is ∙ e);
+    tree = λ fault e told. cause fault (sym is ∙ e);
     hidden = subst (λ a. NoneFailed old.account new.account ⊎ IsFault a ⊎ MayMend a) (sym is) hidden;
     no_usage = λ at e. open_no_usage refusal.refusal at (sym refusal.is ∙ sym is ∙ e);
     no_limit = λ n e. counted n (sym is ∙ e);
@@ -253,11 +254,11 @@ module _ (old mid new : Seen) (first : OnlyReads old mid) (second : OnlyReads mi
       of (Err (stop.Image other)) cause e = absurd (cc e)
       of (Err stop.Sink) cause e = absurd (cc e)
 
-  pub shown_behind : (layout : Layout) → StopCause layout mid new result → IsBehind MayMend old new answer
-  shown_behind layout cause = subst (IsBehind MayMend old new) (sym is) (record {
+  pub shown_behind : (layout : Layout) → StopCause layout mid new result → IsBehind MayMend AnyFault old new answer
+  shown_behind layout cause = subst (IsBehind MayMend AnyFault old new) (sym is) (record {
     reads = reads_more first second;
     image = λ slot is. absurd (no_image slot is);
-    tree = tree_cause layout cause;
+    tree = λ fault e told. tree_cause layout cause fault e;
     hidden = inr (inr (mends_of (call_answer result) none_of));
     no_usage = λ at e. subst NoneOf e none_of;
     no_limit = λ n e. subst NoneOf e none_of;

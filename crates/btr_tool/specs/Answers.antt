@@ -7,11 +7,12 @@ use Rattle.btr_text.specs.Pieces.{hex_text}
 use Rattle.btr_volume.specs.declared.which.Which.{Which}
 use Rattle.btr_volume.specs.declared.which.Which.TheVariants.{Images, Stripes, Chunks}
 use Rattle.btr_tool.specs.declared.answer.Answer.{Answer}
-use Rattle.btr_tool.specs.declared.answer.Answer.TheVariants.{Done, Lost, Malformed, Unmapped, Crosses, Usage, NoSuper, SumKind, Foreign, Twin, Unsupported, Geometry, LogPending, BadArray, BadChunk, Limit, NoTree, DeletionPending, BalancePending, MissingDevice, Unread, ImageFault, SinkFault, OutFault, Memory}
+use Rattle.btr_tool.specs.declared.answer.Answer.TheVariants.{Done, Found, Lost, Malformed, Unmapped, Crosses, Usage, NoSuper, SumKind, Foreign, Twin, Unsupported, Geometry, LogPending, BadArray, BadChunk, Limit, NoTree, DeletionPending, BalancePending, MissingDevice, Unread, ImageFault, SinkFault, OutFault, Memory}
 
 -- the exit status
 abbrev pub code_of : Answer → ℕ
 code_of (Done skipped) = if skipped == 0 then 0 else 1
+code_of (Found n) = 1
 code_of (Lost addr) = 1
 code_of (Malformed addr) = 1
 code_of (Unmapped addr) = 1
@@ -46,6 +47,7 @@ which_text Chunks = codes "chunks"
 -- the line that is put last; none where the command was done or the output failed
 abbrev pub error_line : Answer → List ℕ
 error_line (Done skipped) = []
+error_line (Found n) = []
 error_line (Lost addr) = codes "error: lost block " ++ decimal addr ++ codes "\n"
 error_line (Malformed addr) = codes "error: malformed block " ++ decimal addr ++ codes "\n"
 error_line (Unmapped addr) = codes "error: unmapped address " ++ decimal addr ++ codes "\n"

@@ -1,9 +1,13 @@
 -- What lies behind an answer: which call on an image failed.
 use Rattle.std.specs.Prelude.{◌≡◌, ◌⊎◌, ℕ, ◌<◌, true, Option}
 use Rattle.btr_rack.specs.Rack.{Account, Seen, Shelf, NoneFailed}
+use Rattle.btr_read.specs.Layout.{Layout}
 use Rattle.btr_volume.specs.Opening.{SuperUnread}
-use Rattle.btr_tool.specs.Behind.{IsFault, HasTreeCause}
-use Rattle.btr_tool.specs.Commands.{MayFail}
+use Rattle.btr_walk.specs.Reading.{FaultCause}
+use Rattle.btr_walk.specs.declared.fault.TreeFault.{TreeFault}
+use Rattle.btr_tool.specs.Behind.{IsFault}
+use Rattle.btr_tool.specs.Commands.{MayFail, TellsCause}
+use Rattle.btr_tool.specs.Faults.{tree_answer}
 use Rattle.btr_tool.specs.Images.{IsMissing}
 use Rattle.btr_tool.specs.Opening.{OpeningFailed}
 use Rattle.btr_tool.specs.Words.{Words, IsSentence, images_of}
@@ -36,9 +40,15 @@ HidesNone words old new answer = NoneFailed old new ⊎ IsFault answer ⊎ ((pla
 abbrev pub opened_with : Account → Seen → Seen
 opened_with account seen = record seen { account = account }
 
--- a fault of a tree has its cause, in the images that are open
-abbrev pub TreeCause : Seen → Seen → Answer → Type 0
-TreeCause old new answer = HasTreeCause (opened_with old.account new) new answer
+-- the words are a sentence, and the cause of a fault of a tree is in the images that are open, where its command tells it
+pub record CauseTold (words : Words) (old new : Seen) (fault : TreeFault) : Type 0 where
+  pub plan : Plan
+  pub sentence : IsSentence plan words
+  pub cause : TellsCause plan.command fault → (layout : Layout) × FaultCause layout (opened_with old.account new) new fault
+
+-- a fault of a tree is answered only by a command that tells its cause
+abbrev pub TreeCause : Words → Seen → Seen → Answer → Type 0
+TreeCause words old new answer = (fault : TreeFault) → answer ≡ tree_answer fault → CauseTold words old new fault
 
 -- the words are a sentence, and one of its images isn't on the shelf
 pub record IsMissingImage (words : Words) (shelf : Option Shelf) (slot : ℕ) : Type 0 where
@@ -52,4 +62,4 @@ pub record IsBehindWords (words : Words) (old new : Seen) (answer : Answer) : Ty
   pub shut : old.account.shut < new.account.shut → (slot : ℕ) × (answer ≡ ImageFault slot) × IsUnopened words old new slot
   pub hidden : HidesNone words old.account new.account answer
   pub sure : (slot : ℕ) → answer ≡ ImageFault slot → old.sure ≡ true → IsMissingImage words old.shelf slot
-  pub tree : TreeCause old new answer
+  pub tree : TreeCause words old new answer

@@ -12,9 +12,11 @@ pub mod Behind
 pub mod Newest
 pub mod Filesystem
 pub mod Trees
+pub mod Checked
 pub mod Restored
 pub mod Commands
 pub mod Causes
 pub mod Effects
 pub mod Promise
 pub mod Order
+pub mod Agreeing

@@ -1,5 +1,5 @@
 -- The sentences of the command line, and where other words go wrong.
-use Rattle.std.specs.Prelude.{◌≡◌, ℕ, ◌+◌, ◌<◌, ◌≤◌, Bool, false, IsTrue, not, ◌==◌, if◌then◌else◌, List, [], ◌∷◌, ◌++◌, length, take, drop, codes, All, Option, Some, None, is_some}
+use Rattle.std.specs.Prelude.{◌≡◌, ℕ, ◌+◌, ◌<◌, ◌≤◌, Bool, true, false, IsTrue, not, ◌==◌, if◌then◌else◌, List, [], ◌∷◌, ◌++◌, length, take, drop, codes, All, Option, Some, None, is_some}
 use Rattle.std.specs.Option.{option_and_then, option_map}
 use Rattle.std.specs.Str.{bytes_eq}
 use Rattle.btr_files.specs.declared.plan.RestorePlan.{RestorePlan}
@@ -7,11 +7,11 @@ use Rattle.btr_tool.specs.Numbers.{IsNumber, number_of}
 use Rattle.btr_tool.specs.declared.plan.Command.{Command}
 use Rattle.btr_tool.specs.Restores.{AreFree, OneOption, no_options, options_words, plan_by, with_dry, with_options, with_root, with_snapshots, with_verbose, words_in}
 use Rattle.btr_tool.specs.declared.options.Options.{Options}
-use Rattle.btr_tool.specs.declared.plan.Command.TheVariants.{Super, Dump, Roots, Restore as restoring}
+use Rattle.btr_tool.specs.declared.plan.Command.TheVariants.{Super, Dump, Roots, Check as checking, Restore as restoring}
 use Rattle.btr_tool.specs.declared.plan.DumpChoice.TheVariants.{All as all_trees, Block, Tree, RootLines}
 use Rattle.btr_tool.specs.declared.plan.Plan.{Plan}
 use Rattle.btr_tool.specs.declared.progress.Progress.{Progress}
-use Rattle.btr_tool.specs.declared.progress.Progress.TheVariants.{Start, Inspect, DumpTree, Address, TreeId, Restore, RootId, FirstImage, Images}
+use Rattle.btr_tool.specs.declared.progress.Progress.TheVariants.{Start, Inspect, DumpTree, Address, TreeId, Check, Restore, RootId, FirstImage, Images}
 
 abbrev pub Words : Type 0
 Words = List (List ℕ)
@@ -45,6 +45,8 @@ Asks (Dump all_trees) words = words ≡ dump_words []
 Asks (Dump (Block addr)) words = (word : List ℕ) × IsNumber addr word × (words ≡ dump_words (codes "-b" ∷ word ∷ []))
 Asks (Dump (Tree id)) words = (word : List ℕ) × IsNumber id word × (words ≡ dump_words (codes "-t" ∷ word ∷ []))
 Asks (Dump RootLines) words = words ≡ dump_words (codes "-r" ∷ [])
+Asks (checking false) words = words ≡ codes "check" ∷ []
+Asks (checking true) words = words ≡ codes "check" ∷ codes "--check-data-csum" ∷ []
 Asks Roots words = words ≡ codes "restore" ∷ codes "-l" ∷ []
 Asks (restoring dest plan) words = AsksRestore dest plan words
 
@@ -100,6 +102,7 @@ abbrev pub next_of : Progress → List ℕ → Option Progress
 next_of Start word =
     if bytes_eq word (codes "super") then Some (behind_all Super 1)
     else if bytes_eq word (codes "inspect-internal") then Some Inspect
+    else if bytes_eq word (codes "check") then Some Check
     else if bytes_eq word (codes "restore") then Some (Restore no_options)
     else None
 next_of Inspect word = if bytes_eq word (codes "dump-tree") then Some DumpTree else None
@@ -111,6 +114,10 @@ next_of DumpTree word =
     else None
 next_of Address word = option_map (λ addr. behind_all (Dump (Block addr)) 4) (number_of word)
 next_of TreeId word = option_map (λ id. behind_all (Dump (Tree id)) 4) (number_of word)
+next_of Check word =
+    if bytes_eq word (codes "--check-data-csum") then Some (behind_all (checking true) 2)
+    else if is_name word then Some (Images (plan_for (checking false) 1))
+    else None
 next_of (Restore given) word =
     if bytes_eq word (codes "-l") then roots_place given
     else if bytes_eq word (codes "-r") then root_place given
@@ -129,6 +136,7 @@ plan_of Inspect = None
 plan_of DumpTree = None
 plan_of Address = None
 plan_of TreeId = None
+plan_of Check = None
 plan_of (Restore given) = None
 plan_of (RootId given) = None
 plan_of (FirstImage plan) = None

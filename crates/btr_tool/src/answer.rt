@@ -11,6 +11,8 @@ use btr_walk::TreeFault;
 pub enum Answer {
     /// The command was done. `skipped` counts entries that were left out and named.
     Done { skipped: u64 },
+    /// So many things are wrong with the filesystem; more than 0.
+    Found(u64),
     /// No copy of the block at this address passes, and no read failed.
     Lost(u64),
     /// The block at this address breaks a rule of the format.
@@ -70,6 +72,7 @@ impl Answer {
     {
         match self {
             Answer::Done { skipped } => { if *skipped == 0 { 0 } else { 1 } }
+            Answer::Found(_) => 1,
             Answer::Lost(_) => 1,
             Answer::Malformed(_) => 1,
             Answer::Unmapped(_) => 1,

@@ -1,16 +1,18 @@
 // The commands.
-ghost use Rattle.std.specs.Prelude.{◌≡◌, ◌<◌, [], ℕ, Some, get_or, length, map, IfSome};
+ghost use Rattle.std.specs.Prelude.{◌≡◌, ◌<◌, [], ℕ, Bool, Some, get_or, length, map, IfSome};
 ghost use Rattle.std.specs.String.{string_bytes};
 ghost use Rattle.btr_files.specs.declared.plan.RestorePlan.{RestorePlan};
 ghost use Rattle.btr_rack.specs.Sink.{NotStarted};
 ghost use Rattle.btr_restore.specs.Running.{outside};
+ghost use Rattle.btr_tool.specs.Agreeing.{AreAgreed, IsCheckOrUnread};
 ghost use Rattle.btr_tool.specs.Answers.{answer_of};
 ghost use Rattle.btr_tool.specs.Behind.{IfSteady, IsBehind};
-ghost use Rattle.btr_tool.specs.Commands.{HasWords, MayCome, MayFail, MayWant, command_outcome};
+ghost use Rattle.btr_tool.specs.Commands.{HasWords, MayCome, MayFail, MayWant, TellsCause, command_outcome};
 ghost use Rattle.btr_tool.specs.Order.{InOrder};
 ghost use Rattle.btr_tool.specs.Outcomes.{Comes, OrBare, OrMemory};
 
 use crate::answer::Answer;
+use crate::checking::show_findings;
 use crate::newest::show_newest;
 use crate::plan::{Command, DumpChoice};
 use crate::restoring::restore_files;
@@ -43,12 +45,17 @@ pub(crate) fn perform<R: Rack, T: TreeSink, O: Out>(
         InOrder plan (get_or (map string_bytes words.now) number []) images (R.seen rack.old) (R.seen rack.new)
         (outside (T.sink tree.old) (T.account tree.old) (O.text out.old) (O.account out.old))
         (outside (T.sink tree.new) (T.account tree.new) (O.text out.new) (O.account out.new)) (answer_of result)) }
-    ensures cause { IsBehind (MayFail command) (R.seen rack.old) (R.seen rack.new) (answer_of result) }
+    ensures checked { (read_data : Bool) → command ≡ Command.Check read_data → IfSome (R.seen rack.old).held (λ images. AreAgreed images →
+        Comes (MayWant command (O.account out.old)) (IsCheckOrUnread read_data images)
+        (outside (T.sink tree.old) (T.account tree.old) (O.text out.old) (O.account out.old))
+        (outside (T.sink tree.new) (T.account tree.new) (O.text out.new) (O.account out.new)) (answer_of result)) }
+    ensures cause { IsBehind (MayFail command) (TellsCause command) (R.seen rack.old) (R.seen rack.new) (answer_of result) }
 {
     match command {
         Command::Super => show_newest(alloc, rack, out),
         Command::Dump(choice) => show_trees(alloc, choice, rack, out),
         Command::Roots => show_trees(alloc, DumpChoice::RootLines, rack, out),
+        Command::Check { read_data } => show_findings(alloc, read_data, rack, out),
         Command::Restore { dest, plan } => {
             restore_files(alloc, &plan, words[dest].as_str(), rack, tree, out)
         }

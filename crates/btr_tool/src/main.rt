@@ -6,6 +6,7 @@
 #![tactic(auto)]
 
 mod answer;
+mod checking;
 mod commands;
 mod filesystem;
 mod newest;

@@ -1,7 +1,7 @@
 // The command `super`.
 ghost use Rattle.std.specs.Prelude.{◌≡◌, ◌<◌, length};
 ghost use Rattle.btr_tool.specs.Answers.{answer_of};
-ghost use Rattle.btr_tool.specs.Behind.{IfSteady, IsBehind};
+ghost use Rattle.btr_tool.specs.Behind.{AnyFault, IfSteady, IsBehind};
 ghost use Rattle.btr_tool.specs.Commands.{MayFail};
 ghost use Rattle.btr_tool.specs.Newest.{super_outcome, IsSuperOutcome};
 ghost use Rattle.btr_tool.specs.Outcomes.{OrBare, OrMemory, Shows};
@@ -28,7 +28,7 @@ pub(crate) fn show_newest<R: Rack, O: Out>(
         (O.text out.old) (O.text out.new) (O.account out.old) (O.account out.new) (answer_of result)) }
     ensures told { Shows (OrBare IsSuperOutcome)
         (O.text out.old) (O.text out.new) (O.account out.old) (O.account out.new) (answer_of result) }
-    ensures cause { IsBehind (MayFail Command.Super) (R.seen rack.old) (R.seen rack.new) (answer_of result) }
+    ensures cause { IsBehind (MayFail Command.Super) AnyFault (R.seen rack.old) (R.seen rack.new) (answer_of result) }
 {
     let supers = read_supers(alloc, rack)?;
     let slot = choose(&supers);

@@ -15,6 +15,8 @@ pub enum Command {
     Dump(DumpChoice),
     /// `restore -l`: print the roots of all trees.
     Roots,
+    /// `check`: print what is wrong with the filesystem; with `read_data`, the sectors that have a checksum are read too.
+    Check { read_data: bool },
     /// `restore`: write the directories and files of a subvolume into the destination that the word of this number names.
     Restore { dest: usize, plan: RestorePlan },
 }

@@ -19,6 +19,8 @@ pub(crate) enum Progress {
     Address,
     /// Behind `-t`: the id of a tree is next.
     TreeId,
+    /// Behind `check`: the option or the first image is next.
+    Check,
     /// Behind `restore` and these options: `-l`, another option or the destination is next.
     Restore(Options),
     /// Behind `-r`: the id of a subvolume is next.
@@ -40,6 +42,7 @@ impl Progress {
             Progress::DumpTree => dump_option(word),
             Progress::Address => address(word),
             Progress::TreeId => tree_id(word),
+            Progress::Check => check_option(word),
             Progress::Restore(given) => restore_option(given, word),
             Progress::RootId(given) => root_id(given, word),
             Progress::FirstImage(plan) => image(plan, word),
@@ -58,6 +61,7 @@ impl Progress {
             Progress::DumpTree => None,
             Progress::Address => None,
             Progress::TreeId => None,
+            Progress::Check => None,
             Progress::Restore(_) => None,
             Progress::RootId(_) => None,
             Progress::FirstImage(_) => None,
@@ -71,6 +75,7 @@ fn command(word: &str) -> Option<Progress>
     match word {
         "super" => Some(behind_words(Command::Super, 1)),
         "inspect-internal" => Some(Progress::Inspect),
+        "check" => Some(Progress::Check),
         "restore" => Some(Progress::Restore(Options::new())),
         _ => None,
     }
@@ -114,6 +119,21 @@ fn tree_id(word: &str) -> Option<Progress>
 {
     let id = number(word)?;
     Some(behind_words(Command::Dump(DumpChoice::Tree(id)), 4))
+}
+
+fn check_option(word: &str) -> Option<Progress>
+    ensures { result ≡ next_of Progress.Check word.now }
+{
+    match word {
+        "--check-data-csum" => Some(behind_words(Command::Check { read_data: true }, 2)),
+        _ => image(
+            Plan {
+                command: Command::Check { read_data: false },
+                images: 1,
+            },
+            word,
+        ),
+    }
 }
 
 fn restore_option(given: Options, word: &str) -> Option<Progress>

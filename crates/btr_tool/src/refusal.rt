@@ -40,7 +40,7 @@ fn line_of(answer: Answer) -> Line
     ensures { line_text result ≡ error_line answer }
 {
     match answer {
-        Answer::Done { .. } | Answer::OutFault => Line::Nothing,
+        Answer::Done { .. } | Answer::Found(_) | Answer::OutFault => Line::Nothing,
         Answer::Lost(addr) => Line::Number(b"error: lost block ", addr, b"\n"),
         Answer::Malformed(addr) => Line::Number(b"error: malformed block ", addr, b"\n"),
         Answer::Unmapped(addr) => Line::Number(b"error: unmapped address ", addr, b"\n"),

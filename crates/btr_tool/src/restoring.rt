@@ -3,7 +3,7 @@ ghost use Rattle.std.specs.Prelude.{◌≡◌, ◌<◌, length, IfSome};
 ghost use Rattle.btr_rack.specs.Sink.{NotStarted};
 ghost use Rattle.btr_restore.specs.Running.{outside};
 ghost use Rattle.btr_tool.specs.Answers.{answer_of};
-ghost use Rattle.btr_tool.specs.Behind.{IfSteady, IsBehind};
+ghost use Rattle.btr_tool.specs.Behind.{AnyFault, IfSteady, IsBehind};
 ghost use Rattle.btr_tool.specs.Filesystem.{MayMend};
 ghost use Rattle.btr_tool.specs.Order.{InOrder};
 ghost use Rattle.btr_tool.specs.Outcomes.{Comes, OrBare, OrMemory};
@@ -42,7 +42,7 @@ pub(crate) fn restore_files<R: Rack, T: TreeSink, O: Out>(
         InOrder plan.now dest.now images (R.seen rack.old) (R.seen rack.new)
         (outside (T.sink tree.old) (T.account tree.old) (O.text out.old) (O.account out.old))
         (outside (T.sink tree.new) (T.account tree.new) (O.text out.new) (O.account out.new)) (answer_of result)) }
-    ensures cause { IsBehind MayMend (R.seen rack.old) (R.seen rack.new) (answer_of result) }
+    ensures cause { IsBehind MayMend AnyFault (R.seen rack.old) (R.seen rack.new) (answer_of result) }
 {
     opened_then();
     let mut volume = open_filesystem(alloc, rack)?;

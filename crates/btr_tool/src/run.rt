@@ -4,6 +4,7 @@ ghost use Rattle.std.specs.String.{string_bytes};
 ghost use Rattle.btr_rack.specs.Rack.{Steady};
 ghost use Rattle.btr_rack.specs.Sink.{NotStarted};
 ghost use Rattle.btr_restore.specs.Running.{outside};
+ghost use Rattle.btr_tool.specs.Agreeing.{FollowsCheck, KeepsCheck};
 ghost use Rattle.btr_tool.specs.Answers.{answer_of, error_line};
 ghost use Rattle.btr_tool.specs.Behind.{IfSteady};
 ghost use Rattle.btr_tool.specs.Causes.{HidesNone, ImageCause, IsBehindWords, IsMissingImage, IsShut, TreeCause, opened_with};
@@ -67,6 +68,12 @@ pub fn run<R: Rack, T: TreeSink, O: Out>(
         (outside (T.sink tree.old) (T.account tree.old) (O.text out.old) (O.account out.old))
         (outside (T.sink tree.new) (T.account tree.new) (O.text out.new) (O.account out.new)) result) }
 
+    // Whatever failed, a check of images whose copies agree comes to the same, or to a block or a superblock that could not be read.
+    ensures checked { IfSome (R.seen rack.old).shelf (λ shelf.
+        KeepsCheck (map string_bytes words.now) shelf
+        (outside (T.sink tree.old) (T.account tree.old) (O.text out.old) (O.account out.old))
+        (outside (T.sink tree.new) (T.account tree.new) (O.text out.new) (O.account out.new)) result) }
+
     // Where no call on an image failed, a first part of that is done and put, and of the line for want of memory or for a fault of the sink behind a
     // first part of it, whatever the answer.
     ensures part { IfSteady (R.seen rack.old).shelf (R.seen rack.old).account (R.seen rack.new).account (λ shelf.
@@ -87,8 +94,8 @@ pub fn run<R: Rack, T: TreeSink, O: Out>(
     ensures sink { result ≡ Answer.SinkFault → CallFailed (T.account tree.old) (T.account tree.new) }
     ensures out { result ≡ Answer.OutFault → CallFailed (O.account out.old) (O.account out.new) }
 
-    // A fault of a tree is answered only with its cause, whatever failed.
-    ensures tree { TreeCause (R.seen rack.old) (R.seen rack.new) result }
+    // A fault of a tree is answered only with its cause, whatever failed; a check tells that of a block that could not be read.
+    ensures tree { TreeCause (map string_bytes words.now) (R.seen rack.old) (R.seen rack.new) result }
 
     // Nothing is answered in place of a failed call on an image, whatever failed before.
     ensures hidden { HidesNone (map string_bytes words.now) (R.seen rack.old).account (R.seen rack.new).account result }
@@ -132,6 +139,10 @@ fn carry_out<R: Rack, T: TreeSink, O: Out>(
         (outside (T.sink tree.new) (T.account tree.new) (O.text out.new) (O.account out.new)) (answer_of result) }
     ensures order { IfSome (R.seen rack.old).shelf (λ shelf.
         FollowsOrder (map string_bytes words.now) shelf (opened_with (R.seen rack.old).account (R.seen rack.new)) (R.seen rack.new)
+        (outside (T.sink tree.old) (T.account tree.old) (O.text out.old) (O.account out.old))
+        (outside (T.sink tree.new) (T.account tree.new) (O.text out.new) (O.account out.new)) (answer_of result)) }
+    ensures checked { IfSome (R.seen rack.old).shelf (λ shelf.
+        FollowsCheck (map string_bytes words.now) shelf
         (outside (T.sink tree.old) (T.account tree.old) (O.text out.old) (O.account out.old))
         (outside (T.sink tree.new) (T.account tree.new) (O.text out.new) (O.account out.new)) (answer_of result)) }
     ensures decided { (answer : Answer) → IsDecided (map string_bytes words.now) answer

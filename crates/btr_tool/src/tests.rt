@@ -2,6 +2,7 @@
 ghost use Rattle.std.specs.Prelude.{[], ◌≡◌, ◌<◌, ◌^◌};
 ghost use Rattle.btr_rack.specs.Sink.{NotStarted};
 
+mod checking;
 mod dumping;
 mod hostile;
 mod opening;

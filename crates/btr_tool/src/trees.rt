@@ -7,7 +7,7 @@ ghost use Rattle.btr_read.specs.Fate.{fate};
 ghost use Rattle.btr_read.specs.Serves.{Serves};
 ghost use Rattle.btr_read.specs.Store.{free_count};
 ghost use Rattle.btr_tool.specs.Answers.{answer_of};
-ghost use Rattle.btr_tool.specs.Behind.{IfSteady, IsBehind};
+ghost use Rattle.btr_tool.specs.Behind.{AnyFault, IfSteady, IsBehind};
 ghost use Rattle.btr_tool.specs.Filesystem.{MayMend};
 ghost use Rattle.btr_tool.specs.Outcomes.{OrBare, OrMemory, Shows, showing};
 ghost use Rattle.btr_tool.specs.Trees.{IsTreesOutcome, call_answer, trees_outcome, trees_shown};
@@ -36,7 +36,7 @@ pub(crate) fn show_trees<R: Rack, O: Out>(
         (O.text out.old) (O.text out.new) (O.account out.old) (O.account out.new) (answer_of result)) }
     ensures told { Shows (OrBare IsTreesOutcome)
         (O.text out.old) (O.text out.new) (O.account out.old) (O.account out.new) (answer_of result) }
-    ensures cause { IsBehind MayMend (R.seen rack.old) (R.seen rack.new) (answer_of result) }
+    ensures cause { IsBehind MayMend AnyFault (R.seen rack.old) (R.seen rack.new) (answer_of result) }
 {
     let mut volume = open_filesystem(alloc, rack)?;
     show(choice, rack, &mut volume, out)?;

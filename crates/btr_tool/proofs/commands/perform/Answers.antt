@@ -6,11 +6,11 @@ use Rattle.btr_tool.specs.Behind.{IfSteady}
 use Rattle.btr_tool.specs.Commands.{HasWords, command_outcome, MayCome, MayWant}
 use Rattle.btr_tool.specs.Outcomes.{Comes, OrBare, OrMemory}
 use Rattle.btr_tool.specs.Restored.{IsRestored}
-use Rattle.btr_tool.specs.declared.plan.Command.TheVariants.{Super, Dump, Roots, Restore}
+use Rattle.btr_tool.specs.declared.plan.Command.TheVariants.{Super, Dump, Roots, Check, Restore}
 use Rattle.btr_tool.proofs.Causing.{name_at}
 use Rattle.btr_tool.proofs.Coming.{comes_also}
 use Rattle.btr_tool.proofs.Ending.{when_told}
-use Rattle.btr_tool.proofs.Performing.{restored_order, shown_effect, shown_told, writing_comes}
+use Rattle.btr_tool.proofs.Performing.{restored_order, shown_checked, shown_effect, shown_told, writing_comes}
 use Rattle.btr_tool.proofs.commands.perform.Goals as goal
 
 pub returns-in-Super-clause-effect : goal.returns-in-Super-clause-effect
@@ -61,6 +61,22 @@ returns-in-Roots-clause-told g c =
     subst (λ command. Comes (MayWant command x.out_calls) (OrBare (MayCome command)) x y (answer_of c.show_trees-in-Roots.result)) (sym c.in-Roots.is)
     (shown_told (Roots) x y refl refl (answer_of c.show_trees-in-Roots.result) (MayCome (Roots)) c.show_trees-in-Roots.ensures.told)
 
+pub returns-in-Check-clause-effect : goal.returns-in-Check-clause-effect
+returns-in-Check-clause-effect g c =
+    let old = g.R.Rack.seen c.args.rack.now in
+    let new = g.R.Rack.seen c.show_findings.new.rack in
+    let x = outside (g.T.TreeSink.sink c.args.tree.now) (g.T.TreeSink.account c.args.tree.now) (g.O.Out.text c.args.out.now) (g.O.Out.account c.args.out.now) in
+    let y = outside (g.T.TreeSink.sink c.args.tree.now) (g.T.TreeSink.account c.args.tree.now) (g.O.Out.text c.show_findings.new.out) (g.O.Out.account c.show_findings.new.out) in
+    subst (λ command. IfSteady old.held old.account new.account (λ images. Comes (MayWant command x.out_calls) (OrMemory (λ outcome. command_outcome command (map string_bytes c.args.words.now) images ≡ Some outcome)) x y (answer_of c.show_findings.result)))
+    (sym c.in-Check.is) (shown_effect (Check c.in-Check.read_data) x y refl refl (answer_of c.show_findings.result) (λ images outcome. command_outcome (Check c.in-Check.read_data) (map string_bytes c.args.words.now) images ≡ Some outcome) old.held old.account new.account c.show_findings.ensures.effect)
+
+pub returns-in-Check-clause-told : goal.returns-in-Check-clause-told
+returns-in-Check-clause-told g c =
+    let x = outside (g.T.TreeSink.sink c.args.tree.now) (g.T.TreeSink.account c.args.tree.now) (g.O.Out.text c.args.out.now) (g.O.Out.account c.args.out.now) in
+    let y = outside (g.T.TreeSink.sink c.args.tree.now) (g.T.TreeSink.account c.args.tree.now) (g.O.Out.text c.show_findings.new.out) (g.O.Out.account c.show_findings.new.out) in
+    subst (λ command. Comes (MayWant command x.out_calls) (OrBare (MayCome command)) x y (answer_of c.show_findings.result)) (sym c.in-Check.is)
+    (shown_told (Check c.in-Check.read_data) x y refl refl (answer_of c.show_findings.result) (MayCome (Check c.in-Check.read_data)) c.show_findings.ensures.told)
+
 pub returns-in-Restore-clause-effect : goal.returns-in-Restore-clause-effect
 returns-in-Restore-clause-effect g c =
     let old = g.R.Rack.seen c.args.rack.now in
@@ -86,6 +102,9 @@ returns-in-Dump-clause-order g c = λ number plan is. absurd (cc (sym c.in-Dump.
 pub returns-in-Roots-clause-order : goal.returns-in-Roots-clause-order
 returns-in-Roots-clause-order g c = λ number plan is. absurd (cc (sym c.in-Roots.is ∙ is))
 
+pub returns-in-Check-clause-order : goal.returns-in-Check-clause-order
+returns-in-Check-clause-order g c = λ number plan is. absurd (cc (sym c.in-Check.is ∙ is))
+
 pub returns-in-Restore-clause-order : goal.returns-in-Restore-clause-order
 returns-in-Restore-clause-order g c = λ number plan is.
     restored_order number c.in-Restore.dest plan c.in-Restore.plan (map string_bytes c.args.words.now) _ (sym is ∙ c.in-Restore.is) (g.R.Rack.seen c.args.rack.now) (g.R.Rack.seen c.restore_files.new.rack)
@@ -93,3 +112,22 @@ returns-in-Restore-clause-order g c = λ number plan is.
     (outside (g.T.TreeSink.sink c.restore_files.new.tree) (g.T.TreeSink.account c.restore_files.new.tree) (g.O.Out.text c.restore_files.new.out) (g.O.Out.account c.restore_files.new.out)) (answer_of c.restore_files.result)
     (name_at c.args.words.now c.in-Restore.dest c.index-words-dest.result c.as_str.result.now (subst (λ command. HasWords command (length c.args.words.now)) c.in-Restore.is c.requires.words) c.as_str.ensures.value c.index-words-dest.is)
     c.restore_files.ensures.order
+
+pub returns-in-Super-clause-checked : goal.returns-in-Super-clause-checked
+returns-in-Super-clause-checked g c = λ read_data is. absurd (cc (sym c.in-Super.is ∙ is))
+
+pub returns-in-Dump-clause-checked : goal.returns-in-Dump-clause-checked
+returns-in-Dump-clause-checked g c = λ read_data is. absurd (cc (sym c.in-Dump.is ∙ is))
+
+pub returns-in-Roots-clause-checked : goal.returns-in-Roots-clause-checked
+returns-in-Roots-clause-checked g c = λ read_data is. absurd (cc (sym c.in-Roots.is ∙ is))
+
+pub returns-in-Restore-clause-checked : goal.returns-in-Restore-clause-checked
+returns-in-Restore-clause-checked g c = λ read_data is. absurd (cc (sym c.in-Restore.is ∙ is))
+
+pub returns-in-Check-clause-checked : goal.returns-in-Check-clause-checked
+returns-in-Check-clause-checked g c = λ read_data is.
+    shown_checked c.args.command
+    (outside (g.T.TreeSink.sink c.args.tree.now) (g.T.TreeSink.account c.args.tree.now) (g.O.Out.text c.args.out.now) (g.O.Out.account c.args.out.now))
+    (outside (g.T.TreeSink.sink c.args.tree.now) (g.T.TreeSink.account c.args.tree.now) (g.O.Out.text c.show_findings.new.out) (g.O.Out.account c.show_findings.new.out)) refl refl (answer_of c.show_findings.result)
+    c.in-Check.read_data read_data (sym c.in-Check.is ∙ is) (g.R.Rack.seen c.args.rack.now).held c.show_findings.ensures.agreed

@@ -1,6 +1,7 @@
 use Rattle.std.proofs.Common.{◌≡◌, Ok, Err, refl}
 use Rattle.btr_restore.specs.Journey.{listing}
 use Rattle.btr_restore.specs.Running.{outside}
+use Rattle.btr_tool.specs.Behind.{AnyFault}
 use Rattle.btr_tool.specs.Answers.{answer_of}
 use Rattle.btr_tool.specs.Faults.{stop_answer}
 use Rattle.btr_tool.specs.Restored.{restored}
@@ -31,7 +32,7 @@ returns-in_err-volume-clause-cause g c =
     let new = g.R.Rack.seen c.open_filesystem.new.rack in
     let answer = c.in_err-volume.field-0.0 in
     let e = c.in_err-volume.ensures in
-    unopened_behind answer (answer_of c.from_residual.result) (answer_gives c.from_residual.result answer c.from_residual.ensures.1) e.refusal old new e.reads e.image e.tree e.hidden e.counted
+    unopened_behind answer (answer_of c.from_residual.result) (answer_gives c.from_residual.result answer c.from_residual.ensures.1) e.refusal AnyFault old new e.reads e.image e.tree e.hidden e.counted
 
 pub returns-in_err-counts-clause-effect : goal.returns-in_err-counts-clause-effect
 returns-in_err-counts-clause-effect g c =

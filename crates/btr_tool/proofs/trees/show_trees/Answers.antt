@@ -1,6 +1,8 @@
 use Rattle.std.proofs.Common.{Ok, Err, refl}
 use Rattle.btr_tool.specs.Answers.{answer_of}
+use Rattle.btr_tool.specs.Behind.{AnyFault}
 use Rattle.btr_tool.specs.Faults.{stop_answer}
+use Rattle.btr_tool.specs.Trees.{IsTreesOutcome, trees_in}
 use Rattle.btr_tool.specs.declared.answer.Answer.TheVariants.{Done}
 use Rattle.btr_tool.proofs.Coming.{answer_gives}
 use Rattle.btr_tool.proofs.TreesShown.{unopened_effect, unopened_told, unopened_behind, shown_effect, shown_told, shown_behind}
@@ -11,13 +13,13 @@ returns-in_err-volume-clause-effect g c =
     let old = g.R.Rack.seen c.args.rack.now in
     let new = g.R.Rack.seen c.open_filesystem.new.rack in
     let answer = c.in_err-volume.field-0.0 in
-    unopened_effect answer (answer_of c.from_residual.result) (answer_gives c.from_residual.result answer c.from_residual.ensures.1) c.in_err-volume.ensures.refusal c.args.choice old.account new.account old.held
+    unopened_effect answer (answer_of c.from_residual.result) (answer_gives c.from_residual.result answer c.from_residual.ensures.1) c.in_err-volume.ensures.refusal (trees_in c.args.choice) (λ images a. refl) old.account new.account old.held
     (g.O.Out.text c.args.out.now) (g.O.Out.account c.args.out.now) c.in_err-volume.ensures.content
 
 pub returns-in_err-volume-clause-told : goal.returns-in_err-volume-clause-told
 returns-in_err-volume-clause-told g c =
     let answer = c.in_err-volume.field-0.0 in
-    unopened_told answer (answer_of c.from_residual.result) (answer_gives c.from_residual.result answer c.from_residual.ensures.1) c.in_err-volume.ensures.refusal (g.O.Out.text c.args.out.now) (g.O.Out.account c.args.out.now)
+    unopened_told answer (answer_of c.from_residual.result) (answer_gives c.from_residual.result answer c.from_residual.ensures.1) c.in_err-volume.ensures.refusal IsTreesOutcome (g.O.Out.text c.args.out.now) (g.O.Out.account c.args.out.now)
 
 pub returns-in_err-volume-clause-cause : goal.returns-in_err-volume-clause-cause
 returns-in_err-volume-clause-cause g c =
@@ -25,7 +27,7 @@ returns-in_err-volume-clause-cause g c =
     let new = g.R.Rack.seen c.open_filesystem.new.rack in
     let answer = c.in_err-volume.field-0.0 in
     let e = c.in_err-volume.ensures in
-    unopened_behind answer (answer_of c.from_residual.result) (answer_gives c.from_residual.result answer c.from_residual.ensures.1) e.refusal old new e.reads e.image e.tree e.hidden e.counted
+    unopened_behind answer (answer_of c.from_residual.result) (answer_gives c.from_residual.result answer c.from_residual.ensures.1) e.refusal AnyFault old new e.reads e.image e.tree e.hidden e.counted
 
 pub returns-in_err-show-clause-effect : goal.returns-in_err-show-clause-effect
 returns-in_err-show-clause-effect g c =

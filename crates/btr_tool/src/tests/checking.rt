@@ -1,0 +1,47 @@
+// Words that begin as `check` does, and images that aren't checked.
+use super::answers;
+use btr_make::{RowVolume, put_super, row};
+use btr_rack::{MemRack, Rack, RackError};
+use btr_super::{Super, read_slot};
+use std::alloc::Global;
+use std::test::Fail;
+
+const DATA: &str = "--check-data-csum";
+
+#[test]
+fn words_behind_check(rt: HostRuntime) -> Result<(), Fail> {
+    let alloc = rt.alloc();
+    let rows: [(&[&str], &[u8]); 7] = [
+        (&["check"], b"error: usage error at word 1\n"),
+        (&["check", ""], b"error: usage error at word 1\n"),
+        (&["check", "-r", "a"], b"error: usage error at word 1\n"),
+        (&["check", DATA], b"error: usage error at word 2\n"),
+        (&["check", DATA, DATA, "a"], b"error: usage error at word 2\n"),
+        (&["check", "a", DATA], b"error: usage error at word 2\n"),
+        (&["check", "a", "b", "-x"], b"error: usage error at word 3\n"),
+    ];
+    for (all, expected) in rows {
+        answers(&rt, alloc, &mut MemRack::new(alloc), all, expected, 2)?;
+    }
+    Ok(())
+}
+
+// The superblock of the first image of two.
+fn first_super(alloc: Global) -> Result<Super, Fail> {
+    let mut rack = row(alloc, RowVolume::M1)?;
+    rack.open("a", false)?;
+    if rack.count() == 0 {
+        Err(RackError::Failed)?;
+    }
+    Ok(read_slot(&mut rack, 0)?)
+}
+
+#[test]
+fn one_device_twice(rt: HostRuntime) -> Result<(), Fail> {
+    let alloc = rt.alloc();
+    let first = first_super(alloc)?;
+    let mut rack: MemRack = row(alloc, RowVolume::M1)?;
+    put_super(&mut rack, "b", 65536, &first)?;
+    let expected = b"error: image 1 repeats a device\n";
+    answers(&rt, alloc, &mut rack, &["check", "a", "b"], expected, 3)
+}
