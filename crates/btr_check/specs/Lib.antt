@@ -7,3 +7,6 @@ pub mod Running
 pub mod Walking
 pub mod Counting
 pub mod Text
+pub mod Passes
+pub mod FileTrees
+pub mod Findings

@@ -12,11 +12,18 @@
 
 mod adding;
 mod block_fault;
+mod checking;
+mod collecting;
 mod counting;
+mod file_tree;
+mod file_trees;
 mod form;
 mod places;
+mod references;
 mod refusing;
 mod root_walk;
+mod space;
+mod sums;
 mod text;
 mod trees;
 mod visiting;
@@ -24,6 +31,7 @@ mod walk;
 mod walking;
 
 pub use adding::put_walk_findings;
+pub use checking::check;
 pub use counting::count_uses;
 pub use text::put_findings;
 pub use trees::{all_trees, read_trees};

@@ -45,8 +45,8 @@ impl Model for Walk {
 }
 
 impl Walk {
-    ghost use Rattle.std.specs.Prelude.{◌≡◌};
-    ghost use Rattle.btr_check.specs.Walking.{nothing_walked, begun};
+    ghost use Rattle.std.specs.Prelude.{◌≡◌, ◌++◌};
+    ghost use Rattle.btr_check.specs.Walking.{nothing_walked, begun, is_nothing};
 
     /// Nothing was met yet. Checksums are of this kind.
     pub(crate) fn new(alloc: Global, kind: SumKind) -> Walk
@@ -81,6 +81,13 @@ impl Walk {
         ensures { result.now ≡ self.now.overlapping }
     {
         self.overlapping.as_slice()
+    }
+
+    /// Whether nothing is broken in the trees, and the extents of each file are apart.
+    pub fn is_sound(&self) -> bool
+        ensures { result ≡ is_nothing (self.now.broken ++ self.now.overlapping) }
+    {
+        self.broken.is_empty() && self.overlapping.is_empty()
     }
 
     /// Where the blocks stand that were met, in the order that they were first met in, and each once.

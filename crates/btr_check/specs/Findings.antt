@@ -1,0 +1,89 @@
+-- All that is wrong with a filesystem.
+use Rattle.std.specs.Prelude.{◌≡◌, Bool, true, false, List, [], ◌∷◌, ◌++◌, flat_map, Option}
+use Rattle.btr_items.specs.declared.sum_run.SumRun.{SumRun}
+use Rattle.btr_names.specs.Subvolumes.{Subvolumes, subvolumes_in, subvolume_findings}
+use Rattle.btr_refs.specs.declared.finding.Finding.{Finding}
+use Rattle.btr_refs.specs.Findings.{in_order}
+use Rattle.btr_space.specs.Devices.{device_findings}
+use Rattle.btr_space.specs.Groups.{group_findings}
+use Rattle.btr_space.specs.Items.{groups_in, device_extents_in, devices_in}
+use Rattle.btr_space.specs.declared.device_extent.DeviceExtent.{DeviceExtent}
+use Rattle.btr_space.specs.declared.group.Group.{Group}
+use Rattle.btr_space.specs.declared.stated_device.StatedDevice.{StatedDevice}
+use Rattle.btr_sums.specs.Items.{RunsMet, runs_in}
+use Rattle.btr_sums.specs.Sums.{sum_findings}
+use Rattle.btr_volume.specs.declared.root.TreeRoot.{TreeRoot}
+use Rattle.btr_check.specs.Data.{data_findings}
+use Rattle.btr_check.specs.FileTrees.{file_tree_findings, root_entries}
+use Rattle.btr_check.specs.Filesystem.{Filesystem, kind_of_sums, root_items, chunk_items, tree_items, extents, file_trees}
+use Rattle.btr_check.specs.Trees.{last_of, items_if, listed}
+use Rattle.btr_check.specs.Uses.{reference_findings}
+use Rattle.btr_check.specs.Walking.{or_first}
+use Rattle.btr_check.specs.Walks.{walk_findings}
+
+-- the tree that has the block groups: the block group tree, where there is one, and else the extent tree
+abbrev pub group_tree : List TreeRoot → Option TreeRoot
+group_tree trees = or_first (last_of 11 trees) (last_of 2 trees)
+
+module _ (fs : Filesystem) where
+  -- block groups, device extents, devices and runs of checksums
+  abbrev pub groups : List Group
+  groups = groups_in (items_if fs.blocks (group_tree (listed fs.sup fs.blocks)))
+
+  abbrev pub device_extents : List DeviceExtent
+  device_extents = device_extents_in (tree_items fs 4)
+
+  abbrev pub devices : List StatedDevice
+  devices = devices_in (chunk_items fs)
+
+  abbrev pub sum_runs : List SumRun
+  sum_runs = runs_in (kind_of_sums fs) (tree_items fs 7)
+
+  -- the names of subvolumes, in the root tree and in the trees of files
+  abbrev pub subvolumes : Subvolumes
+  subvolumes = subvolumes_in (root_items fs) (flat_map (root_entries fs.blocks) (file_trees fs))
+
+  -- what was kept of the checksum tree
+  abbrev pub IsRunsOf : RunsMet → Type 0
+  IsRunsOf met = met.runs ≡ sum_runs
+
+  -- 5, 6, 24, 25, 28, 30
+  abbrev pub found_on_groups : List Finding
+  found_on_groups = group_findings fs.chunks (extents fs) groups fs.sup.bytes_used
+
+  -- 26, 27, 29
+  abbrev pub found_on_devices : List Finding
+  found_on_devices = device_findings fs.chunks device_extents devices
+
+  -- 13, 14
+  abbrev pub found_on_sums : List Finding
+  found_on_sums = sum_findings sum_runs (extents fs)
+
+  -- 12, 15 to 23
+  abbrev pub found_on_files : List Finding
+  found_on_files = flat_map (file_tree_findings fs.blocks sum_runs) (file_trees fs) ++ subvolume_findings subvolumes
+
+  -- what is wrong with extents: 5 to 11, 13, 14, 24, 25, 28, 30
+  abbrev pub found_on_extents : List Finding
+  found_on_extents = (reference_findings fs ++ found_on_groups) ++ found_on_sums
+
+-- 31: what is lost of the data, where data is read
+abbrev pub data_if : Bool → Filesystem → List Finding
+data_if true fs = data_findings fs
+data_if false fs = []
+
+-- what is wrong with what the trees say
+abbrev pub rule_findings : Bool → Filesystem → List Finding
+rule_findings read_data fs = (found_on_extents fs ++ found_on_devices fs) ++ data_if read_data fs ++ found_on_files fs
+
+-- where something is wrong with the trees themselves, that is all
+abbrev pub or_rules : List Finding → List Finding → List Finding
+or_rules [] rules = rules
+or_rules (finding ∷ findings) rules = finding ∷ findings
+
+abbrev pub all_findings : Bool → Filesystem → List Finding
+all_findings read_data fs = or_rules (walk_findings fs) (rule_findings read_data fs)
+
+-- the findings, each once, in ascending order; with those on data where data is read
+unfoldable pub findings : Bool → Filesystem → List Finding
+findings read_data fs = in_order (all_findings read_data fs)
