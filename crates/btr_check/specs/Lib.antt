@@ -7,3 +7,5 @@ pub mod Running
 pub mod Walking
 pub mod Counting
 pub mod Text
+pub mod ExtentTree
+pub mod Misusing

@@ -13,8 +13,11 @@
 mod adding;
 mod block_fault;
 mod counting;
+mod extent_tree;
 mod form;
+mod misusing;
 mod places;
+mod referring;
 mod refusing;
 mod root_walk;
 mod text;

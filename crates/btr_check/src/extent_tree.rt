@@ -1,0 +1,28 @@
+// What the extent tree says of extents.
+ghost use Rattle.btr_check.specs.ExtentTree.{ReadsStored};
+ghost use Rattle.btr_check.specs.Running.{world, IsReady, Ran};
+
+use btr_rack::Rack;
+use btr_refs::{CollectFault, Stored};
+use btr_volume::{Stop, TreeRoot, Volume};
+use std::alloc::Global;
+
+/// Collects what the extent tree with this root says of extents, after a walk of all trees that found nothing. Four slots are free.
+///
+/// `Tree`: a block could not be read, which is `Unread`; where the walk found something, it is any fault of the tree, too. `Memory`:
+/// there is no memory for what is collected.
+pub(crate) fn read_stored<R: Rack>(
+    alloc: Global,
+    tree: &TreeRoot,
+    rack: &mut R,
+    vol: &mut Volume,
+) -> Result<Stored, Stop>
+    requires ready { IsReady (world (R.seen rack.old) vol.old) }
+    ensures ran { Ran (λ fs. ReadsStored fs tree.now result) (world (R.seen rack.old) vol.old) (world (R.seen rack.new) vol.new) result }
+{
+    match Stored::collect(alloc, tree, rack, vol) {
+        Ok(stored) => Ok(stored),
+        Err(CollectFault::Tree(fault)) => Err(Stop::Tree(fault)),
+        Err(CollectFault::Memory) => Err(Stop::Memory),
+    }
+}
