@@ -18,7 +18,7 @@ use Rattle.btr_check.specs.Before.{OfList, fault_stop}
 use Rattle.btr_check.specs.declared.block_fault.BlockFault.{BlockFault}
 use Rattle.btr_check.specs.declared.block_fault.BlockFault.TheVariants as block
 use Rattle.btr_check.specs.Filesystem.{Filesystem}
-use Rattle.btr_check.specs.Running.{World, IsReady, filesystem, FaultUnread, StopUnread, UnreadCause, PutsNothing, Ran, is_unread}
+use Rattle.btr_check.specs.Running.{World, IsReady, filesystem, FaultUnread, StopUnread, UnreadCause, OfReading, StopsReading, Ran, is_unread}
 
 -- a volume is as it was
 pub volume_none : (vol : Volume) → SameVolume vol vol
@@ -77,7 +77,7 @@ ran_then P Q S x y z a r one two f = record {
 }
 
 -- the same call with an answer of the same cause
-pub ran_as : {A C : Type 0} (P S : Filesystem → Type 0) (x y : World) (r : Result A Stop) (t : Result C Stop) → Ran P x y r → (UnreadCause x.vol.store.layout x.rack y.rack r → UnreadCause x.vol.store.layout x.rack y.rack t) → (PutsNothing r → PutsNothing t)
+pub ran_as : {A C : Type 0} (P S : Filesystem → Type 0) (x y : World) (r : Result A Stop) (t : Result C Stop) → Ran P x y r → (UnreadCause x.vol.store.layout x.rack y.rack r → UnreadCause x.vol.store.layout x.rack y.rack t) → (StopsReading r → StopsReading t)
     → ((B : Map) → P (filesystem x.vol B) → S (filesystem x.vol B)) → Ran S x y t
 ran_as P S x y r t one cause quiet f = record {
   reads = one.reads;
@@ -123,8 +123,16 @@ listed_unread layout old new Sink h = tt
 listed_unread layout old new Out h = tt
 listed_unread layout old new NoMemory h = tt
 
-pub listed_quiet : (stop : Stop) → OfList stop → stop ≡ Out → ⊥
-listed_quiet stop h is = subst OfList is h
+pub listed_quiet : (stop : Stop) → OfList stop → OfReading stop
+listed_quiet (NoTree id) h = tt
+listed_quiet (Tree f) h = absurd h
+listed_quiet (Deletion id) h = tt
+listed_quiet Balance h = tt
+listed_quiet (Missing id) h = absurd h
+listed_quiet (Image slot) h = absurd h
+listed_quiet Sink h = absurd h
+listed_quiet Out h = absurd h
+listed_quiet NoMemory h = tt
 
 pub fault_unread : (layout : Layout) (old new : Seen) (fault : BlockFault) → StopUnread layout old new (fault_stop fault)
 fault_unread layout old new (block.Lost addr) = tt
@@ -132,14 +140,14 @@ fault_unread layout old new (block.Malformed addr) = tt
 fault_unread layout old new (block.Unmapped addr) = tt
 fault_unread layout old new (block.Crosses addr) = tt
 
-pub fault_quiet : (fault : BlockFault) → fault_stop fault ≡ Out → ⊥
-fault_quiet (block.Lost addr) is = cc
-fault_quiet (block.Malformed addr) is = cc
-fault_quiet (block.Unmapped addr) is = cc
-fault_quiet (block.Crosses addr) is = cc
+pub fault_quiet : (fault : BlockFault) → OfReading (fault_stop fault)
+fault_quiet (block.Lost addr) = tt
+fault_quiet (block.Malformed addr) = tt
+fault_quiet (block.Unmapped addr) = tt
+fault_quiet (block.Crosses addr) = tt
 
 -- what was read refuses the filesystem
-pub ran_refused : {A C : Type 0} (P S : Filesystem → Type 0) (x y : World) (a : A) (stop : Stop) → Ran P x y (Ok a) → StopUnread x.vol.store.layout x.rack y.rack stop → (stop ≡ Out → ⊥) → ((B : Map) → P (filesystem x.vol B) → S (filesystem x.vol B)) → Ran {A = C} S x y (Err stop)
+pub ran_refused : {A C : Type 0} (P S : Filesystem → Type 0) (x y : World) (a : A) (stop : Stop) → Ran P x y (Ok a) → StopUnread x.vol.store.layout x.rack y.rack stop → OfReading stop → ((B : Map) → P (filesystem x.vol B) → S (filesystem x.vol B)) → Ran {A = C} S x y (Err stop)
 ran_refused {A} {C} P S x y a stop one cause quiet f =
     let t : Result C Stop = Err stop in
     ran_as P S x y (Ok a) t one (λ h. cause) (λ h. quiet) f

@@ -83,10 +83,21 @@ abbrev pub StopsOutside : {A : Type 0} → Result A Stop → Type 0
 StopsOutside (Ok a) = ⊤
 StopsOutside (Err stop) = is_outside stop ≡ true
 
--- nothing is put by a call that reads
-abbrev pub PutsNothing : {A : Type 0} → Result A Stop → Type 0
-PutsNothing (Ok a) = ⊤
-PutsNothing (Err stop) = stop ≡ Out → ⊥
+-- a stop of a call that only reads blocks
+abbrev pub OfReading : Stop → Type 0
+OfReading (NoTree id) = ⊤
+OfReading (Tree f) = ⊤
+OfReading (Deletion id) = ⊤
+OfReading Balance = ⊤
+OfReading (Missing id) = ⊥
+OfReading (Image slot) = ⊥
+OfReading Sink = ⊥
+OfReading Out = ⊥
+OfReading Memory = ⊤
+
+abbrev pub StopsReading : {A : Type 0} → Result A Stop → Type 0
+StopsReading (Ok a) = ⊤
+StopsReading (Err stop) = OfReading stop
 
 -- A call that reads a volume: it only read, the volume can be read on, its fault has its cause, and so far as the calls were steady
 -- P holds of the filesystem.
@@ -95,5 +106,5 @@ pub record Ran {A : Type 0} (P : Filesystem → Type 0) (x y : World) (answer : 
   pub volume : SameVolume x.vol y.vol
   pub ready : IsReady y
   pub cause : UnreadCause x.vol.store.layout x.rack y.rack answer
-  pub quiet : PutsNothing answer
+  pub quiet : StopsReading answer
   pub told : Tells x.vol.store.layout x.rack y.rack (λ B. P (filesystem x.vol B))

@@ -43,7 +43,7 @@ returns-in-Err-counted g c =
         volume = record { sup = refl; store = loans };
         ready = record { serves = served_back (g.R.Rack.seen c.fetch.new.rack) c.fetch.new.store c.give.new.self c.in-Ok.loan e.serves c.give.ensures; room = same_room c.args.vol.now.store c.give.new.self loans c.requires.ready.room };
         cause = tt;
-        quiet = λ out. cc;
+        quiet = tt;
         told = drawn layout (AnswersOf want c.fetch.new.store (Ok c.in-Ok.loan)) (λ B. BlockCounts B place c.args.by_address c.args.forward.now c.add_block-counted.new.self (Err Memory))
             (λ B came block there. refl)
             (record { calls = e.calls tt });

@@ -1,7 +1,7 @@
 use Rattle.std.proofs.Common.{◌≡◌, Some, Ok, Err, fold, sym, ap, ◌∙◌, subst}
 use Rattle.btr_tour.specs.Tour.{whole}
 use Rattle.btr_check.specs.Filesystem.{kind_in}
-use Rattle.btr_check.specs.Running.{world, filesystem, StopUnread}
+use Rattle.btr_check.specs.Running.{world, filesystem, OfReading, StopUnread}
 use Rattle.btr_check.specs.Walking.{RootEnds, root_step, nothing_seen}
 use Rattle.btr_check.proofs.Roots.{root_sound, root_broken}
 use Rattle.btr_check.proofs.Runs.{ran_value, ran_refused, fault_unread, fault_quiet}
@@ -24,7 +24,7 @@ returns-in-Err-end g c =
     let y = world (g.R.Rack.seen c.visit_tree.new.rack) c.visit_tree.new.vol in
     record {
       ran = ran_refused (λ fs. c.visit_tree.new.visitor ≡ fold root_step c.new-walk.result (whole fs.blocks c.root_root-root.result)) (λ fs. RootEnds fs (Err c.stop.result)) x y c.in-Ok.field-0 c.stop.result c.in-Ok.ensures.ran
-          (subst (StopUnread x.vol.store.layout x.rack y.rack) (sym c.stop.ensures) (fault_unread x.vol.store.layout x.rack y.rack c.in-Err-end.fault)) (λ out. fault_quiet c.in-Err-end.fault (sym c.stop.ensures ∙ out))
+          (subst (StopUnread x.vol.store.layout x.rack y.rack) (sym c.stop.ensures) (fault_unread x.vol.store.layout x.rack y.rack c.in-Err-end.fault)) (subst OfReading (sym c.stop.ensures) (fault_quiet c.in-Err-end.fault))
           (λ B h outside. root_broken (filesystem c.args.vol.now B) c.visit_tree.new.visitor
           (h ∙ ap (λ s. fold root_step s (whole B c.root_root-root.result)) (c.new-walk.ensures ∙ ap nothing_seen c.kind_of.ensures) ∙ ap (λ p. fold root_step (nothing_seen (kind_in c.args.vol.now.sup)) (whole B p)) c.root_root-root.ensures)
           c.in-Err-end.fault c.in-Err-end.ensures ∙ ap Some (sym c.stop.ensures));
