@@ -17,7 +17,6 @@ mod extent_tree;
 mod form;
 mod misusing;
 mod places;
-mod referring;
 mod refusing;
 mod root_walk;
 mod text;

@@ -1,4 +1,4 @@
-// Extents that are others than what uses them.
+// Findings on references: where those that are counted and stored differ, and extents that are others than what uses them.
 ghost use Rattle.std.specs.Prelude.{◌≡◌, ◌==◌, ◌&&◌, ◌||◌, ◌∷◌, [], Bool, List, fold, flat_map, OnOk};
 ghost use Rattle.std.specs.List.{list_any};
 ghost use Rattle.btr_refs.specs.declared.finding.Finding.{Finding as Row};
@@ -6,12 +6,16 @@ ghost use Rattle.btr_refs.specs.declared.uses.BlockUse.{BlockUse as UsedBlock};
 ghost use Rattle.btr_refs.specs.declared.uses.DataUse.{DataUse as UsedData};
 ghost use Rattle.btr_refs.specs.Findings.{Adds, has};
 ghost use Rattle.btr_refs.specs.Forward.{TreeBlock, Data, Use, no_uses, with_use};
-ghost use Rattle.btr_check.specs.Misusing.{is_by_block, is_by_data};
+ghost use Rattle.btr_check.specs.Misusing.{is_by_block, is_by_data, found_by};
 ghost use Rattle.btr_check.specs.Uses.{extent_findings, misused};
 
+use crate::adding::put_all;
 use btr_base::Memory;
 use btr_items::ExtentItem;
-use btr_refs::{BlockUse, DataUse, Extent, Finding, Forward, put_unless};
+use btr_refs::{
+    BlockUse, DataUse, Extent, Finding, Forward, Stored, differences, put_unless,
+};
+use std::alloc::Global;
 use std::collections::BTreeSet;
 use std::collections::btree_set::Range;
 
@@ -160,9 +164,8 @@ fn put_misused(
     put_datas(found, nodesize, extent, uses)
 }
 
-/// Puts what is wrong with extents into a set, kinds 9 to 11, by all that uses them. `Memory`: there is no memory; then nothing is
-/// said of the set.
-pub(crate) fn put_all_misused(
+// What is wrong with extents, by all that uses them.
+fn put_all_misused(
     found: &mut BTreeSet<Finding>,
     nodesize: u64,
     extents: &[Extent],
@@ -174,4 +177,21 @@ pub(crate) fn put_all_misused(
         put_misused(found, nodesize, extent, forward)?;
     }
     Ok(())
+}
+
+/// Puts the findings on references into a set, kinds 7 to 11, by the uses that were counted and by what the extent tree stores: references that are
+/// counted and stored differently, and extents that are others than what uses them. A node has `nodesize` bytes. `Memory`: there is no
+/// memory; then nothing is said of the set.
+pub(crate) fn put_reference_findings(
+    alloc: Global,
+    found: &mut BTreeSet<Finding>,
+    nodesize: u64,
+    forward: &Forward,
+    stored: &Stored,
+) -> Result<(), Memory>
+    ensures { (uses : List Use) → forward.now ≡ fold with_use no_uses uses → OnOk result (Adds (found_by nodesize uses stored.now.extents stored.now.refs) found.old found.new) }
+{
+    let list = differences(alloc, forward, stored)?;
+    put_all(found, &list)?;
+    put_all_misused(found, nodesize, stored.extents(), forward)
 }
