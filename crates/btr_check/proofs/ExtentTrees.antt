@@ -20,7 +20,6 @@ use Rattle.btr_tour.specs.Tour.{whole, items_met, first_key}
 use Rattle.btr_tour.proofs.Ranges.{faultless_law}
 use Rattle.btr_volume.specs.declared.root.TreeRoot.{TreeRoot}
 use Rattle.btr_volume.specs.declared.stop.Stop.{Stop}
-use Rattle.btr_volume.specs.declared.stop.Stop.TheVariants.{Tree, Memory}
 use Rattle.btr_walk.specs.Le.{TreeItem}
 use Rattle.btr_walk.specs.Range.{range}
 use Rattle.btr_walk.specs.Reading.{Map, UnreadBlock, Tells, FaultCause}
@@ -29,9 +28,9 @@ use Rattle.btr_walk.specs.declared.fault.TreeFault.TheVariants.{Lost, Unread, Un
 use Rattle.btr_check.proofs.Faultless.{OnlyLeft, fate_left, tree_sound}
 use Rattle.btr_check.proofs.Formed.{all_formed}
 use Rattle.btr_check.specs.Counting.{Unless}
-use Rattle.btr_check.specs.ExtentTree.{IsStoredOf, ReadsStored}
+use Rattle.btr_check.specs.ExtentTree.{IsStoredOf, stop_of}
 use Rattle.btr_check.specs.Filesystem.{Filesystem, kind_of_sums, tree_items, extents}
-use Rattle.btr_check.specs.Running.{FaultUnread, StopUnread, UnreadCause}
+use Rattle.btr_check.specs.Running.{FaultUnread, UnreadCause, OfReading}
 use Rattle.btr_check.specs.Trees.{items_if, tree_of, listed}
 use Rattle.btr_check.specs.Uses.{counts_of}
 use Rattle.btr_check.specs.Walks.{walk_findings}
@@ -44,11 +43,7 @@ drawn_left layout P Q f one = record { calls = calls_as (λ sure h p. on_one sur
     on_one sure None p = tt
     on_one sure (Some images) p = f (fate.fate images layout) (fate_left images layout) p
 
--- the stop of a fault
-abbrev pub stop_of : CollectFault → Stop
-stop_of (collect.Tree f) = Tree f
-stop_of collect.Memory = Memory
-
+-- the same as the answer of a check
 abbrev pub stopped : Result Kept CollectFault → Result Kept Stop
 stopped (Ok kept) = Ok kept
 stopped (Err f) = Err (stop_of f)
@@ -60,6 +55,10 @@ fault_unread layout old new (Unread addr slot) h = h
 fault_unread layout old new (Unmapped addr) h = tt
 fault_unread layout old new (Crosses addr) h = tt
 fault_unread layout old new (Malformed addr) h = tt
+
+pub stored_reading : (f : CollectFault) → OfReading (stop_of f)
+stored_reading (collect.Tree f) = tt
+stored_reading collect.Memory = tt
 
 pub stored_cause : (layout : Layout) (old new : Seen) (r : Result Kept CollectFault) → CollectCause layout old new r → UnreadCause layout old new (stopped r)
 stored_cause layout old new (Ok kept) h = tt

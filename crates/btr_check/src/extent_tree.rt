@@ -1,11 +1,22 @@
 // What the extent tree says of extents.
-ghost use Rattle.btr_check.specs.ExtentTree.{ReadsStored};
+ghost use Rattle.std.specs.Prelude.{◌≡◌};
+ghost use Rattle.btr_check.specs.ExtentTree.{stop_of, ReadsStored};
 ghost use Rattle.btr_check.specs.Running.{world, IsReady, Ran};
 
 use btr_rack::Rack;
 use btr_refs::{CollectFault, Stored};
 use btr_volume::{Stop, TreeRoot, Volume};
 use std::alloc::Global;
+
+// Why references could not be collected, as a stop.
+fn stop_of(fault: CollectFault) -> Stop
+    ensures { result ≡ stop_of fault }
+{
+    match fault {
+        CollectFault::Tree(fault) => Stop::Tree(fault),
+        CollectFault::Memory => Stop::Memory,
+    }
+}
 
 /// Collects what the extent tree with this root says of extents, after a walk of all trees that found nothing. Four slots are free.
 ///
@@ -22,7 +33,6 @@ pub(crate) fn read_stored<R: Rack>(
 {
     match Stored::collect(alloc, tree, rack, vol) {
         Ok(stored) => Ok(stored),
-        Err(CollectFault::Tree(fault)) => Err(Stop::Tree(fault)),
-        Err(CollectFault::Memory) => Err(Stop::Memory),
+        Err(fault) => Err(stop_of(fault)),
     }
 }
