@@ -1,8 +1,13 @@
 mod Adds
 pub mod Counts
+pub mod ExtentTrees
+pub mod Faultless
 pub mod Firsts
 mod Folding
+mod Formed
 mod Lists
+pub mod Misuses
+mod Ranges
 mod Roots
 pub mod Runs
 mod Texts

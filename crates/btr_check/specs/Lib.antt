@@ -7,6 +7,8 @@ pub mod Running
 pub mod Walking
 pub mod Counting
 pub mod Text
+pub mod ExtentTree
+pub mod Misusing
 pub mod Passes
 pub mod FileTrees
 pub mod Findings
