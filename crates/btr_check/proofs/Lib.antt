@@ -2,14 +2,19 @@ mod Adds
 pub mod Counts
 pub mod ExtentTrees
 pub mod Faultless
+pub mod FileTrees
 pub mod Firsts
 mod Folding
 mod Formed
 mod Lists
 pub mod Misuses
+pub mod Passes
 mod Ranges
+pub mod Referring
 mod Roots
 pub mod Runs
+pub mod Spaces
+pub mod Summing
 mod Texts
 pub mod There
 mod Treading

@@ -1,5 +1,5 @@
 -- What is met of trees of files.
-use Rattle.std.specs.Prelude.{◌≡◌, ℕ, List, [], ◌++◌, filter_map, flat_map, Result}
+use Rattle.std.specs.Prelude.{◌≡◌, ℕ, List, [], ◌++◌, filter_map, flat_map}
 use Rattle.std.specs.BTreeSet.{BTreeSet}
 use Rattle.btr_items.specs.declared.sum_run.SumRun.{SumRun}
 use Rattle.btr_names.specs.Entry.{Entry}

@@ -11,4 +11,4 @@ pub mod ExtentTree
 pub mod Misusing
 pub mod Passes
 pub mod FileTrees
-pub mod Findings
+pub mod Families

@@ -2,6 +2,7 @@
 use Rattle.std.specs.Prelude.{◌≡◌, List, [], Option, Some, None, Result, Ok, Err}
 use Rattle.std.specs.BTreeSet.{BTreeSet}
 use Rattle.btr_base.specs.declared.memory.Memory.{Memory}
+use Rattle.btr_refs.specs.declared.extent.Extent.{Extent}
 use Rattle.btr_refs.specs.declared.finding.Finding.{Finding}
 use Rattle.btr_refs.specs.Findings.{Adds}
 use Rattle.btr_tour.specs.Tour.{Mark, whole}
@@ -10,7 +11,7 @@ use Rattle.btr_volume.specs.declared.stop.Stop.{Stop}
 use Rattle.btr_volume.specs.declared.stop.Stop.TheVariants as stops
 use Rattle.btr_walk.specs.Reading.{Map}
 use Rattle.btr_check.specs.Counting.{Unless}
-use Rattle.btr_check.specs.Filesystem.{Filesystem}
+use Rattle.btr_check.specs.Filesystem.{Filesystem, extents}
 use Rattle.btr_check.specs.Walking.{WalkSeen, IsWalkOf}
 use Rattle.btr_check.specs.Walks.{walk_findings}
 use Rattle.btr_check.specs.Trees.{listed, trees}
@@ -29,10 +30,18 @@ or_memory (Err e) = Err stops.Memory
 abbrev pub Lists : List TreeRoot → Filesystem → Type 0
 Lists trees fs = trees ≡ listed fs.sup fs.blocks
 
+-- .. and all trees
+abbrev pub AreAll : List TreeRoot → Filesystem → Type 0
+AreAll all fs = all ≡ trees fs.sup fs.blocks
+
+-- .. and the extents
+abbrev pub AreExtents : List Extent → Filesystem → Type 0
+AreExtents all fs = all ≡ extents fs
+
 -- the walk of all trees found nothing; these are all trees, and what was walked of them
 pub record IsWalked (listed_trees all_trees : List TreeRoot) (walk : WalkSeen) (fs : Filesystem) : Type 0 where
   pub lists : Lists listed_trees fs
-  pub all : all_trees ≡ trees fs.sup fs.blocks
+  pub all : AreAll all_trees fs
   pub walked : IsWalkOf fs all_trees walk
   pub sound : walk_findings fs ≡ []
 

@@ -14,14 +14,13 @@ use std::alloc::Global;
 /// What a visit of a tree leaves of a visitor; where there is no tree, nothing is met.
 pub(crate) fn collect<R: Rack, V: Visitor<Memory> + Drop>(
     tree: Option<TreeRoot>,
-    visitor: V,
+    mut visitor: V,
     rack: &mut R,
     vol: &mut Volume,
 ) -> Result<V, Stop>
     requires ready { IsReady (world (R.seen rack.old) vol.old) }
     ensures ran { Ran (λ fs. Unless (λ met. met ≡ fold V.step visitor (marks_if fs.blocks tree)) result) (world (R.seen rack.old) vol.old) (world (R.seen rack.new) vol.new) result }
 {
-    let mut visitor = visitor;
     let Some(tree) = tree else {
         return Ok(visitor);
     };

@@ -8,7 +8,7 @@ ghost use Rattle.btr_refs.specs.Findings.{Adds};
 ghost use Rattle.btr_sums.specs.Sums.{run_stretch};
 ghost use Rattle.btr_check.specs.Counting.{Unless};
 ghost use Rattle.btr_check.specs.Filesystem.{is_file_tree, root_items};
-ghost use Rattle.btr_check.specs.Findings.{sum_runs, found_on_files};
+ghost use Rattle.btr_check.specs.Families.{IsCoverOf, sum_runs, found_on_files};
 ghost use Rattle.btr_check.specs.FileTrees.{met_findings, Treats};
 ghost use Rattle.btr_check.specs.Passes.{Lists, Puts};
 ghost use Rattle.btr_check.specs.Running.{world, IsReady, Ran};
@@ -70,7 +70,7 @@ fn put_file_tree<R: Rack>(
     vol: &mut Volume,
 ) -> Result<(), Stop>
     requires ready { IsReady (world (R.seen rack.old) vol.old) }
-    ensures ran { Ran (λ fs. (runs : List SumRun) → IsPermutation (map run_stretch runs) sums.now → Unless (λ u. Treats fs.blocks runs (tree.now ∷ []) found.old found.new subvolumes.old subvolumes.new) result) (world (R.seen rack.old) vol.old) (world (R.seen rack.new) vol.new) result }
+    ensures ran { Ran (λ fs. IsCoverOf fs sums.now → Unless (λ u. Treats fs.blocks (sum_runs fs) (tree.now ∷ []) found.old found.new subvolumes.old subvolumes.new) result) (world (R.seen rack.old) vol.old) (world (R.seen rack.new) vol.new) result }
 {
     names_law();
     keeps_law();
@@ -91,7 +91,7 @@ fn put_file_trees<R: Rack>(
     vol: &mut Volume,
 ) -> Result<(), Stop>
     requires ready { IsReady (world (R.seen rack.old) vol.old) }
-    ensures ran { Ran (λ fs. (runs : List SumRun) → IsPermutation (map run_stretch runs) sums.now → Unless (λ u. Treats fs.blocks runs files.now found.old found.new subvolumes.old subvolumes.new) result) (world (R.seen rack.old) vol.old) (world (R.seen rack.new) vol.new) result }
+    ensures ran { Ran (λ fs. IsCoverOf fs sums.now → Unless (λ u. Treats fs.blocks (sum_runs fs) files.now found.old found.new subvolumes.old subvolumes.new) result) (world (R.seen rack.old) vol.old) (world (R.seen rack.new) vol.new) result }
 {
     for tree in files {
         match put_file_tree(alloc, found, subvolumes, tree, sums, rack, vol) {
@@ -129,7 +129,7 @@ pub(crate) fn put_files<R: Rack>(
     vol: &mut Volume,
 ) -> Result<(), Stop>
     requires ready { IsReady (world (R.seen rack.old) vol.old) }
-    ensures ran { Ran (Puts (λ fs. Lists listed.now fs × IsPermutation (map run_stretch (sum_runs fs)) sums.now) found_on_files found.old found.new result) (world (R.seen rack.old) vol.old) (world (R.seen rack.new) vol.new) result }
+    ensures ran { Ran (Puts (λ fs. Lists listed.now fs × IsCoverOf fs sums.now) found_on_files found.old found.new result) (world (R.seen rack.old) vol.old) (world (R.seen rack.new) vol.new) result }
 {
     let files = match file_trees(alloc, listed) {
         Ok(files) => files,

@@ -12,7 +12,6 @@
 
 mod adding;
 mod block_fault;
-mod checking;
 mod collecting;
 mod counting;
 mod extent_tree;
@@ -33,7 +32,6 @@ mod walk;
 mod walking;
 
 pub use adding::put_walk_findings;
-pub use checking::check;
 pub use counting::count_uses;
 pub use text::put_findings;
 pub use trees::{all_trees, read_trees};

@@ -2,9 +2,8 @@
 ghost use Rattle.std.specs.Prelude.{◌≡◌, []};
 ghost use Rattle.btr_check.specs.Counting.{Unless};
 ghost use Rattle.btr_check.specs.ExtentTree.{IsStoredOf};
-ghost use Rattle.btr_check.specs.Passes.{Lists, Puts};
+ghost use Rattle.btr_check.specs.Passes.{AreAll, Lists, Puts};
 ghost use Rattle.btr_check.specs.Running.{world, IsReady, Ran};
-ghost use Rattle.btr_check.specs.Trees.{trees};
 ghost use Rattle.btr_check.specs.Uses.{reference_findings};
 ghost use Rattle.btr_check.specs.Walking.{IsWalkOf};
 ghost use Rattle.btr_check.specs.Walks.{walk_findings};
@@ -54,7 +53,7 @@ pub(crate) fn put_references<R: Rack>(
     vol: &mut Volume,
 ) -> Result<(), Stop>
     requires ready { IsReady (world (R.seen rack.old) vol.old) }
-    ensures ran { Ran (Puts (λ fs. (trees.now ≡ trees fs.sup fs.blocks) × IsWalkOf fs trees.now walk × IsStoredOf fs stored.now) reference_findings found.old found.new result) (world (R.seen rack.old) vol.old) (world (R.seen rack.new) vol.new) result }
+    ensures ran { Ran (Puts (λ fs. AreAll trees.now fs × IsWalkOf fs trees.now walk × IsStoredOf fs stored.now) reference_findings found.old found.new result) (world (R.seen rack.old) vol.old) (world (R.seen rack.new) vol.new) result }
 {
     let nodesize = u64::from(vol.sup.nodesize);
     match count_uses(alloc, trees, walk.places(), stored.extents(), rack, vol) {

@@ -1,8 +1,7 @@
 // What is wrong with block groups and devices.
 ghost use Rattle.std.specs.Prelude.{◌≡◌};
-ghost use Rattle.btr_check.specs.Filesystem.{extents};
-ghost use Rattle.btr_check.specs.Findings.{group_tree, found_on_groups, found_on_devices};
-ghost use Rattle.btr_check.specs.Passes.{Lists, Puts};
+ghost use Rattle.btr_check.specs.Families.{group_tree, found_on_groups, found_on_devices};
+ghost use Rattle.btr_check.specs.Passes.{AreExtents, Lists, Puts};
 ghost use Rattle.btr_check.specs.Running.{world, IsReady, Ran};
 
 use crate::collecting::{collect, or_memory};
@@ -42,7 +41,7 @@ pub(crate) fn put_groups<R: Rack>(
     vol: &mut Volume,
 ) -> Result<(), Stop>
     requires ready { IsReady (world (R.seen rack.old) vol.old) }
-    ensures ran { Ran (Puts (λ fs. Lists listed.now fs × (extents.now ≡ extents fs)) found_on_groups found.old found.new result) (world (R.seen rack.old) vol.old) (world (R.seen rack.new) vol.new) result }
+    ensures ran { Ran (Puts (λ fs. Lists listed.now fs × AreExtents extents.now fs) found_on_groups found.old found.new result) (world (R.seen rack.old) vol.old) (world (R.seen rack.new) vol.new) result }
 {
     collects_law();
     match collect(group_tree(listed), Groups::new(alloc), rack, vol) {

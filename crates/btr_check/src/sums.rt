@@ -1,8 +1,6 @@
 // What is wrong with the checksums of data.
-ghost use Rattle.std.specs.Prelude.{◌≡◌};
-ghost use Rattle.btr_check.specs.Filesystem.{extents};
-ghost use Rattle.btr_check.specs.Findings.{IsRunsOf, found_on_sums};
-ghost use Rattle.btr_check.specs.Passes.{Lists, PutsAnd};
+ghost use Rattle.btr_check.specs.Families.{IsRunsOf, found_on_sums};
+ghost use Rattle.btr_check.specs.Passes.{AreExtents, Lists, PutsAnd};
 ghost use Rattle.btr_check.specs.Running.{world, IsReady, Ran};
 
 use crate::collecting::collect;
@@ -30,7 +28,7 @@ pub(crate) fn put_sums<R: Rack>(
     vol: &mut Volume,
 ) -> Result<Runs, Stop>
     requires ready { IsReady (world (R.seen rack.old) vol.old) }
-    ensures ran { Ran (PutsAnd (λ fs. Lists listed.now fs × (extents.now ≡ extents fs)) IsRunsOf found_on_sums found.old found.new result) (world (R.seen rack.old) vol.old) (world (R.seen rack.new) vol.new) result }
+    ensures ran { Ran (PutsAnd (λ fs. Lists listed.now fs × AreExtents extents.now fs) IsRunsOf found_on_sums found.old found.new result) (world (R.seen rack.old) vol.old) (world (R.seen rack.new) vol.new) result }
 {
     keeps_law();
     let tree = last_of(listed, SUM_TREE);

@@ -1,7 +1,7 @@
 // The walk of trees.
 ghost use Rattle.std.specs.Prelude.{◌≡◌, ◌++◌, OnOk};
 ghost use Rattle.std.specs.Option.{option_map, option_to_list};
-ghost use Rattle.btr_check.specs.Walking.{behind_last, or_last};
+ghost use Rattle.btr_check.specs.Walking.{behind_last, is_nothing, or_last};
 ghost use Rattle.btr_check.specs.Walks.{fault_finding, not_apart, range_in};
 
 use crate::block_fault::BlockFault;
@@ -87,7 +87,7 @@ impl Walk {
     pub fn is_sound(&self) -> bool
         ensures { result ≡ is_nothing (self.now.broken ++ self.now.overlapping) }
     {
-        self.broken.is_empty() && self.overlapping.is_empty()
+        is_nothing(self.broken()) && is_nothing(self.overlapping())
     }
 
     /// Where the blocks stand that were met, in the order that they were first met in, and each once.
@@ -96,6 +96,13 @@ impl Walk {
     {
         self.places.list()
     }
+}
+
+// Whether nothing was found.
+fn is_nothing(list: &[Finding]) -> bool
+    ensures { result ≡ is_nothing list.now }
+{
+    list.is_empty()
 }
 
 // The finding of what is wrong with a block.

@@ -1,25 +1,24 @@
--- All that is wrong with a filesystem.
-use Rattle.std.specs.Prelude.{◌≡◌, Bool, true, false, List, [], ◌∷◌, ◌++◌, flat_map, Option}
+-- What is wrong with what the trees say, pass by pass.
+use Rattle.std.specs.Prelude.{◌≡◌, List, ◌++◌, map, flat_map, Option}
+use Rattle.std.specs.List.Sorted.{IsPermutation}
 use Rattle.btr_items.specs.declared.sum_run.SumRun.{SumRun}
 use Rattle.btr_names.specs.Subvolumes.{Subvolumes, subvolumes_in, subvolume_findings}
 use Rattle.btr_refs.specs.declared.finding.Finding.{Finding}
-use Rattle.btr_refs.specs.Findings.{in_order}
 use Rattle.btr_space.specs.Devices.{device_findings}
 use Rattle.btr_space.specs.Groups.{group_findings}
 use Rattle.btr_space.specs.Items.{groups_in, device_extents_in, devices_in}
+use Rattle.btr_space.specs.declared.cover.Stretch.{Stretch}
 use Rattle.btr_space.specs.declared.device_extent.DeviceExtent.{DeviceExtent}
 use Rattle.btr_space.specs.declared.group.Group.{Group}
 use Rattle.btr_space.specs.declared.stated_device.StatedDevice.{StatedDevice}
 use Rattle.btr_sums.specs.Items.{RunsMet, runs_in}
-use Rattle.btr_sums.specs.Sums.{sum_findings}
+use Rattle.btr_sums.specs.Sums.{run_stretch, sum_findings}
 use Rattle.btr_volume.specs.declared.root.TreeRoot.{TreeRoot}
-use Rattle.btr_check.specs.Data.{data_findings}
 use Rattle.btr_check.specs.FileTrees.{file_tree_findings, root_entries}
 use Rattle.btr_check.specs.Filesystem.{Filesystem, kind_of_sums, root_items, chunk_items, tree_items, extents, file_trees}
 use Rattle.btr_check.specs.Trees.{last_of, items_if, listed}
 use Rattle.btr_check.specs.Uses.{reference_findings}
 use Rattle.btr_check.specs.Walking.{or_first}
-use Rattle.btr_check.specs.Walks.{walk_findings}
 
 -- the tree that has the block groups: the block group tree, where there is one, and else the extent tree
 abbrev pub group_tree : List TreeRoot → Option TreeRoot
@@ -47,6 +46,10 @@ module _ (fs : Filesystem) where
   abbrev pub IsRunsOf : RunsMet → Type 0
   IsRunsOf met = met.runs ≡ sum_runs
 
+  -- these are the ranges of addresses that have checksums
+  abbrev pub IsCoverOf : List Stretch → Type 0
+  IsCoverOf sums = IsPermutation (map run_stretch sum_runs) sums
+
   -- 5, 6, 24, 25, 28, 30
   abbrev pub found_on_groups : List Finding
   found_on_groups = group_findings fs.chunks (extents fs) groups fs.sup.bytes_used
@@ -66,24 +69,3 @@ module _ (fs : Filesystem) where
   -- what is wrong with extents: 5 to 11, 13, 14, 24, 25, 28, 30
   abbrev pub found_on_extents : List Finding
   found_on_extents = (reference_findings fs ++ found_on_groups) ++ found_on_sums
-
--- 31: what is lost of the data, where data is read
-abbrev pub data_if : Bool → Filesystem → List Finding
-data_if true fs = data_findings fs
-data_if false fs = []
-
--- what is wrong with what the trees say
-abbrev pub rule_findings : Bool → Filesystem → List Finding
-rule_findings read_data fs = (found_on_extents fs ++ found_on_devices fs) ++ data_if read_data fs ++ found_on_files fs
-
--- where something is wrong with the trees themselves, that is all
-abbrev pub or_rules : List Finding → List Finding → List Finding
-or_rules [] rules = rules
-or_rules (finding ∷ findings) rules = finding ∷ findings
-
-abbrev pub all_findings : Bool → Filesystem → List Finding
-all_findings read_data fs = or_rules (walk_findings fs) (rule_findings read_data fs)
-
--- the findings, each once, in ascending order; with those on data where data is read
-unfoldable pub findings : Bool → Filesystem → List Finding
-findings read_data fs = in_order (all_findings read_data fs)
