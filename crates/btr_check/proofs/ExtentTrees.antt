@@ -1,5 +1,5 @@
 -- What is collected of the extent tree, where nothing was found on the walk of all trees.
-use Rattle.std.proofs.Common.{◌≡◌, ℕ, true, List, Option, Some, None, Result, Ok, Err, refl, sym, ap, ◌∙◌, subst}
+use Rattle.std.proofs.Common.{◌≡◌, ℕ, true, List, [], Option, Some, None, Result, Ok, Err, refl, sym, ap, ◌∙◌, subst}
 use Rattle.std.specs.List.{list_all}
 use Rattle.btr_base.specs.Key.{last_key}
 use Rattle.btr_prog.specs.Answers.{Follows, no_part}

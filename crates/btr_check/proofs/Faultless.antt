@@ -122,7 +122,7 @@ pub record IsSound (kind : SumKind) (marks : List Mark) : Type 0 where
   pub faultless : faults_met marks ≡ []
   pub formed : list_all (λ (item : TreeItem). has_form kind item.key item.body) (items_met marks) ≡ true
 
-abbrev cons_ne : {X : Type 0} (x : X) (xs ys : List X) → ys ≡ x ∷ xs → ys ≡ [] → ⊥
+cons_ne : {X : Type 0} (x : X) (xs ys : List X) → ys ≡ x ∷ xs → ys ≡ [] → ⊥
 cons_ne x xs ys is none = cc
 
 -- a block that is left out is a finding

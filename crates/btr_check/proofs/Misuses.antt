@@ -1,5 +1,5 @@
 -- What is wrong with extents by all uses is what is wrong by those that are kept.
-use Rattle.std.proofs.Common.{◌≡◌, ℕ, Bool, true, false, ◌&&◌, ◌||◌, List, [], ◌∷◌, ◌++◌, fold, flat_map, map, if◌then◌else◌, eqb, refl, sym, ap, ◌∙◌}
+use Rattle.std.proofs.Common.{◌≡◌, ℕ, Bool, true, false, ◌&&◌, ◌||◌, List, [], ◌∷◌, ◌++◌, fold, flat_map, map, Result, Ok, Err, OnOk, if◌then◌else◌, eqb, refl, sym, ap, ◌∙◌}
 use Rattle.std.proofs.lemmas.List.Folds.{list_any-append}
 use Rattle.std.specs.BTreeSet.{BTreeSet}
 use Rattle.std.specs.List.{list_any}
@@ -14,6 +14,11 @@ use Rattle.btr_refs.specs.declared.uses.BlockUse.{BlockUse}
 use Rattle.btr_refs.specs.declared.uses.DataUse.{DataUse}
 use Rattle.btr_check.specs.Misusing.{is_by, is_by_block, is_by_data}
 use Rattle.btr_check.specs.Uses.{misused, misused_by, extent_findings, counts_of}
+
+-- what follows where a call answers
+pub on_ok : {A E : Type 0} (r : Result A E) (P Q : Type 0) → (P → Q) → OnOk r P → OnOk r Q
+on_ok (Ok a) P Q f h = f h
+on_ok (Err e) P Q f h = tt
 
 -- a finding that something of a list gives
 any_of : {X : Type 0} (f : X → List Finding) (one : Finding) (xs : List X) → is_one_of (flat_map f xs) one ≡ list_any (λ x. is_one_of (f x) one) xs

@@ -12,9 +12,7 @@ ghost use Rattle.btr_check.specs.Uses.{extent_findings, misused};
 use crate::adding::put_all;
 use btr_base::Memory;
 use btr_items::ExtentItem;
-use btr_refs::{
-    BlockUse, DataUse, Extent, Finding, Forward, Stored, differences, put_unless,
-};
+use btr_refs::{BlockUse, DataUse, Extent, Finding, Forward, Stored, differences, put_unless};
 use std::alloc::Global;
 use std::collections::BTreeSet;
 use std::collections::btree_set::Range;
