@@ -1,5 +1,6 @@
 mod Adds
 pub mod Counts
+pub mod Datas
 pub mod ExtentTrees
 pub mod Faultless
 pub mod Firsts

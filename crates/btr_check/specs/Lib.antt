@@ -9,3 +9,4 @@ pub mod Counting
 pub mod Text
 pub mod ExtentTree
 pub mod Misusing
+pub mod Data

@@ -17,6 +17,7 @@ mod extent_tree;
 mod form;
 mod misusing;
 mod places;
+mod readable;
 mod refusing;
 mod root_walk;
 mod text;
