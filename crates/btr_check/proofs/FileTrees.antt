@@ -16,7 +16,8 @@ use Rattle.btr_tour.specs.Visits.{Takes, Shows}
 use Rattle.btr_tour.specs.declared.met.Met.{Met}
 use Rattle.btr_volume.specs.declared.root.TreeRoot.{TreeRoot}
 use Rattle.btr_walk.specs.Reading.{Map}
-use Rattle.btr_check.specs.Families.{sum_runs, subvolumes, found_on_files}
+use Rattle.btr_check.specs.Data.{sum_runs}
+use Rattle.btr_check.specs.Families.{subvolumes, found_on_files}
 use Rattle.btr_check.specs.Filesystem.{Filesystem, file_trees, is_file_tree, root_items}
 use Rattle.btr_check.specs.FileTrees.{nothing_met, file_step, met_findings, met_in, file_tree_findings, root_entries, with_entries, Treats}
 use Rattle.btr_check.specs.Passes.{Lists}

@@ -1,5 +1,6 @@
 mod Adds
 pub mod Counts
+pub mod Datas
 pub mod ExtentTrees
 pub mod Faultless
 pub mod FileTrees
@@ -18,3 +19,4 @@ pub mod Summing
 mod Texts
 pub mod There
 mod Treading
+pub mod Wholes

@@ -11,7 +11,8 @@ use Rattle.btr_sums.specs.Items.{RunsMet, KeepsRuns, runs_step, runs_in}
 use Rattle.btr_sums.specs.Sums.{sum_findings}
 use Rattle.btr_volume.specs.declared.root.TreeRoot.{TreeRoot}
 use Rattle.btr_check.proofs.Passes.{marks_items}
-use Rattle.btr_check.specs.Families.{IsRunsOf, sum_runs, found_on_sums}
+use Rattle.btr_check.specs.Data.{sum_runs}
+use Rattle.btr_check.specs.Families.{IsRunsOf, found_on_sums}
 use Rattle.btr_check.specs.Filesystem.{Filesystem, extents, kind_of_sums}
 use Rattle.btr_check.specs.Passes.{Lists, marks_if}
 use Rattle.btr_check.specs.Trees.{last_of, items_if}

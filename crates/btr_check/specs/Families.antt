@@ -1,7 +1,6 @@
 -- What is wrong with what the trees say, pass by pass.
 use Rattle.std.specs.Prelude.{◌≡◌, List, ◌++◌, map, flat_map, Option}
 use Rattle.std.specs.List.Sorted.{IsPermutation}
-use Rattle.btr_items.specs.declared.sum_run.SumRun.{SumRun}
 use Rattle.btr_names.specs.Subvolumes.{Subvolumes, subvolumes_in, subvolume_findings}
 use Rattle.btr_refs.specs.declared.finding.Finding.{Finding}
 use Rattle.btr_space.specs.Devices.{device_findings}
@@ -11,11 +10,12 @@ use Rattle.btr_space.specs.declared.cover.Stretch.{Stretch}
 use Rattle.btr_space.specs.declared.device_extent.DeviceExtent.{DeviceExtent}
 use Rattle.btr_space.specs.declared.group.Group.{Group}
 use Rattle.btr_space.specs.declared.stated_device.StatedDevice.{StatedDevice}
-use Rattle.btr_sums.specs.Items.{RunsMet, runs_in}
+use Rattle.btr_sums.specs.Items.{RunsMet}
 use Rattle.btr_sums.specs.Sums.{run_stretch, sum_findings}
 use Rattle.btr_volume.specs.declared.root.TreeRoot.{TreeRoot}
+use Rattle.btr_check.specs.Data.{sum_runs}
 use Rattle.btr_check.specs.FileTrees.{file_tree_findings, root_entries}
-use Rattle.btr_check.specs.Filesystem.{Filesystem, kind_of_sums, root_items, chunk_items, tree_items, extents, file_trees}
+use Rattle.btr_check.specs.Filesystem.{Filesystem, root_items, chunk_items, tree_items, extents, file_trees}
 use Rattle.btr_check.specs.Trees.{last_of, items_if, listed}
 use Rattle.btr_check.specs.Uses.{reference_findings}
 use Rattle.btr_check.specs.Walking.{or_first}
@@ -25,7 +25,7 @@ abbrev pub group_tree : List TreeRoot → Option TreeRoot
 group_tree trees = or_first (last_of 11 trees) (last_of 2 trees)
 
 module _ (fs : Filesystem) where
-  -- block groups, device extents, devices and runs of checksums
+  -- block groups, device extents and devices
   abbrev pub groups : List Group
   groups = groups_in (items_if fs.blocks (group_tree (listed fs.sup fs.blocks)))
 
@@ -35,20 +35,17 @@ module _ (fs : Filesystem) where
   abbrev pub devices : List StatedDevice
   devices = devices_in (chunk_items fs)
 
-  abbrev pub sum_runs : List SumRun
-  sum_runs = runs_in (kind_of_sums fs) (tree_items fs 7)
-
   -- the names of subvolumes, in the root tree and in the trees of files
   abbrev pub subvolumes : Subvolumes
   subvolumes = subvolumes_in (root_items fs) (flat_map (root_entries fs.blocks) (file_trees fs))
 
   -- what was kept of the checksum tree
   abbrev pub IsRunsOf : RunsMet → Type 0
-  IsRunsOf met = met.runs ≡ sum_runs
+  IsRunsOf met = met.runs ≡ sum_runs fs
 
   -- these are the ranges of addresses that have checksums
   abbrev pub IsCoverOf : List Stretch → Type 0
-  IsCoverOf sums = IsPermutation (map run_stretch sum_runs) sums
+  IsCoverOf sums = IsPermutation (map run_stretch (sum_runs fs)) sums
 
   -- 5, 6, 24, 25, 28, 30
   abbrev pub found_on_groups : List Finding
@@ -60,11 +57,11 @@ module _ (fs : Filesystem) where
 
   -- 13, 14
   abbrev pub found_on_sums : List Finding
-  found_on_sums = sum_findings sum_runs (extents fs)
+  found_on_sums = sum_findings (sum_runs fs) (extents fs)
 
   -- 12, 15 to 23
   abbrev pub found_on_files : List Finding
-  found_on_files = flat_map (file_tree_findings fs.blocks sum_runs) (file_trees fs) ++ subvolume_findings subvolumes
+  found_on_files = flat_map (file_tree_findings fs.blocks (sum_runs fs)) (file_trees fs) ++ subvolume_findings subvolumes
 
   -- what is wrong with extents: 5 to 11, 13, 14, 24, 25, 28, 30
   abbrev pub found_on_extents : List Finding

@@ -11,4 +11,6 @@ pub mod ExtentTree
 pub mod Misusing
 pub mod Passes
 pub mod FileTrees
+pub mod Data
 pub mod Families
+pub mod Findings

@@ -12,6 +12,7 @@
 
 mod adding;
 mod block_fault;
+mod checking;
 mod collecting;
 mod counting;
 mod extent_tree;
@@ -20,6 +21,7 @@ mod file_trees;
 mod form;
 mod misusing;
 mod places;
+mod readable;
 mod references;
 mod refusing;
 mod root_walk;
@@ -32,6 +34,7 @@ mod walk;
 mod walking;
 
 pub use adding::put_walk_findings;
+pub use checking::check;
 pub use counting::count_uses;
 pub use text::put_findings;
 pub use trees::{all_trees, read_trees};

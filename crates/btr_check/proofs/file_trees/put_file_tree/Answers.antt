@@ -1,7 +1,8 @@
 use Rattle.std.proofs.Common.{◌≡◌, true, [], ◌∷◌, fold, Some, Ok, sym, ap, ◌∙◌}
 use Rattle.btr_names.specs.Subvolumes.{subvolumes_at}
 use Rattle.btr_refs.specs.Findings.{Adds}
-use Rattle.btr_check.specs.Families.{IsCoverOf, sum_runs}
+use Rattle.btr_check.specs.Data.{sum_runs}
+use Rattle.btr_check.specs.Families.{IsCoverOf}
 use Rattle.btr_check.specs.FileTrees.{file_step, met_findings, Treats}
 use Rattle.btr_check.specs.Passes.{marks_if}
 use Rattle.btr_check.specs.Running.{world, filesystem, is_outside}

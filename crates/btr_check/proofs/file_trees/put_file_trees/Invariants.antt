@@ -1,5 +1,6 @@
 use Rattle.std.proofs.Common.{take, Ok}
-use Rattle.btr_check.specs.Families.{IsCoverOf, sum_runs}
+use Rattle.btr_check.specs.Data.{sum_runs}
+use Rattle.btr_check.specs.Families.{IsCoverOf}
 use Rattle.btr_check.specs.FileTrees.{Treats}
 use Rattle.btr_check.specs.Running.{world, Ran}
 use Rattle.btr_check.proofs.file_trees.put_file_trees.Given as goal

@@ -2,7 +2,8 @@ use Rattle.std.proofs.Common.{◌≡◌, true, [], Ok, Err, refl, sym, ap, ◌�
 use Rattle.btr_names.specs.Subvolumes.{subvolumes_in, subvolume_findings}
 use Rattle.btr_refs.specs.Findings.{Adds}
 use Rattle.btr_volume.specs.declared.stop.Stop.TheVariants.{Memory as NoMemory}
-use Rattle.btr_check.specs.Families.{IsCoverOf, sum_runs, found_on_files}
+use Rattle.btr_check.specs.Data.{sum_runs}
+use Rattle.btr_check.specs.Families.{IsCoverOf, found_on_files}
 use Rattle.btr_check.specs.Filesystem.{root_items}
 use Rattle.btr_check.specs.FileTrees.{Treats}
 use Rattle.btr_check.specs.Passes.{Lists}
