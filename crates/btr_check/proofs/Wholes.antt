@@ -55,7 +55,7 @@ module _ (fs : Filesystem) (listed_trees all : List TreeRoot) (lists : Lists lis
 
 -- a stop from outside says nothing of the filesystem
 pub outside_only : (outside : Bool) (P : Type 0) → outside ≡ true → outside ≡ false → P
-outside_only outside P yes no = absurd (true_false (sym yes ∙ no))
+outside_only outside P one two = absurd (true_false (sym one ∙ two))
   where
     true_false : true ≡ false → ⊥
     true_false e = cc

@@ -65,4 +65,4 @@ module _ (fs : Filesystem) where
 
   -- what is wrong with extents: 5 to 11, 13, 14, 24, 25, 28, 30
   abbrev pub found_on_extents : List Finding
-  found_on_extents = (reference_findings fs ++ found_on_groups) ++ found_on_sums
+  found_on_extents = reference_findings fs ++ found_on_groups ++ found_on_sums

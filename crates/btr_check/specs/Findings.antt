@@ -14,7 +14,7 @@ data_if false fs = []
 
 -- what is wrong with what the trees say
 abbrev pub rule_findings : Bool → Filesystem → List Finding
-rule_findings read_data fs = (found_on_extents fs ++ found_on_devices fs) ++ data_if read_data fs ++ found_on_files fs
+rule_findings read_data fs = found_on_extents fs ++ found_on_devices fs ++ (data_if read_data fs ++ found_on_files fs)
 
 -- where something is wrong with the trees themselves, that is all
 abbrev pub or_rules : List Finding → List Finding → List Finding

@@ -8,8 +8,8 @@ ghost use Rattle.btr_check.specs.Findings.{all_findings, data_if, findings, rule
 ghost use Rattle.btr_check.specs.Passes.{IsWalked, Lists, Puts, PutsAnd};
 ghost use Rattle.btr_check.specs.Running.{world, IsReady, Answers, Ran};
 
-use crate::readable::put_data_findings;
 use crate::file_trees::put_files;
+use crate::readable::put_data_findings;
 use crate::references::{put_references, read_extents};
 use crate::refusing::last_of;
 use crate::space::{put_devices, put_groups};
@@ -131,17 +131,18 @@ fn find_all<R: Rack>(
     requires ready { IsReady (world (R.seen rack.old) vol.old) }
     ensures ran { Ran (λ fs. Lists listed.now fs → Unless (HasJust (all_findings read_data fs)) result) (world (R.seen rack.old) vol.old) (world (R.seen rack.new) vol.new) result }
 {
-    let trees = match all_trees(alloc, &vol.sup, listed) {
-        Ok(trees) => trees,
+    let all = match all_trees(alloc, &vol.sup, listed) {
+        Ok(all) => all,
         Err(Memory) => return Err(Stop::Memory),
     };
-    let walk = match walk_trees(alloc, &trees, rack, vol) {
+    let trees = all.as_slice();
+    let walk = match walk_trees(alloc, trees, rack, vol) {
         Ok(walk) => walk,
         Err(stop) => return Err(stop),
     };
     let mut found = BTreeSet::new(alloc);
     if walk.is_sound() {
-        match put_rules(alloc, read_data, &mut found, listed, &trees, walk, rack, vol) {
+        match put_rules(alloc, read_data, &mut found, listed, trees, walk, rack, vol) {
             Ok(()) => Ok(found),
             Err(stop) => Err(stop),
         }

@@ -58,8 +58,6 @@ pub(crate) fn put_references<R: Rack>(
     let nodesize = u64::from(vol.sup.nodesize);
     match count_uses(alloc, trees, walk.places(), stored.extents(), rack, vol) {
         Err(stop) => Err(stop),
-        Ok(forward) => or_memory(put_reference_findings(
-            alloc, found, nodesize, &forward, stored,
-        )),
+        Ok(forward) => or_memory(put_reference_findings(alloc, found, nodesize, &forward, stored)),
     }
 }

@@ -45,21 +45,21 @@ returns-in-Ok-listed g c =
     let found = c.in-Ok-find_all.found in
     let all = c.in-Ok-listed.all in
     let both = ran_then (λ fs. (refusal fs ≡ None) × (trees.items ≡ listed fs.sup fs.blocks)) (λ fs. Lists c.deref.result.now fs → HasJust (all_findings c.args.read_data fs) found)
-        (λ fs. (refusal fs ≡ None) × HasJust (all_findings c.args.read_data fs) found) x y z trees (Ok found) c.in-Ok.ensures.ran c.in-Ok-find_all.ensures.ran (λ B p q. (p.0, q (c.deref.ensures.value ∙ p.1))) in
+    (λ fs. (refusal fs ≡ None) × HasJust (all_findings c.args.read_data fs) found) x y z trees (Ok found) c.in-Ok.ensures.ran c.in-Ok-find_all.ensures.ran (λ B p q. (p.0, q (c.deref.ensures.value ∙ p.1))) in
     record {
       ran = ran_value (λ fs. (refusal fs ≡ None) × HasJust (all_findings c.args.read_data fs) found) (λ fs. (refusal fs ≡ None) × (all.items ≡ findings c.args.read_data fs)) x z found all both
           (λ B h. (h.0, findings_are c.args.read_data (filesystem c.args.vol.now B) all.items (c.in-Ok-listed.ensures (all_findings c.args.read_data (filesystem c.args.vol.now B)) h.1)));
     }
 
-pub returns-in-Err-listed : goal.returns-in-Err-listed
-returns-in-Err-listed g c =
+pub returns : goal.returns
+returns g c =
     let x = world (g.R.Rack.seen c.args.rack.now) c.args.vol.now in
     let y = world (g.R.Rack.seen c.read_trees.new.rack) c.read_trees.new.vol in
     let z = world (g.R.Rack.seen c.find_all.new.rack) c.find_all.new.vol in
     let trees = c.in-Ok.trees in
     let found = c.in-Ok-find_all.found in
     let both = ran_then (λ fs. (refusal fs ≡ None) × (trees.items ≡ listed fs.sup fs.blocks)) (λ fs. Lists c.deref.result.now fs → HasJust (all_findings c.args.read_data fs) found)
-        (λ fs. (refusal fs ≡ None) × HasJust (all_findings c.args.read_data fs) found) x y z trees (Ok found) c.in-Ok.ensures.ran c.in-Ok-find_all.ensures.ran (λ B p q. (p.0, q (c.deref.ensures.value ∙ p.1))) in
+    (λ fs. (refusal fs ≡ None) × HasJust (all_findings c.args.read_data fs) found) x y z trees (Ok found) c.in-Ok.ensures.ran c.in-Ok-find_all.ensures.ran (λ B p q. (p.0, q (c.deref.ensures.value ∙ p.1))) in
     record {
       ran = ran_no_memory (λ fs. (refusal fs ≡ None) × HasJust (all_findings c.args.read_data fs) found) (λ fs. is_outside NoMemory ≡ false → refusal fs ≡ Some NoMemory) x z found both (λ B inside. outside_only (is_outside NoMemory) _ refl inside);
     }

@@ -21,8 +21,8 @@ returns-in-Err g c =
       ran = ran_stop (λ fs. Lists c.args.listed.now fs × IsRunsOf fs c.args.runs → is_outside stop ≡ true) (λ fs. Lists c.args.listed.now fs × IsRunsOf fs c.args.runs → is_outside stop ≡ true) x y stop c.in-Err.ensures.ran (λ B h. h);
     }
 
-pub returns-in-Err-sum_cover : goal.returns-in-Err-sum_cover
-returns-in-Err-sum_cover g c =
+pub returns : goal.returns
+returns g c =
     let x = world (g.R.Rack.seen c.args.rack.now) c.args.vol.now in
     let y = world (g.R.Rack.seen c.put_data_if.new.rack) c.put_data_if.new.vol in
     record {

@@ -14,8 +14,8 @@ use Rattle.btr_check.proofs.Runs.{ran_none, ran_more}
 use Rattle.btr_check.proofs.Wholes.{behind_copied}
 use Rattle.btr_check.proofs.checking.put_data_if.Goals as goal
 
-pub returns-then : goal.returns-then
-returns-then g c =
+pub returns-then-read_data : goal.returns-then-read_data
+returns-then-read_data g c =
     let x = world (g.R.Rack.seen c.args.rack.now) c.args.vol.now in
     let y = world (g.R.Rack.seen c.put_data_findings.new.rack) c.put_data_findings.new.vol in
     let a = c.args.found.now in
@@ -28,8 +28,8 @@ returns-then g c =
           (h (c.as_slice.ensures ∙ known.1) (behind_copied c.as_ref.result ∙ c.as_ref.ensures.value ∙ c.last_of-tree.ensures ∙ ap (last_of 7) known.0)));
     }
 
-pub returns-else : goal.returns-else
-returns-else g c =
+pub returns-else-read_data : goal.returns-else-read_data
+returns-else-read_data g c =
     let a = c.args.found.now in
     record {
       ran = ran_none (Puts (λ fs. Lists c.args.listed.now fs × IsRunsOf fs c.args.runs.now) (data_if c.args.read_data) a a (Ok tt)) (world (g.R.Rack.seen c.args.rack.now) c.args.vol.now) tt c.requires.ready

@@ -53,9 +53,9 @@ returns-in-Err-put_groups g c =
     let b = c.put_references.new.found in
     let known : Filesystem → Type 0 = IsWalked c.args.listed.now c.args.trees.now c.args.walk in
     let two = ran_then {C = Unit {0}} (λ fs. Lists c.args.listed.now fs → walk_findings fs ≡ [] → IsStoredOf fs stored)
-        (λ fs. AreAll c.args.trees.now fs × IsWalkOf fs c.args.trees.now c.args.walk × IsStoredOf fs stored → Adds (reference_findings fs) a b)
-        (λ fs. known fs → IsStoredOf fs stored × Adds (reference_findings fs) a b) x y z stored (Ok tt) c.in-Ok.ensures.ran c.in-Ok-put_references.ensures.ran
-        (λ B p q k. (p k.lists k.sound, q (k.all, k.walked, p k.lists k.sound))) in
+    (λ fs. AreAll c.args.trees.now fs × IsWalkOf fs c.args.trees.now c.args.walk × IsStoredOf fs stored → Adds (reference_findings fs) a b)
+    (λ fs. known fs → IsStoredOf fs stored × Adds (reference_findings fs) a b) x y z stored (Ok tt) c.in-Ok.ensures.ran c.in-Ok-put_references.ensures.ran
+    (λ B p q k. (p k.lists k.sound, q (k.all, k.walked, p k.lists k.sound))) in
     record {
       ran = ran_stop {A = Unit {0}} (λ fs. known fs → is_outside stop ≡ true) (λ fs. known fs → is_outside stop ≡ true) x w stop
           (ran_then {A = Unit {0}} {C = Unit {0}} (λ fs. known fs → IsStoredOf fs stored × Adds (reference_findings fs) a b) (λ fs. Lists c.args.listed.now fs × AreExtents extents fs → is_outside stop ≡ true) (λ fs. known fs → is_outside stop ≡ true)
@@ -63,8 +63,8 @@ returns-in-Err-put_groups g c =
           (λ B h. h);
     }
 
-pub returns-in-Ok-put_groups : goal.returns-in-Ok-put_groups
-returns-in-Ok-put_groups g c =
+pub returns : goal.returns
+returns g c =
     let x = world (g.R.Rack.seen c.args.rack.now) c.args.vol.now in
     let y = world (g.R.Rack.seen c.read_extents.new.rack) c.read_extents.new.vol in
     let z = world (g.R.Rack.seen c.put_references.new.rack) c.put_references.new.vol in
@@ -78,12 +78,12 @@ returns-in-Ok-put_groups g c =
     let four = c.put_sums.new.found in
     let known : Filesystem → Type 0 = IsWalked c.args.listed.now c.args.trees.now c.args.walk in
     let to_two = ran_then {C = Unit {0}} (λ fs. Lists c.args.listed.now fs → walk_findings fs ≡ [] → IsStoredOf fs stored)
-        (λ fs. AreAll c.args.trees.now fs × IsWalkOf fs c.args.trees.now c.args.walk × IsStoredOf fs stored → Adds (reference_findings fs) one two)
-        (λ fs. known fs → IsStoredOf fs stored × Adds (reference_findings fs) one two) x y z stored (Ok tt) c.in-Ok.ensures.ran c.in-Ok-put_references.ensures.ran
-        (λ B p q k. (p k.lists k.sound, q (k.all, k.walked, p k.lists k.sound))) in
+    (λ fs. AreAll c.args.trees.now fs × IsWalkOf fs c.args.trees.now c.args.walk × IsStoredOf fs stored → Adds (reference_findings fs) one two)
+    (λ fs. known fs → IsStoredOf fs stored × Adds (reference_findings fs) one two) x y z stored (Ok tt) c.in-Ok.ensures.ran c.in-Ok-put_references.ensures.ran
+    (λ B p q k. (p k.lists k.sound, q (k.all, k.walked, p k.lists k.sound))) in
     let to_three = ran_then {A = Unit {0}} {C = Unit {0}} (λ fs. known fs → IsStoredOf fs stored × Adds (reference_findings fs) one two) (λ fs. Lists c.args.listed.now fs × AreExtents extents fs → Adds (found_on_groups fs) two three)
-        (λ fs. known fs → IsStoredOf fs stored × Adds (reference_findings fs ++ found_on_groups fs) one three) x z w tt (Ok tt) to_two c.in-Ok-put_groups.ensures.ran
-        (λ B p q k. ((p k).0, adds_then (reference_findings (filesystem c.args.vol.now B)) (found_on_groups (filesystem c.args.vol.now B)) one two three (p k).1 (q (k.lists, c.extents-extents.ensures ∙ (p k).0.extents)))) in
+    (λ fs. known fs → IsStoredOf fs stored × Adds (reference_findings fs ++ found_on_groups fs) one three) x z w tt (Ok tt) to_two c.in-Ok-put_groups.ensures.ran
+    (λ B p q k. ((p k).0, adds_then (reference_findings (filesystem c.args.vol.now B)) (found_on_groups (filesystem c.args.vol.now B)) one two three (p k).1 (q (k.lists, c.extents-extents.ensures ∙ (p k).0.extents)))) in
     record {
       ran = ran_then {A = Unit {0}} (λ fs. known fs → IsStoredOf fs stored × Adds (reference_findings fs ++ found_on_groups fs) one three)
           (λ fs. Lists c.args.listed.now fs × AreExtents extents fs → Unless (λ runs. IsRunsOf fs runs × Adds (found_on_sums fs) three four) c.put_sums.result)

@@ -47,8 +47,8 @@ returns-in-Ok-put_devices g c =
     let four = c.put_contents.new.found in
     let rest : Filesystem → List Finding = λ fs. data_if c.args.read_data fs ++ found_on_files fs in
     let to_three = ran_then {C = Unit {0}} (λ fs. known fs → IsRunsOf fs runs × Adds (found_on_extents fs) one two) (λ fs. Lists c.args.listed.now fs → Adds (found_on_devices fs) two three)
-        (λ fs. known fs → IsRunsOf fs runs × Adds (found_on_extents fs ++ found_on_devices fs) one three) x y z runs (Ok tt) c.in-Ok.ensures.ran c.in-Ok-put_devices.ensures.ran
-        (λ B p q k. ((p k).0, adds_then (found_on_extents (filesystem c.args.vol.now B)) (found_on_devices (filesystem c.args.vol.now B)) one two three (p k).1 (q k.lists))) in
+    (λ fs. known fs → IsRunsOf fs runs × Adds (found_on_extents fs ++ found_on_devices fs) one three) x y z runs (Ok tt) c.in-Ok.ensures.ran c.in-Ok-put_devices.ensures.ran
+    (λ B p q k. ((p k).0, adds_then (found_on_extents (filesystem c.args.vol.now B)) (found_on_devices (filesystem c.args.vol.now B)) one two three (p k).1 (q k.lists))) in
     record {
       ran = ran_then {A = Unit {0}} {C = Unit {0}} (λ fs. known fs → IsRunsOf fs runs × Adds (found_on_extents fs ++ found_on_devices fs) one three) (Puts (λ fs. Lists c.args.listed.now fs × IsRunsOf fs runs) rest three four c.put_contents.result)
           (Puts known (rule_findings c.args.read_data) one four c.put_contents.result) x z w tt c.put_contents.result to_three c.put_contents.ensures.ran

@@ -43,9 +43,9 @@ returns g c =
     let two = c.in-Ok-collect.ensures.ran in
     let same = volume_then one.volume two.volume in
     let both = ran_then (λ fs. c.in-Ok.extents ≡ fold (with_mark device_extent_in) c.new.result (marks_if fs.blocks c.last_of-device_tree.result))
-        (λ fs. c.in-Ok-collect.devices ≡ fold (with_mark device_in) c.new-2.result (marks_if fs.blocks (Some c.named_root-chunk_tree.result)))
-        (λ fs. (c.in-Ok.extents ≡ fold (with_mark device_extent_in) c.new.result (marks_if fs.blocks c.last_of-device_tree.result)) × (c.in-Ok-collect.devices ≡ fold (with_mark device_in) c.new-2.result (marks_if fs.blocks (Some c.named_root-chunk_tree.result))))
-        x y z c.in-Ok.extents (Ok c.in-Ok-collect.devices) one two (λ B p q. (p, q)) in
+    (λ fs. c.in-Ok-collect.devices ≡ fold (with_mark device_in) c.new-2.result (marks_if fs.blocks (Some c.named_root-chunk_tree.result)))
+    (λ fs. (c.in-Ok.extents ≡ fold (with_mark device_extent_in) c.new.result (marks_if fs.blocks c.last_of-device_tree.result)) × (c.in-Ok-collect.devices ≡ fold (with_mark device_in) c.new-2.result (marks_if fs.blocks (Some c.named_root-chunk_tree.result))))
+    x y z c.in-Ok.extents (Ok c.in-Ok-collect.devices) one two (λ B p q. (p, q)) in
     record {
       ran = ran_put (λ fs. (c.in-Ok.extents ≡ fold (with_mark device_extent_in) c.new.result (marks_if fs.blocks c.last_of-device_tree.result)) × (c.in-Ok-collect.devices ≡ fold (with_mark device_in) c.new-2.result (marks_if fs.blocks (Some c.named_root-chunk_tree.result))))
           (Lists c.args.listed.now) (λ fs. Adds (found_on_devices fs) c.args.found.now c.put_device_findings.new.found) x z c.in-Ok-collect.devices c.put_device_findings.result c.or_memory.result both c.or_memory.ensures
