@@ -1,5 +1,5 @@
 -- Sectors that are looked up and read, one after another.
-use Rattle.std.proofs.Common.{◌≡◌, ℕ, zero, suc, ◌+◌, ◌*◌, ◌/◌, ◌%◌, ◌<◌, nat_lt, eqb, ◌≤◌, ◌^◌, Bool, true, false, ◌&&◌, List, [], ◌∷◌, ◌++◌, length, take, get_or, filter_map, flat_map, Option, Some, None, IfSome, IsSomeAnd, Result, Ok, Err, is_ok, if◌then◌else◌, refl, sym, ap, ◌∙◌, subst, arith}
+use Rattle.std.proofs.Common.{◌≡◌, ℕ, zero, suc, ◌+◌, ◌*◌, ◌/◌, ◌%◌, ◌<◌, nat_lt, eqb, ◌≤◌, ◌^◌, Bool, true, false, ◌&&◌, List, [], ◌∷◌, ◌++◌, length, take, get_or, filter_map, flat_map, Option, Some, None, IfSome, IsSomeAnd, Result, Ok, Err, is_ok, refl, sym, ap, ◌∙◌, subst, arith}
 use Rattle.std.proofs.lemmas.Bool.{ltb-true}
 use Rattle.std.proofs.lemmas.List.Elements.{filter_map-append}
 use Rattle.std.specs.List.{AllByRecursion, Contains, cons_option}
@@ -11,8 +11,7 @@ use Rattle.btr_files.specs.Content.{want_by}
 use Rattle.btr_files.specs.Sums.{sum_at}
 use Rattle.btr_items.specs.declared.sum_run.SumRun.{SumRun}
 use Rattle.btr_prog.specs.Answers.{Follows, no_part}
-use Rattle.btr_prog.specs.Prog.{Run, Return, Need, run, given, after, and_then, bind, exec}
-use Rattle.btr_prog.specs.Calls as calls
+use Rattle.btr_prog.specs.Prog.{Run, Return, Need, run, given, and_then, exec}
 use Rattle.btr_prog.specs.Calls.{Sure}
 use Rattle.btr_prog.proofs.Runs.{exec-bind, after-ok, after-err}
 use Rattle.btr_rack.specs.Rack.{Seen, OnlyReads}
@@ -21,7 +20,7 @@ use Rattle.btr_read.specs.Fate as fate
 use Rattle.btr_read.specs.Fate.{sought, passing_for, passing, or_lost, fate_of}
 use Rattle.btr_read.specs.Fetch.{FitsFetch, IsFetched}
 use Rattle.btr_read.specs.Layout.{Layout}
-use Rattle.btr_read.specs.Reading.{AgreedOn, OnMap, shown}
+use Rattle.btr_read.specs.Reading.{OnMap}
 use Rattle.btr_read.specs.Store.{Blocks, Lent, block_of}
 use Rattle.btr_read.specs.Want.{addr_of}
 use Rattle.btr_read.specs.declared.fault.ReadFault.{ReadFault}
@@ -31,7 +30,7 @@ use Rattle.btr_read.proofs.ReadsOn.{same_held}
 use Rattle.btr_volume.specs.declared.root.TreeRoot.{TreeRoot}
 use Rattle.btr_volume.specs.declared.stop.Stop.{Stop}
 use Rattle.btr_volume.specs.declared.stop.Stop.TheVariants as stops
-use Rattle.btr_walk.specs.Reading.{Map, UnreadBlock, Tells, FaultCause, tree_fault, halt_of, answer_of}
+use Rattle.btr_walk.specs.Reading.{Map, UnreadBlock, Tells, FaultCause, tree_fault, answer_of}
 use Rattle.btr_walk.specs.declared.fault.TreeFault.{TreeFault}
 use Rattle.btr_walk.specs.declared.fault.TreeFault.TheVariants.{Lost, Unread, Unmapped, Crosses, Malformed}
 use Rattle.btr_check.specs.Counting.{Unless}
@@ -41,7 +40,7 @@ use Rattle.btr_items.specs.Key.{key_fits}
 use Rattle.btr_sums.specs.Items.{runs_in}
 use Rattle.btr_walk.specs.Le.{TreeItem}
 use Rattle.std.specs.Result.{result_ok}
-use Rattle.btr_check.specs.Data.{sector_bytes, is_readable, data_lost, data_findings, sum_runs, ReadsBy, unread_stop}
+use Rattle.btr_check.specs.Data.{is_readable, data_lost, data_findings, sum_runs, ReadsBy, unread_stop}
 use Rattle.btr_check.specs.Trees.{tree_of}
 use Rattle.btr_refs.proofs.Adding.{adds_as, adds_more}
 use Rattle.btr_refs.specs.Findings.{Adds, found, unless}
@@ -52,7 +51,7 @@ use Rattle.btr_sums.specs.Sums.{sectors, run_sectors}
 use Rattle.std.proofs.lemmas.List.{take_all}
 use Rattle.std.specs.Option.{option_to_list}
 use Rattle.btr_check.specs.Filesystem.{Filesystem, kind_of_sums, tree_items}
-use Rattle.btr_check.specs.Running.{FaultUnread, StopUnread, OfReading, is_outside}
+use Rattle.btr_check.specs.Running.{StopUnread, OfReading, is_outside}
 
 abbrev Bytes : Type 0
 Bytes = Run Want fate.Fault ⊥ (List ℕ)

@@ -1,10 +1,10 @@
 -- What is collected of the extent tree, where nothing was found on the walk of all trees.
-use Rattle.std.proofs.Common.{◌≡◌, ℕ, true, List, [], Option, Some, None, Result, Ok, Err, refl, sym, ap, ◌∙◌, subst}
+use Rattle.std.proofs.Common.{◌≡◌, ℕ, List, [], Option, Some, None, Result, Ok, Err, refl, sym, ap, ◌∙◌}
 use Rattle.std.specs.List.{list_all}
 use Rattle.btr_base.specs.Key.{last_key}
 use Rattle.btr_prog.specs.Answers.{Follows, no_part}
 use Rattle.btr_prog.specs.Calls.{Sure}
-use Rattle.btr_prog.specs.Prog.{exec, steps_of}
+use Rattle.btr_prog.specs.Prog.{exec}
 use Rattle.btr_prog.proofs.Successive.{calls_as}
 use Rattle.btr_rack.specs.Rack.{Seen}
 use Rattle.btr_read.specs.Fate as fate
@@ -29,9 +29,9 @@ use Rattle.btr_check.proofs.Faultless.{OnlyLeft, fate_left, tree_sound}
 use Rattle.btr_check.proofs.Formed.{all_formed}
 use Rattle.btr_check.specs.Counting.{Unless}
 use Rattle.btr_check.specs.ExtentTree.{IsStoredOf, stop_of}
-use Rattle.btr_check.specs.Filesystem.{Filesystem, kind_of_sums, tree_items, extents}
+use Rattle.btr_check.specs.Filesystem.{Filesystem, kind_of_sums, tree_items}
 use Rattle.btr_check.specs.Running.{FaultUnread, UnreadCause, OfReading}
-use Rattle.btr_check.specs.Trees.{items_if, tree_of, listed}
+use Rattle.btr_check.specs.Trees.{items_if, tree_of}
 use Rattle.btr_check.specs.Uses.{counts_of}
 use Rattle.btr_check.specs.Walks.{walk_findings}
 

@@ -13,7 +13,7 @@ use Rattle.btr_chunk.specs.declared.position.Elements.{Elements}
 use Rattle.btr_node.specs.declared.node.Node.{Node}
 use Rattle.btr_node.specs.declared.node.Node.TheVariants.{Leaf, Inner}
 use Rattle.btr_read.specs.Candidates.{Target}
-use Rattle.btr_read.specs.Fate.{Fault, Unmapped, Crosses, Lost, Malformed, sought_at, sought_in, sought, or_lost, fate_of, fate, passing}
+use Rattle.btr_read.specs.Fate.{Fault, Unmapped, Crosses, Lost, sought_at, sought_in, sought, or_lost, fate_of, fate, passing}
 use Rattle.btr_read.specs.Layout.{Layout}
 use Rattle.btr_read.specs.Want.{addr_of, len_of}
 use Rattle.btr_read.specs.declared.want.Want.{Want}

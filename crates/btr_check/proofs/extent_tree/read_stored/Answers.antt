@@ -6,7 +6,7 @@ use Rattle.btr_refs.specs.Extents.{Kept}
 use Rattle.btr_refs.specs.declared.collect_fault.CollectFault.{CollectFault}
 use Rattle.btr_walk.proofs.Turns.{same_room}
 use Rattle.btr_walk.specs.Reading.{unread_by}
-use Rattle.btr_check.specs.ExtentTree.{ReadsStored, stop_of}
+use Rattle.btr_check.specs.ExtentTree.{ReadsStored}
 use Rattle.btr_check.specs.Running.{world, filesystem, Ran}
 use Rattle.btr_check.proofs.ExtentTrees.{drawn_left, stopped, stored_cause, stored_reading, stored_reads}
 use Rattle.btr_check.proofs.extent_tree.read_stored.Goals as goal

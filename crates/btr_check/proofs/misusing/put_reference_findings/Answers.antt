@@ -1,4 +1,4 @@
-use Rattle.std.proofs.Common.{flat_map, map, sym, ap, ◌∙◌, subst}
+use Rattle.std.proofs.Common.{flat_map, map, ◌∙◌, subst}
 use Rattle.btr_refs.proofs.Adding.{adds_as, adds_then}
 use Rattle.btr_refs.specs.Differences.{differences}
 use Rattle.btr_refs.specs.Findings.{Adds}

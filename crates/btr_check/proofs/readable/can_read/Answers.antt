@@ -1,9 +1,8 @@
-use Rattle.std.proofs.Common.{◌≡◌, Bool, true, false, is_ok, Ok, Err, Some, None, refl, sym, ◌∙◌, ap}
+use Rattle.std.proofs.Common.{◌≡◌, Bool, is_ok, Some, refl, sym, ◌∙◌, ap}
 use Rattle.btr_walk.proofs.Lending.{given_back, served_back}
 use Rattle.btr_walk.proofs.Turns.{same_room}
 use Rattle.btr_walk.specs.Reading.{tree_fault}
 use Rattle.btr_check.specs.Data.{unread_stop}
-use Rattle.btr_check.specs.Running.{filesystem}
 use Rattle.btr_check.proofs.Datas.{fetched_can, fetched_cannot, fetched_cause, stop_outside, stop_reading, stop_tells}
 use Rattle.btr_check.proofs.readable.can_read.Goals as goal
 

@@ -1,8 +1,7 @@
-use Rattle.std.proofs.Common.{◌≡◌, Bool, false, is_ok, Option, Some, None, Result, Ok, Err, sym, subst}
+use Rattle.std.proofs.Common.{◌≡◌, Bool, false, is_ok, Option, Some, None, Ok, Err, sym, subst}
 use Rattle.btr_files.specs.Sums.{tree_behind}
 use Rattle.btr_read.specs.declared.want.Want.{Want}
 use Rattle.btr_volume.specs.declared.root.TreeRoot.{TreeRoot}
-use Rattle.btr_volume.specs.declared.stop.Stop.{Stop}
 use Rattle.btr_check.specs.Counting.{Unless}
 use Rattle.btr_check.specs.Data.{is_readable, ReadsBy}
 use Rattle.btr_check.specs.Running.{world, filesystem, Ran}

@@ -1,4 +1,4 @@
-use Rattle.std.proofs.Common.{◌≡◌, ◌+◌, ◌<◌, ◌^◌, [], Option, Result, Ok, Err, flat_map, take, get_or}
+use Rattle.std.proofs.Common.{◌≡◌, ◌+◌, ◌<◌, ◌^◌, Option, Result, Ok, Err, flat_map, take, get_or}
 use Rattle.btr_files.specs.Sums.{tree_behind}
 use Rattle.btr_items.specs.declared.sum_run.SumRun.{SumRun}
 use Rattle.btr_refs.specs.Findings.{Adds}

@@ -1,4 +1,4 @@
-use Rattle.std.proofs.Common.{◌+◌, ◌<◌, ◌^◌, [], Option, Result, Ok, Err, filter_map, take, refl}
+use Rattle.std.proofs.Common.{◌+◌, ◌<◌, ◌^◌, Option, Result, Ok, Err, filter_map, take}
 use Rattle.std.specs.Option.{option_to_list}
 use Rattle.btr_files.specs.Sums.{tree_behind}
 use Rattle.btr_refs.specs.Findings.{Adds}

@@ -1,4 +1,4 @@
-use Rattle.std.proofs.Common.{◌<◌, ◌^◌, Option, Ok, filter_map, take}
+use Rattle.std.proofs.Common.{◌<◌, ◌^◌, Ok, filter_map, take}
 use Rattle.btr_files.specs.Sums.{tree_behind}
 use Rattle.btr_refs.specs.Findings.{Adds}
 use Rattle.btr_sums.specs.Ranks.{run_end}

@@ -1,9 +1,8 @@
-use Rattle.std.proofs.Common.{◌≡◌, Bool, true, Option, Result, Ok, Err, refl}
+use Rattle.std.proofs.Common.{◌≡◌, Bool, true, Option, Err, refl}
 use Rattle.std.specs.Option.{option_to_list}
 use Rattle.btr_files.specs.Sums.{tree_behind}
 use Rattle.btr_refs.specs.Findings.{Adds}
 use Rattle.btr_volume.specs.declared.root.TreeRoot.{TreeRoot}
-use Rattle.btr_volume.specs.declared.stop.Stop.{Stop}
 use Rattle.btr_volume.specs.declared.stop.Stop.TheVariants.{Memory}
 use Rattle.btr_check.specs.Counting.{Unless}
 use Rattle.btr_check.specs.Data.{is_readable, data_lost}

@@ -5,7 +5,6 @@ use Rattle.btr_prog.specs.Answers.{Follows, no_part}
 use Rattle.btr_prog.specs.Prog.{exec}
 use Rattle.btr_read.specs.declared.want.Want.{Want}
 use Rattle.btr_volume.specs.declared.root.TreeRoot.{TreeRoot}
-use Rattle.btr_volume.specs.declared.stop.Stop.{Stop}
 use Rattle.btr_walk.proofs.Joined.{drawn}
 use Rattle.btr_walk.proofs.Turns.{same_room}
 use Rattle.btr_walk.specs.Reading.{Map, unread_by, answer_of}
