@@ -1,5 +1,5 @@
 -- Extents and uses that were read.
-use Rattle.std.proofs.Common.{◌≡◌, ℕ, true, List, [], ◌++◌, map, flat_map, fold, Option, None, Some, Result, Ok, Err, OnOk, refl, sym, ap, ◌∙◌, subst}
+use Rattle.std.proofs.Common.{◌≡◌, ℕ, true, List, [], ◌++◌, map, flat_map, fold, None, Result, Ok, Err, OnOk, sym, ap, ◌∙◌}
 use Rattle.std.specs.BTreeSet.{BTreeSet}
 use Rattle.btr_base.specs.declared.memory.Memory.{Memory}
 use Rattle.btr_refs.proofs.Adding.{adds_as}

@@ -1,5 +1,5 @@
 -- Block groups and devices that were collected.
-use Rattle.std.proofs.Common.{◌≡◌, ℕ, List, [], fold, filter_map, Option, Some, refl, sym, ap, ◌∙◌}
+use Rattle.std.proofs.Common.{◌≡◌, ℕ, List, [], fold, filter_map, Option, Some, ap, ◌∙◌}
 use Rattle.std.specs.BTreeSet.{BTreeSet}
 use Rattle.btr_chunk.specs.declared.chunk.Chunk.{Chunk}
 use Rattle.btr_refs.proofs.Adding.{adds_as}

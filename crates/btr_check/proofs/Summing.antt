@@ -1,5 +1,5 @@
 -- Runs of checksums that were collected.
-use Rattle.std.proofs.Common.{◌≡◌, List, [], fold, filter_map, Option, sym, ap, ◌∙◌}
+use Rattle.std.proofs.Common.{◌≡◌, List, [], fold, Option, ap, ◌∙◌}
 use Rattle.std.specs.BTreeSet.{BTreeSet}
 use Rattle.btr_base.specs.declared.kind.SumKind.{SumKind}
 use Rattle.btr_items.specs.declared.sum_run.SumRun.{SumRun}

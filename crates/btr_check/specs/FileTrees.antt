@@ -2,13 +2,12 @@
 use Rattle.std.specs.Prelude.{◌≡◌, ℕ, List, [], ◌++◌, filter_map, flat_map}
 use Rattle.std.specs.BTreeSet.{BTreeSet}
 use Rattle.btr_items.specs.declared.sum_run.SumRun.{SumRun}
-use Rattle.btr_names.specs.Entry.{Entry}
-use Rattle.btr_names.specs.Names.{Names, names_in, no_names, names_step, names_findings}
+use Rattle.btr_names.specs.Names.{names_in, no_names, names_step, names_findings}
 use Rattle.btr_names.specs.Subvolume.{NamedSubvolume}
 use Rattle.btr_names.specs.Subvolumes.{Subvolumes, names_at}
 use Rattle.btr_refs.specs.declared.finding.Finding.{Finding}
 use Rattle.btr_refs.specs.Findings.{Adds}
-use Rattle.btr_sums.specs.Items.{UsesMet, uses_step, loose_in, used_in}
+use Rattle.btr_sums.specs.Items.{uses_step, loose_in, used_in}
 use Rattle.btr_sums.specs.Sums.{tree_missing}
 use Rattle.btr_tour.specs.Tour.{Mark}
 use Rattle.btr_volume.specs.declared.root.TreeRoot.{TreeRoot}

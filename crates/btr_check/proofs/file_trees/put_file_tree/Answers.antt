@@ -1,4 +1,4 @@
-use Rattle.std.proofs.Common.{◌≡◌, true, [], ◌∷◌, fold, Some, Ok, sym, ap, ◌∙◌}
+use Rattle.std.proofs.Common.{◌≡◌, true, [], ◌∷◌, fold, Some, sym, ap}
 use Rattle.btr_names.specs.Subvolumes.{subvolumes_at}
 use Rattle.btr_refs.specs.Findings.{Adds}
 use Rattle.btr_check.specs.Data.{sum_runs}

@@ -1,4 +1,3 @@
-use Rattle.std.proofs.Common.{◌≡◌}
 use Rattle.btr_names.specs.Names.{names_findings}
 use Rattle.btr_refs.proofs.Adding.{adds_as, adds_then}
 use Rattle.btr_sums.specs.Sums.{tree_missing}

@@ -1,4 +1,4 @@
-use Rattle.std.proofs.Common.{◌≡◌, true, Ok, Err, map, refl, sym, ap, ◌∙◌}
+use Rattle.std.proofs.Common.{◌≡◌, true, Ok, Err}
 use Rattle.btr_refs.specs.Findings.{Adds}
 use Rattle.btr_check.specs.Counting.{UsesCount}
 use Rattle.btr_check.specs.ExtentTree.{IsStoredOf}
@@ -6,7 +6,7 @@ use Rattle.btr_check.specs.Running.{world, filesystem, is_outside}
 use Rattle.btr_check.specs.Passes.{AreAll}
 use Rattle.btr_check.specs.Uses.{reference_findings}
 use Rattle.btr_check.specs.Walking.{IsWalkOf}
-use Rattle.btr_check.proofs.Passes.{on_done, ran_put}
+use Rattle.btr_check.proofs.Passes.{ran_put}
 use Rattle.btr_check.proofs.Referring.{uses_stop_here, references_put}
 use Rattle.btr_check.proofs.Runs.{ran_stop}
 use Rattle.btr_check.proofs.references.put_references.Goals as goal

@@ -1,5 +1,4 @@
-use Rattle.std.proofs.Common.{◌≡◌, [], None, Some, Ok, refl, sym, ap, ◌∙◌}
-use Rattle.btr_refs.specs.Extents.{nothing_kept}
+use Rattle.std.proofs.Common.{◌≡◌, [], sym, ap, ◌∙◌}
 use Rattle.btr_check.specs.Counting.{Unless}
 use Rattle.btr_check.specs.ExtentTree.{ReadsStored, IsStoredOf}
 use Rattle.btr_check.specs.Passes.{Lists}

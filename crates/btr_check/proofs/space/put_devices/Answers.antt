@@ -1,11 +1,10 @@
-use Rattle.std.proofs.Common.{◌≡◌, true, List, Ok, Err, Some, fold, sym, ap, ◌∙◌}
+use Rattle.std.proofs.Common.{◌≡◌, true, List, Ok, Err, Some, fold, ap, ◌∙◌}
 use Rattle.btr_read.specs.Layout.{Layout}
 use Rattle.btr_refs.specs.Findings.{Adds}
 use Rattle.btr_space.specs.Items.{with_mark, device_extent_in, device_in}
 use Rattle.btr_space.specs.declared.stated_device.StatedDevice.{StatedDevice}
 use Rattle.btr_volume.specs.Tree.{named_root}
-use Rattle.btr_check.specs.Counting.{Unless}
-use Rattle.btr_check.specs.Families.{device_extents, devices, found_on_devices}
+use Rattle.btr_check.specs.Families.{found_on_devices}
 use Rattle.btr_check.specs.Passes.{Lists, marks_if}
 use Rattle.btr_check.specs.Running.{world, filesystem, is_outside}
 use Rattle.btr_check.specs.Trees.{chunk_tree}
