@@ -1,10 +1,22 @@
 mod Adds
 pub mod Counts
+pub mod Datas
+pub mod ExtentTrees
+pub mod Faultless
+pub mod FileTrees
 pub mod Firsts
 mod Folding
+mod Formed
 mod Lists
+pub mod Misuses
+pub mod Passes
+mod Ranges
+pub mod Referring
 mod Roots
 pub mod Runs
+pub mod Spaces
+pub mod Summing
 mod Texts
 pub mod There
 mod Treading
+pub mod Wholes

@@ -1,11 +1,9 @@
 -- Calls that read a volume, one after another.
-use Rattle.std.proofs.Common.{◌≡◌, None, true, Result, Ok, Err, refl, sym, ap, ◌∙◌, subst}
-use Rattle.btr_base.specs.declared.memory.Memory.{Memory}
+use Rattle.std.proofs.Common.{◌≡◌, None, true, Result, Ok, Err, refl, ap, ◌∙◌, subst}
 use Rattle.btr_rack.specs.Rack.{Seen, OnlyReads}
 use Rattle.btr_rack.proofs.Reading.{reads_none, reads_more}
 use Rattle.btr_read.specs.Layout.{Layout}
 use Rattle.btr_tour.specs.Steps.{reason}
-use Rattle.btr_tour.specs.Visits.{OnlyUnread}
 use Rattle.btr_volume.specs.Looking.{SameVolume}
 use Rattle.btr_volume.specs.declared.stop.Stop.{Stop}
 use Rattle.btr_volume.specs.declared.stop.Stop.TheVariants.{NoTree, Tree, Deletion, Balance, Missing, Image, Sink, Out, Memory as NoMemory}

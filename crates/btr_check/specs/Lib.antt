@@ -7,4 +7,10 @@ pub mod Running
 pub mod Walking
 pub mod Counting
 pub mod Text
+pub mod ExtentTree
+pub mod Misusing
+pub mod Passes
+pub mod FileTrees
+pub mod Data
+pub mod Families
 pub mod Findings

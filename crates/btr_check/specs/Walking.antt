@@ -1,5 +1,5 @@
 -- What is kept on the way through trees, one mark after another.
-use Rattle.std.specs.Prelude.{◌≡◌, false, List, [], ◌∷◌, ◌++◌, map, fold, flat_map, Option, Some, None, Result, Ok, Err, if◌then◌else◌}
+use Rattle.std.specs.Prelude.{◌≡◌, Bool, true, false, List, [], ◌∷◌, ◌++◌, map, fold, flat_map, Option, Some, None, Result, Ok, Err, if◌then◌else◌}
 use Rattle.std.specs.BTreeSet.{insert_key}
 use Rattle.std.specs.Option.{option_to_list}
 use Rattle.std.specs.declared.alloc.Global.{Global}
@@ -66,6 +66,11 @@ pub record WalkSeen : Type 0 where
 
 abbrev pub nothing_walked : SumKind → WalkSeen
 nothing_walked kind = record { kind = kind; broken = []; overlapping = []; last = None; places = no_places }
+
+-- nothing was found
+abbrev pub is_nothing : List Finding → Bool
+is_nothing [] = true
+is_nothing (finding ∷ findings) = false
 
 -- a range of a file behind the last one
 abbrev pub behind_last : Option FileRange → Option FileRange → List Finding

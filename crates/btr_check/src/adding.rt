@@ -7,8 +7,8 @@ use btr_base::Memory;
 use btr_refs::{Finding, put_unless};
 use std::collections::BTreeSet;
 
-// Puts findings into a set.
-fn put_all(found: &mut BTreeSet<Finding>, list: &[Finding]) -> Result<(), Memory>
+/// Puts findings into a set. `Memory`: there is no memory; then nothing is said of the set.
+pub(crate) fn put_all(found: &mut BTreeSet<Finding>, list: &[Finding]) -> Result<(), Memory>
     ensures { OnOk result (Adds list.now found.old found.new) }
 {
     for finding in list {

@@ -1,17 +1,167 @@
 // A check of a filesystem.
-ghost use Rattle.std.specs.Prelude.{◌≡◌, None};
+ghost use Rattle.std.specs.Prelude.{◌≡◌, ◌++◌, None};
+ghost use Rattle.btr_refs.specs.Findings.{HasJust};
 ghost use Rattle.btr_check.specs.Before.{refusal};
-ghost use Rattle.btr_check.specs.Findings.{findings};
+ghost use Rattle.btr_check.specs.Counting.{Unless};
+ghost use Rattle.btr_check.specs.Families.{IsRunsOf, found_on_extents, found_on_files};
+ghost use Rattle.btr_check.specs.Findings.{all_findings, data_if, findings, rule_findings};
+ghost use Rattle.btr_check.specs.Passes.{IsWalked, Lists, Puts, PutsAnd};
 ghost use Rattle.btr_check.specs.Running.{world, IsReady, Answers, Ran};
 
+use crate::file_trees::put_files;
+use crate::readable::put_data_findings;
+use crate::references::{put_references, read_extents};
+use crate::refusing::last_of;
+use crate::space::{put_devices, put_groups};
+use crate::sums::{SUM_TREE, put_sums};
+use crate::walk::Walk;
+use crate::{all_trees, put_walk_findings, read_trees, walk_trees};
+use btr_base::Memory;
 use btr_rack::Rack;
-use btr_refs::Finding;
-use btr_volume::{Stop, Volume};
+use btr_refs::{Finding, listed};
+use btr_sums::{Runs, sum_cover};
+use btr_volume::{Stop, TreeRoot, Volume};
 use std::alloc::Global;
+use std::collections::BTreeSet;
 
-/// All that is wrong.
+// Puts what is wrong with extents, kinds 5 to 11, 13, 14, 24, 25, 28 and 30, and answers the runs of checksums.
+fn put_extents<R: Rack>(
+    alloc: Global,
+    found: &mut BTreeSet<Finding>,
+    listed: &[TreeRoot],
+    trees: &[TreeRoot],
+    walk: Walk,
+    rack: &mut R,
+    vol: &mut Volume,
+) -> Result<Runs, Stop>
+    requires ready { IsReady (world (R.seen rack.old) vol.old) }
+    ensures ran { Ran (PutsAnd (IsWalked listed.now trees.now walk) IsRunsOf found_on_extents found.old found.new result) (world (R.seen rack.old) vol.old) (world (R.seen rack.new) vol.new) result }
+{
+    let stored = match read_extents(alloc, listed, rack, vol) {
+        Ok(stored) => stored,
+        Err(stop) => return Err(stop),
+    };
+    let extents = stored.extents();
+    match put_references(alloc, found, trees, walk, &stored, rack, vol) {
+        Ok(()) => {}
+        Err(stop) => return Err(stop),
+    }
+    match put_groups(alloc, found, listed, extents, rack, vol) {
+        Ok(()) => {}
+        Err(stop) => return Err(stop),
+    }
+    put_sums(alloc, found, listed, extents, rack, vol)
+}
+
+// Puts what is lost of the data, where data is read.
+fn put_data_if<R: Rack>(
+    read_data: bool,
+    found: &mut BTreeSet<Finding>,
+    listed: &[TreeRoot],
+    runs: &Runs,
+    rack: &mut R,
+    vol: &mut Volume,
+) -> Result<(), Stop>
+    requires ready { IsReady (world (R.seen rack.old) vol.old) }
+    ensures ran { Ran (Puts (λ fs. Lists listed.now fs × IsRunsOf fs runs.now) (data_if read_data) found.old found.new result) (world (R.seen rack.old) vol.old) (world (R.seen rack.new) vol.new) result }
+{
+    if read_data {
+        let tree = last_of(listed, SUM_TREE);
+        put_data_findings(found, runs.as_slice(), tree.as_ref(), rack, vol)
+    } else {
+        Ok(())
+    }
+}
+
+// Puts what is wrong with data and files, kinds 12, 15 to 23, and 31 where data is read. These are the runs of checksums.
+fn put_contents<R: Rack>(
+    alloc: Global,
+    read_data: bool,
+    found: &mut BTreeSet<Finding>,
+    listed: &[TreeRoot],
+    runs: Runs,
+    rack: &mut R,
+    vol: &mut Volume,
+) -> Result<(), Stop>
+    requires ready { IsReady (world (R.seen rack.old) vol.old) }
+    ensures ran { Ran (Puts (λ fs. Lists listed.now fs × IsRunsOf fs runs) (λ fs. data_if read_data fs ++ found_on_files fs) found.old found.new result) (world (R.seen rack.old) vol.old) (world (R.seen rack.new) vol.new) result }
+{
+    match put_data_if(read_data, found, listed, &runs, rack, vol) {
+        Ok(()) => {}
+        Err(stop) => return Err(stop),
+    }
+    match sum_cover(alloc, runs.as_slice()) {
+        Ok(sums) => put_files(alloc, found, listed, &sums, rack, vol),
+        Err(Memory) => Err(Stop::Memory),
+    }
+}
+
+// Puts what is wrong with what the trees say, where nothing is wrong with the trees themselves.
+fn put_rules<R: Rack>(
+    alloc: Global,
+    read_data: bool,
+    found: &mut BTreeSet<Finding>,
+    listed: &[TreeRoot],
+    trees: &[TreeRoot],
+    walk: Walk,
+    rack: &mut R,
+    vol: &mut Volume,
+) -> Result<(), Stop>
+    requires ready { IsReady (world (R.seen rack.old) vol.old) }
+    ensures ran { Ran (Puts (IsWalked listed.now trees.now walk) (rule_findings read_data) found.old found.new result) (world (R.seen rack.old) vol.old) (world (R.seen rack.new) vol.new) result }
+{
+    let runs = match put_extents(alloc, found, listed, trees, walk, rack, vol) {
+        Ok(runs) => runs,
+        Err(stop) => return Err(stop),
+    };
+    match put_devices(alloc, found, listed, rack, vol) {
+        Ok(()) => put_contents(alloc, read_data, found, listed, runs, rack, vol),
+        Err(stop) => Err(stop),
+    }
+}
+
+// All that is wrong, as a set: with the trees themselves, and else with what they say.
+fn find_all<R: Rack>(
+    alloc: Global,
+    read_data: bool,
+    listed: &[TreeRoot],
+    rack: &mut R,
+    vol: &mut Volume,
+) -> Result<BTreeSet<Finding>, Stop>
+    requires ready { IsReady (world (R.seen rack.old) vol.old) }
+    ensures ran { Ran (λ fs. Lists listed.now fs → Unless (HasJust (all_findings read_data fs)) result) (world (R.seen rack.old) vol.old) (world (R.seen rack.new) vol.new) result }
+{
+    let all = match all_trees(alloc, &vol.sup, listed) {
+        Ok(all) => all,
+        Err(Memory) => return Err(Stop::Memory),
+    };
+    let trees = all.as_slice();
+    let walk = match walk_trees(alloc, trees, rack, vol) {
+        Ok(walk) => walk,
+        Err(stop) => return Err(stop),
+    };
+    let mut found = BTreeSet::new(alloc);
+    if walk.is_sound() {
+        match put_rules(alloc, read_data, &mut found, listed, trees, walk, rack, vol) {
+            Ok(()) => Ok(found),
+            Err(stop) => Err(stop),
+        }
+    } else {
+        match put_walk_findings(&mut found, &walk) {
+            Ok(()) => Ok(found),
+            Err(Memory) => Err(Stop::Memory),
+        }
+    }
+}
+
+/// Checks a filesystem: all that is wrong with it, each finding once and in ascending order. Four slots are free. Where something is
+/// wrong with the trees themselves, kinds 1 to 4, that is all; else come the kinds 5 to 30, and 31 where `read_data` says that each
+/// sector that has a checksum is read. The trees are read several times, and nothing is written.
+///
+/// `Tree`: a block could not be read, which is `Unread`; or the root tree itself can't be read on, as `read_trees` says, which also says when
+/// `Balance`, `Deletion` and `NoTree` come. `Memory`: there is no memory for what is kept. No other stop comes.
 pub fn check<R: Rack>(
-    _alloc: Global,
+    alloc: Global,
     read_data: bool,
     rack: &mut R,
     vol: &mut Volume,
@@ -19,5 +169,16 @@ pub fn check<R: Rack>(
     requires ready { IsReady (world (R.seen rack.old) vol.old) }
     ensures ran { Ran (λ fs. Answers (λ all. (refusal fs ≡ None) × (all.items ≡ findings read_data fs)) fs result) (world (R.seen rack.old) vol.old) (world (R.seen rack.new) vol.new) result }
 {
-    Err(Stop::Memory)
+    let trees = match read_trees(alloc, rack, vol) {
+        Ok(trees) => trees,
+        Err(stop) => return Err(stop),
+    };
+    let found = match find_all(alloc, read_data, &trees, rack, vol) {
+        Ok(found) => found,
+        Err(stop) => return Err(stop),
+    };
+    match listed(alloc, &found) {
+        Ok(all) => Ok(all),
+        Err(Memory) => Err(Stop::Memory),
+    }
 }

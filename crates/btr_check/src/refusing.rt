@@ -17,9 +17,9 @@ const FIRST_SUBVOLUME: u64 = 256;
 
 const LAST_SUBVOLUME: u64 = u64::MAX - 255;
 
-const EXTENT_TREE: u64 = 2;
+pub(crate) const EXTENT_TREE: u64 = 2;
 
-const DEVICE_TREE: u64 = 4;
+pub(crate) const DEVICE_TREE: u64 = 4;
 
 /// Whether the tree of an id is a tree of files.
 pub(crate) fn is_file_tree(id: u64) -> bool

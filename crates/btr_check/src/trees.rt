@@ -15,9 +15,9 @@ use btr_super::Super;
 use btr_volume::{Stop, TreeRoot, Volume, chunk_root, named_root, root_root};
 use std::alloc::Global;
 
-const ROOT_TREE: u64 = 1;
+pub(crate) const ROOT_TREE: u64 = 1;
 
-const CHUNK_TREE: u64 = 3;
+pub(crate) const CHUNK_TREE: u64 = 3;
 
 // The trees that the root tree lists, where nothing is wrong with it.
 fn walk_root<R: Rack>(alloc: Global, rack: &mut R, vol: &mut Volume) -> Result<Vec<TreeRoot>, Stop>
@@ -59,7 +59,7 @@ pub fn read_trees<R: Rack>(
 }
 
 // Puts a tree behind others.
-fn push_tree(trees: &mut Vec<TreeRoot>, tree: TreeRoot) -> Result<(), Memory>
+pub(crate) fn push_tree(trees: &mut Vec<TreeRoot>, tree: TreeRoot) -> Result<(), Memory>
     ensures { OnOk result (trees.new.items ≡ trees.old.items ++ tree ∷ []) }
 {
     match trees.push(tree) {

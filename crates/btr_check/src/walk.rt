@@ -1,7 +1,7 @@
 // The walk of trees.
 ghost use Rattle.std.specs.Prelude.{◌≡◌, ◌++◌, OnOk};
 ghost use Rattle.std.specs.Option.{option_map, option_to_list};
-ghost use Rattle.btr_check.specs.Walking.{behind_last, or_last};
+ghost use Rattle.btr_check.specs.Walking.{behind_last, is_nothing, or_last};
 ghost use Rattle.btr_check.specs.Walks.{fault_finding, not_apart, range_in};
 
 use crate::block_fault::BlockFault;
@@ -45,8 +45,8 @@ impl Model for Walk {
 }
 
 impl Walk {
-    ghost use Rattle.std.specs.Prelude.{◌≡◌};
-    ghost use Rattle.btr_check.specs.Walking.{nothing_walked, begun};
+    ghost use Rattle.std.specs.Prelude.{◌≡◌, ◌++◌};
+    ghost use Rattle.btr_check.specs.Walking.{nothing_walked, begun, is_nothing};
 
     /// Nothing was met yet. Checksums are of this kind.
     pub(crate) fn new(alloc: Global, kind: SumKind) -> Walk
@@ -83,12 +83,26 @@ impl Walk {
         self.overlapping.as_slice()
     }
 
+    /// Whether nothing is broken in the trees, and the extents of each file are apart.
+    pub fn is_sound(&self) -> bool
+        ensures { result ≡ is_nothing (self.now.broken ++ self.now.overlapping) }
+    {
+        is_nothing(self.broken()) && is_nothing(self.overlapping())
+    }
+
     /// Where the blocks stand that were met, in the order that they were first met in, and each once.
     pub fn places(&self) -> &[RootPlace]
         ensures { result.now ≡ self.now.places.list }
     {
         self.places.list()
     }
+}
+
+// Whether nothing was found.
+fn is_nothing(list: &[Finding]) -> bool
+    ensures { result ≡ is_nothing list.now }
+{
+    list.is_empty()
 }
 
 // The finding of what is wrong with a block.

@@ -1,7 +1,7 @@
 use Rattle.std.proofs.Common.{◌≡◌, Some, Ok, Err, fold, sym, ap, ◌∙◌, subst}
 use Rattle.btr_tour.specs.Tour.{whole}
 use Rattle.btr_check.specs.Filesystem.{kind_in}
-use Rattle.btr_check.specs.Running.{world, filesystem, StopUnread, OfReading}
+use Rattle.btr_check.specs.Running.{world, filesystem, OfReading, StopUnread}
 use Rattle.btr_check.specs.Walking.{RootEnds, root_step, nothing_seen}
 use Rattle.btr_check.proofs.Roots.{root_sound, root_broken}
 use Rattle.btr_check.proofs.Runs.{ran_value, ran_refused, fault_unread, fault_quiet}

@@ -1,0 +1,246 @@
+-- Sectors that are looked up and read, one after another.
+use Rattle.std.proofs.Common.{◌≡◌, ℕ, zero, suc, ◌+◌, ◌*◌, ◌/◌, ◌%◌, ◌<◌, nat_lt, eqb, ◌≤◌, ◌^◌, Bool, true, false, ◌&&◌, List, [], ◌∷◌, ◌++◌, length, take, get_or, filter_map, flat_map, Option, Some, None, IfSome, IsSomeAnd, Result, Ok, Err, is_ok, refl, sym, ap, ◌∙◌, subst, arith}
+use Rattle.std.proofs.lemmas.Bool.{ltb-true}
+use Rattle.std.proofs.lemmas.List.Elements.{filter_map-append}
+use Rattle.std.specs.List.{AllByRecursion, Contains, cons_option}
+use Rattle.std.specs.Prelude.{slice_get}
+use Rattle.std.specs.BTreeSet.{BTreeSet}
+use Rattle.btr_base.specs.declared.kind.SumKind.{SumKind}
+use Rattle.btr_base.specs.declared.stored.Sum.{Sum}
+use Rattle.btr_files.specs.Content.{want_by}
+use Rattle.btr_files.specs.Sums.{sum_at}
+use Rattle.btr_items.specs.declared.sum_run.SumRun.{SumRun}
+use Rattle.btr_prog.specs.Answers.{Follows, no_part}
+use Rattle.btr_prog.specs.Prog.{Run, Return, Need, run, given, and_then, exec}
+use Rattle.btr_prog.specs.Calls.{Sure}
+use Rattle.btr_prog.proofs.Runs.{exec-bind, after-ok, after-err}
+use Rattle.btr_rack.specs.Rack.{Seen, OnlyReads}
+use Rattle.btr_read.specs.Candidates.{Target}
+use Rattle.btr_read.specs.Fate as fate
+use Rattle.btr_read.specs.Fate.{sought, passing_for, passing, or_lost, fate_of}
+use Rattle.btr_read.specs.Fetch.{FitsFetch, IsFetched}
+use Rattle.btr_read.specs.Layout.{Layout}
+use Rattle.btr_read.specs.Reading.{OnMap}
+use Rattle.btr_read.specs.Store.{Blocks, Lent, block_of}
+use Rattle.btr_read.specs.Want.{addr_of}
+use Rattle.btr_read.specs.declared.fault.ReadFault.{ReadFault}
+use Rattle.btr_read.specs.declared.fault.ReadFault.TheVariants as read
+use Rattle.btr_read.specs.declared.want.Want.{Want}
+use Rattle.btr_read.proofs.ReadsOn.{same_held}
+use Rattle.btr_volume.specs.declared.root.TreeRoot.{TreeRoot}
+use Rattle.btr_volume.specs.declared.stop.Stop.{Stop}
+use Rattle.btr_volume.specs.declared.stop.Stop.TheVariants as stops
+use Rattle.btr_walk.specs.Reading.{Map, UnreadBlock, Tells, FaultCause, tree_fault, answer_of}
+use Rattle.btr_walk.specs.declared.fault.TreeFault.{TreeFault}
+use Rattle.btr_walk.specs.declared.fault.TreeFault.TheVariants.{Lost, Unread, Unmapped, Crosses, Malformed}
+use Rattle.btr_check.specs.Counting.{Unless}
+use Rattle.btr_base.specs.Sum.{sum_size}
+use Rattle.btr_items.specs.Form.{fields_if}
+use Rattle.btr_items.specs.Key.{key_fits}
+use Rattle.btr_sums.specs.Items.{runs_in}
+use Rattle.btr_walk.specs.Le.{TreeItem}
+use Rattle.std.specs.Result.{result_ok}
+use Rattle.btr_check.specs.Data.{is_readable, data_lost, data_findings, sum_runs, ReadsBy, unread_stop}
+use Rattle.btr_check.specs.Trees.{tree_of}
+use Rattle.btr_refs.proofs.Adding.{adds_as, adds_more}
+use Rattle.btr_refs.specs.Findings.{Adds, found, unless}
+use Rattle.btr_refs.specs.declared.finding.Finding.{Finding}
+use Rattle.std.proofs.lemmas.List.FromFn.{length-map-range_with_len, get_or-map-range_with_len}
+use Rattle.btr_sums.specs.Ranks.{run_end}
+use Rattle.btr_sums.specs.Sums.{sectors, run_sectors}
+use Rattle.std.proofs.lemmas.List.{take_all}
+use Rattle.std.specs.Option.{option_to_list}
+use Rattle.btr_check.specs.Filesystem.{Filesystem, kind_of_sums, tree_items}
+use Rattle.btr_check.specs.Running.{StopUnread, OfReading, is_outside}
+
+abbrev Bytes : Type 0
+Bytes = Run Want fate.Fault ⊥ (List ℕ)
+
+-- whether a block is had
+given_ok : (r : Result (List ℕ) fate.Fault) → is_ok (given {W = Want} {F = fate.Fault} {S = ⊥} r (λ bytes. run [] (Ok bytes))).ending ≡ is_ok r
+given_ok (Ok bytes) = refl
+given_ok (Err fault) = refl
+
+module _ (fs : Filesystem) (sums : Option TreeRoot) (sector : ℕ) where
+  abbrev looked : Run Want fate.Fault ⊥ (Option Sum)
+  looked = exec fs.blocks (sum_at (kind_of_sums fs) sums sector)
+
+  abbrev by_sum : Option Sum → Bytes
+  by_sum sum = exec fs.blocks (Need (want_by sector sum) Return)
+
+  is_bind : is_readable fs sums sector ≡ is_ok (and_then looked by_sum).ending
+  is_bind = ap (λ (r : Bytes). is_ok r.ending) (exec-bind fs.blocks (sum_at (kind_of_sums fs) sums sector) (λ sum. Need (want_by sector sum) Return))
+
+  -- where a look-up came to an answer, the sector is wanted by it
+  read_by : (sum : Option Sum) → looked.ending ≡ Ok sum → ReadsBy fs sums sector (Some (want_by sector sum))
+  read_by sum is = is_bind ∙ ap (λ (r : Bytes). is_ok r.ending) (after-ok looked sum by_sum is) ∙ given_ok (fs.blocks (want_by sector sum))
+
+  not_read : (fault : fate.Fault) → looked.ending ≡ Err fault → ReadsBy fs sums sector None
+  not_read fault is = is_bind ∙ ap (λ (r : Bytes). is_ok r.ending) (after-err looked fault by_sum is)
+
+  pub found_by : (Is : UnreadBlock → Want → Type 0) (sum : Option Sum) (want : Want) → want ≡ want_by sector sum → Follows Is no_part [] looked [] (answer_of (Ok sum)) → ReadsBy fs sums sector (Some want)
+  found_by Is sum want same h = subst (λ w. ReadsBy fs sums sector (Some w)) (sym same) (read_by sum h.1)
+
+  pub fault_by : (Is : UnreadBlock → Want → Type 0) (f : TreeFault) → unread_stop f ≡ None → Follows Is no_part [] looked [] (answer_of (Err f)) → ReadsBy fs sums sector None
+  fault_by Is (Lost addr) e h = not_read (fate.Lost addr) h.1
+  fault_by Is (Unread addr slot) e h = cc
+  fault_by Is (Unmapped addr) e h = not_read (fate.Unmapped addr) h.1
+  fault_by Is (Crosses addr) e h = not_read (fate.Crosses addr) h.1
+  fault_by Is (Malformed addr) e h = not_read (fate.Malformed addr) h.1
+
+-- the stop of a block that could not be read
+same_stop : (a b : Stop) → Some a ≡ Some b → a ≡ b
+same_stop a b e = cc
+
+pub stop_outside : (f : TreeFault) (stop : Stop) → unread_stop f ≡ Some stop → is_outside stop ≡ true
+stop_outside (Lost addr) stop e = cc
+stop_outside (Unread addr slot) stop e = ap is_outside (sym (same_stop (stops.Tree (Unread addr slot)) stop e))
+stop_outside (Unmapped addr) stop e = cc
+stop_outside (Crosses addr) stop e = cc
+stop_outside (Malformed addr) stop e = cc
+
+pub stop_reading : (f : TreeFault) (stop : Stop) → unread_stop f ≡ Some stop → OfReading stop
+stop_reading (Lost addr) stop e = cc
+stop_reading (Unread addr slot) stop e = subst OfReading (same_stop (stops.Tree (Unread addr slot)) stop e) tt
+stop_reading (Unmapped addr) stop e = cc
+stop_reading (Crosses addr) stop e = cc
+stop_reading (Malformed addr) stop e = cc
+
+pub stop_cause : (layout : Layout) (old new : Seen) (f : TreeFault) (stop : Stop) → unread_stop f ≡ Some stop → FaultCause layout old new f → StopUnread layout old new stop
+stop_cause layout old new (Lost addr) stop e h = cc
+stop_cause layout old new (Unread addr slot) stop e h = subst (StopUnread layout old new) (same_stop (stops.Tree (Unread addr slot)) stop e) h
+stop_cause layout old new (Unmapped addr) stop e h = cc
+stop_cause layout old new (Crosses addr) stop e h = cc
+stop_cause layout old new (Malformed addr) stop e h = cc
+
+-- what holds of the images holds of their map
+tells_images : (layout : Layout) (old new : Seen) (P : Map → Type 0) → OnlyReads old new → ((sure : Sure) → OnMap layout P sure old.held) → Tells layout old new P
+tells_images layout old new P reads h = record { calls = record { same = same_held reads; later = reads.later; content = λ sure steady. h sure } }
+
+held_as : (held : Option (List (List ℕ))) (P Q : List (List ℕ) → Type 0) → ((images : List (List ℕ)) → P images → Q images) → IfSome held P → IfSome held Q
+held_as None P Q f h = tt
+held_as (Some images) P Q f h = f images h
+
+held_all : (held : Option (List (List ℕ))) (Q : List (List ℕ) → Type 0) → ((images : List (List ℕ)) → Q images) → IfSome held Q
+held_all None Q f = tt
+held_all (Some images) Q f = f images
+
+abbrev CanRead : Want → Bool → Map → Type 0
+CanRead want can B = can ≡ is_ok (B want)
+
+-- where a candidate that stands passes, there is a first one
+none_contained : (bytes : List ℕ) → Contains [] bytes → ⊥
+none_contained bytes h = let below : h.0 < 0 = h.1 in omega (arith, below)
+
+first_passes : (xs : List (List ℕ)) (bytes : List ℕ) (addr : ℕ) → Contains xs bytes → true ≡ is_ok (or_lost addr (slice_get xs 0))
+first_passes [] bytes addr h = absurd (none_contained bytes h)
+first_passes (x ∷ xs) bytes addr h = refl
+
+some_passes : (images : List (List ℕ)) (addr : ℕ) (r : Result Target fate.Fault) (bytes : List ℕ) → Contains (passing_for images r) bytes → true ≡ is_ok (fate_of images addr r)
+some_passes images addr (Err fault) bytes h = absurd (none_contained bytes h)
+some_passes images addr (Ok t) bytes h = first_passes (passing images t) bytes addr h
+
+module _ (layout : Layout) (want : Want) (old new : Seen) (store : Blocks) (reads : OnlyReads old new) where
+  -- a want that was had comes to bytes
+  pub fetched_can : (loan : Lent) → FitsFetch layout want old new store (Ok loan) → Tells layout old new (CanRead want true)
+  fetched_can loan fits = by (block_of store loan) fits.1
+    where
+      by : (o : Option (List ℕ)) → IsSomeAnd o (IsFetched layout want old new) → Tells layout old new (CanRead want true)
+      by None h = absurd h
+      by (Some bytes) h = tells_images layout old new (CanRead want true) reads (λ sure. held_as old.held (λ images. Contains (passing_for images (sought layout want)) bytes) (λ images. true ≡ is_ok (fate.fate images layout want)) (λ images has. some_passes images (addr_of want) (sought layout want) bytes has) h.stand)
+
+  -- one that is lost, or has no position, doesn't
+  pub fetched_cannot : (f : ReadFault) → unread_stop (tree_fault f) ≡ None → FitsFetch layout want old new store (Err f) → Tells layout old new (CanRead want false)
+  fetched_cannot (read.Lost addr) e fits = tells_images layout old new (CanRead want false) reads (λ sure. held_as old.held (λ images. fate.fate images layout want ≡ Err (fate.Lost addr)) (λ images. false ≡ is_ok (fate.fate images layout want)) (λ images is. ap is_ok (sym is)) fits.2)
+  fetched_cannot (read.Unread addr slot) e fits = cc
+  fetched_cannot (read.Unmapped addr) e fits = tells_images layout old new (CanRead want false) reads (λ sure. held_all old.held (λ images. false ≡ is_ok (fate.fate images layout want)) (λ images. ap (λ r. is_ok (fate_of images (addr_of want) r)) (sym fits)))
+  fetched_cannot (read.Crosses addr) e fits = tells_images layout old new (CanRead want false) reads (λ sure. held_all old.held (λ images. false ≡ is_ok (fate.fate images layout want)) (λ images. ap (λ r. is_ok (fate_of images (addr_of want) r)) (sym fits)))
+
+  -- and its cause
+  pub fetched_cause : (f : ReadFault) (stop : Stop) → unread_stop (tree_fault f) ≡ Some stop → FitsFetch layout want old new store (Err f) → StopUnread layout old new stop
+  fetched_cause (read.Lost addr) stop e fits = cc
+  fetched_cause (read.Unread addr slot) stop e fits = stop_cause layout old new (Unread addr slot) stop e (want, fits)
+  fetched_cause (read.Unmapped addr) stop e fits = cc
+  fetched_cause (read.Crosses addr) stop e fits = cc
+
+-- what may be said of a stop that may come at any place
+pub stop_tells : {A : Type 0} (layout : Layout) (old new : Seen) (P : Map → A → Type 0) (stop : Stop) → OnlyReads old new → is_outside stop ≡ true → Tells layout old new (λ B. Unless (P B) (Err stop))
+stop_tells layout old new P stop reads outside = tells_images layout old new (λ B. is_outside stop ≡ true) reads (λ sure. held_all old.held (λ images. is_outside stop ≡ true) (λ images. outside))
+
+-- a sector is read by its want
+pub then_read : (fs : Filesystem) (sums : Option TreeRoot) (sector : ℕ) (want : Want) (r : Result Bool Stop) → ReadsBy fs sums sector (Some want) → Unless (λ can. can ≡ is_ok (fs.blocks want)) r → Unless (λ can. can ≡ is_readable fs sums sector) r
+then_read fs sums sector want (Ok can) by is = is ∙ sym by
+then_read fs sums sector want (Err stop) by is = is
+
+-- the finding on a sector
+pub sector_adds : (fs : Filesystem) (sums : Option TreeRoot) (sector : ℕ) (can : Bool) (row : Finding) (old new : BTreeSet Finding) → row ≡ found 31 (sector ∷ []) → Adds (option_to_list (unless can row)) old new → can ≡ is_readable fs sums sector → Adds (option_to_list (data_lost fs sums sector)) old new
+sector_adds fs sums sector can row old new same adds is =
+    adds_as (option_to_list (unless can row)) (option_to_list (data_lost fs sums sector)) old new (ap (λ f. option_to_list (unless can f)) same ∙ ap (λ b. option_to_list (unless b (found 31 (sector ∷ [])))) is) adds
+
+sectors_long : (start count : ℕ) → length (sectors start count) ≡ count
+sectors_long start count = length-map-range_with_len (λ i. start + i * 4096) 0 count
+
+sector_at : (start count i : ℕ) → i < count → get_or (sectors start count) i 0 ≡ start + i * 4096
+sector_at start count i below = get_or-map-range_with_len (λ i. start + i * 4096) 0 count i i 0 below (omega arith)
+
+-- the sectors of a run, one more
+pub run_more : (fs : Filesystem) (sums : Option TreeRoot) (run : SumRun) (i : ℕ) (sector : ℕ) (a b c : BTreeSet Finding) → i < run.count → sector ≡ run.start + i * 4096
+    → Adds (filter_map (data_lost fs sums) (take i (run_sectors run))) a b → Adds (option_to_list (data_lost fs sums sector)) b c → Adds (filter_map (data_lost fs sums) (take (i + 1) (run_sectors run))) a c
+run_more fs sums run i sector a b c below is before here =
+    let long : length (run_sectors run) ≡ run.count = sectors_long run.start run.count in
+    let at : get_or (run_sectors run) i 0 ≡ run.start + i * 4096 = sector_at run.start run.count i below in
+    adds_more (data_lost fs sums) (run_sectors run) i 0 a b c (omega (arith, long, below)) before
+    (adds_as (option_to_list (data_lost fs sums sector)) (option_to_list (data_lost fs sums (get_or (run_sectors run) i 0))) b c (ap (λ s. option_to_list (data_lost fs sums s)) (is ∙ sym at)) here)
+
+pub run_all : (fs : Filesystem) (sums : Option TreeRoot) (run : SumRun) (i : ℕ) (a b : BTreeSet Finding) → run.count ≤ i → Adds (filter_map (data_lost fs sums) (take i (run_sectors run))) a b → Adds (filter_map (data_lost fs sums) (run_sectors run)) a b
+run_all fs sums run i a b end h =
+    let long : length (run_sectors run) ≡ run.count = sectors_long run.start run.count in
+    adds_as (filter_map (data_lost fs sums) (take i (run_sectors run))) (filter_map (data_lost fs sums) (run_sectors run)) a b (ap (filter_map (data_lost fs sums)) (take_all i (run_sectors run) (omega (arith, long, end)))) h
+
+-- runs end below 2^64
+abbrev pub IsLow : SumRun → Type 0
+IsLow run = run_end run < 2 ^ 64
+
+abbrev pub AreLow : List SumRun → Type 0
+AreLow runs = AllByRecursion IsLow runs
+
+pub low_at : (runs : List SumRun) (i : ℕ) (d : SumRun) → i < length runs → AreLow runs → IsLow (get_or runs i d)
+low_at [] i d below all = absurd (omega arith)
+low_at (x ∷ xs) zero d below all = all.0
+low_at (x ∷ xs) (suc i) d below all = low_at xs i d (omega arith) all.1
+
+abbrev pub run_findings : Filesystem → Option TreeRoot → SumRun → List Finding
+run_findings fs sums run = filter_map (data_lost fs sums) (run_sectors run)
+
+rows_of : {X Y Z : Type 0} (rule : Y → Option Z) (make : X → List Y) (xs : List X) → flat_map (λ x. filter_map rule (make x)) xs ≡ filter_map rule (flat_map make xs)
+rows_of rule make [] = refl
+rows_of rule make (x ∷ xs) = ap (λ l. filter_map rule (make x) ++ l) (rows_of rule make xs) ∙ sym (filter_map-append rule (make x) (flat_map make xs))
+
+-- all runs of the checksum tree
+pub data_all : (fs : Filesystem) (sums : Option TreeRoot) (list : List SumRun) (i : ℕ) (a b : BTreeSet Finding) → length list ≤ i → list ≡ sum_runs fs → sums ≡ tree_of fs.sup fs.blocks 7 → Adds (flat_map (run_findings fs sums) (take i list)) a b → Adds (data_findings fs) a b
+data_all fs sums list i a b end is tree h =
+    adds_as (flat_map (run_findings fs sums) (take i list)) (data_findings fs) a b
+    (ap (flat_map (run_findings fs sums)) (take_all i list end) ∙ rows_of (data_lost fs sums) run_sectors list ∙ ap (λ l. filter_map (data_lost fs sums) (flat_map run_sectors l)) is ∙ ap (λ t. filter_map (data_lost fs t) (flat_map run_sectors (sum_runs fs))) tree) h
+
+second_true : (a b : Bool) → (a && b) ≡ true → b ≡ true
+second_true true b is = is
+second_true false b is = cc
+
+-- each run that an item has is low
+low_if : (b : Bool) (run : SumRun) (rest : List SumRun) → (b ≡ true → IsLow run) → AreLow rest → AreLow (cons_option (result_ok (fields_if b run)) rest)
+low_if true run rest low all = (low refl, all)
+low_if false run rest low all = all
+
+runs_low : (kind : SumKind) (items : List TreeItem) → AreLow (runs_in kind items)
+runs_low kind [] = tt
+runs_low kind (item ∷ items) =
+    let count = length item.body / sum_size kind in
+    let typed = eqb item.key.kind 128 in
+    let key = key_fits item.key in
+    let some = nat_lt 0 (length item.body) in
+    let whole = eqb (length item.body % sum_size kind) 0 in
+    let low = nat_lt (item.key.offset + count * 4096) (2 ^ 64) in
+    low_if (typed && key && some && whole && low) (record { start = item.key.offset; count = count }) (runs_in kind items) (λ is. ltb-true (item.key.offset + count * 4096) (2 ^ 64) (second_true (typed && key && some && whole) low is)) (runs_low kind items)
+
+pub are_low : (fs : Filesystem) (list : List SumRun) → list ≡ sum_runs fs → AreLow list
+are_low fs list is = subst AreLow (sym is) (runs_low (kind_of_sums fs) (tree_items fs 7))

@@ -1,0 +1,87 @@
+-- Trees of files, one after another.
+use Rattle.std.proofs.Common.{◌≡◌, ℕ, ◌+◌, ◌<◌, ◌≤◌, List, [], ◌∷◌, ◌++◌, length, take, get_or, filter, flat_map, fold, Result, Ok, Err, refl, sym, ap, ◌∙◌, subst, append_assoc, append-nil}
+use Rattle.std.proofs.lemmas.Grind.{flat_map-append}
+use Rattle.std.proofs.lemmas.List.{take_more, take_all}
+use Rattle.std.specs.BTreeSet.{BTreeSet}
+use Rattle.btr_base.specs.declared.memory.Memory.{Memory}
+use Rattle.btr_items.specs.declared.sum_run.SumRun.{SumRun}
+use Rattle.btr_names.specs.Names.{Names, NamesLaw, names_step}
+use Rattle.btr_names.specs.Subvolumes.{Subvolumes, subvolumes_at, subvolumes_in, subvolume_findings}
+use Rattle.btr_refs.proofs.Adding.{adds_none, adds_as, adds_then}
+use Rattle.btr_refs.specs.declared.finding.Finding.{Finding}
+use Rattle.btr_refs.specs.Findings.{Adds}
+use Rattle.btr_sums.specs.Items.{UsesMet, KeepsUses, uses_step}
+use Rattle.btr_tour.specs.Tour.{Mark, whole}
+use Rattle.btr_tour.specs.Visits.{Takes, Shows}
+use Rattle.btr_tour.specs.declared.met.Met.{Met}
+use Rattle.btr_volume.specs.declared.root.TreeRoot.{TreeRoot}
+use Rattle.btr_walk.specs.Reading.{Map}
+use Rattle.btr_check.specs.Data.{sum_runs}
+use Rattle.btr_check.specs.Families.{subvolumes, found_on_files}
+use Rattle.btr_check.specs.Filesystem.{Filesystem, file_trees, is_file_tree, root_items}
+use Rattle.btr_check.specs.FileTrees.{nothing_met, file_step, met_findings, met_in, file_tree_findings, root_entries, with_entries, Treats}
+use Rattle.btr_check.specs.Passes.{Lists}
+use Rattle.btr_check.specs.declared.file_tree.FileTree.{FileTree}
+
+-- names and uses were kept
+pub both_taken : (old : FileTree) (names : Names) (uses : UsesMet) (met : Met) (result : Result (Unit {0}) Memory) → ((mark : Mark) → Shows met mark → names ≡ names_step old.names mark) → Takes uses_step old.uses met uses result
+    → Takes file_step old met (record { names = names; uses = uses }) result
+both_taken old names uses met (Ok u) one two = λ mark shows. λ i. record { names = one mark shows i; uses = two mark shows i }
+both_taken old names uses met (Err e) one two = tt
+
+-- what a visit leaves are the names and the uses that it leaves
+file_folded : (marks : List Mark) (met : FileTree) → fold file_step met marks ≡ record { names = fold names_step met.names marks; uses = fold uses_step met.uses marks }
+file_folded [] met = refl
+file_folded (mark ∷ marks) met = file_folded marks (file_step met mark)
+
+module _ (B : Map) where
+  -- .. and these are what the tree holds
+  pub file_tree_met : NamesLaw → KeepsUses → (tree : TreeRoot) (none met : FileTree) → none ≡ nothing_met tree.id tree.dirid → met ≡ fold file_step none (whole B tree.place) → met ≡ met_in B tree
+  file_tree_met names uses tree none met empty is =
+      is ∙ ap (λ m. fold file_step m (whole B tree.place)) empty ∙ file_folded (whole B tree.place) (nothing_met tree.id tree.dirid)
+      ∙ (λ i. record { names = names tree.id tree.dirid (whole B tree.place) i; uses = uses (whole B tree.place) i })
+
+  module _ (runs : List SumRun) where
+    pub treats_none : (set : BTreeSet Finding) (names : Subvolumes) → Treats B runs [] set set names names
+    treats_none set names = record {
+      found = adds_none set;
+      entries = λ i. record { refs = names.refs; backrefs = names.backrefs; entries = sym (append-nil names.entries) i };
+    }
+
+    pub treats_one : (tree : TreeRoot) (met : FileTree) (a b : BTreeSet Finding) (names names' : Subvolumes) → met ≡ met_in B tree → Adds (met_findings runs met) a b → names' ≡ subvolumes_at names met.names.tree met.names.indexed
+        → Treats B runs (tree ∷ []) a b names names'
+    treats_one tree met a b names names' is adds at = record {
+      found = adds_as (met_findings runs met) (flat_map (file_tree_findings B runs) (tree ∷ [])) a b (ap (met_findings runs) is ∙ sym (append-nil (file_tree_findings B runs tree))) adds;
+      entries = at ∙ ap (λ (m : FileTree). subvolumes_at names m.names.tree m.names.indexed) is ∙ ap (with_entries names) (sym (append-nil (root_entries B tree)));
+    }
+
+    pub treats_then : (xs ys : List TreeRoot) (a b c : BTreeSet Finding) (m n o : Subvolumes) → Treats B runs xs a b m n → Treats B runs ys b c n o → Treats B runs (xs ++ ys) a c m o
+    treats_then xs ys a b c m n o one two =
+        let f = file_tree_findings B runs in
+        let g = root_entries B in
+        record {
+          found = adds_as (flat_map f xs ++ flat_map f ys) (flat_map f (xs ++ ys)) a c (sym (flat_map-append f xs ys)) (adds_then (flat_map f xs) (flat_map f ys) a b c one.found two.found);
+          entries = two.entries ∙ ap (λ names. with_entries names (flat_map g ys)) one.entries
+              ∙ (λ i. record { refs = m.refs; backrefs = m.backrefs; entries = append_assoc m.entries (flat_map g xs) (flat_map g ys) i })
+              ∙ ap (with_entries m) (sym (flat_map-append g xs ys));
+        }
+
+    -- the first trees of a list, one more
+    pub treats_next : (trees : List TreeRoot) (i : ℕ) (d : TreeRoot) (a b c : BTreeSet Finding) (m n o : Subvolumes) → i < length trees → Treats B runs (take i trees) a b m n → Treats B runs (get_or trees i d ∷ []) b c n o
+        → Treats B runs (take (i + 1) trees) a c m o
+    treats_next trees i d a b c m n o below before here =
+        subst (λ l. Treats B runs l a c m o) (sym (take_more trees i d below)) (treats_then (take i trees) (get_or trees i d ∷ []) a b c m n o before here)
+
+    -- and all of them
+    pub treats_all : (trees : List TreeRoot) (i : ℕ) (a b : BTreeSet Finding) (m n : Subvolumes) → length trees ≤ i → Treats B runs (take i trees) a b m n → Treats B runs trees a b m n
+    treats_all trees i a b m n long h = subst (λ l. Treats B runs l a b m n) (take_all i trees long) h
+
+-- trees of files were treated, and then the names of subvolumes
+pub files_put : (fs : Filesystem) (trees files : List TreeRoot) (a b c : BTreeSet Finding) (names names' : Subvolumes) → Lists trees fs → files ≡ filter (λ tree. is_file_tree tree.id) trees → names ≡ subvolumes_in (root_items fs) []
+    → Treats fs.blocks (sum_runs fs) files a b names names' → Adds (subvolume_findings names') b c → Adds (found_on_files fs) a c
+files_put fs trees files a b c names names' lists are begun treats adds =
+    let f = file_tree_findings fs.blocks (sum_runs fs) in
+    let all : files ≡ file_trees fs = are ∙ ap (filter (λ (tree : TreeRoot). is_file_tree tree.id)) lists in
+    let same : names' ≡ subvolumes fs = treats.entries ∙ ap (λ n. with_entries n (flat_map (root_entries fs.blocks) files)) begun ∙ ap (λ l. subvolumes_in (root_items fs) (flat_map (root_entries fs.blocks) l)) all in
+    adds_as (flat_map f files ++ subvolume_findings names') (found_on_files fs) a c (λ i. flat_map f (all i) ++ subvolume_findings (same i))
+    (adds_then (flat_map f files) (subvolume_findings names') a b c treats.found adds)

@@ -1,0 +1,33 @@
+use Rattle.std.proofs.Common.{◌≡◌, true, fold, sym, ap, ◌∙◌}
+use Rattle.std.specs.Bool.{⊤}
+use Rattle.btr_tour.specs.Tour.{whole}
+use Rattle.btr_check.specs.Passes.{marks_if}
+use Rattle.btr_check.specs.Running.{world, is_outside}
+use Rattle.btr_check.proofs.Runs.{ran_none, ran_value, ran_stop}
+use Rattle.btr_check.proofs.collecting.collect.Goals as goal
+
+pub returns-in_default : goal.returns-in_default
+returns-in_default g c =
+    let x = world (g.R.Rack.seen c.args.rack.now) c.args.vol.now in
+    record {
+      ran = ran_none (λ fs. c.args.visitor ≡ fold g.V.Visitor.step c.args.visitor (marks_if fs.blocks c.args.tree)) x c.args.visitor c.requires.ready
+          (λ B. sym (ap (λ t. fold g.V.Visitor.step c.args.visitor (marks_if B t)) c.in_default.is));
+    }
+
+pub returns-in-Ok : goal.returns-in-Ok
+returns-in-Ok g c =
+    let x = world (g.R.Rack.seen c.args.rack.now) c.args.vol.now in
+    let y = world (g.R.Rack.seen c.visit_tree.new.rack) c.visit_tree.new.vol in
+    record {
+      ran = ran_value (λ fs. c.visit_tree.new.visitor ≡ fold g.V.Visitor.step c.args.visitor (whole fs.blocks c.in-Some.tree.place)) (λ fs. c.visit_tree.new.visitor ≡ fold g.V.Visitor.step c.args.visitor (marks_if fs.blocks c.args.tree))
+          x y c.in-Ok.field-0 c.visit_tree.new.visitor c.in-Ok.ensures.ran
+          (λ B h. h ∙ sym (ap (λ t. fold g.V.Visitor.step c.args.visitor (marks_if B t)) c.in-Some.is));
+    }
+
+pub returns-in-Err : goal.returns-in-Err
+returns-in-Err g c =
+    let x = world (g.R.Rack.seen c.args.rack.now) c.args.vol.now in
+    let y = world (g.R.Rack.seen c.visit_tree.new.rack) c.visit_tree.new.vol in
+    record {
+      ran = ran_stop {A = Unit {0}} (λ fs. ⊤) (λ fs. is_outside c.in-Err.stop ≡ true) x y c.in-Err.stop c.in-Err.ensures.ran (λ B h. c.in-Err.ensures.outside);
+    }

@@ -1,0 +1,55 @@
+use Rattle.std.proofs.Common.{[], Result, Ok, Err, sym, subst}
+use Rattle.btr_prog.specs.Answers.{Follows, no_part}
+use Rattle.btr_prog.specs.Prog.{exec}
+use Rattle.btr_refs.specs.Collecting.{stored_of, collect_answer}
+use Rattle.btr_refs.specs.Extents.{Kept}
+use Rattle.btr_refs.specs.declared.collect_fault.CollectFault.{CollectFault}
+use Rattle.btr_walk.proofs.Turns.{same_room}
+use Rattle.btr_walk.specs.Reading.{unread_by}
+use Rattle.btr_check.specs.ExtentTree.{ReadsStored}
+use Rattle.btr_check.specs.Running.{world, filesystem, Ran}
+use Rattle.btr_check.proofs.ExtentTrees.{drawn_left, stopped, stored_cause, stored_reading, stored_reads}
+use Rattle.btr_check.proofs.extent_tree.read_stored.Goals as goal
+
+pub returns-in-Ok : goal.returns-in-Ok
+returns-in-Ok g c =
+    let vol = c.args.vol.now in
+    let tree = c.args.tree.now in
+    let layout = vol.store.layout in
+    let before = g.R.Rack.seen c.args.rack.now in
+    let now = g.R.Rack.seen c.collect.new.rack in
+    let r : Result Kept CollectFault = Ok c.in-Ok.stored in
+    let e = c.in-Ok.ensures in
+    record {
+      ran = record {
+        reads = e.reads;
+        volume = e.same;
+        ready = record { serves = e.serves; room = same_room vol.store c.collect.new.vol.store e.same.store c.requires.ready.room };
+        cause = tt;
+        quiet = tt;
+        told = drawn_left layout (λ B. Follows (unread_by layout before now) no_part [] (exec B (stored_of vol.sup.nodesize tree.place)) [] (collect_answer r)) (λ B. ReadsStored (filesystem vol B) tree (stopped r))
+            (λ B only h is none. stored_reads (filesystem vol B) only tree is none (unread_by layout before now) r h) e.content;
+      };
+    }
+
+pub returns-in-Err : goal.returns-in-Err
+returns-in-Err g c =
+    let vol = c.args.vol.now in
+    let tree = c.args.tree.now in
+    let layout = vol.store.layout in
+    let before = g.R.Rack.seen c.args.rack.now in
+    let now = g.R.Rack.seen c.collect.new.rack in
+    let fault = c.in-Err.fault in
+    let r : Result Kept CollectFault = Err fault in
+    let e = c.in-Err.ensures in
+    record {
+      ran = subst (λ s. Ran {A = Kept} (λ fs. ReadsStored fs tree (Err s)) (world before vol) (world now c.collect.new.vol) (Err s)) (sym c.stop_of.ensures) (record {
+        reads = e.reads;
+        volume = e.same;
+        ready = record { serves = e.serves; room = same_room vol.store c.collect.new.vol.store e.same.store c.requires.ready.room };
+        cause = stored_cause layout before now r e.cause;
+        quiet = stored_reading fault;
+        told = drawn_left layout (λ B. Follows (unread_by layout before now) no_part [] (exec B (stored_of vol.sup.nodesize tree.place)) [] (collect_answer r)) (λ B. ReadsStored (filesystem vol B) tree (stopped r))
+            (λ B only h is none. stored_reads (filesystem vol B) only tree is none (unread_by layout before now) r h) e.content;
+      });
+    }

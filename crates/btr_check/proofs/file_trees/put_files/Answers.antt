@@ -1,0 +1,63 @@
+use Rattle.std.proofs.Common.{◌≡◌, true, [], Ok, Err, refl, ◌∙◌}
+use Rattle.btr_names.specs.Subvolumes.{subvolumes_in, subvolume_findings}
+use Rattle.btr_refs.specs.Findings.{Adds}
+use Rattle.btr_volume.specs.declared.stop.Stop.TheVariants.{Memory as NoMemory}
+use Rattle.btr_check.specs.Data.{sum_runs}
+use Rattle.btr_check.specs.Families.{IsCoverOf, found_on_files}
+use Rattle.btr_check.specs.Filesystem.{root_items}
+use Rattle.btr_check.specs.FileTrees.{Treats}
+use Rattle.btr_check.specs.Passes.{Lists}
+use Rattle.btr_check.specs.Running.{world, filesystem, is_outside}
+use Rattle.btr_check.proofs.FileTrees.{files_put}
+use Rattle.btr_check.proofs.Passes.{on_done, ran_put, ran_memory}
+use Rattle.btr_check.proofs.Runs.{ran_stop, ran_then}
+use Rattle.btr_check.proofs.file_trees.put_files.Goals as goal
+
+pub returns-in-Err : goal.returns-in-Err
+returns-in-Err g c =
+    let x = world (g.R.Rack.seen c.args.rack.now) c.args.vol.now in
+    record {
+      ran = ran_memory (λ fs. Lists c.args.listed.now fs × IsCoverOf fs c.args.sums.now → is_outside NoMemory ≡ true) x c.requires.ready (λ B known. refl);
+    }
+
+pub returns-in-Err-read_subvolumes : goal.returns-in-Err-read_subvolumes
+returns-in-Err-read_subvolumes g c =
+    let x = world (g.R.Rack.seen c.args.rack.now) c.args.vol.now in
+    let y = world (g.R.Rack.seen c.read_subvolumes.new.rack) c.read_subvolumes.new.vol in
+    let stop = c.in-Err-read_subvolumes.stop in
+    record {
+      ran = ran_stop (λ fs. is_outside stop ≡ true) (λ fs. Lists c.args.listed.now fs × IsCoverOf fs c.args.sums.now → is_outside stop ≡ true) x y stop c.in-Err-read_subvolumes.ensures.ran (λ B h known. h);
+    }
+
+pub returns-in-Err-put_file_trees : goal.returns-in-Err-put_file_trees
+returns-in-Err-put_file_trees g c =
+    let x = world (g.R.Rack.seen c.args.rack.now) c.args.vol.now in
+    let y = world (g.R.Rack.seen c.read_subvolumes.new.rack) c.read_subvolumes.new.vol in
+    let z = world (g.R.Rack.seen c.put_file_trees.new.rack) c.put_file_trees.new.vol in
+    let stop = c.in-Err-put_file_trees.stop in
+    let names = c.in-Ok-read_subvolumes.subvolumes in
+    record {
+      ran = ran_then {C = Unit {0}} (λ fs. names ≡ subvolumes_in (root_items fs) []) (λ fs. IsCoverOf fs c.args.sums.now → is_outside stop ≡ true) (λ fs. Lists c.args.listed.now fs × IsCoverOf fs c.args.sums.now → is_outside stop ≡ true)
+          x y z names (Err stop) c.in-Ok-read_subvolumes.ensures.ran c.in-Err-put_file_trees.ensures.ran (λ B p q known. q known.1);
+    }
+
+pub returns : goal.returns
+returns g c =
+    let x = world (g.R.Rack.seen c.args.rack.now) c.args.vol.now in
+    let y = world (g.R.Rack.seen c.read_subvolumes.new.rack) c.read_subvolumes.new.vol in
+    let z = world (g.R.Rack.seen c.put_file_trees.new.rack) c.put_file_trees.new.vol in
+    let names = c.in-Ok-read_subvolumes.subvolumes in
+    let names' = c.put_file_trees.new.subvolumes in
+    let files = c.deref.result.now in
+    let found = c.args.found.now in
+    let found' = c.put_file_trees.new.found in
+    let both = ran_then {C = Unit {0}} (λ fs. names ≡ subvolumes_in (root_items fs) []) (λ fs. IsCoverOf fs c.args.sums.now → Treats fs.blocks (sum_runs fs) files found found' names names')
+    (λ fs. (names ≡ subvolumes_in (root_items fs) []) × (IsCoverOf fs c.args.sums.now → Treats fs.blocks (sum_runs fs) files found found' names names'))
+    x y z names (Ok tt) c.in-Ok-read_subvolumes.ensures.ran c.in-Ok-put_file_trees.ensures.ran (λ B p q. (p, q)) in
+    record {
+      ran = ran_put {A = Unit {0}} (λ fs. (names ≡ subvolumes_in (root_items fs) []) × (IsCoverOf fs c.args.sums.now → Treats fs.blocks (sum_runs fs) files found found' names names')) (λ fs. Lists c.args.listed.now fs × IsCoverOf fs c.args.sums.now)
+          (λ fs. Adds (found_on_files fs) found c.put_subvolume_findings.new.found) x z tt c.put_subvolume_findings.result c.or_memory.result both c.or_memory.ensures
+          (λ B p known. on_done (Adds (subvolume_findings names') found' c.put_subvolume_findings.new.found) (Adds (found_on_files (filesystem c.args.vol.now B)) found c.put_subvolume_findings.new.found) c.put_subvolume_findings.result
+          (files_put (filesystem c.args.vol.now B) c.args.listed.now files found found' c.put_subvolume_findings.new.found names names' known.0 (c.deref.ensures.value ∙ c.in-Ok.ensures) p.0 (p.1 known.1))
+          c.put_subvolume_findings.ensures);
+    }

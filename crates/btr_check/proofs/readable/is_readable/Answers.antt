@@ -1,0 +1,41 @@
+use Rattle.std.proofs.Common.{◌≡◌, Bool, false, is_ok, Option, Some, None, Ok, Err, sym, subst}
+use Rattle.btr_files.specs.Sums.{tree_behind}
+use Rattle.btr_read.specs.declared.want.Want.{Want}
+use Rattle.btr_volume.specs.declared.root.TreeRoot.{TreeRoot}
+use Rattle.btr_check.specs.Counting.{Unless}
+use Rattle.btr_check.specs.Data.{is_readable, ReadsBy}
+use Rattle.btr_check.specs.Running.{world, filesystem, Ran}
+use Rattle.btr_check.proofs.Datas.{then_read}
+use Rattle.btr_check.proofs.Runs.{ran_value, ran_stop, ran_then}
+use Rattle.btr_check.proofs.readable.is_readable.Goals as goal
+
+pub returns-in-Err : goal.returns-in-Err
+returns-in-Err g c =
+    let sums : Option TreeRoot = tree_behind c.args.sums in
+    record {
+      ran = ran_stop {A = Option Want} {C = Bool} (λ fs. Unless (ReadsBy fs sums c.args.sector) (Err c.in-Err.stop)) (λ fs. Unless (λ can. can ≡ is_readable fs sums c.args.sector) (Err c.in-Err.stop))
+          (world (g.R.Rack.seen c.args.rack.now) c.args.vol.now) (world (g.R.Rack.seen c.sector_want.new.rack) c.sector_want.new.vol) c.in-Err.stop c.in-Err.ensures.ran (λ B h. h);
+    }
+
+pub returns-in-Ok-None : goal.returns-in-Ok-None
+returns-in-Ok-None g c =
+    let sums : Option TreeRoot = tree_behind c.args.sums in
+    let x = world (g.R.Rack.seen c.args.rack.now) c.args.vol.now in
+    let y = world (g.R.Rack.seen c.sector_want.new.rack) c.sector_want.new.vol in
+    record {
+      ran = ran_value (λ fs. ReadsBy fs sums c.args.sector None) (λ fs. false ≡ is_readable fs sums c.args.sector) x y None false
+          (subst (λ (o : Option Want). Ran {A = Option Want} (λ fs. ReadsBy fs sums c.args.sector o) x y (Ok o)) c.in-Ok-None.field-0-is c.in-Ok-None.ensures.ran) (λ B h. sym h);
+    }
+
+pub returns-in-Ok-Some : goal.returns-in-Ok-Some
+returns-in-Ok-Some g c =
+    let sums : Option TreeRoot = tree_behind c.args.sums in
+    let want = c.in-Ok-Some.want in
+    let x = world (g.R.Rack.seen c.args.rack.now) c.args.vol.now in
+    let y = world (g.R.Rack.seen c.sector_want.new.rack) c.sector_want.new.vol in
+    record {
+      ran = ran_then (λ fs. ReadsBy fs sums c.args.sector (Some want)) (λ fs. Unless (λ can. can ≡ is_ok (fs.blocks want)) c.can_read.result) (λ fs. Unless (λ can. can ≡ is_readable fs sums c.args.sector) c.can_read.result)
+          x y (world (g.R.Rack.seen c.can_read.new.rack) c.can_read.new.vol) (Some want) c.can_read.result
+          (subst (λ (o : Option Want). Ran {A = Option Want} (λ fs. ReadsBy fs sums c.args.sector o) x y (Ok o)) c.in-Ok-Some.field-0-is c.in-Ok-Some.ensures.ran) c.can_read.ensures.ran
+          (λ B p q. then_read (filesystem c.args.vol.now B) sums c.args.sector want c.can_read.result p q);
+    }

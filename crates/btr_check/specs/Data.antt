@@ -1,0 +1,53 @@
+-- Kind 31: data that has a checksum is readable.
+use Rattle.std.specs.Prelude.{◌≡◌, ℕ, Bool, false, List, [], ◌∷◌, filter_map, is_ok, Option, Some, None}
+use Rattle.btr_base.specs.declared.kind.SumKind.{SumKind}
+use Rattle.btr_items.specs.declared.sum_run.SumRun.{SumRun}
+use Rattle.btr_prog.specs.Prog.{Return, Need, bind, exec}
+use Rattle.btr_read.specs.declared.want.Want.{Want}
+use Rattle.btr_refs.specs.declared.finding.Finding.{Finding}
+use Rattle.btr_refs.specs.Findings.{found, unless}
+use Rattle.btr_volume.specs.Lookup.{Lookup}
+use Rattle.btr_volume.specs.declared.root.TreeRoot.{TreeRoot}
+use Rattle.btr_volume.specs.declared.stop.Stop.{Stop}
+use Rattle.btr_volume.specs.declared.stop.Stop.TheVariants as stops
+use Rattle.btr_walk.specs.declared.fault.TreeFault.{TreeFault}
+use Rattle.btr_walk.specs.declared.fault.TreeFault.TheVariants.{Lost, Unread, Unmapped, Crosses, Malformed}
+use Rattle.btr_files.specs.Content.{want_by}
+use Rattle.btr_files.specs.Sums.{sum_at}
+use Rattle.btr_sums.specs.Items.{runs_in}
+use Rattle.btr_sums.specs.Sums.{summed}
+use Rattle.btr_check.specs.Filesystem.{Filesystem, kind_of_sums, tree_items}
+use Rattle.btr_check.specs.Trees.{tree_of}
+
+-- the bytes of a sector: its checksum is looked up, and then it is wanted by that, or without a test where there is none
+abbrev pub sector_bytes : SumKind → Option TreeRoot → ℕ → Lookup (List ℕ)
+sector_bytes kind sums sector = bind (sum_at kind sums sector) (λ sum. Need (want_by sector sum) Return)
+
+module _ (fs : Filesystem) where
+  -- a sector comes to bytes
+  abbrev pub is_readable : Option TreeRoot → ℕ → Bool
+  is_readable sums sector = is_ok (exec fs.blocks (sector_bytes (kind_of_sums fs) sums sector)).ending
+
+  -- 31: a sector that has a checksum is readable
+  abbrev pub data_lost : Option TreeRoot → ℕ → Option Finding
+  data_lost sums sector = unless (is_readable sums sector) (found 31 (sector ∷ []))
+
+  -- the runs of checksums in the checksum tree
+  abbrev pub sum_runs : List SumRun
+  sum_runs = runs_in (kind_of_sums fs) (tree_items fs 7)
+
+  abbrev pub data_findings : List Finding
+  data_findings = filter_map (data_lost (tree_of fs.sup fs.blocks 7)) (summed sum_runs)
+
+  -- a sector is readable exactly where this want comes to bytes; it isn't, where there is none
+  abbrev pub ReadsBy : Option TreeRoot → ℕ → Option Want → Type 0
+  ReadsBy sums sector None = is_readable sums sector ≡ false
+  ReadsBy sums sector (Some want) = is_readable sums sector ≡ is_ok (fs.blocks want)
+
+-- the stop of a block that could not be read; other faults are none
+abbrev pub unread_stop : TreeFault → Option Stop
+unread_stop (Lost addr) = None
+unread_stop (Unread addr slot) = Some (stops.Tree (Unread addr slot))
+unread_stop (Unmapped addr) = None
+unread_stop (Crosses addr) = None
+unread_stop (Malformed addr) = None

@@ -1,0 +1,147 @@
+// What is wrong with trees of files.
+ghost use Rattle.std.specs.Prelude.{◌≡◌, ◌++◌, List, ◌∷◌, [], OnOk, IfOk, filter, map};
+ghost use Rattle.std.specs.List.Sorted.{IsPermutation};
+ghost use Rattle.btr_items.specs.declared.sum_run.SumRun.{SumRun};
+ghost use Rattle.btr_names.specs.Subvolumes.{subvolumes_in};
+ghost use Rattle.btr_names.specs.Subvolumes as names;
+ghost use Rattle.btr_refs.specs.Findings.{Adds};
+ghost use Rattle.btr_sums.specs.Sums.{run_stretch};
+ghost use Rattle.btr_check.specs.Counting.{Unless};
+ghost use Rattle.btr_check.specs.Filesystem.{is_file_tree, root_items};
+ghost use Rattle.btr_check.specs.Data.{sum_runs};
+ghost use Rattle.btr_check.specs.Families.{IsCoverOf, found_on_files};
+ghost use Rattle.btr_check.specs.FileTrees.{met_findings, Treats};
+ghost use Rattle.btr_check.specs.Passes.{Lists, Puts};
+ghost use Rattle.btr_check.specs.Running.{world, IsReady, Ran};
+
+use crate::collecting::{collect, or_memory};
+use crate::file_tree::FileTree;
+use crate::refusing::is_file_tree;
+use crate::trees::{ROOT_TREE, push_tree};
+use btr_base::Memory;
+use btr_names::{
+    SubvolumeNames, names_law, put_name_findings, put_subvolume_findings, subvolumes_law,
+};
+use btr_rack::Rack;
+use btr_refs::Finding;
+use btr_space::Cover;
+use btr_sums::{keeps_law, put_missing_sums};
+use btr_volume::{Stop, TreeRoot, Volume, named_root, root_root};
+use std::alloc::Global;
+use std::collections::BTreeSet;
+
+// The trees of files among some trees.
+fn file_trees(alloc: Global, trees: &[TreeRoot]) -> Result<Vec<TreeRoot>, Memory>
+    ensures { IfOk result (λ files. files.items ≡ filter (λ tree. is_file_tree tree.id) trees.now) }
+{
+    let mut files = Vec::new(alloc);
+    for tree in trees {
+        if is_file_tree(tree.id) {
+            push_tree(&mut files, *tree)?;
+        }
+    }
+    Ok(files)
+}
+
+// Puts what is wrong with what was met of a tree of files, and keeps its names of subvolumes.
+fn put_met(
+    alloc: Global,
+    found: &mut BTreeSet<Finding>,
+    subvolumes: &mut SubvolumeNames,
+    tree: u64,
+    met: &FileTree,
+    sums: &Cover,
+) -> Result<(), Memory>
+    ensures found { (runs : List SumRun) → IsPermutation (map run_stretch runs) sums.now → tree ≡ met.now.names.tree → OnOk result (Adds (met_findings runs met.now) found.old found.new) }
+    ensures entries { OnOk result (subvolumes.new ≡ names.subvolumes_at subvolumes.old met.now.names.tree met.now.names.indexed) }
+{
+    put_missing_sums(alloc, found, tree, met.uses.loose(), met.uses.used(), sums)?;
+    put_name_findings(alloc, found, &met.names)?;
+    subvolumes.take_entries(&met.names)
+}
+
+// Visits a tree of files, puts what is wrong with it, and keeps its names of subvolumes.
+fn put_file_tree<R: Rack>(
+    alloc: Global,
+    found: &mut BTreeSet<Finding>,
+    subvolumes: &mut SubvolumeNames,
+    tree: &TreeRoot,
+    sums: &Cover,
+    rack: &mut R,
+    vol: &mut Volume,
+) -> Result<(), Stop>
+    requires ready { IsReady (world (R.seen rack.old) vol.old) }
+    ensures ran { Ran (λ fs. IsCoverOf fs sums.now → Unless (λ u. Treats fs.blocks (sum_runs fs) (tree.now ∷ []) found.old found.new subvolumes.old subvolumes.new) result) (world (R.seen rack.old) vol.old) (world (R.seen rack.new) vol.new) result }
+{
+    names_law();
+    keeps_law();
+    match collect(Some(*tree), FileTree::new(alloc, tree), rack, vol) {
+        Err(stop) => Err(stop),
+        Ok(met) => or_memory(put_met(alloc, found, subvolumes, tree.id, &met, sums)),
+    }
+}
+
+// The same for some trees, one after another.
+fn put_file_trees<R: Rack>(
+    alloc: Global,
+    found: &mut BTreeSet<Finding>,
+    subvolumes: &mut SubvolumeNames,
+    files: &[TreeRoot],
+    sums: &Cover,
+    rack: &mut R,
+    vol: &mut Volume,
+) -> Result<(), Stop>
+    requires ready { IsReady (world (R.seen rack.old) vol.old) }
+    ensures ran { Ran (λ fs. IsCoverOf fs sums.now → Unless (λ u. Treats fs.blocks (sum_runs fs) files.now found.old found.new subvolumes.old subvolumes.new) result) (world (R.seen rack.old) vol.old) (world (R.seen rack.new) vol.new) result }
+{
+    for tree in files {
+        match put_file_tree(alloc, found, subvolumes, tree, sums, rack, vol) {
+            Ok(()) => {}
+            Err(stop) => return Err(stop),
+        }
+    }
+    Ok(())
+}
+
+// The names of subvolumes in the root tree.
+fn read_subvolumes<R: Rack>(
+    alloc: Global,
+    rack: &mut R,
+    vol: &mut Volume,
+) -> Result<SubvolumeNames, Stop>
+    requires ready { IsReady (world (R.seen rack.old) vol.old) }
+    ensures ran { Ran (λ fs. Unless (λ met. met ≡ subvolumes_in (root_items fs) []) result) (world (R.seen rack.old) vol.old) (world (R.seen rack.new) vol.new) result }
+{
+    subvolumes_law();
+    let tree = named_root(ROOT_TREE, root_root(&vol.sup));
+    collect(Some(tree), SubvolumeNames::new(alloc), rack, vol)
+}
+
+/// Puts what is wrong with the trees of files among those that are listed, kinds 12 and 15 to 23: each is visited once, and the root
+/// tree for the names of subvolumes. The addresses that have checksums are `sums`.
+///
+/// `Tree`: a block could not be read, which is `Unread`. `Memory`: there is no memory for what is kept.
+pub(crate) fn put_files<R: Rack>(
+    alloc: Global,
+    found: &mut BTreeSet<Finding>,
+    listed: &[TreeRoot],
+    sums: &Cover,
+    rack: &mut R,
+    vol: &mut Volume,
+) -> Result<(), Stop>
+    requires ready { IsReady (world (R.seen rack.old) vol.old) }
+    ensures ran { Ran (Puts (λ fs. Lists listed.now fs × IsCoverOf fs sums.now) found_on_files found.old found.new result) (world (R.seen rack.old) vol.old) (world (R.seen rack.new) vol.new) result }
+{
+    let files = match file_trees(alloc, listed) {
+        Ok(files) => files,
+        Err(Memory) => return Err(Stop::Memory),
+    };
+    let mut subvolumes = match read_subvolumes(alloc, rack, vol) {
+        Ok(subvolumes) => subvolumes,
+        Err(stop) => return Err(stop),
+    };
+    match put_file_trees(alloc, found, &mut subvolumes, &files, sums, rack, vol) {
+        Err(stop) => Err(stop),
+        Ok(()) => or_memory(put_subvolume_findings(alloc, found, &subvolumes)),
+    }
+}

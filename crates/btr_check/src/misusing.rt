@@ -1,0 +1,195 @@
+// Findings on references: where those that are counted and stored differ, and extents that are others than what uses them.
+ghost use Rattle.std.specs.Prelude.{◌≡◌, ◌==◌, ◌&&◌, ◌||◌, ◌∷◌, [], Bool, List, fold, flat_map, OnOk};
+ghost use Rattle.std.specs.List.{list_any};
+ghost use Rattle.btr_refs.specs.declared.finding.Finding.{Finding as Row};
+ghost use Rattle.btr_refs.specs.declared.uses.BlockUse.{BlockUse as UsedBlock};
+ghost use Rattle.btr_refs.specs.declared.uses.DataUse.{DataUse as UsedData};
+ghost use Rattle.btr_refs.specs.Findings.{Adds, has};
+ghost use Rattle.btr_refs.specs.Forward.{TreeBlock, Data, Use, no_uses, with_use};
+ghost use Rattle.btr_check.specs.Misusing.{is_by_block, is_by_data, found_by};
+ghost use Rattle.btr_check.specs.Uses.{extent_findings, misused};
+
+use crate::adding::put_all;
+use btr_base::Memory;
+use btr_items::ExtentItem;
+use btr_refs::{BlockUse, DataUse, Extent, Finding, Forward, Stored, differences, put_unless};
+use std::alloc::Global;
+use std::collections::BTreeSet;
+use std::collections::btree_set::Range;
+
+// A finding on an extent: what it states, and what uses it as.
+fn row(kind: u8, extent: &Extent, stated: u64, found: u64) -> Finding
+    ensures { result ≡ record { kind = kind; n = extent.now.addr ∷ stated ∷ found ∷ 0 ∷ 0 ∷ 0 ∷ 0 ∷ [] } }
+{
+    Finding {
+        kind,
+        n: [extent.addr, stated, found, 0, 0, 0, 0],
+    }
+}
+
+// What is wrong with an extent that is used as a tree block of a level.
+fn put_block_use(
+    found: &mut BTreeSet<Finding>,
+    nodesize: u64,
+    extent: &Extent,
+    level: u8,
+) -> Result<(), Memory>
+    ensures { OnOk result (Adds (misused nodesize extent.now (TreeBlock level)) found.old found.new) }
+{
+    let is_block = extent.flags & ExtentItem::TREE_BLOCK != 0;
+    put_unless(found, is_block, row(9, extent, extent.flags, 0))?;
+    let is_node = extent.len == nodesize;
+    put_unless(found, is_node, row(10, extent, extent.len, nodesize))?;
+    match extent.level {
+        None => Ok(()),
+        Some(stated) => {
+            let finding = row(11, extent, u64::from(stated), u64::from(level));
+            put_unless(found, stated == level, finding)
+        }
+    }
+}
+
+// What is wrong with an extent that is used as data of a length.
+fn put_data_use(
+    found: &mut BTreeSet<Finding>,
+    nodesize: u64,
+    extent: &Extent,
+    len: u64,
+) -> Result<(), Memory>
+    ensures { OnOk result (Adds (misused nodesize extent.now (Data len)) found.old found.new) }
+{
+    let is_data = extent.flags & ExtentItem::TREE_BLOCK == 0;
+    put_unless(found, is_data, row(9, extent, extent.flags, 0))?;
+    put_unless(found, extent.len == len, row(10, extent, extent.len, len))
+}
+
+// The uses as tree blocks of the extent at an address, and maybe others.
+fn blocks_at(blocks: &BTreeSet<BlockUse>, addr: u64) -> Range<'_, BlockUse>
+    ensures { (p : UsedBlock → Bool) → list_any (λ block. (block.addr == addr) && p block) result ≡ list_any (λ block. (block.addr == addr) && p block) blocks.now.keys }
+{
+    let first = BlockUse { addr, level: 0 };
+    match addr.checked_add(1) {
+        Some(addr) => blocks.range(first..BlockUse { addr, level: 0 }),
+        None => blocks.range(first..),
+    }
+}
+
+// The uses as data of the extent at an address, and maybe others.
+fn data_at(extents: &BTreeSet<DataUse>, addr: u64) -> Range<'_, DataUse>
+    ensures { (p : UsedData → Bool) → list_any (λ one. (one.addr == addr) && p one) result ≡ list_any (λ one. (one.addr == addr) && p one) extents.now.keys }
+{
+    let first = DataUse { addr, len: 0 };
+    match addr.checked_add(1) {
+        Some(addr) => extents.range(first..DataUse { addr, len: 0 }),
+        None => extents.range(first..),
+    }
+}
+
+// What is wrong with an extent by a use as a tree block, where it is one of this extent.
+fn put_block(
+    found: &mut BTreeSet<Finding>,
+    nodesize: u64,
+    extent: &Extent,
+    block: &BlockUse,
+) -> Result<(), Memory>
+    ensures { OnOk result ((one : Row) → has found.new one ≡ (is_by_block nodesize extent.now one block.now || has found.old one)) }
+{
+    if block.addr == extent.addr {
+        put_block_use(found, nodesize, extent, block.level)
+    } else {
+        Ok(())
+    }
+}
+
+// The same by some uses.
+fn put_blocks(
+    found: &mut BTreeSet<Finding>,
+    nodesize: u64,
+    extent: &Extent,
+    blocks: Range<'_, BlockUse>,
+) -> Result<(), Memory>
+    ensures { OnOk result ((one : Row) → has found.new one ≡ (list_any (is_by_block nodesize extent.now one) blocks.entry || has found.old one)) }
+{
+    for block in blocks {
+        put_block(found, nodesize, extent, block)?;
+    }
+    Ok(())
+}
+
+// What is wrong with an extent by a use as data, where it is one of this extent.
+fn put_data(
+    found: &mut BTreeSet<Finding>,
+    nodesize: u64,
+    extent: &Extent,
+    data_use: &DataUse,
+) -> Result<(), Memory>
+    ensures { OnOk result ((one : Row) → has found.new one ≡ (is_by_data nodesize extent.now one data_use.now || has found.old one)) }
+{
+    if data_use.addr == extent.addr {
+        put_data_use(found, nodesize, extent, data_use.len)
+    } else {
+        Ok(())
+    }
+}
+
+// The same by some uses.
+fn put_datas(
+    found: &mut BTreeSet<Finding>,
+    nodesize: u64,
+    extent: &Extent,
+    uses: Range<'_, DataUse>,
+) -> Result<(), Memory>
+    ensures { OnOk result ((one : Row) → has found.new one ≡ (list_any (is_by_data nodesize extent.now one) uses.entry || has found.old one)) }
+{
+    for data_use in uses {
+        put_data(found, nodesize, extent, data_use)?;
+    }
+    Ok(())
+}
+
+// What is wrong with an extent, by all that uses it.
+fn put_misused(
+    found: &mut BTreeSet<Finding>,
+    nodesize: u64,
+    extent: &Extent,
+    forward: &Forward,
+) -> Result<(), Memory>
+    ensures { (uses : List Use) → forward.now ≡ fold with_use no_uses uses → OnOk result (Adds (extent_findings nodesize uses extent.now) found.old found.new) }
+{
+    let blocks = blocks_at(forward.tree_blocks(), extent.addr);
+    put_blocks(found, nodesize, extent, blocks)?;
+    let uses = data_at(forward.data_extents(), extent.addr);
+    put_datas(found, nodesize, extent, uses)
+}
+
+// What is wrong with extents, by all that uses them.
+fn put_all_misused(
+    found: &mut BTreeSet<Finding>,
+    nodesize: u64,
+    extents: &[Extent],
+    forward: &Forward,
+) -> Result<(), Memory>
+    ensures { (uses : List Use) → forward.now ≡ fold with_use no_uses uses → OnOk result (Adds (flat_map (extent_findings nodesize uses) extents.now) found.old found.new) }
+{
+    for extent in extents {
+        put_misused(found, nodesize, extent, forward)?;
+    }
+    Ok(())
+}
+
+/// Puts the findings on references into a set, kinds 7 to 11, by the uses that were counted and by what the extent tree stores: references that are
+/// counted and stored differently, and extents that are others than what uses them. A node has `nodesize` bytes. `Memory`: there is no
+/// memory; then nothing is said of the set.
+pub(crate) fn put_reference_findings(
+    alloc: Global,
+    found: &mut BTreeSet<Finding>,
+    nodesize: u64,
+    forward: &Forward,
+    stored: &Stored,
+) -> Result<(), Memory>
+    ensures { (uses : List Use) → forward.now ≡ fold with_use no_uses uses → OnOk result (Adds (found_by nodesize uses stored.now.extents stored.now.refs) found.old found.new) }
+{
+    let list = differences(alloc, forward, stored)?;
+    put_all(found, &list)?;
+    put_all_misused(found, nodesize, stored.extents(), forward)
+}
