@@ -5,6 +5,7 @@ ghost use Rattle.btr_rack.specs.Sink.{NotStarted};
 mod checking;
 mod dumping;
 mod hostile;
+mod kinds;
 mod opening;
 mod restoring;
 mod sinking;
