@@ -9,6 +9,8 @@ use Rattle.btr_base.specs.declared.kind.SumKind.{SumKind}
 use Rattle.btr_base.specs.declared.stored.Sum.{Sum}
 use Rattle.btr_files.specs.Content.{want_by}
 use Rattle.btr_files.specs.Sums.{sum_at}
+use Rattle.btr_files.specs.Aheads.{kept_sum, IsSummed}
+use Rattle.btr_files.specs.declared.sums_ahead.SumsAhead.{SumsAhead}
 use Rattle.btr_items.specs.declared.sum_run.SumRun.{SumRun}
 use Rattle.btr_prog.specs.Answers.{Follows, no_part}
 use Rattle.btr_prog.specs.Prog.{Run, Return, Need, run, given, and_then, exec}
@@ -78,6 +80,10 @@ module _ (fs : Filesystem) (sums : Option TreeRoot) (sector : ℕ) where
   not_read : (fault : fate.Fault) → looked.ending ≡ Err fault → ReadsBy fs sums sector None
   not_read fault is = is_bind ∙ ap (λ (r : Bytes). is_ok r.ending) (after-err looked fault by_sum is)
 
+  -- and so it is by a checksum that is kept
+  pub kept_by : (ahead : SumsAhead) (sum : Sum) → ahead.kind ≡ kind_of_sums fs → kept_sum ahead sector ≡ Some sum → IsSummed fs.blocks sums ahead → ReadsBy fs sums sector (Some (want_by sector (Some sum)))
+  kept_by ahead sum same kept summed = read_by (Some sum) (subst (λ (k : SumKind). (exec fs.blocks (sum_at k sums sector)).ending ≡ Ok (Some sum)) same (summed sector sum kept))
+
   pub found_by : (Is : UnreadBlock → Want → Type 0) (sum : Option Sum) (want : Want) → want ≡ want_by sector sum → Follows Is no_part [] looked [] (answer_of (Ok sum)) → ReadsBy fs sums sector (Some want)
   found_by Is sum want same h = subst (λ w. ReadsBy fs sums sector (Some w)) (sym same) (read_by sum h.1)
 
@@ -87,6 +93,13 @@ module _ (fs : Filesystem) (sums : Option TreeRoot) (sector : ℕ) where
   fault_by Is (Unmapped addr) e h = not_read (fate.Unmapped addr) h.1
   fault_by Is (Crosses addr) e h = not_read (fate.Crosses addr) h.1
   fault_by Is (Malformed addr) e h = not_read (fate.Malformed addr) h.1
+
+not_kept : (sum : Sum) (o : Option Sum) (P : Type 0) → o ≡ None → o ≡ Some sum → P
+not_kept sum o P none some = cc
+
+-- where none are kept
+pub none_kept : (B : Map) (sums : Option TreeRoot) (ahead : SumsAhead) → ((addr : ℕ) → kept_sum ahead addr ≡ None) → IsSummed B sums ahead
+none_kept B sums ahead none = λ other sum kept. not_kept sum (kept_sum ahead other) _ (none other) kept
 
 -- the stop of a block that could not be read
 same_stop : (a b : Stop) → Some a ≡ Some b → a ≡ b

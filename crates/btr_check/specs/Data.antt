@@ -12,8 +12,10 @@ use Rattle.btr_volume.specs.declared.stop.Stop.{Stop}
 use Rattle.btr_volume.specs.declared.stop.Stop.TheVariants as stops
 use Rattle.btr_walk.specs.declared.fault.TreeFault.{TreeFault}
 use Rattle.btr_walk.specs.declared.fault.TreeFault.TheVariants.{Lost, Unread, Unmapped, Crosses, Malformed}
+use Rattle.btr_files.specs.Aheads.{IsSummed}
 use Rattle.btr_files.specs.Content.{want_by}
 use Rattle.btr_files.specs.Sums.{sum_at}
+use Rattle.btr_files.specs.declared.sums_ahead.SumsAhead.{SumsAhead}
 use Rattle.btr_sums.specs.Items.{runs_in}
 use Rattle.btr_sums.specs.Sums.{summed}
 use Rattle.btr_check.specs.Filesystem.{Filesystem, kind_of_sums, tree_items}
@@ -43,6 +45,10 @@ module _ (fs : Filesystem) where
   abbrev pub ReadsBy : Option TreeRoot → ℕ → Option Want → Type 0
   ReadsBy sums sector None = is_readable sums sector ≡ false
   ReadsBy sums sector (Some want) = is_readable sums sector ≡ is_ok (fs.blocks want)
+
+  -- where the checksums that were kept are what look-ups give, those that are kept now are so too, and this holds
+  abbrev pub KeepsSums : Option TreeRoot → SumsAhead → SumsAhead → Type 0 → Type 0
+  KeepsSums sums old new P = IsSummed fs.blocks sums old → IsSummed fs.blocks sums new × P
 
 -- the stop of a block that could not be read; other faults are none
 abbrev pub unread_stop : TreeFault → Option Stop

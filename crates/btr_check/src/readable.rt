@@ -8,12 +8,13 @@ ghost use Rattle.btr_refs.specs.Findings as rows;
 ghost use Rattle.btr_sums.specs.Ranks.{run_end};
 ghost use Rattle.btr_sums.specs.Sums.{run_sectors};
 ghost use Rattle.btr_check.specs.Counting.{Unless};
-ghost use Rattle.btr_check.specs.Data.{data_findings, data_lost, is_readable, sum_runs, unread_stop, ReadsBy};
+ghost use Rattle.btr_check.specs.Data.{data_findings, data_lost, is_readable, sum_runs, unread_stop, KeepsSums, ReadsBy};
 ghost use Rattle.btr_check.specs.Running.{world, IsReady, Ran};
 ghost use Rattle.btr_check.specs.Trees.{tree_of};
 
+use crate::form::kind_of;
 use btr_base::{Memory, Sum};
-use btr_files::sum_of;
+use btr_files::{SumsAhead, sum_ahead};
 use btr_items::SumRun;
 use btr_rack::Rack;
 use btr_read::{Want, fetch};
@@ -45,17 +46,22 @@ fn want_by(addr: u64, sum: Option<Sum>) -> Want
     }
 }
 
-// The want of a sector by the checksum that is looked up; none where the checksum tree has a fault there.
+// The want of a sector by the checksum that is looked up, or that is kept of the look-up before; none where the checksum tree has a
+// fault there.
 fn sector_want<R: Rack>(
     sector: u64,
     sums: Option<&TreeRoot>,
+    ahead: &mut SumsAhead,
     rack: &mut R,
     vol: &mut Volume,
 ) -> Result<Option<Want>, Stop>
     requires ready { IsReady (world (R.seen rack.old) vol.old) }
-    ensures ran { Ran (λ fs. Unless (ReadsBy fs (tree_behind sums.entry) sector) result) (world (R.seen rack.old) vol.old) (world (R.seen rack.new) vol.new) result }
+    ensures ran { Ran (λ fs. KeepsSums fs (tree_behind sums.entry) ahead.old ahead.new (Unless (ReadsBy fs (tree_behind sums.entry) sector) result)) (world (R.seen rack.old) vol.old) (world (R.seen rack.new) vol.new) result }
 {
-    match sum_of(sums, sector, rack, vol) {
+    if let Some(sum) = ahead.get(kind_of(&vol.sup), sector) {
+        return Ok(Some(Want::Sector { addr: sector, sum }));
+    }
+    match sum_ahead(sums, sector, ahead, rack, vol) {
         Ok(sum) => Ok(Some(want_by(sector, sum))),
         Err(fault) => match unread_stop(fault) {
             None => Ok(None),
@@ -85,13 +91,14 @@ fn can_read<R: Rack>(want: &Want, rack: &mut R, vol: &mut Volume) -> Result<bool
 fn is_readable<R: Rack>(
     sector: u64,
     sums: Option<&TreeRoot>,
+    ahead: &mut SumsAhead,
     rack: &mut R,
     vol: &mut Volume,
 ) -> Result<bool, Stop>
     requires ready { IsReady (world (R.seen rack.old) vol.old) }
-    ensures ran { Ran (λ fs. Unless (λ can. can ≡ is_readable fs (tree_behind sums.entry) sector) result) (world (R.seen rack.old) vol.old) (world (R.seen rack.new) vol.new) result }
+    ensures ran { Ran (λ fs. KeepsSums fs (tree_behind sums.entry) ahead.old ahead.new (Unless (λ can. can ≡ is_readable fs (tree_behind sums.entry) sector) result)) (world (R.seen rack.old) vol.old) (world (R.seen rack.new) vol.new) result }
 {
-    match sector_want(sector, sums, rack, vol) {
+    match sector_want(sector, sums, ahead, rack, vol) {
         Err(stop) => Err(stop),
         Ok(None) => Ok(false),
         Ok(Some(want)) => can_read(&want, rack, vol),
@@ -113,13 +120,14 @@ fn put_sector<R: Rack>(
     found: &mut BTreeSet<Finding>,
     sector: u64,
     sums: Option<&TreeRoot>,
+    ahead: &mut SumsAhead,
     rack: &mut R,
     vol: &mut Volume,
 ) -> Result<(), Stop>
     requires ready { IsReady (world (R.seen rack.old) vol.old) }
-    ensures ran { Ran (λ fs. Unless (λ u. Adds (option_to_list (data_lost fs (tree_behind sums.entry) sector)) found.old found.new) result) (world (R.seen rack.old) vol.old) (world (R.seen rack.new) vol.new) result }
+    ensures ran { Ran (λ fs. KeepsSums fs (tree_behind sums.entry) ahead.old ahead.new (Unless (λ u. Adds (option_to_list (data_lost fs (tree_behind sums.entry) sector)) found.old found.new) result)) (world (R.seen rack.old) vol.old) (world (R.seen rack.new) vol.new) result }
 {
-    match is_readable(sector, sums, rack, vol) {
+    match is_readable(sector, sums, ahead, rack, vol) {
         Err(stop) => Err(stop),
         Ok(readable) => match put_unless(found, readable, row(sector)) {
             Ok(()) => Ok(()),
@@ -146,9 +154,10 @@ fn put_run<R: Rack>(
     requires ready { IsReady (world (R.seen rack.old) vol.old) }
     ensures ran { Ran (λ fs. run_end run.now < 2 ^ 64 → Unless (λ u. Adds (filter_map (data_lost fs (tree_behind sums.entry)) (run_sectors run.now)) found.old found.new) result) (world (R.seen rack.old) vol.old) (world (R.seen rack.new) vol.new) result }
 {
+    let mut ahead = SumsAhead::new();
     for i in 0..run.count {
         let sector = sector_at(run, i);
-        match put_sector(found, sector, sums, rack, vol) {
+        match put_sector(found, sector, sums, &mut ahead, rack, vol) {
             Ok(()) => {}
             Err(stop) => return Err(stop),
         }
@@ -157,7 +166,7 @@ fn put_run<R: Rack>(
 }
 
 /// Puts the sectors that have a checksum and aren't readable into a set, kind 31, where these are the runs of the checksum tree, and this is its root. Each
-/// sector is looked up and read. Four slots are free.
+/// sector is read, and a look-up of its checksum serves the sectors behind it in the same item. Four slots are free.
 ///
 /// `Tree`: a block could not be read, which is `Unread`. `Memory`: there is no memory for the findings.
 pub(crate) fn put_data_findings<R: Rack>(

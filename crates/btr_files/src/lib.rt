@@ -43,5 +43,6 @@ pub use naming::{linked, mounted};
 pub use piece::Piece;
 pub use plan::RestorePlan;
 pub use streaming::next_piece;
-pub use sums::sum_of;
+pub use sums::{sum_ahead, sum_of};
+pub use sums_ahead::SumsAhead;
 pub use surveying::survey;

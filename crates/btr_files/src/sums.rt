@@ -130,8 +130,9 @@ fn find_ahead<R: Rack>(
     sum
 }
 
-/// The same as `sum_of`, where the checksums behind it in its item are kept.
-pub(crate) fn sum_ahead<R: Rack>(
+/// The same as `sum_of`, where the checksums behind it in its item are kept: where those kept before are what look-ups give, so are these.
+/// The faults are those of `sum_of`.
+pub fn sum_ahead<R: Rack>(
     sums: Option<&TreeRoot>,
     addr: u64,
     ahead: &mut SumsAhead,

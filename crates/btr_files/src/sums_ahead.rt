@@ -9,9 +9,9 @@ use btr_items::SumRun;
 /// How many bytes of checksums are kept: those of 1024 sectors by CRC-32C, and of 128 by SHA-256.
 pub(crate) const ROOM: usize = 4096;
 
-/// Checksums of sectors one behind another, all from one item of the checksum tree.
+/// Checksums of sectors one behind another, all from one item of the checksum tree: what `sum_ahead` keeps.
 #[derive(Clone, Copy)]
-pub(crate) struct SumsAhead {
+pub struct SumsAhead {
     pub(crate) kind: SumKind,
     pub(crate) run: SumRun,
     pub(crate) bytes: [u8; ROOM],
@@ -24,7 +24,7 @@ impl SumsAhead {
     ghost use Rattle.btr_files.specs.Aheads.{kept_sum};
 
     /// None are kept.
-    pub(crate) fn new() -> SumsAhead
+    pub fn new() -> SumsAhead
         ensures { (addr : ℕ) → kept_sum result addr ≡ None }
     {
         SumsAhead {
@@ -35,7 +35,7 @@ impl SumsAhead {
     }
 
     /// The checksum of the sector at an address, if one of this kind is kept.
-    pub(crate) fn get(&self, kind: SumKind, addr: u64) -> Option<Sum>
+    pub fn get(&self, kind: SumKind, addr: u64) -> Option<Sum>
         ensures { (sum : Sum) → result ≡ Some sum → (self.now.kind ≡ kind) × (kept_sum self.now addr ≡ Some sum) }
     {
         if self.kind != kind {

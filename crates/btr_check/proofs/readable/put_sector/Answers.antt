@@ -5,7 +5,7 @@ use Rattle.btr_refs.specs.Findings.{Adds}
 use Rattle.btr_volume.specs.declared.root.TreeRoot.{TreeRoot}
 use Rattle.btr_volume.specs.declared.stop.Stop.TheVariants.{Memory}
 use Rattle.btr_check.specs.Counting.{Unless}
-use Rattle.btr_check.specs.Data.{is_readable, data_lost}
+use Rattle.btr_check.specs.Data.{is_readable, data_lost, KeepsSums}
 use Rattle.btr_check.specs.Running.{world, filesystem, is_outside}
 use Rattle.btr_check.proofs.Datas.{sector_adds}
 use Rattle.btr_check.proofs.Runs.{ran_value, ran_stop, ran_refused}
@@ -15,8 +15,8 @@ pub returns-in-Err : goal.returns-in-Err
 returns-in-Err g c =
     let sums : Option TreeRoot = tree_behind c.args.sums in
     record {
-      ran = ran_stop {A = Bool} {C = Unit {0}} (λ fs. Unless {A = Bool} (λ can. can ≡ is_readable fs sums c.args.sector) (Err c.in-Err.stop))
-          (λ fs. Unless {A = Unit {0}} (λ u. Adds (option_to_list (data_lost fs sums c.args.sector)) c.args.found.now c.args.found.now) (Err c.in-Err.stop))
+      ran = ran_stop {A = Bool} {C = Unit {0}} (λ fs. KeepsSums fs sums c.args.ahead.now c.is_readable.new.ahead (Unless {A = Bool} (λ can. can ≡ is_readable fs sums c.args.sector) (Err c.in-Err.stop)))
+          (λ fs. KeepsSums fs sums c.args.ahead.now c.is_readable.new.ahead (Unless {A = Unit {0}} (λ u. Adds (option_to_list (data_lost fs sums c.args.sector)) c.args.found.now c.args.found.now) (Err c.in-Err.stop)))
           (world (g.R.Rack.seen c.args.rack.now) c.args.vol.now) (world (g.R.Rack.seen c.is_readable.new.rack) c.is_readable.new.vol) c.in-Err.stop c.in-Err.ensures.ran (λ B h. h);
     }
 
@@ -24,15 +24,15 @@ pub returns-in-Ok-put_unless : goal.returns-in-Ok-put_unless
 returns-in-Ok-put_unless g c =
     let sums : Option TreeRoot = tree_behind c.args.sums in
     record {
-      ran = ran_value (λ fs. c.in-Ok.readable ≡ is_readable fs sums c.args.sector) (λ fs. Adds (option_to_list (data_lost fs sums c.args.sector)) c.args.found.now c.put_unless.new.found)
+      ran = ran_value (λ fs. KeepsSums fs sums c.args.ahead.now c.is_readable.new.ahead (c.in-Ok.readable ≡ is_readable fs sums c.args.sector)) (λ fs. KeepsSums fs sums c.args.ahead.now c.is_readable.new.ahead (Adds (option_to_list (data_lost fs sums c.args.sector)) c.args.found.now c.put_unless.new.found))
           (world (g.R.Rack.seen c.args.rack.now) c.args.vol.now) (world (g.R.Rack.seen c.is_readable.new.rack) c.is_readable.new.vol) c.in-Ok.readable tt c.in-Ok.ensures.ran
-          (λ B h. sector_adds (filesystem c.args.vol.now B) sums c.args.sector c.in-Ok.readable c.row.result c.args.found.now c.put_unless.new.found c.row.ensures c.in-Ok-put_unless.ensures h);
+          (λ B h summed. ((h summed).0, sector_adds (filesystem c.args.vol.now B) sums c.args.sector c.in-Ok.readable c.row.result c.args.found.now c.put_unless.new.found c.row.ensures c.in-Ok-put_unless.ensures (h summed).1));
     }
 
 pub returns-in-Err-put_unless : goal.returns-in-Err-put_unless
 returns-in-Err-put_unless g c =
     let sums : Option TreeRoot = tree_behind c.args.sums in
     record {
-      ran = ran_refused {A = Bool} {C = Unit {0}} (λ fs. c.in-Ok.readable ≡ is_readable fs sums c.args.sector) (λ fs. is_outside Memory ≡ true)
-          (world (g.R.Rack.seen c.args.rack.now) c.args.vol.now) (world (g.R.Rack.seen c.is_readable.new.rack) c.is_readable.new.vol) c.in-Ok.readable Memory c.in-Ok.ensures.ran tt tt (λ B h. refl);
+      ran = ran_refused {A = Bool} {C = Unit {0}} (λ fs. KeepsSums fs sums c.args.ahead.now c.is_readable.new.ahead (c.in-Ok.readable ≡ is_readable fs sums c.args.sector)) (λ fs. KeepsSums fs sums c.args.ahead.now c.is_readable.new.ahead (is_outside Memory ≡ true))
+          (world (g.R.Rack.seen c.args.rack.now) c.args.vol.now) (world (g.R.Rack.seen c.is_readable.new.rack) c.is_readable.new.vol) c.in-Ok.readable Memory c.in-Ok.ensures.ran tt tt (λ B h summed. ((h summed).0, refl));
     }
