@@ -16,9 +16,15 @@ fn words_behind_check(rt: HostRuntime) -> Result<(), Fail> {
         (&["check", ""], b"error: usage error at word 1\n"),
         (&["check", "-r", "a"], b"error: usage error at word 1\n"),
         (&["check", DATA], b"error: usage error at word 2\n"),
-        (&["check", DATA, DATA, "a"], b"error: usage error at word 2\n"),
+        (
+            &["check", DATA, DATA, "a"],
+            b"error: usage error at word 2\n",
+        ),
         (&["check", "a", DATA], b"error: usage error at word 2\n"),
-        (&["check", "a", "b", "-x"], b"error: usage error at word 3\n"),
+        (
+            &["check", "a", "b", "-x"],
+            b"error: usage error at word 3\n",
+        ),
     ];
     for (all, expected) in rows {
         answers(&rt, alloc, &mut MemRack::new(alloc), all, expected, 2)?;
