@@ -1,23 +1,20 @@
 -- What a check comes to where reads failed, but the copies agree.
-use Rattle.std.proofs.Common.{◌≡◌, ◌⊎◌, inl, inr, ⊎_elim, ℕ, false, Bool, List, [], length, drop, Option, Some, None, Result, Ok, Err, refl, sym, ap, ◌∙◌, subst, arith}
+use Rattle.std.proofs.Common.{◌≡◌, ◌⊎◌, inl, inr, ⊎_elim, false, Bool, List, [], Option, Some, None, Result, Ok, Err, refl, sym, ap, ◌∙◌, subst}
 use Rattle.std.specs.Option.{IfSome}
 use Rattle.btr_check.specs.Before.{refusal}
 use Rattle.btr_check.specs.Findings.{findings}
 use Rattle.btr_check.specs.Running.{OfReading, is_outside}
-use Rattle.btr_check.specs.Text.{findings_text}
 use Rattle.btr_dump.specs.Pieces.{Text}
 use Rattle.btr_prog.specs.Answers.{Halt, Fault as halts, Follows, no_part}
 use Rattle.btr_prog.specs.Calls.{Any}
 use Rattle.btr_prog.specs.Prog.{exec}
-use Rattle.btr_rack.specs.Out.{CallAccount, Counts, Puts}
-use Rattle.btr_rack.specs.Rack.{Seen, OnlyReads, Shelf}
-use Rattle.btr_rack.specs.declared.error.SinkError.{SinkError}
+use Rattle.btr_rack.specs.Out.{CallAccount}
+use Rattle.btr_rack.specs.Rack.{Seen, OnlyReads}
 use Rattle.btr_read.specs.Fate.{Agreed, Fault, fate}
 use Rattle.btr_read.specs.Fate as fault
 use Rattle.btr_read.specs.Layout.{Layout}
 use Rattle.btr_refs.specs.declared.finding.Finding.{Finding}
 use Rattle.btr_restore.proofs.Agreeing.{array_agreed}
-use Rattle.btr_restore.specs.Running.{Outside}
 use Rattle.btr_volume.specs.Maps.{array_layout, table_of, table_or}
 use Rattle.btr_volume.specs.Opening.{Opened, Opens, Scans, Starts}
 use Rattle.btr_volume.specs.Start.{Images, Start, start_of, layout_by}
@@ -31,18 +28,14 @@ use Rattle.btr_volume.specs.declared.volume.Volume.{Volume}
 use Rattle.btr_walk.specs.Reading.{Map, Tells, UnreadBlock, halt_of, unread_by}
 use Rattle.btr_walk.specs.declared.fault.TreeFault.{TreeFault}
 use Rattle.btr_walk.specs.declared.fault.TreeFault.TheVariants as tree
-use Rattle.btr_tool.specs.Agreeing.{AreAgreed, ChecksFrom, FollowsCheck, IsCheckOrUnread, KeepsCheck}
-use Rattle.btr_tool.specs.Checked.{check_in, check_outcome, filesystem_by, found, listing, unless_refused}
-use Rattle.btr_tool.specs.Commands.{MayWant}
-use Rattle.btr_tool.specs.Effects.{MayWantBy}
+use Rattle.btr_tool.specs.Agreeing.{AreAgreed, IsCheckOrUnread}
+use Rattle.btr_tool.specs.Checked.{check_in, check_outcome, filesystem_by, listing, unless_refused}
 use Rattle.btr_tool.specs.Faults.{open_answer, stop_answer, tree_answer}
 use Rattle.btr_tool.specs.Filesystem.{OpensAs, answer_as, fault_answer, filesystem_in, filesystem_of, with_start, with_table}
-use Rattle.btr_tool.specs.Outcomes.{Outcome, Comes, IsNoFault, IsPrinted, IsPut, Shows, due_after, refused, showing}
-use Rattle.btr_tool.specs.Words.{Words}
+use Rattle.btr_tool.specs.Outcomes.{IsNoFault, Shows, refused, showing}
 use Rattle.btr_tool.specs.declared.answer.Answer.{Answer}
-use Rattle.btr_tool.specs.declared.answer.Answer.TheVariants.{Lost, Unmapped, Crosses, Malformed, Unread}
+use Rattle.btr_tool.specs.declared.answer.Answer.TheVariants.{Lost, Unmapped, Crosses, Malformed}
 use Rattle.btr_tool.proofs.Coming.{shows_bare, shows_also}
-use Rattle.btr_tool.proofs.Ending.{when_told}
 use Rattle.btr_tool.proofs.Orders.{scan_follows}
 use Rattle.btr_tool.proofs.Refusals.{open_no_fault}
 

@@ -1,17 +1,14 @@
 -- What a check comes to.
 use Rattle.std.proofs.Common.{◌≡◌, ◌≢◌, inl, inr, ℕ, true, false, Bool, cond, eqb, List, [], ◌∷◌, length, Option, Some, None, Result, Ok, Err, refl, sym, ap, ◌∙◌, subst, arith}
-use Rattle.std.specs.Option.{IfSome}
-use Rattle.std.specs.declared.alloc.Global.{Global}
 use Rattle.btr_check.specs.Before.{refusal}
 use Rattle.btr_check.specs.Findings.{findings}
-use Rattle.btr_check.specs.Running.{World, Answers, Ran, OfReading, StopUnread, StopsReading, filesystem, is_outside, world}
+use Rattle.btr_check.specs.Running.{OfReading, StopUnread, is_outside}
 use Rattle.btr_check.specs.Text.{findings_text}
-use Rattle.btr_rack.specs.Rack.{Account, Seen, OnlyReads, Steady}
+use Rattle.btr_rack.specs.Rack.{Seen, OnlyReads, Steady}
 use Rattle.btr_rack.specs.Out.{CallAccount, Counts, Puts}
 use Rattle.btr_rack.specs.declared.error.SinkError.{SinkError}
 use Rattle.btr_rack.specs.declared.error.SinkError.TheVariants.{Failed, Memory as memory_fault}
 use Rattle.btr_rack.proofs.Reading.{reads_more}
-use Rattle.btr_read.specs.Fate.{fate}
 use Rattle.btr_read.specs.Layout.{Layout}
 use Rattle.btr_refs.specs.declared.finding.Finding.{Finding}
 use Rattle.btr_volume.specs.Start.{Images}
@@ -23,18 +20,18 @@ use Rattle.btr_walk.specs.Reading.{FaultCause}
 use Rattle.btr_walk.specs.declared.fault.TreeFault.{TreeFault}
 use Rattle.btr_walk.specs.declared.fault.TreeFault.TheVariants as tree
 use Rattle.btr_dump.specs.Pieces.{Text}
-use Rattle.btr_tool.specs.Answers.{error_line, output_answer}
+use Rattle.btr_tool.specs.Answers.{error_line}
 use Rattle.btr_tool.specs.Behind.{IfSteady, IsBehind, IsUnread, HasToldCause}
 use Rattle.btr_tool.specs.Checked.{IsCheckOutcome, check_in, check_outcome, filesystem_by, found, listing, unless_refused}
-use Rattle.btr_tool.specs.Faults.{stop_answer, tree_answer}
+use Rattle.btr_tool.specs.Faults.{stop_answer}
 use Rattle.btr_tool.specs.Filesystem.{OpensFilesystem, MayMend, filesystem_in, filesystem_of}
 use Rattle.btr_tool.specs.Outcomes.{Outcome, IsNoFault, OrBare, OrMemory, Shows, due_after, refused, showing}
 use Rattle.btr_tool.specs.declared.answer.Answer.{Answer}
-use Rattle.btr_tool.specs.declared.answer.Answer.TheVariants.{Done, Found, ImageFault, Usage, Limit, OutFault, Memory}
+use Rattle.btr_tool.specs.declared.answer.Answer.TheVariants.{Done, Found, ImageFault}
 use Rattle.btr_tool.proofs.Coming.{shows_bare}
 use Rattle.btr_tool.proofs.Ending.{when_told}
 use Rattle.btr_tool.proofs.Faulting.{no_tree, tree_in, tree_back}
-use Rattle.btr_tool.proofs.TreesShown.{NoneOf, mends_of, none_unread, steadily, tree_no_fault}
+use Rattle.btr_tool.proofs.TreesShown.{NoneOf, mends_of, none_unread, tree_no_fault}
 
 -- two parts of a way, where no call failed on the whole of it
 pub steady_both : (P Q : Images → Type 0) (old mid new : Seen) → OnlyReads old mid → OnlyReads mid new → IfSteady old.held old.account mid.account P → IfSteady mid.held mid.account new.account Q

@@ -8,7 +8,7 @@ use Rattle.btr_files.specs.declared.plan.RestorePlan.{RestorePlan}
 use Rattle.btr_files.proofs.AllMaps.{choices-zero}
 use Rattle.btr_prog.specs.Answers.{Breaks, Follows, Halt, Fault as halt_fault, Unread as halt_unread, Broke, Leaves, Names, no_part}
 use Rattle.btr_prog.specs.Calls.{Any}
-use Rattle.btr_prog.specs.Goes.{Goes, GoesTo}
+use Rattle.btr_prog.specs.Goes.{Goes}
 use Rattle.btr_prog.specs.Maps.{Each}
 use Rattle.btr_prog.specs.Prog.{Mark, Wants, Does, Run, exec, needs, steps_of}
 use Rattle.btr_prog.proofs.Choices.{goes_map, goes_some}
@@ -17,7 +17,6 @@ use Rattle.btr_rack.specs.Out.{Adds, CallAccount, Puts}
 use Rattle.btr_rack.specs.declared.error.SinkError.{SinkError}
 use Rattle.btr_rack.specs.declared.error.SinkError.TheVariants.{Failed, Memory as memory_fault}
 use Rattle.btr_read.specs.Fate.{Agreed, Fault, choices, fate}
-use Rattle.btr_read.specs.Fate as fault
 use Rattle.btr_read.specs.Layout.{Layout}
 use Rattle.btr_read.specs.declared.want.Want.{Want}
 use Rattle.btr_restore.specs.InOrder as journey
@@ -27,8 +26,8 @@ use Rattle.btr_restore.specs.Outcome.{text_of}
 use Rattle.btr_restore.specs.Restoring.{StopCause, ended}
 use Rattle.btr_restore.specs.Running.{Outside, Ran, world}
 use Rattle.btr_restore.specs.Step.{Step, part}
-use Rattle.btr_volume.specs.Maps.{Maps, VolumeWant, array_layout, table_of, table_or, volume_map}
-use Rattle.btr_volume.specs.Opening.{Opened, Opens, Scans, Starts}
+use Rattle.btr_volume.specs.Maps.{array_layout, table_of, table_or, volume_map}
+use Rattle.btr_volume.specs.Opening.{Opens, Scans, Starts}
 use Rattle.btr_volume.specs.Start.{Images, Start, start_of, layout_by}
 use Rattle.btr_volume.specs.Table.{TableResult, refusal_of, table_scan}
 use Rattle.btr_volume.specs.declared.fault.OpenFault.{OpenFault}
@@ -43,7 +42,6 @@ use Rattle.btr_walk.specs.declared.fault.TreeFault.{TreeFault}
 use Rattle.btr_walk.specs.declared.fault.TreeFault.TheVariants as tree
 use Rattle.btr_walk.proofs.Fetched.{unread_since}
 use Rattle.btr_tool.specs.Answers.{error_line}
-use Rattle.btr_tool.specs.Behind.{IsFault}
 use Rattle.btr_tool.specs.Faults.{open_answer, tree_answer}
 use Rattle.btr_tool.specs.Filesystem.{OpensAs, answer_as}
 use Rattle.btr_restore.proofs.Agreeing.{array_agreed}
