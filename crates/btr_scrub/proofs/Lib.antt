@@ -20,3 +20,9 @@ pub mod Extending
 pub mod Scanning
 pub mod Underways
 pub mod Chunkwise
+pub mod Firsts
+pub mod Agreeing
+pub mod Positions
+pub mod CopyWrites
+pub mod Scrubbing
+pub mod Blockwise

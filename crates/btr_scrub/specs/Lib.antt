@@ -13,3 +13,5 @@ pub mod Staying
 pub mod Gathering
 pub mod Extents
 pub mod Scanning
+pub mod Order
+pub mod Scrubbing

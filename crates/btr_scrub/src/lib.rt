@@ -9,10 +9,12 @@
 
 mod chunks;
 mod collecting;
+mod copied;
 mod extent;
 mod gathered;
 mod laws;
 mod listed;
+mod missing;
 mod pages;
 mod reader;
 mod run;
@@ -30,6 +32,7 @@ pub use laws::{
     some_candidate_is_right, stopped_keeps_the_rest, writes_keep_the_rest,
 };
 pub use listed::Listed;
+pub use missing::missing_device;
 pub use reader::{Reader, read_all};
 pub use tally::Tally;
 pub use units::list_blocks;
