@@ -56,16 +56,16 @@ filter_all : {X : Type 0} (p : X → Bool) (xs : List X) → ((x : X) → In x x
 filter_all p [] h = refl
 filter_all p (x ∷ xs) h = ap (λ b. cond b (x ∷ filter p xs) (filter p xs)) (h x (inl refl)) ∙ ap (λ ys. x ∷ ys) (filter_all p xs (λ y i. h y (inr i)))
 
-filter_none : {X : Type 0} (p : X → Bool) (xs : List X) → ((x : X) → In x xs → p x ≡ false) → filter p xs ≡ []
+pub filter_none : {X : Type 0} (p : X → Bool) (xs : List X) → ((x : X) → In x xs → p x ≡ false) → filter p xs ≡ []
 filter_none p [] h = refl
 filter_none p (x ∷ xs) h = ap (λ b. cond b (x ∷ filter p xs) (filter p xs)) (h x (inl refl)) ∙ filter_none p xs (λ y i. h y (inr i))
 
-in_append : {X : Type 0} (x : X) (xs ys : List X) → In x (xs ++ ys) → In x xs ⊎ In x ys
+pub in_append : {X : Type 0} (x : X) (xs ys : List X) → In x (xs ++ ys) → In x xs ⊎ In x ys
 in_append x [] ys i = inr i
 in_append x (y ∷ xs) ys (inl e) = inl (inl e)
 in_append x (y ∷ xs) ys (inr i) = elim (in_append x xs ys i) [ | inl j ↦ inl (inr j) | inr j ↦ inr j ]
 
-fold_append : {X Y : Type 0} (f : Y → X → Y) (y : Y) (xs ys : List X) → fold f y (xs ++ ys) ≡ fold f (fold f y xs) ys
+pub fold_append : {X Y : Type 0} (f : Y → X → Y) (y : Y) (xs ys : List X) → fold f y (xs ++ ys) ≡ fold f (fold f y xs) ys
 fold_append f y [] ys = refl
 fold_append f y (x ∷ xs) ys = fold_append f (f y x) xs ys
 
@@ -189,7 +189,7 @@ module _ (layout : Layout) (write : Bool) (chunk : Chunk) (n : ℕ) (copies : mi
 
 -- ---- which stripes stand
 
-none_first : {X : Type 0} (xs : List X) → slice_get xs 0 ≡ None → xs ≡ []
+pub none_first : {X : Type 0} (xs : List X) → slice_get xs 0 ≡ None → xs ≡ []
 none_first [] e = refl
 none_first (x ∷ xs) e = absurd (false≢true (sym (ap is_some e)))
 
@@ -197,12 +197,12 @@ left_empty : {X : Type 0} (xs ys : List X) → xs ++ ys ≡ [] → (xs ≡ []) �
 left_empty [] ys e = (refl, e)
 left_empty (x ∷ xs) ys e = cc
 
-none_flat : {X Y : Type 0} (g : X → List Y) (xs : List X) (i : ℕ) (x : X) → flat_map g xs ≡ [] → slice_get xs i ≡ Some x → g x ≡ []
+pub none_flat : {X Y : Type 0} (g : X → List Y) (xs : List X) (i : ℕ) (x : X) → flat_map g xs ≡ [] → slice_get xs i ≡ Some x → g x ≡ []
 none_flat g [] i x e at = cc
 none_flat g (y ∷ xs) zero x e at = ap g (sym (same_Some y x at)) ∙ (left_empty (g y) (flat_map g xs) e).0
 none_flat g (y ∷ xs) (suc i) x e at = none_flat g xs i x (left_empty (g y) (flat_map g xs) e).1 at
 
-none_passes : {X : Type 0} (p : X → Bool) (xs : List X) (i : ℕ) (x : X) → filter p xs ≡ [] → slice_get xs i ≡ Some x → p x ≡ false
+pub none_passes : {X : Type 0} (p : X → Bool) (xs : List X) (i : ℕ) (x : X) → filter p xs ≡ [] → slice_get xs i ≡ Some x → p x ≡ false
 none_passes p [] i x e at = cc
 none_passes p (y ∷ xs) i x e at = by (p y) refl e i at (none_passes p xs)
   where

@@ -26,3 +26,9 @@ pub mod Positions
 pub mod CopyWrites
 pub mod Scrubbing
 pub mod Blockwise
+pub mod RowAgreeing
+pub mod Shorts
+pub mod RowWrites
+pub mod Syncs
+pub mod Chunks
+pub mod Working

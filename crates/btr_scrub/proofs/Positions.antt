@@ -307,3 +307,15 @@ copy_in_stripe layout t range table is h = by (range_of t (Mirror h.mirror)) ref
         at : (k : ℕ) (x : Range) → k < 1 → get_or (r ∷ []) k x ≡ x → LiesIn range x → LiesInStripe layout range
         at zero x lt same lies = in_stripe layout t (Mirror h.mirror) r range table is h.has e (subst (LiesIn range) (sym same) lies)
         at (suc k) x lt same lies = absurd (omega (arith, lt))
+
+-- ---- chunks with rows
+
+-- the position of an address in a chunk with rows, and how far a block reaches in its element
+pub striped_position : (chunk : Chunk) (addr : ℕ) → is_striped chunk.profile ≡ true
+    → position chunk addr ≡ record { row = (addr - chunk.start) / 65536 / data_count chunk.profile (length chunk.stripes); index = (addr - chunk.start) / 65536 % data_count chunk.profile (length chunk.stripes); rest = (addr - chunk.start) % 65536 }
+striped_position chunk addr striped = rw striped refl
+
+pub striped_fits : (chunk : Chunk) (addr len : ℕ) → is_striped chunk.profile ≡ true → crosses chunk addr len ≡ false → (addr - chunk.start) % 65536 + len ≤ 65536
+striped_fits chunk addr len striped fine =
+    let both : (ltb (chunk.start + chunk.length) (addr + len) || true && ltb 65536 ((addr - chunk.start) % 65536 + len)) ≡ false = ap (λ b. ltb (chunk.start + chunk.length) (addr + len) || b && ltb 65536 ((addr - chunk.start) % 65536 + len)) (sym striped) ∙ fine in
+    not_above 65536 ((addr - chunk.start) % 65536 + len) (right_false (ltb (chunk.start + chunk.length) (addr + len)) (ltb 65536 ((addr - chunk.start) % 65536 + len)) both)

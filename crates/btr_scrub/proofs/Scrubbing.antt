@@ -107,7 +107,7 @@ does_cut A B P f g m n a b x h = by a.held refl
 
 -- ---- with counts
 
-if_append : (write : Bool) (xs ys : List Write) → writes_if write xs ++ writes_if write ys ≡ writes_if write (xs ++ ys)
+pub if_append : (write : Bool) (xs ys : List Write) → writes_if write xs ++ writes_if write ys ≡ writes_if write (xs ++ ys)
 if_append true xs ys = refl
 if_append false xs ys = refl
 

@@ -14,11 +14,14 @@ mod extent;
 mod gathered;
 mod laws;
 mod listed;
+mod mending;
 mod missing;
 mod pages;
 mod reader;
+mod rowed;
 mod run;
 mod sectors;
+mod syncing;
 mod tally;
 #[cfg(test)]
 mod tests;
