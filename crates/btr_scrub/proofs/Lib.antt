@@ -30,5 +30,8 @@ pub mod RowAgreeing
 pub mod Shorts
 pub mod RowWrites
 pub mod Syncs
-pub mod Chunks
+pub mod AcrossChunks
 pub mod Working
+pub mod Placing
+pub mod Ends
+pub mod Unitwise

@@ -92,15 +92,15 @@ copy_stripe Raid10 n copy at bt e = ap (λ i. 2 * i + copy) e
 copy_stripe Raid5 n copy at bt e = refl
 copy_stripe Raid6 n copy at bt e = refl
 
-left_false : (a b : Bool) → (a || b) ≡ false → a ≡ false
+pub left_false : (a b : Bool) → (a || b) ≡ false → a ≡ false
 left_false true b e = e
 left_false false b e = refl
 
-right_false : (a b : Bool) → (a || b) ≡ false → b ≡ false
+pub right_false : (a b : Bool) → (a || b) ≡ false → b ≡ false
 right_false true b e = absurd (false≢true (sym e))
 right_false false b e = e
 
-not_above : (a b : ℕ) → ltb a b ≡ false → b ≤ a
+pub not_above : (a b : ℕ) → ltb a b ≡ false → b ≤ a
 not_above a b e = elim (cases_lt a b) [ | inl lt ↦ absurd (false≢true (sym e ∙ lt-ltb a b lt)) | inr le ↦ le ]
 
 -- a byte behind another in one piece lies in the same element

@@ -14,4 +14,6 @@ pub mod Gathering
 pub mod Extents
 pub mod Scanning
 pub mod Order
+pub mod Judging
 pub mod Scrubbing
+pub mod Lab

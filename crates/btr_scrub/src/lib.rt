@@ -13,6 +13,7 @@ mod copied;
 mod extent;
 mod gathered;
 mod laws;
+mod judging;
 mod listed;
 mod mending;
 mod missing;
@@ -21,10 +22,11 @@ mod reader;
 mod rowed;
 mod run;
 mod sectors;
-mod syncing;
+mod sync;
 mod tally;
 #[cfg(test)]
 mod tests;
+mod trial;
 mod units;
 
 pub use gathered::Gathered;
@@ -38,4 +40,5 @@ pub use listed::Listed;
 pub use missing::missing_device;
 pub use reader::{Reader, read_all};
 pub use tally::Tally;
+pub use trial::lab;
 pub use units::list_blocks;

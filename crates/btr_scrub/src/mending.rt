@@ -9,7 +9,7 @@ ghost use Rattle.btr_scrub.specs.Scrubbing.{CanMend, HasRooms, IsPastChunk, Scru
 use crate::copied::mend_blocks;
 use crate::reader::Reader;
 use crate::rowed::{RowRoom, mend_rows};
-use crate::syncing::sync_marked;
+use crate::sync::sync_marked;
 use crate::tally::Tally;
 use btr_mend::MendFault;
 use btr_rack::Rack;

@@ -8,7 +8,7 @@ use Rattle.btr_mend.proofs.Copied.{same_loans_then}
 use Rattle.btr_scrub.specs.Order.{AreApart}
 use Rattle.btr_scrub.specs.Scrubbing.{CanMend, HasRooms, IsPastChunk, Works, all_count_for, all_writes_for, chunk_count_for, chunk_writes_for}
 use Rattle.btr_scrub.proofs.Blockwise.{have_lengths}
-use Rattle.btr_scrub.proofs.Chunks.{chunk_unmoved}
+use Rattle.btr_scrub.proofs.AcrossChunks.{chunk_unmoved}
 use Rattle.btr_scrub.proofs.Working.{at_number, begins_there, chunks_cut, chunks_more, chunks_none}
 use Rattle.btr_scrub.proofs.mending.mend_all.Goals as goal
 

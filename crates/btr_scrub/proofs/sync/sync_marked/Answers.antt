@@ -3,7 +3,7 @@ use Rattle.std.proofs.lemmas.List.{get_or-set_other}
 use Rattle.btr_read.proofs.Keeping.{none_more}
 use Rattle.btr_scrub.specs.Scrubbing.{SyncsOne}
 use Rattle.btr_scrub.proofs.Syncs.{only_more, synced_more}
-use Rattle.btr_scrub.proofs.syncing.sync_marked.Goals as goal
+use Rattle.btr_scrub.proofs.sync.sync_marked.Goals as goal
 
 pub loop-slot-preserved : goal.loop-slot-preserved
 loop-slot-preserved g c =
