@@ -16,4 +16,5 @@ pub mod Scanning
 pub mod Order
 pub mod Judging
 pub mod Scrubbing
+pub mod Whole
 pub mod Lab

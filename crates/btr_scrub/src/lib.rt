@@ -28,6 +28,7 @@ mod tally;
 mod tests;
 mod trial;
 mod units;
+mod whole;
 
 pub use gathered::Gathered;
 pub use laws::{
@@ -42,3 +43,4 @@ pub use reader::{Reader, read_all};
 pub use tally::Tally;
 pub use trial::lab;
 pub use units::list_blocks;
+pub use whole::scrub;
