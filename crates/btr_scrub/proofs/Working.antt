@@ -331,3 +331,11 @@ can_mend_synced write a b store m n can only long =
 -- the chunk of a number below their count
 pub at_number : (layout : Layout) (i : ℕ) → i < length layout.chunks → (chunk : Chunk) × (slice_get layout.chunks i ≡ Some chunk)
 at_number layout i lt = at-below layout.chunks i lt
+
+-- nothing was done, as there was no memory
+pub works_nothing : (layout : Layout) (write : Bool) (f : Images → List Write) (c : Images → Tally → Tally) (a : Seen) (t : Tally) → Works {A = Unit {0}} layout write f c a a t t (Err Memory)
+works_nothing layout write f c a t = record {
+  does = does_failed (IsOfScrub layout) (Unit {0}) (Unit {0}) (λ i. writes_if write (f i)) [] (plain a) (plain a) Memory (record { same = refl; later = omega arith; same_shut = refl }) (record { faults = refl; fresh = refl; missed = refl; last = refl; opening = refl; shut = refl });
+  counts = tt;
+  synced = tt;
+}

@@ -2,6 +2,7 @@
 ghost use Rattle.std.specs.Prelude.{◌≡◌, slice_get};
 ghost use Rattle.std.specs.Option.{option_map};
 ghost use Rattle.btr_chunk.specs.Chunk.{IsChunk};
+ghost use Rattle.btr_chunk.specs.Table.{IsTable};
 ghost use Rattle.btr_scrub.specs.Repair.{devid_of, first_missing, is_missing, missing_stripes};
 
 use btr_chunk::{Chunk, Stripe};
@@ -35,7 +36,8 @@ fn missing_in(chunk: &Chunk, store: &Store) -> Option<u64>
 /// The id of the first device that isn't given, or whose image ends before the end of a stripe on it: that of the first such stripe, by chunk and then by
 /// its number there.
 pub fn missing_device(store: &Store) -> Option<u64>
-    ensures { result ≡ option_map devid_of (first_missing store.now.layout) }
+    ensures devid { result ≡ option_map devid_of (first_missing store.now.layout) }
+    ensures table { IsTable store.now.layout.chunks }
 {
     for i in 0..store.chunks().count() {
         if let Some(devid) = missing_in(store.chunks().at(i), store) {

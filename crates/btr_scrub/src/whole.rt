@@ -1,6 +1,7 @@
 // Scrub as a whole.
 ghost use Rattle.std.specs.Prelude.{◌≡◌, ℕ, ◌≤◌, Some, None, Err, IfSome, IfOk, IsTrue, length, slice_get};
 ghost use Rattle.btr_chunk.specs.Chunk.{mirrors};
+ghost use Rattle.btr_chunk.specs.Table.{IsTable};
 ghost use Rattle.btr_chunk.specs.declared.chunk.Chunk.{Chunk};
 ghost use Rattle.btr_row.specs.Mending.{HasRoom};
 ghost use Rattle.btr_read.specs.Serves.{Serves};
@@ -35,6 +36,7 @@ const ROW_BLOCKS: usize = 992;
 
 // The stripes of the widest chunk with parity.
 fn widest(store: &Store) -> usize
+    ensures table { IsTable store.now.layout.chunks }
     ensures few { result ≤ 64 }
     ensures wide { (i : ℕ) (chunk : Chunk) → slice_get store.now.layout.chunks i ≡ Some chunk → mirrors chunk ≡ None → length chunk.stripes ≤ result }
 {
@@ -50,7 +52,8 @@ fn widest(store: &Store) -> usize
 
 // Memory for the full stripes of a filesystem.
 fn make_room(alloc: Global, store: &Store) -> Result<RowRoom, Memory>
-    ensures { IfOk result (λ room. HasRooms store.now.layout room.buffer) }
+    ensures table { IfOk result (λ room. IsTable store.now.layout.chunks) }
+    ensures rooms { IfOk result (λ room. HasRooms store.now.layout room.buffer) }
 {
     let Ok(wants) = Vec::with_capacity(alloc, ROW_BLOCKS) else {
         return Err(Memory);

@@ -5,8 +5,8 @@ use Rattle.btr_scrub.specs.Repair.{devid_of, missing_stripes}
 use Rattle.btr_scrub.proofs.Firsts.{flat_here, flat_over}
 use Rattle.btr_scrub.proofs.missing.missing_device.Goals as goal
 
-pub returns-in-Some : goal.returns-in-Some
-returns-in-Some c =
+pub returns-in-Some-clause-devid : goal.returns-in-Some-clause-devid
+returns-in-Some-clause-devid c =
     let layout = c.args.store.now.layout in
     let chunk = c.at.result.now in
     flat_here devid_of (missing_stripes layout.devices) layout.chunks c.loop-i.i chunk c.in-Some.devid (ap (λ cs. slice_get cs c.loop-i.i) (sym c.chunks-in-loop-i.ensures) ∙ c.at.ensures.chunk) c.in-Some.ensures
