@@ -91,7 +91,7 @@ sum_same f g xs h = fold_same (λ a x. a + f x) (λ a x. a + g x) xs 0 (λ x i z
 count_same : {X : Type 0} (f g : X → Bool) (xs : List X) → ((x : X) → In x xs → f x ≡ g x) → count_by f xs ≡ count_by g xs
 count_same f g xs h = sum_same (λ x. cond (f x) 1 0) (λ x. cond (g x) 1 0) xs (λ x i. ap (λ b. cond b 1 0) (h x i))
 
-flat_short : {X : Type 0} (images : Images) (f : X → List Write) (xs : List X) → ((x : X) → In x xs → All (Short images) (f x)) → All (Short images) (flat_map f xs)
+pub flat_short : {X : Type 0} (images : Images) (f : X → List Write) (xs : List X) → ((x : X) → In x xs → All (Short images) (f x)) → All (Short images) (flat_map f xs)
 flat_short images f [] h = All-nil (Short images)
 flat_short images f (x ∷ xs) h = All-append (Short images) (f x) (flat_map f xs) (h x (inl refl)) (flat_short images f xs (λ y i. h y (inr i)))
 
@@ -125,9 +125,9 @@ module _ (layout : Layout) (table : IsTable layout.chunks) (own : HaveOwnSlots l
   ]
 
   pub record OfChunk (t : Target) : Type 0 where
-    is : IsSought layout t
-    number_is : is.number ≡ number
-    chunk_is : t.chunk ≡ chunk
+    pub is : IsSought layout t
+    pub number_is : is.number ≡ number
+    pub chunk_is : t.chunk ≡ chunk
 
   of_chunk : (t : Target) → In t (blocks_in layout chunk wants) → OfChunk t
   of_chunk t i =
@@ -139,9 +139,9 @@ module _ (layout : Layout) (table : IsTable layout.chunks) (own : HaveOwnSlots l
 
   -- a row of it
   pub record OfRows (row : Row) : Type 0 where
-    is : IsRowIn layout row
-    number_is : is.chunk_number ≡ number
-    blocks : (t : Target) → In t row.blocks → IsBlockOf layout row t
+    pub is : IsRowIn layout row
+    pub number_is : is.chunk_number ≡ number
+    pub blocks : (t : Target) → In t row.blocks → IsBlockOf layout row t
 
   -- an element stands, as no device is missing
   pub element_stands : (r : ℕ) (q : Part) → mirrors chunk ≡ None → r * 65536 + 65536 ≤ stripe_length chunk → HasPart chunk.profile (length chunk.stripes) q → IsSome (range_in_element layout (row_of (targets layout wants) chunk r) q 0 65536)
@@ -220,7 +220,7 @@ module _ (layout : Layout) (table : IsTable layout.chunks) (own : HaveOwnSlots l
         ∙ ap (λ w. record { bad = length (bad_parts images t); repaired = length (writes_if write w); lost = is_none (accepted images' t) }) (writes_alike images images' t a)
         ∙ ap (λ o. record { bad = length (bad_parts images t); repaired = length (writes_if write (block_writes images t)); lost = is_none o }) a.accepted)
 
-    row_counts_alike : (write : Bool) (images' : Images) (row : Row) (tally : Tally) → RowAlike images images' layout row → count_row images' layout write tally row ≡ count_row images layout write tally row
+    pub row_counts_alike : (write : Bool) (images' : Images) (row : Row) (tally : Tally) → RowAlike images images' layout row → count_row images' layout write tally row ≡ count_row images layout write tally row
     row_counts_alike write images' row tally a =
         let bad = sum_same (λ t. length (bad_parts images' t)) (λ t. length (bad_parts images t)) row.blocks (λ t i. ap length (a.blocks t i).bad) in
         let repaired = sum_same (λ t. length (block_writes images' t)) (λ t. length (block_writes images t)) row.blocks (λ t i. ap length (writes_alike images images' t (a.blocks t i))) in

@@ -35,3 +35,6 @@ pub mod Working
 pub mod Placing
 pub mod Ends
 pub mod Unitwise
+pub mod InRows
+pub mod Rowwise
+pub mod OneRow

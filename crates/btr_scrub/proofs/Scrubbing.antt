@@ -16,7 +16,7 @@ use Rattle.btr_mend.specs.declared.mended.Mended.{Mended}
 use Rattle.btr_mend.specs.Writes.{AccountsMend, AreWritable, Does, Images, Leaves, Write, writes_if, write_on}
 use Rattle.btr_mend.specs.declared.mended.MendFault.{MendFault}
 use Rattle.btr_mend.specs.declared.mended.MendFault.TheVariants.{Image, Memory}
-use Rattle.btr_mend.proofs.Doing.{does_as, does_as_halt, does_halt, does_reads, does_then}
+use Rattle.btr_mend.proofs.Doing.{does_as, does_as_halt, does_failed, does_halt, does_reads, does_then}
 use Rattle.btr_scrub.specs.Leaves.{LiesInStripe}
 use Rattle.btr_scrub.specs.Repair.{first_missing}
 use Rattle.btr_scrub.specs.Scrubbing.{CanMend, Scrubs, count_block, counted}
@@ -162,6 +162,13 @@ module _ (layout : Layout) (write : Bool) where
       none : (b : Bool) → [] ≡ writes_if b []
       none true = refl
       none false = refl
+
+-- nothing was done, as there was no memory
+pub scrubs_nothing : (layout : Layout) (write : Bool) (marks : List Bool) (a : Seen) (t : Tally) → Scrubs {A = Unit {0}} layout write (λ i. []) (λ i y. y) marks marks a a t t (Err Memory)
+scrubs_nothing layout write marks a t = record {
+  does = does_failed (LiesInStripe layout) (Unit {0}) (Unit {0}) (λ i. writes_if write []) marks a a Memory (record { same = refl; later = omega arith; same_shut = refl }) (record { faults = refl; fresh = refl; missed = refl; last = refl; opening = refl; shut = refl });
+  counts = tt;
+}
 
 -- ---- a block
 

@@ -15,6 +15,6 @@ pub mod Extents
 pub mod Scanning
 pub mod Order
 pub mod Judging
+pub mod Rowing
 pub mod Scrubbing
 pub mod Whole
-pub mod Lab

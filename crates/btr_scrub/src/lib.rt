@@ -26,7 +26,6 @@ mod sync;
 mod tally;
 #[cfg(test)]
 mod tests;
-mod trial;
 mod units;
 mod whole;
 
@@ -41,6 +40,5 @@ pub use listed::Listed;
 pub use missing::missing_device;
 pub use reader::{Reader, read_all};
 pub use tally::Tally;
-pub use trial::lab;
 pub use units::list_blocks;
 pub use whole::scrub;
