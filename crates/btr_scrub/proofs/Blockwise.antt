@@ -63,7 +63,7 @@ filter_none p (x ∷ xs) h = ap (λ b. cond b (x ∷ filter p xs) (filter p xs))
 pub in_append : {X : Type 0} (x : X) (xs ys : List X) → In x (xs ++ ys) → In x xs ⊎ In x ys
 in_append x [] ys i = inr i
 in_append x (y ∷ xs) ys (inl e) = inl (inl e)
-in_append x (y ∷ xs) ys (inr i) = elim (in_append x xs ys i) [ | inl j ↦ inl (inr j) | inr j ↦ inr j ]
+in_append x (y ∷ xs) ys (inr i) = elim (in_append x xs ys i) [ inl j ↦ inl (inr j) | inr j ↦ inr j ]
 
 pub fold_append : {X Y : Type 0} (f : Y → X → Y) (y : Y) (xs ys : List X) → fold f y (xs ++ ys) ≡ fold f (fold f y xs) ys
 fold_append f y [] ys = refl
@@ -181,11 +181,13 @@ module _ (layout : Layout) (write : Bool) (chunk : Chunk) (n : ℕ) (copies : mi
       let ws = blocks_writes ts images in
       let after = fold write_on images (writes_if write ws) in
       let alike = behind_alike images layout (lengths images e) table own ts t are is n (ap mirrors mine ∙ copies) (λ u i. let s = (sound u i).2 in omega (arith, s, behind)) after (keeps_if write images ws (all_fit images layout (lengths images e) ts are)) in
-      let same = writes_alike images after t alike in
-      (same, λ x. ap (counted x) (
-      ap (λ ps. record { bad = length ps; repaired = length (writes_if write (block_writes after t)); lost = is_none (accepted after t) }) alike.bad
-      ∙ ap (λ w. record { bad = length (bad_parts images t); repaired = length (writes_if write w); lost = is_none (accepted after t) }) same
-      ∙ ap (λ o. record { bad = length (bad_parts images t); repaired = length (writes_if write (block_writes images t)); lost = is_none o }) alike.accepted))
+      let same = writes_alike images after t alike in (
+        same,
+        λ x. ap (counted x) (
+            ap (λ ps. record { bad = length ps; repaired = length (writes_if write (block_writes after t)); lost = is_none (accepted after t) }) alike.bad
+            ∙ ap (λ w. record { bad = length (bad_parts images t); repaired = length (writes_if write w); lost = is_none (accepted after t) }) same
+            ∙ ap (λ o. record { bad = length (bad_parts images t); repaired = length (writes_if write (block_writes images t)); lost = is_none o }) alike.accepted),
+      )
 
 -- ---- which stripes stand
 

@@ -28,7 +28,7 @@ collects_more chunk row first want old new rest wants wants' h is in_row e = rec
   more = h.more ++ want ∷ [];
   are = e ∙ ap (λ ws. ws ++ want ∷ []) h.are;
   split = h.split ∙ ap (λ ws. h.more ++ ws) is ∙ sym (append_assoc h.more (want ∷ []) rest);
-  inside = λ w i. elim (in_append w h.more (want ∷ []) i) [ | inl j ↦ h.inside w j | inr (inl same) ↦ subst (λ v. row_in chunk (addr_of v) ≡ Some row) same in_row | inr (inr j) ↦ absurd j ];
+  inside = λ w i. elim (in_append w h.more (want ∷ []) i) [ inl j ↦ h.inside w j | inr (inl same) ↦ subst (λ v. row_in chunk (addr_of v) ≡ Some row) same in_row | inr (inr j) ↦ absurd j ];
 }
 
 -- the position of one byte

@@ -38,3 +38,4 @@ pub mod Unitwise
 pub mod InRows
 pub mod Rowwise
 pub mod OneRow
+pub mod Told

@@ -101,7 +101,7 @@ right_false true b e = absurd (false≢true (sym e))
 right_false false b e = e
 
 pub not_above : (a b : ℕ) → ltb a b ≡ false → b ≤ a
-not_above a b e = elim (cases_lt a b) [ | inl lt ↦ absurd (false≢true (sym e ∙ lt-ltb a b lt)) | inr le ↦ le ]
+not_above a b e = elim (cases_lt a b) [ inl lt ↦ absurd (false≢true (sym e ∙ lt-ltb a b lt)) | inr le ↦ le ]
 
 -- a byte behind another in one piece lies in the same element
 record IsBehind (at bt : Elements) (d : ℕ) : Type 0 where

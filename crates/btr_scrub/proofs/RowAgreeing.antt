@@ -49,7 +49,7 @@ all_same f g (x ∷ xs) h = ap (λ b. b && list_all f xs) (h x (inl refl)) ∙ a
 -- ---- one block
 
 module _ (images images' : Images) (t : Target) (none : mirrors t.chunk ≡ None) (index : t.at.index < slice_count t)
-  (same : (part : Part) → HasPart t.chunk.profile (length t.chunk.stripes) part → element images' t part ≡ element images t part) where
+    (same : (part : Part) → HasPart t.chunk.profile (length t.chunk.stripes) part → element images' t part ≡ element images t part) where
   slice_has : (k : ℕ) → k < slice_count t → HasPart t.chunk.profile (length t.chunk.stripes) (part.Slice k)
   slice_has k lt = (subst IsNone (sym none) refl, lt)
 
@@ -150,8 +150,8 @@ row_writes_alike images images' layout row a =
     ∙ ap (λ ws. flat_map (block_writes images) row.blocks ++ ws) (flat_same (parity_writes images' layout row) (parity_writes images layout row) (parities row.chunk.profile) a.parities)
 
 module _ (images images' : Images) (layout : Layout) (row : Row) (none : mirrors row.chunk ≡ None)
-  (same : (q : Part) → HasPart row.chunk.profile (length row.chunk.stripes) q → rows.element images' layout row q ≡ rows.element images layout row q)
-  (blocks : (t : Target) → In t row.blocks → Alike images images' t) where
+    (same : (q : Part) → HasPart row.chunk.profile (length row.chunk.stripes) q → rows.element images' layout row q ≡ rows.element images layout row q)
+    (blocks : (t : Target) → In t row.blocks → Alike images images' t) where
   given_same : (t : Target) → In t row.blocks → (bytes : List ℕ) → with_block images' layout (accepted images') bytes t ≡ with_block images layout (accepted images) bytes t
   given_same t i bytes = ap (λ o. option_map_or (pasted bytes t.at.rest) o bytes) (blocks t i).accepted
 

@@ -60,7 +60,7 @@ pub record IsBlockOf (layout : Layout) (row : Row) (t : Target) : Type 0 where
 -- a block of a chunk with parity lies in one element
 in_one_element : (layout : Layout) (t : Target) → IsSought layout t → mirrors t.chunk ≡ None → t.at.rest + size_of t ≤ 65536
 in_one_element layout t is none =
-    let striped : is_striped t.chunk.profile ≡ true = elim (without_copies t.chunk.profile (length t.chunk.stripes) none) [ | inl five ↦ ap is_striped five | inr six ↦ ap is_striped six ] in
+    let striped : is_striped t.chunk.profile ≡ true = elim (without_copies t.chunk.profile (length t.chunk.stripes) none) [ inl five ↦ ap is_striped five | inr six ↦ ap is_striped six ] in
     let rest = ap (λ (e : Elements). e.rest) (is.at ∙ striped_position t.chunk (addr_of t.want) striped) in
     let small = striped_fits t.chunk (addr_of t.want) (size_of t) striped is.uncrossed in
     omega (arith, rest, small)

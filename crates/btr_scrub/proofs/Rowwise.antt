@@ -132,7 +132,7 @@ div_mono a b k pos le = le-div (a / k) b k pos (omega (arith, div-mul-le_self a 
 
 module _ (layout : Layout) (table : IsTable layout.chunks) (own : HaveOwnSlots layout.devices) (given : first_missing layout ≡ None) (number : ℕ) (chunk : Chunk) (there : slice_get layout.chunks number ≡ Some chunk) (parity : mirrors chunk ≡ None) (wants : List Want) where
   striped : is_striped chunk.profile ≡ true
-  striped = elim (without_copies chunk.profile (length chunk.stripes) parity) [ | inl five ↦ ap is_striped five | inr six ↦ ap is_striped six ]
+  striped = elim (without_copies chunk.profile (length chunk.stripes) parity) [ inl five ↦ ap is_striped five | inr six ↦ ap is_striped six ]
 
   some : 0 < data_count chunk.profile (length chunk.stripes)
   some = data_count-some chunk.profile (length chunk.stripes) (facts chunk (table.sound number chunk there).0).count
@@ -468,7 +468,7 @@ module _ (layout : Layout) (table : IsTable layout.chunks) (own : HaveOwnSlots l
               more (position chunk (addr_of v)).row not_r (omega (arith, from_first, r_is)) (omega (arith, to_w, row))
             where
               more : (x : ℕ) → (x ≡ r → ⊥) → r ≤ x → x ≤ t.at.row → r + 1 ≤ t.at.row
-              more x ne le1 le2 = elim (cases_eq x r) [ | inl same ↦ absurd (ne same) | inr other ↦ omega (arith, le1, le2, other) ]
+              more x ne le1 le2 = elim (cases_eq x r) [ inl same ↦ absurd (ne same) | inr other ↦ omega (arith, le1, le2, other) ]
 
               first_le : (v : Want) (vs : List Want) (w : Want) → AreApart layout e (v ∷ vs) → In w (v ∷ vs) → addr_of v ≤ addr_of w
               first_le v vs w apart (inl same) = omega (arith, ap addr_of same)

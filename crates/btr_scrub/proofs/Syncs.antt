@@ -83,7 +83,7 @@ synced_more marks now n a b c h one = record { among = λ range i. by range (get
     at : (range : Range) → In range b.unsynced → (range.slot ≡ n → get_or marks range.slot false ≡ false) → In range a.unsynced × (range.slot < n + 1 → get_or marks range.slot false ≡ false)
     at range i here =
         let was = h.synced.among range i in
-        (was.0, λ lt. elim (cases_lt range.slot n) [ | inl below ↦ was.1 below | inr above ↦ here (omega (arith, lt, above)) ])
+        (was.0, λ lt. elim (cases_lt range.slot n) [ inl below ↦ was.1 below | inr above ↦ here (omega (arith, lt, above)) ])
 
     by : (range : Range) (m : Bool) → get_or marks n false ≡ m → In range c.unsynced → c.unsynced ≡ cond m (in_others n b.unsynced) b.unsynced → In range a.unsynced × (range.slot < n + 1 → get_or marks range.slot false ≡ false)
     by range true e i is =

@@ -83,7 +83,7 @@ nothing [] h = refl
 nothing (x ∷ xs) h = absurd (h x (inl refl))
 
 marked_below : (marks : List Bool) (slot : ℕ) → get_or marks slot false ≡ true → slot < length marks
-marked_below marks slot e = elim (cases_lt slot (length marks)) [ | inl lt ↦ lt | inr le ↦ absurd (false≢true (sym (get_or_past marks slot false le) ∙ e)) ]
+marked_below marks slot e = elim (cases_lt slot (length marks)) [ inl lt ↦ lt | inr le ↦ absurd (false≢true (sym (get_or_past marks slot false le) ∙ e)) ]
 
 module _ (layout : Layout) (write : Bool) where
   -- nothing that was written waits behind the syncs
@@ -248,7 +248,7 @@ module _ (layout : Layout) (table : IsTable layout.chunks) (wants : List Want) w
         same_chunk c e = cc
 
     module _ (write : Bool) (left left' : List Want) (a b z : Seen) (tally tally' tally'' : Tally) (h : ChunksPast layout wants write left number a b tally tally')
-      (unmoved : IsUnmoved layout write (all_writes_for layout (take number layout.chunks) wants) (chunk_writes_for layout chunk wants) (chunk_count_for layout write chunk wants) a.held) where
+        (unmoved : IsUnmoved layout write (all_writes_for layout (take number layout.chunks) wants) (chunk_writes_for layout chunk wants) (chunk_count_for layout write chunk wants) a.held) where
       both : (r : Result (Unit {0}) MendFault) → Works layout write (chunk_writes_for layout chunk left) (chunk_count_for layout write chunk left) b z tally' tally'' r
           → Works layout write (λ i. all_writes_for layout (take number layout.chunks) wants i ++ chunk_writes_for layout chunk wants i) (λ i y. chunk_count_for layout write chunk wants i (all_count_for layout write (take number layout.chunks) wants i y)) a z tally tally'' r
       both r one =
@@ -304,8 +304,11 @@ module _ (layout : Layout) (table : IsTable layout.chunks) (wants : List Want) w
           let rest = drop (number + 1) layout.chunks in
           works_as layout write (λ i. (all_writes_for layout (take number layout.chunks) wants i ++ chunk_writes_for layout chunk wants i) ++ all_writes_for layout rest wants i) (all_writes_for layout layout.chunks wants)
           (all_count_for layout write layout.chunks wants) (all_count_for layout write layout.chunks wants) a z tally tally'' (Err x)
-          (λ images e. (sym (ap (λ cs. all_writes_for layout cs wants images) (split_at layout.chunks number chunk there) ∙ flat_map-append (λ c. chunk_writes_for layout c wants images) (take number layout.chunks) (chunk ∷ rest)
-          ∙ sym (append_assoc (all_writes_for layout (take number layout.chunks) wants images) (chunk_writes_for layout chunk wants images) (all_writes_for layout rest wants images))), refl))
+          (λ images e. (
+            sym (ap (λ cs. all_writes_for layout cs wants images) (split_at layout.chunks number chunk there) ∙ flat_map-append (λ c. chunk_writes_for layout c wants images) (take number layout.chunks) (chunk ∷ rest)
+                ∙ sym (append_assoc (all_writes_for layout (take number layout.chunks) wants images) (chunk_writes_for layout chunk wants images) (all_writes_for layout rest wants images))),
+            refl,
+          ))
           (works_cut layout write (λ i. all_writes_for layout (take number layout.chunks) wants i ++ chunk_writes_for layout chunk wants i) (all_writes_for layout rest wants)
           (λ i y. chunk_count_for layout write chunk wants i (all_count_for layout write (take number layout.chunks) wants i y)) (all_count_for layout write layout.chunks wants) a z tally tally'' x (both (Err x) one))
 

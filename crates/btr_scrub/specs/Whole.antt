@@ -13,7 +13,10 @@ use Rattle.btr_volume.specs.declared.stop.Stop.TheVariants as stop
 use Rattle.btr_mend.specs.declared.mended.MendFault.{MendFault}
 use Rattle.btr_mend.specs.declared.mended.MendFault.TheVariants.{Image, Memory}
 use Rattle.btr_scrub.specs.Gathering.{StopCause, checked_among, count_met, stop_halt}
+use Rattle.btr_mend.specs.Writes.{Images}
+use Rattle.btr_scrub.specs.Filesystem.{Filesystem}
 use Rattle.btr_scrub.specs.Judging.{IsUnplaced}
+use Rattle.btr_scrub.specs.Repair.{met, writes}
 use Rattle.btr_scrub.specs.Scrubbing.{Works, all_count_for, all_writes_for}
 use Rattle.btr_scrub.specs.Units.{Met, units_in}
 use Rattle.btr_scrub.specs.declared.tally.Tally.{Tally}
@@ -56,3 +59,7 @@ pub record ScrubsAll (s : Super) (layout : Layout) (write : Bool) (old new : See
   pub done : List Met
   pub listing : Listing
   pub goes : Goes s layout write old mid new done result listing
+
+-- the writes for a list of all blocks that are met are those that mend the filesystem
+abbrev pub ListedWrites : Type 0
+ListedWrites = (images : Images) (fs : Filesystem) → all_writes_for fs.layout fs.layout.chunks (checked_among (met images fs)) images ≡ writes images fs

@@ -47,7 +47,9 @@ fn mend_chunk<R: Rack>(
         → Scrubs store.old.layout write (chunk_writes_for store.old.layout chunk blocks.old) (chunk_count_for store.old.layout write chunk blocks.old) marks.old marks.new (R.seen rack.old) (R.seen rack.new) tally.old tally.new result }
 {
     if has_parity(number, store) {
-        mend_rows(number, nodesize, write, blocks, rack, store, room, marks, tally)
+        mend_rows(
+            number, nodesize, write, blocks, rack, store, room, marks, tally,
+        )
     } else {
         mend_blocks(number, write, blocks, rack, store, marks, tally)
     }
@@ -78,7 +80,9 @@ fn mend_and_sync<R: Rack>(
     ensures works { (chunk : Chunk) → slice_get store.old.layout.chunks number ≡ Some chunk
         → Works store.old.layout write (chunk_writes_for store.old.layout chunk blocks.old) (chunk_count_for store.old.layout write chunk blocks.old) (R.seen rack.old) (R.seen rack.new) tally.old tally.new result }
 {
-    match mend_chunk(number, nodesize, write, blocks, rack, store, room, marks, tally) {
+    match mend_chunk(
+        number, nodesize, write, blocks, rack, store, room, marks, tally,
+    ) {
         Ok(()) => sync_marked(rack, marks),
         Err(fault) => Err(fault),
     }
@@ -107,7 +111,9 @@ pub(crate) fn mend_all<R: Rack>(
     ensures works { Works store.old.layout write (all_writes_for store.old.layout store.old.layout.chunks blocks.old) (all_count_for store.old.layout write store.old.layout.chunks blocks.old) (R.seen rack.old) (R.seen rack.new) tally.old tally.new result }
 {
     for number in 0..store.chunks().count() {
-        match mend_and_sync(number, nodesize, write, blocks, rack, store, room, marks, tally) {
+        match mend_and_sync(
+            number, nodesize, write, blocks, rack, store, room, marks, tally,
+        ) {
             Ok(()) => {}
             Err(fault) => return Err(fault),
         }

@@ -103,7 +103,16 @@ fn mend_listed<R: Rack>(
     };
     let mut tally = first_tally(gathered.unchecked);
     let mut blocks = read_all(&gathered.list);
-    match mend_all(vol.sup.nodesize, write, &mut blocks, rack, &mut vol.store, &mut room, &mut marks, &mut tally) {
+    match mend_all(
+        vol.sup.nodesize,
+        write,
+        &mut blocks,
+        rack,
+        &mut vol.store,
+        &mut room,
+        &mut marks,
+        &mut tally,
+    ) {
         Ok(()) => Ok(tally),
         Err(MendFault::Image(slot)) => Err(Stop::Image(slot)),
         Err(MendFault::Memory) => Err(Stop::Memory),
