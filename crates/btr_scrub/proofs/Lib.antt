@@ -39,3 +39,4 @@ pub mod InRows
 pub mod Rowwise
 pub mod OneRow
 pub mod Told
+pub mod Outside

@@ -31,7 +31,7 @@ pub record Short (images : Images) (write : Write) : Type 0 where
   pub short : length write.bytes ≤ write.range.len
   pub within : write.range.off + write.range.len ≤ length (image_of images write.range.slot)
 
-one_short : (images : Images) (range : Range) (bytes : List ℕ) → length bytes ≤ range.len → range.off + range.len ≤ length (image_of images range.slot) → KeepsOutside (range ∷ []) images (written images range.slot range.off bytes)
+pub one_short : (images : Images) (range : Range) (bytes : List ℕ) → length bytes ≤ range.len → range.off + range.len ≤ length (image_of images range.slot) → KeepsOutside (range ∷ []) images (written images range.slot range.off bytes)
 one_short images range bytes short within =
     let image = image_of images range.slot in
     let new = pasted image range.off bytes in

@@ -1,9 +1,9 @@
 -- What a call of scrub did, whatever failed.
-use Rattle.std.specs.Prelude.{◌≡◌, ℕ, Bool, List, [], fold, Option, Some, None, Result, Ok, Err}
+use Rattle.std.specs.Prelude.{◌≡◌, ℕ, Bool, List, [], fold, map, Option, Some, None, Result, Ok, Err}
 use Rattle.btr_prog.specs.Answers.{Follows, no_part}
 use Rattle.btr_prog.specs.Prog.{exec}
 use Rattle.btr_rack.specs.Rack.{OnlyReads, Seen}
-use Rattle.btr_read.specs.Layout.{Layout}
+use Rattle.btr_read.specs.Layout.{HaveOwnSlots, Layout}
 use Rattle.btr_read.specs.declared.want.Want.{Want}
 use Rattle.btr_super.specs.declared.superblock.Super.{Super}
 use Rattle.btr_walk.specs.Reading.{Tells, unread_by}
@@ -13,10 +13,13 @@ use Rattle.btr_volume.specs.declared.stop.Stop.TheVariants as stop
 use Rattle.btr_mend.specs.declared.mended.MendFault.{MendFault}
 use Rattle.btr_mend.specs.declared.mended.MendFault.TheVariants.{Image, Memory}
 use Rattle.btr_scrub.specs.Gathering.{StopCause, checked_among, count_met, stop_halt}
-use Rattle.btr_mend.specs.Writes.{Images}
+use Rattle.btr_mend.specs.Writes.{Images, Write}
 use Rattle.btr_scrub.specs.Filesystem.{Filesystem}
 use Rattle.btr_scrub.specs.Judging.{IsUnplaced}
-use Rattle.btr_scrub.specs.Repair.{met, writes}
+use Rattle.btr_chunk.specs.Table.{IsTable}
+use Rattle.btr_scrub.specs.Devices.{HaveLengths}
+use Rattle.btr_scrub.specs.Leaves.{KeepsOutside}
+use Rattle.btr_scrub.specs.Repair.{first_missing, met, writes}
 use Rattle.btr_scrub.specs.Scrubbing.{Works, all_count_for, all_writes_for}
 use Rattle.btr_scrub.specs.Units.{Met, units_in}
 use Rattle.btr_scrub.specs.declared.tally.Tally.{Tally}
@@ -63,3 +66,9 @@ pub record ScrubsAll (s : Super) (layout : Layout) (write : Bool) (old new : See
 -- the writes for a list of all blocks that are met are those that mend the filesystem
 abbrev pub ListedWrites : Type 0
 ListedWrites = (images : Images) (fs : Filesystem) → all_writes_for fs.layout fs.layout.chunks (checked_among (met images fs)) images ≡ writes images fs
+
+-- whatever failed, all that lies outside the ranges of those writes is as before
+abbrev pub WorksKeepTheRest : Type 0
+WorksKeepTheRest = (layout : Layout) (write : Bool) (wants : List Want) (count : Images → Tally → Tally) (old new : Seen) (t u : Tally) (result : Result (Unit {0}) MendFault) (images left : Images)
+    → IsTable layout.chunks → HaveOwnSlots layout.devices → first_missing layout ≡ None → HaveLengths images layout → old.held ≡ Some images → new.held ≡ Some left
+    → Works layout write (all_writes_for layout layout.chunks wants) count old new t u result → KeepsOutside (map (λ (write : Write). write.range) (all_writes_for layout layout.chunks wants images)) images left
