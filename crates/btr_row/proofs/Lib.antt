@@ -1,0 +1,15 @@
+pub mod Gathered
+pub mod Accepted
+pub mod Pasted
+pub mod Elements
+pub mod Shapes
+pub mod Held
+pub mod Judges
+pub mod Folded
+pub mod Wrote
+pub mod BlockWrites
+pub mod Columns
+pub mod Parts
+pub mod Prepared
+pub mod Applied
+pub mod Outcomes

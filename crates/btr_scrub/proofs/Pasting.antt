@@ -47,7 +47,7 @@ module _ (image : List ℕ) (off : ℕ) (bytes : List ℕ) (fits : off + length 
   pasted-outside i d (inr le) = pasted-above i d le
 
 -- a byte that a range doesn't cover lies outside
-not_covered : (slot off : ℕ) (range : Range) → covers slot off range ≡ false → range.slot ≡ slot → (off < range.off) ⊎ (range.off + range.len ≤ off)
+pub not_covered : (slot off : ℕ) (range : Range) → covers slot off range ≡ false → range.slot ≡ slot → (off < range.off) ⊎ (range.off + range.len ≤ off)
 not_covered slot off range e same = elim (cases_lt off range.off) [
   | inl lt ↦ inl lt
   | inr le ↦ elim (cases_lt off (range.off + range.len)) [
@@ -62,7 +62,7 @@ not_covered slot off range e same = elim (cases_lt off range.off) [
 ]
 
 -- the image in a slot, after one in a slot was replaced
-image_set : (images : Images) (slot s : ℕ) (new : List ℕ) → (length new ≡ length (image_of images slot)) → length (image_of (set images slot new) s) ≡ length (image_of images s)
+pub image_set : (images : Images) (slot s : ℕ) (new : List ℕ) → (length new ≡ length (image_of images slot)) → length (image_of (set images slot new) s) ≡ length (image_of images s)
 image_set images slot s new long = elim (cases_eq s slot) [
   | inl e ↦ elim (cases_lt slot (length images)) [
     | inl lt ↦ ap (λ k. length (get_or (set images slot new) k [])) e ∙ ap length (get_or-set_same images slot new [] lt) ∙ long ∙ ap (λ k. length (get_or images k [])) (sym e)

@@ -27,7 +27,7 @@ use Rattle.btr_scrub.proofs.Survival.{row_survives}
 use Rattle.btr_mend.specs.Writes.{Images}
 
 -- ranges of two lists that have the same bytes there
-range_same : (xs ys : List ℕ) (a b : ℕ) → b ≤ length xs → length ys ≡ length xs → ((i : ℕ) → a ≤ i → i < b → get_or xs i 0 ≡ get_or ys i 0) → slice_range xs a b ≡ slice_range ys a b
+pub range_same : (xs ys : List ℕ) (a b : ℕ) → b ≤ length xs → length ys ≡ length xs → ((i : ℕ) → a ≤ i → i < b → get_or xs i 0 ≡ get_or ys i 0) → slice_range xs a b ≡ slice_range ys a b
 range_same xs ys a b le long same =
     let lx = length-slice_range xs a b le in
     ext_get_or 0 (slice_range xs a b) (slice_range ys a b) (lx ∙ sym (length-slice_range ys a b (omega (arith, le, long))))

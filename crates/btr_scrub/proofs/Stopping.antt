@@ -54,7 +54,7 @@ fold-puts images [] = refl
 fold-puts images (Puts w ∷ xs1) = fold-puts (write_on images w) xs1
 fold-puts images (Syncs s ∷ xs1) = fold-puts images xs1
 
-none_of_append : (slot off : ℕ) (xs ys : List Write) → list_any (covers slot off) (map range_of_write (xs ++ ys)) ≡ false
+pub none_of_append : (slot off : ℕ) (xs ys : List Write) → list_any (covers slot off) (map range_of_write (xs ++ ys)) ≡ false
     → (list_any (covers slot off) (map range_of_write xs) ≡ false) × (list_any (covers slot off) (map range_of_write ys) ≡ false)
 none_of_append slot off [] ys e = (refl, e)
 none_of_append slot off (x ∷ xs) ys e = by (covers slot off x.range) e (none_of_append slot off xs ys)
@@ -65,7 +65,7 @@ none_of_append slot off (x ∷ xs) ys e = by (covers slot off x.range) e (none_o
     by true e rest = absurd (false≢true (sym e))
     by false e rest = rest e
 
-first_false : (a b : Bool) → (a || b) ≡ false → (a || false) ≡ false
+pub first_false : (a b : Bool) → (a || b) ≡ false → (a || false) ≡ false
 first_false true b e = e
 first_false false b e = refl
 

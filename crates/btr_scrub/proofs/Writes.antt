@@ -35,7 +35,7 @@ use Rattle.btr_mend.specs.Writes.{Images, Write}
 
 -- ---- lists
 
-any_append : {X : Type 0} (f : X → Bool) (xs ys : List X) → list_any f (xs ++ ys) ≡ true → (list_any f xs ≡ true) ⊎ (list_any f ys ≡ true)
+pub any_append : {X : Type 0} (f : X → Bool) (xs ys : List X) → list_any f (xs ++ ys) ≡ true → (list_any f xs ≡ true) ⊎ (list_any f ys ≡ true)
 any_append f [] ys h = inr h
 any_append f (x ∷ xs) ys h = by (f x) (list_any f xs) (any_append f xs ys) h
   where
@@ -43,18 +43,18 @@ any_append f (x ∷ xs) ys h = by (f x) (list_any f xs) (any_append f xs ys) h
     by true c rest h = inl refl
     by false c rest h = rest h
 
-any_map : {X Y : Type 0} (f : Y → Bool) (g : X → Y) (xs : List X) → list_any f (map g xs) ≡ list_any (λ x. f (g x)) xs
+pub any_map : {X Y : Type 0} (f : Y → Bool) (g : X → Y) (xs : List X) → list_any f (map g xs) ≡ list_any (λ x. f (g x)) xs
 any_map f g [] = refl
 any_map f g (x ∷ xs) = ap (λ b. f (g x) || b) (any_map f g xs)
 
-any_flat : {X Y : Type 0} (f : Y → Bool) (g : X → List Y) (xs : List X) → list_any f (flat_map g xs) ≡ true → (x : X) × In x xs × (list_any f (g x) ≡ true)
+pub any_flat : {X Y : Type 0} (f : Y → Bool) (g : X → List Y) (xs : List X) → list_any f (flat_map g xs) ≡ true → (x : X) × In x xs × (list_any f (g x) ≡ true)
 any_flat f g [] h = absurd (false≢true h)
 any_flat f g (x ∷ xs) h = elim (any_append f (g x) (flat_map g xs) h) [
   | inl here ↦ (x, inl refl, here)
   | inr later ↦ let r = any_flat f g xs later in (r.0, inr r.1, r.2)
 ]
 
-any_filter_map : {X Y : Type 0} (f : Y → Bool) (g : X → Option Y) (xs : List X) → list_any f (filter_map g xs) ≡ true → (x : X) × In x xs × ((y : Y) × (g x ≡ Some y) × (f y ≡ true))
+pub any_filter_map : {X Y : Type 0} (f : Y → Bool) (g : X → Option Y) (xs : List X) → list_any f (filter_map g xs) ≡ true → (x : X) × In x xs × ((y : Y) × (g x ≡ Some y) × (f y ≡ true))
 any_filter_map f g [] h = absurd (false≢true h)
 any_filter_map f g (x ∷ xs) h = by (g x) refl h (any_filter_map f g xs)
   where
@@ -68,7 +68,7 @@ any_filter_map f g (x ∷ xs) h = by (g x) refl h (any_filter_map f g xs)
         or true t h rest = (x, inl refl, (y, e, t))
         or false t h rest = let r = rest h in (r.0, inr r.1, r.2)
 
-passing_filter : {X : Type 0} (p : X → Bool) (x : X) (xs : List X) → In x (filter p xs) → In x xs × (p x ≡ true)
+pub passing_filter : {X : Type 0} (p : X → Bool) (x : X) (xs : List X) → In x (filter p xs) → In x xs × (p x ≡ true)
 passing_filter p x [] h = absurd h
 passing_filter p x (y ∷ xs) h = by (p y) refl h (passing_filter p x xs)
   where
@@ -81,7 +81,7 @@ not_good : (b : Bool) → not b ≡ true → b ≡ false
 not_good true e = absurd (false≢true e)
 not_good false e = refl
 
-mapped : {X Y : Type 0} (g : X → Y) (o : Option X) (y : Y) → option_map g o ≡ Some y → (x : X) × (o ≡ Some x) × (g x ≡ y)
+pub mapped : {X Y : Type 0} (g : X → Y) (o : Option X) (y : Y) → option_map g o ≡ Some y → (x : X) × (o ≡ Some x) × (g x ≡ y)
 mapped g None y e = absurd (false≢true (ap is_some e))
 mapped g (Some x) y e = (x, refl, same_Some (g x) y e)
 

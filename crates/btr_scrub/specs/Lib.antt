@@ -13,3 +13,8 @@ pub mod Staying
 pub mod Gathering
 pub mod Extents
 pub mod Scanning
+pub mod Order
+pub mod Judging
+pub mod Rowing
+pub mod Scrubbing
+pub mod Whole

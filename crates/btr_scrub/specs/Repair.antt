@@ -28,9 +28,16 @@ use Rattle.btr_mend.specs.Writes.{Write, write_on}
 abbrev pub is_missing : List Member → ℕ → Stripe → Bool
 is_missing devices len stripe = is_none (range_on stripe.offset len (device_in devices stripe.devid))
 
+-- those of a chunk that have none
+abbrev pub missing_stripes : List Member → Chunk → List Stripe
+missing_stripes devices chunk = filter (is_missing devices (stripe_length chunk)) chunk.stripes
+
 -- the first of all stripes, by chunk and then by its number there, that has none
 abbrev pub first_missing : Layout → Option Stripe
-first_missing layout = slice_get (flat_map (λ chunk. filter (is_missing layout.devices (stripe_length chunk)) chunk.stripes) layout.chunks) 0
+first_missing layout = slice_get (flat_map (missing_stripes layout.devices) layout.chunks) 0
+
+abbrev pub devid_of : Stripe → ℕ
+devid_of stripe = stripe.devid
 
 abbrev pub ok_or_none : {T E : Type 0} → Result T E → Option T
 ok_or_none (Ok x) = Some x

@@ -4,6 +4,7 @@ ghost use Rattle.btr_scrub.specs.Places.{ElementsApart};
 ghost use Rattle.btr_scrub.specs.Listed.{FewBytes};
 ghost use Rattle.btr_scrub.specs.Staying.{RightStays, RowOutlivesWrites, RowWritesAreWrong};
 ghost use Rattle.btr_scrub.specs.Leaves.{ChunksAreSynced, StoppedKeepsTheRest, WritesKeepTheRest};
+ghost use Rattle.btr_scrub.specs.Whole.{ListedWrites, WorksKeepTheRest};
 ghost use Rattle.btr_scrub.specs.Glue.{SomeCandidateIsRight, ParityOfRanges, BlockOfElement, PartStands, RowGivesBlocks};
 
 /// Where at most as many elements of a full stripe are wrong as there is parity, some candidate of each block reads none of
@@ -95,4 +96,14 @@ pub fn stopped_keeps_the_rest()
 /// Behind each chunk no image has a write that isn't synced.
 pub fn chunks_are_synced()
     ensures { ChunksAreSynced }
+{}
+
+/// The writes for a list of all checked blocks are those that mend the filesystem.
+pub fn listed_writes()
+    ensures { ListedWrites }
+{}
+
+/// Whatever failed as the blocks of a list were mended, all that lies outside the ranges of their writes is as before.
+pub fn works_keep_the_rest()
+    ensures { WorksKeepTheRest }
 {}

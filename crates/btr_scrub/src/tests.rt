@@ -4,9 +4,10 @@ use crate::listed::Listed;
 use crate::reader::{Reader, read_all};
 use crate::{
     bad_block_is_wrong, block_of_element, chunks_are_synced, differing_parity_is_wrong,
-    elements_apart, elements_are_slices, few_bytes, list_blocks, parity_of_ranges, part_stands,
-    right_stays, row_gives_blocks, row_outlives_writes, row_survives, row_writes_are_wrong,
-    some_candidate_is_right, stopped_keeps_the_rest, writes_keep_the_rest,
+    elements_apart, elements_are_slices, few_bytes, list_blocks, listed_writes, parity_of_ranges,
+    part_stands, right_stays, row_gives_blocks, row_outlives_writes, row_survives,
+    row_writes_are_wrong, some_candidate_is_right, stopped_keeps_the_rest, works_keep_the_rest,
+    writes_keep_the_rest,
 };
 use btr_base::{Sum, SumKind};
 use btr_make::{RowVolume, row};
@@ -99,6 +100,7 @@ fn laws_do_nothing(_: HostRuntime) -> Result<(), Fail> {
     elements_apart();
     elements_are_slices();
     few_bytes();
+    listed_writes();
     parity_of_ranges();
     part_stands();
     right_stays();
@@ -108,6 +110,7 @@ fn laws_do_nothing(_: HostRuntime) -> Result<(), Fail> {
     row_writes_are_wrong();
     some_candidate_is_right();
     stopped_keeps_the_rest();
+    works_keep_the_rest();
     writes_keep_the_rest();
     Ok(())
 }

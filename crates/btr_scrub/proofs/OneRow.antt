@@ -1,0 +1,117 @@
+-- One full stripe of the table, as it was mended.
+use Rattle.std.proofs.Common.{◌≡◌, ℕ, ◌+◌, ◌*◌, ◌≤◌, Bool, true, false, leb, cond, List, [], map, length, slice_get, Option, Some, None, IfSome, IsSomeAnd, is_some, Result, Ok, Err, refl, sym, ap, ◌∙◌, subst, arith}
+use Rattle.std.proofs.lemmas.List.{length-map}
+use Rattle.std.proofs.lemmas.Option.{same_Some, slice_get_within}
+use Rattle.std.specs.List.{Any}
+use Rattle.btr_chunk.specs.Chunk.{stripe_length}
+use Rattle.btr_chunk.specs.Mapping.{HasPart, elements_of, holds, place_at, stripe_of}
+use Rattle.btr_chunk.specs.declared.mapping.MapFault.{MapFault}
+use Rattle.btr_chunk.specs.declared.mapping.MapFault.TheVariants as map_fault
+use Rattle.btr_chunk.specs.Table.{IsTable, chunk_at}
+use Rattle.btr_chunk.specs.declared.chunk.Chunk.{Chunk}
+use Rattle.btr_chunk.specs.declared.place.Part.{Part}
+use Rattle.btr_chunk.specs.declared.place.Place.{Place}
+use Rattle.btr_chunk.specs.declared.position.Elements.{Elements}
+use Rattle.btr_chunk.specs.declared.stripe.Stripe.{Stripe}
+use Rattle.btr_chunk.proofs.Bytes.{placed_part}
+use Rattle.btr_chunk.proofs.Rule.{data_count-some, facts}
+use Rattle.btr_rack.specs.Rack.{Seen, range_in}
+use Rattle.btr_rack.specs.declared.place.Place.{Place as Range}
+use Rattle.btr_read.specs.Candidates.{Target, range_on}
+use Rattle.btr_read.specs.Cause.{LiesIn}
+use Rattle.btr_read.specs.Fate.{Fault, sought, sought_at, sought_in}
+use Rattle.btr_read.specs.Layout.{Layout, device_in}
+use Rattle.btr_read.specs.Want.{addr_of, len_of}
+use Rattle.btr_read.specs.declared.want.Want.{Want}
+use Rattle.btr_mend.specs.Writes.{Images, writes_if}
+use Rattle.btr_mend.specs.declared.mended.MendFault.{MendFault}
+use Rattle.btr_row.specs.Mending.{HasRoom, IsFullStripe, IsOfRow, IsRowOf, MendsRow, is_at, mended_row}
+use Rattle.btr_row.specs.Rows.{Row, range_in_element, row_writes}
+use Rattle.btr_row.specs.declared.buffer.RowBuffer.{RowBuffer}
+use Rattle.btr_row.specs.declared.mended.MendedRow.{MendedRow}
+use Rattle.btr_scrub.specs.Leaves.{LiesInStripe}
+use Rattle.btr_scrub.specs.Scrubbing.{HasRooms, Scrubs, counted_row}
+use Rattle.btr_scrub.specs.declared.tally.Tally.{Tally}
+use Rattle.btr_scrub.proofs.Elements.{range_stands, stands_on}
+use Rattle.btr_scrub.proofs.Positions.{find_at}
+use Rattle.btr_scrub.proofs.Scrubbing.{does_fault, does_value, does_weaker, tell, told}
+use Rattle.btr_scrub.proofs.Some.{any_at}
+
+-- the number of its chunk
+pub chunk_number : (layout : Layout) (start number : ℕ) (row : Row) → IsFullStripe layout start number row → (i : ℕ) × (slice_get layout.chunks i ≡ Some row.chunk)
+chunk_number layout start number row is = let f = find_at (λ c. holds c start) layout.chunks row.chunk is.chunk in (f.0, f.1)
+
+pub has_room : (layout : Layout) (buffer : RowBuffer) (start number : ℕ) (wants : List Want) (row : Row) → HasRooms layout buffer → IsRowOf layout start number wants row → HasRoom buffer (length row.chunk.stripes)
+has_room layout buffer start number wants row rooms is = let n = chunk_number layout start number row is.stripe in rooms n.0 row.chunk n.1 is.stripe.parity
+
+pub as_many : (layout : Layout) (start number : ℕ) (wants : List Want) (row : Row) → IsRowOf layout start number wants row → length wants ≡ length row.blocks
+as_many layout start number wants row is = sym (length-map wants (sought layout)) ∙ ap length is.blocks ∙ length-map row.blocks is_at
+
+-- a range in an element lies in a stripe of the table
+pub row_in_stripe : (layout : Layout) (start number : ℕ) (row : Row) (range : Range) → IsTable layout.chunks → IsFullStripe layout start number row → IsOfRow layout row range → LiesInStripe layout range
+row_in_stripe layout start number row range table is of = by (range_in_element layout row of.part 0 65536) refl of.lies
+  where
+    pick : (b : Bool) (outer : Range) → LiesIn range outer → IfSome (cond b (Some outer) None) (LiesIn range)
+    pick true outer h = h
+    pick false outer h = tt
+
+    by : (o : Option Range) → range_in_element layout row of.part 0 65536 ≡ o → IsSomeAnd o (LiesIn range) → LiesInStripe layout range
+    by None e h = absurd h
+    by (Some outer) e h =
+        let n = chunk_number layout start number row is in
+        let sound = (table.sound n.0 row.chunk n.1).0 in
+        let at0 : Elements = record { row = row.number; index = 0; rest = 0 } in
+        let p = placed_part row.chunk of.part at0 sound of.has (record { index = data_count-some row.chunk.profile (length row.chunk.stripes) (facts row.chunk sound).count; inside = omega (arith, is.inside, is.number_is) }) in
+        let k = stripe_of row.chunk.profile (length row.chunk.stripes) of.part at0 in
+        let place = place_at row.chunk of.part at0 in
+        let s = stands_on place.offset 65536 (device_in layout.devices place.devid) (ap is_some e) in
+        let same : outer ≡ range_in s.device.slot place.offset 65536 = same_Some outer (range_in s.device.slot place.offset 65536) (sym e ∙ range_stands place.offset 65536 (device_in layout.devices place.devid) s.device s.there s.within) in
+        let offset : place.offset ≡ p.stripe.offset + row.number * 65536 + 0 = ap (λ (x : Place). x.offset) p.place in
+        let given : device_in layout.devices p.stripe.devid ≡ Some s.device = ap (λ (x : Place). device_in layout.devices x.devid) (sym p.place) ∙ s.there in
+        let slot : outer.slot ≡ s.device.slot = ap (λ (r : Range). r.slot) same in
+        let off : outer.off ≡ place.offset = ap (λ (r : Range). r.off) same in
+        let len : outer.len ≡ 65536 = ap (λ (r : Range). r.len) same in
+        let whole : IfSome (range_on p.stripe.offset (stripe_length row.chunk) (device_in layout.devices p.stripe.devid)) (LiesIn range) =
+        subst (λ o. IfSome (range_on p.stripe.offset (stripe_length row.chunk) o) (LiesIn range)) (sym given)
+        (pick (leb (p.stripe.offset + stripe_length row.chunk) s.device.len) (range_in s.device.slot p.stripe.offset (stripe_length row.chunk)) (record {
+          slot = h.slot ∙ slot;
+          from = omega (arith, h.from, off, offset);
+          to = omega (arith, h.to, off, len, offset, is.inside, is.number_is);
+        })) in
+        any_at (λ chunk. Any (λ (stripe : Stripe). IfSome (range_on stripe.offset (stripe_length chunk) (device_in layout.devices stripe.devid)) (LiesIn range)) chunk.stripes) layout.chunks n.0 row.chunk
+        (slice_get_within layout.chunks n.0 row.chunk n.1) n.1
+        (any_at (λ (stripe : Stripe). IfSome (range_on stripe.offset (stripe_length row.chunk) (device_in layout.devices stripe.devid)) (LiesIn range)) row.chunk.stripes k p.stripe (slice_get_within row.chunk.stripes k p.stripe p.there) p.there whole)
+
+-- it was mended, and counted
+pub scrubs_row : (layout : Layout) (write : Bool) (row : Row) (m n : List Bool) (a b : Seen) (tally tally' : Tally) (mended : MendedRow) → ((range : Range) → IsOfRow layout row range → LiesInStripe layout range)
+    → MendsRow layout row write m n a b (Ok mended) → tally' ≡ counted_row tally (length row.blocks) mended
+    → Scrubs {A = Unit {0}} layout write (λ images. row_writes images layout row) (λ images tally. counted_row tally (length row.blocks) (mended_row images layout row write)) m n a b tally tally' (Ok (tt {0}))
+scrubs_row layout write row m n a b tally tally' mended in_stripe h e = record {
+  does = does_value (LiesInStripe layout) (λ images. writes_if write (row_writes images layout row)) m n a b mended tt (does_weaker (IsOfRow layout row) (LiesInStripe layout) (λ images. writes_if write (row_writes images layout row)) m n a b (Ok mended) in_stripe h.does);
+  counts = tell a.held (λ images. tally' ≡ counted_row tally (length row.blocks) (mended_row images layout row write)) (λ images held. e ∙ ap (counted_row tally (length row.blocks)) (told a.held (λ images. mended ≡ mended_row images layout row write) images held h.counts));
+}
+
+pub scrubs_row_not : (layout : Layout) (write : Bool) (row : Row) (m n : List Bool) (a b : Seen) (tally : Tally) (fault : MendFault) → ((range : Range) → IsOfRow layout row range → LiesInStripe layout range)
+    → MendsRow layout row write m n a b (Err fault)
+    → Scrubs {A = Unit {0}} layout write (λ images. row_writes images layout row) (λ images tally. counted_row tally (length row.blocks) (mended_row images layout row write)) m n a b tally tally (Err fault)
+scrubs_row_not layout write row m n a b tally fault in_stripe h = record {
+  does = does_fault {A = MendedRow} {B = Unit {0}} (LiesInStripe layout) (λ images. writes_if write (row_writes images layout row)) m n a b fault (does_weaker {A = MendedRow} (IsOfRow layout row) (LiesInStripe layout) (λ images. writes_if write (row_writes images layout row)) m n a b (Err fault) in_stripe h.does);
+  counts = tt;
+}
+
+-- the chunk of what is sought is the one that holds the address
+pub chunk_of : (layout : Layout) (w : Want) (t : Target) → sought layout w ≡ Ok t → chunk_at layout.chunks (addr_of w) ≡ Some t.chunk
+chunk_of layout w t e = by (chunk_at layout.chunks (addr_of w)) e
+  where
+    at : (chunk : Chunk) (r : Result Elements MapFault) → sought_at layout w chunk r ≡ Ok t → chunk ≡ t.chunk
+    at chunk (Err map_fault.Unmapped) e = cc
+    at chunk (Err map_fault.Crosses) e = cc
+    at chunk (Ok p) e = ap chunk_in e
+      where
+        chunk_in : Result Target Fault → Chunk
+        chunk_in (Ok t) = t.chunk
+        chunk_in (Err f) = chunk
+
+    by : (o : Option Chunk) → sought_in layout w o ≡ Ok t → o ≡ Some t.chunk
+    by None e = cc
+    by (Some chunk) e = ap Some (at chunk (elements_of chunk (addr_of w) (len_of layout.setting w)) e)

@@ -1,0 +1,85 @@
+-- Whatever failed, nothing changes but the ranges of the writes.
+use Rattle.std.proofs.Common.{◌≡◌, ◌⊎◌, ℕ, zero, suc, ◌+◌, ◌≤◌, Bool, true, false, ◌||◌, List, [], ◌∷◌, ◌++◌, map, length, All, slice_get, Option, Some, None, IsSomeAnd, Result, Ok, Err, refl, sym, ap, ◌∙◌, subst, inl, inr, arith}
+use Rattle.std.proofs.lemmas.Bool.{false≢true}
+use Rattle.std.proofs.lemmas.Option.{same_Some}
+use Rattle.std.specs.List.{fold, list_any}
+use Rattle.btr_chunk.specs.declared.chunk.Chunk.{Chunk}
+use Rattle.btr_chunk.specs.Table.{IsTable}
+use Rattle.btr_rack.specs.Rack.{Seen}
+use Rattle.btr_rack.specs.declared.place.Place.{Place as Range}
+use Rattle.btr_read.specs.Layout.{HaveOwnSlots, Layout}
+use Rattle.btr_read.specs.declared.want.Want.{Want}
+use Rattle.btr_mend.specs.Writes.{Images, IsStopped, IsTorn, Leaves, Write, write_on, writes_if}
+use Rattle.btr_mend.specs.declared.mended.MendFault.{MendFault}
+use Rattle.btr_scrub.specs.Devices.{HaveLengths}
+use Rattle.btr_scrub.specs.Glue.{In}
+use Rattle.btr_scrub.specs.Leaves.{KeepsOutside}
+use Rattle.btr_scrub.specs.Repair.{covers, first_missing}
+use Rattle.btr_scrub.specs.Scrubbing.{Works, all_writes_for, chunk_writes_for}
+use Rattle.btr_scrub.specs.Whole.{WorksKeepTheRest}
+use Rattle.btr_scrub.proofs.AcrossChunks.{chunk_short, flat_short}
+use Rattle.btr_scrub.proofs.Shorts.{Short, one_short, shorts_keep, shorts_keep_if}
+use Rattle.btr_scrub.proofs.Stopping.{first_false, none_of_append}
+
+at_in : {X : Type 0} (x : X) (xs : List X) → In x xs → (i : ℕ) × (slice_get xs i ≡ Some x)
+at_in x [] i = absurd i
+at_in x (y ∷ xs) (inl e) = (0, ap Some e)
+at_in x (y ∷ xs) (inr i) = let r = at_in x xs i in (suc r.0, r.1)
+
+left_short : (images : Images) (xs ys : List Write) → All (Short images) (xs ++ ys) → All (Short images) xs
+left_short images [] ys all i d below = absurd (omega (arith, below))
+left_short images (x ∷ xs) ys all zero d below = all 0 d (omega arith)
+left_short images (x ∷ xs) ys all (suc i) d below = left_short images xs ys (λ j e lt. all (suc j) e (omega (arith, lt))) i d (omega (arith, below))
+
+right_short : (images : Images) (xs ys : List Write) → All (Short images) (xs ++ ys) → All (Short images) ys
+right_short images [] ys all = all
+right_short images (x ∷ xs) ys all = right_short images xs ys (λ j e lt. all (suc j) e (omega (arith, lt)))
+
+abbrev ranges : List Write → List Range
+ranges ws = map (λ (w : Write). w.range) ws
+
+torn_keeps : (images left : Images) (before behind : List Write) → All (Short images) (before ++ behind) → IsTorn behind (fold write_on images before) left → KeepsOutside (ranges (before ++ behind)) images left
+torn_keeps images left before [] all t = absurd t
+torn_keeps images left before (w ∷ behind) all t =
+    let done = shorts_keep images before (left_short images before (w ∷ behind) all) in
+    let f = right_short images before (w ∷ behind) all 0 w (omega arith) in
+    let now = fold write_on images before in
+    let one = subst (KeepsOutside (w.range ∷ []) now) (sym t.2) (one_short now w.range t.0 (omega (arith, t.1, f.short)) (omega (arith, f.within, done.lengths w.range.slot))) in
+    record {
+      count = one.count ∙ done.count;
+      lengths = λ slot. one.lengths slot ∙ done.lengths slot;
+      bytes = λ slot off e.
+          let apart = none_of_append slot off before (w ∷ behind) e in
+          one.bytes slot off (first_false (covers slot off w.range) (list_any (covers slot off) (ranges behind)) apart.1) ∙ done.bytes slot off apart.0;
+    }
+
+stopped_keeps : (images left : Images) (ws : List Write) → All (Short images) ws → IsStopped ws images left → KeepsOutside (ranges ws) images left
+stopped_keeps images left ws all s =
+    let shorts = subst (All (Short images)) s.place all in
+    subst (λ vs. KeepsOutside (ranges vs) images left) (sym s.place) (elim s.stands [
+      | inl same ↦
+          let done = shorts_keep images s.before (left_short images s.before s.behind shorts) in
+          subst (KeepsOutside (ranges (s.before ++ s.behind)) images) (sym same) (record { count = done.count; lengths = done.lengths; bytes = λ slot off e. done.bytes slot off (none_of_append slot off s.before s.behind e).0 })
+      | inr part ↦ torn_keeps images left s.before s.behind shorts part
+    ])
+
+stopped_if : (write : Bool) (images left : Images) (ws : List Write) → All (Short images) ws → IsStopped (writes_if write ws) images left → KeepsOutside (ranges ws) images left
+stopped_if true images left ws all s = stopped_keeps images left ws all s
+stopped_if false images left ws all s =
+    let none = stopped_keeps images left [] (λ i d below. absurd (omega (arith, below))) s in
+    record { count = none.count; lengths = none.lengths; bytes = λ slot off e. none.bytes slot off refl }
+
+pub works_keep_the_rest : WorksKeepTheRest
+works_keep_the_rest layout write wants count old new t u result images left table own given lengths held is h = by result h.does.held
+  where
+    shorts : All (Short images) (all_writes_for layout layout.chunks wants images)
+    shorts = flat_short images (λ c. chunk_writes_for layout c wants images) layout.chunks (λ c i. let j = at_in c layout.chunks i in chunk_short layout table own given j.0 c j.1 wants images lengths)
+
+    by : (r : Result (Unit {0}) MendFault) → Leaves (λ images. writes_if write (all_writes_for layout layout.chunks wants images)) old.held new.held r → KeepsOutside (ranges (all_writes_for layout layout.chunks wants images)) images left
+    by (Ok x) l =
+        let after : new.held ≡ Some (fold write_on images (writes_if write (all_writes_for layout layout.chunks wants images))) = subst (λ o. Leaves {A = Unit {0}} {E = MendFault} (λ images. writes_if write (all_writes_for layout layout.chunks wants images)) o new.held (Ok x)) held l in
+        subst (KeepsOutside (ranges (all_writes_for layout layout.chunks wants images)) images) (same_Some (fold write_on images (writes_if write (all_writes_for layout layout.chunks wants images))) left (sym after ∙ is))
+        (shorts_keep_if write images (all_writes_for layout layout.chunks wants images) shorts)
+    by (Err e) l =
+        let stopped : IsSomeAnd new.held (IsStopped (writes_if write (all_writes_for layout layout.chunks wants images)) images) = subst (λ o. Leaves {A = Unit {0}} {E = MendFault} (λ images. writes_if write (all_writes_for layout layout.chunks wants images)) o new.held (Err e)) held l in
+        stopped_if write images left (all_writes_for layout layout.chunks wants images) shorts (subst (λ o. IsSomeAnd o (IsStopped (writes_if write (all_writes_for layout layout.chunks wants images)) images)) is stopped)

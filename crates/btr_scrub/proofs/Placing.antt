@@ -1,0 +1,55 @@
+-- Whether blocks have a position.
+use Rattle.std.proofs.Common.{◌≡◌, ℕ, ◌+◌, ◌-◌, ◌%◌, ◌≤◌, Bool, true, false, cond, ◌&&◌, ltb, List, [], ◌∷◌, Option, Some, None, Result, Ok, Err, IsOk, refl, sym, ap, ◌∙◌, subst}
+use Rattle.std.proofs.lemmas.Bool.{false≢true}
+use Rattle.btr_chunk.specs.Chunk.{is_striped}
+use Rattle.btr_chunk.specs.Mapping.{crosses, elements_of, holds, position}
+use Rattle.btr_chunk.specs.Table.{chunk_at}
+use Rattle.btr_chunk.specs.declared.chunk.Chunk.{Chunk}
+use Rattle.btr_chunk.specs.declared.mapping.MapFault.{MapFault}
+use Rattle.btr_chunk.specs.declared.mapping.MapFault.TheVariants as map_fault
+use Rattle.btr_chunk.specs.declared.position.Elements.{Elements}
+use Rattle.btr_read.specs.Candidates.{Target}
+use Rattle.btr_read.specs.Fate.{Fault, Unmapped, Crosses, sought, sought_at, sought_in}
+use Rattle.btr_read.specs.Layout.{Layout}
+use Rattle.btr_read.specs.Want.{addr_of, len_of}
+use Rattle.btr_read.specs.declared.want.Want.{Want}
+use Rattle.btr_walk.specs.declared.fault.TreeFault.TheVariants as tree
+use Rattle.btr_scrub.specs.Judging.{JudgedOne}
+use Rattle.btr_scrub.proofs.Positions.{left_false, not_above}
+
+not_ok : (r : Result Target Fault) (f : Fault) → r ≡ Err f → IsOk r → ⊥
+not_ok r f e h = false≢true (subst IsOk e h)
+
+-- bytes that have a position end in their chunk
+pub ends_inside : (chunk : Chunk) (addr len : ℕ) (at : Elements) → elements_of chunk addr len ≡ Ok at → addr + len ≤ chunk.start + chunk.length
+ends_inside chunk addr len at e = by (holds chunk addr) (crosses chunk addr len) refl e
+  where
+    by : (h c : Bool) → crosses chunk addr len ≡ c → cond h (cond c (Err map_fault.Crosses) (Ok (position chunk addr))) (Err map_fault.Unmapped) ≡ Ok at → addr + len ≤ chunk.start + chunk.length
+    by true true fine e = cc
+    by true false fine e = not_above (chunk.start + chunk.length) (addr + len) (left_false (ltb (chunk.start + chunk.length) (addr + len)) (is_striped chunk.profile && ltb 65536 ((addr - chunk.start) % 65536 + len)) fine)
+    by false c fine e = cc
+
+module _ (layout : Layout) (from : ℕ) (want : Want) (addr : ℕ) (is : addr ≡ addr_of want) where
+  pub no_chunk : None ≡ chunk_at layout.chunks addr → JudgedOne layout from want (Err (tree.Unmapped addr))
+  no_chunk e =
+      let none : sought layout want ≡ Err (Unmapped addr) = ap (λ a. sought_in layout want (chunk_at layout.chunks a)) (sym is) ∙ ap (sought_in layout want) (sym e) ∙ ap (λ a. Err (Unmapped a)) (sym is) in
+      ((want, none), λ _. not_ok (sought layout want) (Unmapped addr) none)
+
+  module _ (chunk : Chunk) (len : ℕ) (there : Some chunk ≡ chunk_at layout.chunks addr) (long : len ≡ len_of layout.setting want) where
+    at_chunk : (r : Result Elements MapFault) → r ≡ elements_of chunk addr len → sought layout want ≡ sought_at layout want chunk r
+    at_chunk r e =
+        ap (λ a. sought_in layout want (chunk_at layout.chunks a)) (sym is) ∙ ap (sought_in layout want) (sym there)
+        ∙ ap (λ a. sought_at layout want chunk (elements_of chunk a (len_of layout.setting want))) (sym is) ∙ ap (λ n. sought_at layout want chunk (elements_of chunk addr n)) (sym long) ∙ ap (sought_at layout want chunk) (sym e)
+
+    pub not_in_chunk : Err map_fault.Unmapped ≡ elements_of chunk addr len → JudgedOne layout from want (Err (tree.Unmapped addr))
+    not_in_chunk e =
+        let none : sought layout want ≡ Err (Unmapped addr) = at_chunk (Err map_fault.Unmapped) e ∙ ap (λ a. Err (Unmapped a)) (sym is) in
+        ((want, none), λ _. not_ok (sought layout want) (Unmapped addr) none)
+
+    pub crosses_there : Err map_fault.Crosses ≡ elements_of chunk addr len → JudgedOne layout from want (Err (tree.Crosses addr))
+    crosses_there e =
+        let none : sought layout want ≡ Err (Crosses addr) = at_chunk (Err map_fault.Crosses) e ∙ ap (λ a. Err (Crosses a)) (sym is) in
+        ((want, none), λ _. not_ok (sought layout want) (Crosses addr) none)
+
+    pub is_placed : (at : Elements) → Ok at ≡ elements_of chunk addr len → IsOk (sought layout want)
+    is_placed at e = subst IsOk (sym (at_chunk (Ok at) e)) refl

@@ -1,0 +1,321 @@
+-- Where blocks with copies lie.
+use Rattle.std.proofs.Common.{◌≡◌, ◌⊎◌, ℕ, zero, suc, ◌+◌, ◌-◌, ◌*◌, ◌/◌, ◌%◌, ◌<◌, ◌≤◌, Bool, true, false, cond, ◌&&◌, ◌||◌, leb, ltb, List, [], ◌∷◌, length, get_or, slice_get, Option, Some, None, IsSome, is_some, IsSomeAnd, IfSome, Result, Ok, Err, refl, sym, ap, ◌∙◌, subst, inl, inr, arith}
+use Rattle.std.proofs.lemmas.Bool.{false≢true, and_from, and_parts, leb-true, ltb-true, le-leb, lt-ltb, cases_lt}
+use Rattle.std.proofs.lemmas.Option.{same_Some, slice_get_within}
+use Rattle.std.specs.List.{Any, cons_option, find}
+use Rattle.btr_chunk.specs.Apart.{IsOfCopy}
+use Rattle.btr_chunk.specs.Chunk.{IsChunk, data_count, is_striped, mirror_count, stripe_length}
+use Rattle.btr_chunk.specs.Mapping.{HasPart, IsPosition, crosses, data_part, data_place, elements_of, holds, place_at, place_on, position, stripe_of}
+use Rattle.btr_chunk.specs.Table.{IsTable, chunk_at}
+use Rattle.btr_chunk.specs.declared.chunk.Chunk.{Chunk}
+use Rattle.btr_chunk.specs.declared.mapping.MapFault.TheVariants as map_fault
+use Rattle.btr_chunk.specs.declared.place.Part.{Part}
+use Rattle.btr_chunk.specs.declared.place.Part.TheVariants.{Mirror}
+use Rattle.btr_chunk.specs.declared.place.Place.{Place}
+use Rattle.btr_chunk.specs.declared.position.Elements.{Elements}
+use Rattle.btr_chunk.specs.declared.profile.Profile.{Profile}
+use Rattle.btr_chunk.specs.declared.profile.Profile.TheVariants.{Single, Dup, Raid0, Raid1, Raid1c3, Raid1c4, Raid10, Raid5, Raid6}
+use Rattle.btr_chunk.specs.declared.stripe.Stripe.{Stripe}
+use Rattle.btr_chunk.proofs.Apart.{copies_apart}
+use Rattle.btr_chunk.proofs.Bytes.{IsPosition-position, placed_part}
+use Rattle.btr_chunk.proofs.Rule.{data_count-mirrored, reaches-rows}
+use Rattle.btr_rack.specs.Rack.{range_in}
+use Rattle.btr_rack.specs.declared.place.Place.{Place as Range}
+use Rattle.btr_read.specs.Candidates.{Target, range_of, range_on, size_of}
+use Rattle.btr_read.specs.Cause.{LiesIn}
+use Rattle.btr_read.specs.Fate.{Fault, sought, sought_at, sought_in}
+use Rattle.btr_read.specs.Layout.{HaveOwnSlots, Layout, device_in}
+use Rattle.btr_read.specs.Mirror.{HasMirror}
+use Rattle.btr_read.specs.Want.{addr_of, len_of}
+use Rattle.btr_read.specs.declared.device.Device.{Device}
+use Rattle.btr_read.specs.declared.want.Want.{Want}
+use Rattle.btr_mend.specs.Mending.{IsOfCopy as IsOfMirror}
+use Rattle.btr_scrub.specs.Leaves.{LiesInStripe}
+use Rattle.btr_scrub.specs.Order.{IsSought}
+use Rattle.btr_scrub.specs.Repair.{covers}
+use Rattle.btr_scrub.proofs.Elements.{range_stands, stands_on}
+use Rattle.btr_scrub.proofs.Places.{covering}
+use Rattle.btr_scrub.proofs.Some.{any_at}
+
+-- ---- what is sought
+
+-- the first that passes has a number
+pub find_at : {X : Type 0} (p : X → Bool) (xs : List X) (x : X) → find p xs ≡ Some x → (i : ℕ) × (slice_get xs i ≡ Some x) × (p x ≡ true)
+find_at p [] x e = cc
+find_at p (y ∷ xs) x e = by (p y) refl e (find_at p xs x)
+  where
+    by : (b : Bool) → p y ≡ b → cond b (Some y) (find p xs) ≡ Some x → (find p xs ≡ Some x → (i : ℕ) × (slice_get xs i ≡ Some x) × (p x ≡ true)) → (i : ℕ) × (slice_get (y ∷ xs) i ≡ Some x) × (p x ≡ true)
+    by true t e rest = let same = same_Some y x e in (0, e, ap p (sym same) ∙ t)
+    by false t e rest = let r = rest e in (suc r.0, r.1, r.2)
+
+module _ (layout : Layout) (want : Want) (t : Target) where
+  in_chunk : (chunk : Chunk) → (i : ℕ) × (slice_get layout.chunks i ≡ Some chunk) × (holds chunk (addr_of want) ≡ true) → sought_in layout want (Some chunk) ≡ Ok t → IsSought layout t
+  in_chunk chunk place e = by (holds chunk (addr_of want)) (crosses chunk (addr_of want) (len_of layout.setting want)) refl e
+    where
+      by : (h c : Bool) → crosses chunk (addr_of want) (len_of layout.setting want) ≡ c
+          → sought_at layout want chunk (cond h (cond c (Err map_fault.Crosses) (Ok (position chunk (addr_of want)))) (Err map_fault.Unmapped)) ≡ Ok t → IsSought layout t
+      by true true fine e = cc
+      by true false fine e = let same : record { want = want; setting = layout.setting; chunk = chunk; at = position chunk (addr_of want); devices = layout.devices } ≡ t = cc in subst (IsSought layout) same (record { number = place.0; there = place.1; held = place.2; uncrossed = fine; at = refl; setting = refl; devices = refl })
+      by false c fine e = cc
+
+  in_some : (o : Option Chunk) → chunk_at layout.chunks (addr_of want) ≡ o → sought_in layout want o ≡ Ok t → IsSought layout t
+  in_some None at e = cc
+  in_some (Some chunk) at e = in_chunk chunk (find_at (λ c. holds c (addr_of want)) layout.chunks chunk at) e
+
+  -- what is sought has the position of its address
+  pub is_sought : sought layout want ≡ Ok t → IsSought layout t
+  is_sought e = in_some (chunk_at layout.chunks (addr_of want)) refl e
+
+-- ---- bytes of copies
+
+-- the part of a byte's own copy
+own_part : (p : Profile) (n m copy : ℕ) (at : Elements) → mirror_count p n ≡ Some m → data_part p copy at ≡ Mirror copy
+own_part Single n m copy at e = refl
+own_part Dup n m copy at e = refl
+own_part Raid0 n m copy at e = refl
+own_part Raid1 n m copy at e = refl
+own_part Raid1c3 n m copy at e = refl
+own_part Raid1c4 n m copy at e = refl
+own_part Raid10 n m copy at e = refl
+own_part Raid5 n m copy at e = cc
+own_part Raid6 n m copy at e = cc
+
+-- the stripe of a copy hangs on the element alone
+copy_stripe : (p : Profile) (n copy : ℕ) (at bt : Elements) → at.index ≡ bt.index → stripe_of p n (Mirror copy) at ≡ stripe_of p n (Mirror copy) bt
+copy_stripe Single n copy at bt e = refl
+copy_stripe Dup n copy at bt e = refl
+copy_stripe Raid0 n copy at bt e = e
+copy_stripe Raid1 n copy at bt e = refl
+copy_stripe Raid1c3 n copy at bt e = refl
+copy_stripe Raid1c4 n copy at bt e = refl
+copy_stripe Raid10 n copy at bt e = ap (λ i. 2 * i + copy) e
+copy_stripe Raid5 n copy at bt e = refl
+copy_stripe Raid6 n copy at bt e = refl
+
+pub left_false : (a b : Bool) → (a || b) ≡ false → a ≡ false
+left_false true b e = e
+left_false false b e = refl
+
+pub right_false : (a b : Bool) → (a || b) ≡ false → b ≡ false
+right_false true b e = absurd (false≢true (sym e))
+right_false false b e = e
+
+pub not_above : (a b : ℕ) → ltb a b ≡ false → b ≤ a
+not_above a b e = elim (cases_lt a b) [ inl lt ↦ absurd (false≢true (sym e ∙ lt-ltb a b lt)) | inr le ↦ le ]
+
+-- a byte behind another in one piece lies in the same element
+record IsBehind (at bt : Elements) (d : ℕ) : Type 0 where
+  row : bt.row ≡ at.row
+  index : bt.index ≡ at.index
+  rest : bt.rest ≡ at.rest + d
+
+rows_behind : (o d k : ℕ) → o % 65536 + d < 65536 → IsBehind (record { row = o / 65536 / k; index = o / 65536 % k; rest = o % 65536 }) (record { row = (o + d) / 65536 / k; index = (o + d) / 65536 % k; rest = (o + d) % 65536 }) d
+rows_behind o d k lt =
+    let whole : (o + d) / 65536 ≡ o / 65536 = omega (arith, lt) in
+    record { row = ap (λ q. q / k) whole; index = ap (λ q. q % k) whole; rest = omega (arith, lt) }
+
+-- the position of an offset in a chunk whose rows have k elements of data, where it has rows
+abbrev place_in : Bool → ℕ → ℕ → Elements
+place_in b k o = cond b (record { row = o / 65536 / k; index = o / 65536 % k; rest = o % 65536 }) (record { row = 0; index = 0; rest = o })
+
+position_behind : (chunk : Chunk) (addr len d : ℕ) → chunk.start ≤ addr → crosses chunk addr len ≡ false → d < len → IsBehind (position chunk addr) (position chunk (addr + d)) d
+position_behind chunk addr len d from fine lt = by (is_striped chunk.profile) fine
+  where
+    offset : addr + d - chunk.start ≡ addr - chunk.start + d
+    offset = omega (arith, from)
+
+    by : (b : Bool) → (ltb (chunk.start + chunk.length) (addr + len) || b && ltb 65536 ((addr - chunk.start) % 65536 + len)) ≡ false → IsBehind (place_in b (data_count chunk.profile (length chunk.stripes)) (addr - chunk.start)) (place_in b (data_count chunk.profile (length chunk.stripes)) (addr + d - chunk.start)) d
+    by true fine =
+        let small : (addr - chunk.start) % 65536 + len ≤ 65536 = not_above 65536 ((addr - chunk.start) % 65536 + len) (right_false (ltb (chunk.start + chunk.length) (addr + len)) (ltb 65536 ((addr - chunk.start) % 65536 + len)) fine) in
+        let k = data_count chunk.profile (length chunk.stripes) in
+        subst (λ o. IsBehind (place_in true k (addr - chunk.start)) (place_in true k o) d) (sym offset) (rows_behind (addr - chunk.start) d k (omega (arith, small, lt)))
+    by false fine = record { row = refl; index = refl; rest = offset }
+
+-- where a byte of a copy lies on its device
+pub record IsCopyByte (layout : Layout) (t : Target) (slot off : ℕ) : Type 0 where
+  pub device : Device
+  pub behind : ℕ
+  pub copy : ℕ
+  pub has : HasMirror copy t
+  pub below : behind < size_of t
+  pub given : device_in layout.devices (place_at t.chunk (Mirror copy) t.at).devid ≡ Some device
+  pub same_slot : device.slot ≡ slot
+  pub offset : off ≡ (place_at t.chunk (Mirror copy) t.at).offset + behind
+
+-- a byte that a copy's range covers
+pub of_range : (layout : Layout) (t : Target) (copy slot off : ℕ) (range : Range) → IsSought layout t → HasMirror copy t → range_of t (Mirror copy) ≡ Some range → covers slot off range ≡ true → IsCopyByte layout t slot off
+of_range layout t copy slot off range is has e c =
+    let place = place_at t.chunk (Mirror copy) t.at in
+    let s = stands_on place.offset (size_of t) (device_in t.devices place.devid) (ap (λ o. is_some o) e) in
+    let stands = range_stands place.offset (size_of t) (device_in t.devices place.devid) s.device s.there s.within in
+    let same : range ≡ range_in s.device.slot place.offset (size_of t) = same_Some range (range_in s.device.slot place.offset (size_of t)) (sym e ∙ stands) in
+    let at = covering slot off (range_in s.device.slot place.offset (size_of t)) (ap (covers slot off) (sym same) ∙ c) in
+    record {
+      device = s.device;
+      behind = off - place.offset;
+      copy = copy;
+      has = has;
+      below = omega (arith, at.1, at.2);
+      given = ap (λ ds. device_in ds place.devid) (sym is.devices) ∙ s.there;
+      same_slot = at.0;
+      offset = omega (arith, at.1);
+    }
+
+-- it is the byte of an address of the block
+pub is_of_copy : (layout : Layout) (t : Target) (slot off : ℕ) → IsTable layout.chunks → (is : IsSought layout t) → (b : IsCopyByte layout t slot off)
+    → IsOfCopy layout.chunks (record { devid = (place_at t.chunk (Mirror b.copy) t.at).devid; offset = off }) is.number b.copy (addr_of t.want + b.behind)
+is_of_copy layout t slot off table is b =
+    let addr = addr_of t.want in
+    let sound = (table.sound is.number t.chunk is.there).0 in
+    let h = and_parts (leb t.chunk.start addr) (ltb addr (t.chunk.start + t.chunk.length)) is.held in
+    let from = leb-true t.chunk.start addr h.0 in
+    let ends : addr + size_of t ≤ t.chunk.start + t.chunk.length = not_above (t.chunk.start + t.chunk.length) (addr + size_of t) (left_false (ltb (t.chunk.start + t.chunk.length) (addr + size_of t)) (is_striped t.chunk.profile && ltb 65536 ((addr - t.chunk.start) % 65536 + size_of t)) is.uncrossed) in
+    let there : holds t.chunk (addr + b.behind) ≡ true = and_from (leb t.chunk.start (addr + b.behind)) (ltb (addr + b.behind) (t.chunk.start + t.chunk.length)) (le-leb t.chunk.start (addr + b.behind) (omega (arith, from))) (lt-ltb (addr + b.behind) (t.chunk.start + t.chunk.length) (omega (arith, ends, b.below))) in
+    let one = position t.chunk addr in
+    let two = position t.chunk (addr + b.behind) in
+    let same = position_behind t.chunk addr (size_of t) b.behind from is.uncrossed b.below in
+    let at_one = placed_part t.chunk (Mirror b.copy) one sound b.has (IsPosition-position t.chunk addr sound is.held) in
+    let at_two = placed_part t.chunk (Mirror b.copy) two sound b.has (IsPosition-position t.chunk (addr + b.behind) sound there) in
+    let stripe : at_two.stripe ≡ at_one.stripe = same_Some at_two.stripe at_one.stripe (sym at_two.there ∙ ap (slice_get t.chunk.stripes) (copy_stripe t.chunk.profile (length t.chunk.stripes) b.copy two one same.index) ∙ at_one.there) in
+    let place_one : place_at t.chunk (Mirror b.copy) t.at ≡ place_on at_one.stripe one = ap (place_at t.chunk (Mirror b.copy)) is.at ∙ at_one.place in
+    let place_two : place_at t.chunk (Mirror b.copy) two ≡ place_on at_one.stripe two = at_two.place ∙ ap (λ s. place_on s two) stripe in
+    let devid : (place_at t.chunk (Mirror b.copy) t.at).devid ≡ at_one.stripe.devid = ap (λ (p : Place). p.devid) place_one in
+    let offset : (place_at t.chunk (Mirror b.copy) t.at).offset ≡ at_one.stripe.offset + one.row * 65536 + one.rest = ap (λ (p : Place). p.offset) place_one in
+    record {
+      chunk = t.chunk;
+      there = is.there;
+      copies = b.has;
+      holds = there;
+      at = ap (λ part. place_at t.chunk part two) (own_copy t.chunk.profile (length t.chunk.stripes) b.copy two b.has) ∙ place_two
+          ∙ same_place at_one.stripe.devid (place_at t.chunk (Mirror b.copy) t.at).devid (at_one.stripe.offset + two.row * 65536 + two.rest) off (sym devid) (omega (arith, offset, same.row, same.rest, b.offset));
+    }
+  where
+    same_place : (d e a b : ℕ) → d ≡ e → a ≡ b → ◌≡◌ {A = Place} (record { devid = d; offset = a }) (record { devid = e; offset = b })
+    same_place d e a b x y = ap (λ z. record { devid = z; offset = a }) x ∙ ap (λ z. record { devid = e; offset = z }) y
+
+    own_copy : (p : Profile) (n copy : ℕ) (at : Elements) → IsSomeAnd (mirror_count p n) (λ m. copy < m) → data_part p copy at ≡ Mirror copy
+    own_copy p n copy at h = by (mirror_count p n) refl h
+      where
+        by : (o : Option ℕ) → mirror_count p n ≡ o → IsSomeAnd o (λ m. copy < m) → data_part p copy at ≡ Mirror copy
+        by None e h = absurd h
+        by (Some m) e h = own_part p n m copy at e
+
+-- two blocks that have a byte of a device in common have an address in common
+pub record Shares (t u : Target) : Type 0 where
+  pub one : ℕ
+  pub other : ℕ
+  pub below : one < size_of t
+  pub under : other < size_of u
+  pub same : addr_of t.want + one ≡ addr_of u.want + other
+
+pub shares : (layout : Layout) (t u : Target) (slot off : ℕ) → IsTable layout.chunks → HaveOwnSlots layout.devices → IsSought layout t → IsSought layout u → IsCopyByte layout t slot off → IsCopyByte layout u slot off → Shares t u
+shares layout t u slot off table own is us b c =
+    let p = place_at t.chunk (Mirror b.copy) t.at in
+    let q = place_at u.chunk (Mirror c.copy) u.at in
+    let devid : p.devid ≡ q.devid = own p.devid q.devid b.device c.device b.given c.given (b.same_slot ∙ sym c.same_slot) in
+    let both = copies_apart layout.chunks (record { devid = p.devid; offset = off }) is.number us.number b.copy c.copy (addr_of t.want + b.behind) (addr_of u.want + c.behind) table
+    (is_of_copy layout t slot off table is b)
+    (subst (λ d. IsOfCopy layout.chunks (record { devid = d; offset = off }) us.number c.copy (addr_of u.want + c.behind)) (sym devid) (is_of_copy layout u slot off table us c)) in
+    record { one = b.behind; other = c.behind; below = b.below; under = c.below; same = both.2 }
+
+-- ---- the stripe of a part
+
+-- a block's part lies in one stripe
+pub record OnStripe (t : Target) (part : Part) : Type 0 where
+  pub number : ℕ
+  pub stripe : Stripe
+  pub there : slice_get t.chunk.stripes number ≡ Some stripe
+  pub devid : (place_at t.chunk part t.at).devid ≡ stripe.devid
+  pub begin : stripe.offset ≤ (place_at t.chunk part t.at).offset
+  pub end : (place_at t.chunk part t.at).offset + size_of t ≤ stripe.offset + stripe_length t.chunk
+
+reaches : (chunk : Chunk) (addr len : ℕ) → IsChunk chunk → holds chunk addr ≡ true → crosses chunk addr len ≡ false → (position chunk addr).row * 65536 + (position chunk addr).rest + len ≤ stripe_length chunk
+reaches chunk addr len sound held fine = by (is_striped chunk.profile) refl fine
+  where
+    from : chunk.start ≤ addr
+    from = leb-true chunk.start addr (and_parts (leb chunk.start addr) (ltb addr (chunk.start + chunk.length)) held).0
+
+    below : addr < chunk.start + chunk.length
+    below = ltb-true addr (chunk.start + chunk.length) (and_parts (leb chunk.start addr) (ltb addr (chunk.start + chunk.length)) held).1
+
+    by : (b : Bool) → is_striped chunk.profile ≡ b → (ltb (chunk.start + chunk.length) (addr + len) || b && ltb 65536 ((addr - chunk.start) % 65536 + len)) ≡ false → (place_in b (data_count chunk.profile (length chunk.stripes)) (addr - chunk.start)).row * 65536 + (place_in b (data_count chunk.profile (length chunk.stripes)) (addr - chunk.start)).rest + len ≤ stripe_length chunk
+    by true striped fine =
+        let small : (addr - chunk.start) % 65536 + len ≤ 65536 = not_above 65536 ((addr - chunk.start) % 65536 + len) (right_false (ltb (chunk.start + chunk.length) (addr + len)) (ltb 65536 ((addr - chunk.start) % 65536 + len)) fine) in
+        (reaches-rows chunk (addr - chunk.start) len sound striped (omega (arith, from, below)) small).inside
+    by false mirrored fine =
+        let ends : addr + len ≤ chunk.start + chunk.length = not_above (chunk.start + chunk.length) (addr + len) (left_false (ltb (chunk.start + chunk.length) (addr + len)) false fine) in
+        let k = data_count chunk.profile (length chunk.stripes) in
+        let one : k ≡ 1 = data_count-mirrored chunk.profile (length chunk.stripes) mirrored in
+        let whole : chunk.length / k ≡ chunk.length = ap (λ n. chunk.length / n) one ∙ omega arith in
+        omega (arith, from, ends, whole)
+
+pub on_stripe : (layout : Layout) (t : Target) (part : Part) → IsTable layout.chunks → IsSought layout t → HasPart t.chunk.profile (length t.chunk.stripes) part → OnStripe t part
+on_stripe layout t part table is has =
+    let addr = addr_of t.want in
+    let sound = (table.sound is.number t.chunk is.there).0 in
+    let one = position t.chunk addr in
+    let at = placed_part t.chunk part one sound has (IsPosition-position t.chunk addr sound is.held) in
+    let place : place_at t.chunk part t.at ≡ place_on at.stripe one = ap (place_at t.chunk part) is.at ∙ at.place in
+    let offset : (place_at t.chunk part t.at).offset ≡ at.stripe.offset + one.row * 65536 + one.rest = ap (λ (p : Place). p.offset) place in
+    let inside = reaches t.chunk addr (size_of t) sound is.held is.uncrossed in
+    record {
+      number = stripe_of t.chunk.profile (length t.chunk.stripes) part one;
+      stripe = at.stripe;
+      there = at.there;
+      devid = ap (λ (p : Place). p.devid) place;
+      begin = omega (arith, offset);
+      end = omega (arith, offset, inside);
+    }
+
+-- a range in a block's part lies in a stripe of the table
+pub in_stripe : (layout : Layout) (t : Target) (part : Part) (range inner : Range) → IsTable layout.chunks → IsSought layout t → HasPart t.chunk.profile (length t.chunk.stripes) part
+    → range_of t part ≡ Some range → LiesIn inner range → LiesInStripe layout inner
+in_stripe layout t part range inner table is has e lies =
+    let on = on_stripe layout t part table is has in
+    let place = place_at t.chunk part t.at in
+    let s = stands_on place.offset (size_of t) (device_in t.devices place.devid) (ap is_some e) in
+    let stands = range_stands place.offset (size_of t) (device_in t.devices place.devid) s.device s.there s.within in
+    let same : range ≡ range_in s.device.slot place.offset (size_of t) = same_Some range (range_in s.device.slot place.offset (size_of t)) (sym e ∙ stands) in
+    let slot : range.slot ≡ s.device.slot = ap (λ (r : Range). r.slot) same in
+    let off : range.off ≡ place.offset = ap (λ (r : Range). r.off) same in
+    let len : range.len ≡ size_of t = ap (λ (r : Range). r.len) same in
+    let given : device_in layout.devices on.stripe.devid ≡ Some s.device = ap (device_in layout.devices) (sym on.devid) ∙ ap (λ ds. device_in ds place.devid) (sym is.devices) ∙ s.there in
+    let whole : IfSome (range_on on.stripe.offset (stripe_length t.chunk) (device_in layout.devices on.stripe.devid)) (LiesIn inner) =
+    subst (λ o. IfSome (range_on on.stripe.offset (stripe_length t.chunk) o) (LiesIn inner)) (sym given) (
+    by (leb (on.stripe.offset + stripe_length t.chunk) s.device.len) (range_in s.device.slot on.stripe.offset (stripe_length t.chunk)) (record {
+      slot = lies.slot ∙ slot;
+      from = omega (arith, lies.from, off, on.begin);
+      to = omega (arith, lies.to, off, len, on.end);
+    })) in
+    any_at (λ chunk. Any (λ (stripe : Stripe). IfSome (range_on stripe.offset (stripe_length chunk) (device_in layout.devices stripe.devid)) (LiesIn inner)) chunk.stripes) layout.chunks is.number t.chunk
+    (slice_get_within layout.chunks is.number t.chunk is.there) is.there
+    (any_at (λ (stripe : Stripe). IfSome (range_on stripe.offset (stripe_length t.chunk) (device_in layout.devices stripe.devid)) (LiesIn inner)) t.chunk.stripes on.number on.stripe
+    (slice_get_within t.chunk.stripes on.number on.stripe on.there) on.there whole)
+  where
+    by : (b : Bool) (outer : Range) → LiesIn inner outer → IfSome (cond b (Some outer) None) (LiesIn inner)
+    by true outer h = h
+    by false outer h = tt
+
+-- .. and so does one in a copy
+pub copy_in_stripe : (layout : Layout) (t : Target) (range : Range) → IsTable layout.chunks → IsSought layout t → IsOfMirror t range → LiesInStripe layout range
+copy_in_stripe layout t range table is h = by (range_of t (Mirror h.mirror)) refl h.lies
+  where
+    by : (o : Option Range) → range_of t (Mirror h.mirror) ≡ o → Any (LiesIn range) (cons_option o []) → LiesInStripe layout range
+    by None e a = absurd (omega (arith, a.2))
+    by (Some r) e a = at a.0 a.1 a.2 a.3 a.4
+      where
+        at : (k : ℕ) (x : Range) → k < 1 → get_or (r ∷ []) k x ≡ x → LiesIn range x → LiesInStripe layout range
+        at zero x lt same lies = in_stripe layout t (Mirror h.mirror) r range table is h.has e (subst (LiesIn range) (sym same) lies)
+        at (suc k) x lt same lies = absurd (omega (arith, lt))
+
+-- ---- chunks with rows
+
+-- the position of an address in a chunk with rows, and how far a block reaches in its element
+pub striped_position : (chunk : Chunk) (addr : ℕ) → is_striped chunk.profile ≡ true
+    → position chunk addr ≡ record { row = (addr - chunk.start) / 65536 / data_count chunk.profile (length chunk.stripes); index = (addr - chunk.start) / 65536 % data_count chunk.profile (length chunk.stripes); rest = (addr - chunk.start) % 65536 }
+striped_position chunk addr striped = rw striped refl
+
+pub striped_fits : (chunk : Chunk) (addr len : ℕ) → is_striped chunk.profile ≡ true → crosses chunk addr len ≡ false → (addr - chunk.start) % 65536 + len ≤ 65536
+striped_fits chunk addr len striped fine =
+    let both : (ltb (chunk.start + chunk.length) (addr + len) || true && ltb 65536 ((addr - chunk.start) % 65536 + len)) ≡ false = ap (λ b. ltb (chunk.start + chunk.length) (addr + len) || b && ltb 65536 ((addr - chunk.start) % 65536 + len)) (sym striped) ∙ fine in
+    not_above 65536 ((addr - chunk.start) % 65536 + len) (right_false (ltb (chunk.start + chunk.length) (addr + len)) (ltb 65536 ((addr - chunk.start) % 65536 + len)) both)

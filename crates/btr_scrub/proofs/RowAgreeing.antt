@@ -1,0 +1,191 @@
+-- What is written for a full stripe hangs on the bytes of its elements alone.
+use Rattle.std.proofs.Common.{◌≡◌, ◌⊎◌, ℕ, ◌*◌, ◌<◌, Bool, true, not, cond, ◌&&◌, ◌||◌, eqb, List, [], ◌∷◌, ◌++◌, map, length, slice_get, set, Option, Some, None, IsNone, is_none, is_some, refl, sym, ap, ◌∙◌, subst, inl, inr}
+use Rattle.std.specs.List.{filter, filter_map, flat_map, fold, list_all, list_any, range_with_len, sum_by, count_by}
+use Rattle.std.specs.Option.{option_map, option_map_or}
+use Rattle.std.specs.Str.{bytes_eq}
+use Rattle.btr_chunk.specs.Chunk.{data_count, mirror_count, mirrors}
+use Rattle.btr_chunk.specs.Mapping.{HasPart}
+use Rattle.btr_chunk.specs.declared.place.Part.{Part}
+use Rattle.btr_chunk.specs.declared.place.Part.TheVariants as part
+use Rattle.btr_chunk.specs.declared.profile.Profile.{Profile}
+use Rattle.btr_chunk.specs.declared.profile.Profile.TheVariants.{Raid5, Raid6}
+use Rattle.btr_chunk.proofs.Rows.{without_copies}
+use Rattle.btr_parity.specs.Slices.{parity_p, parity_q}
+use Rattle.btr_rack.specs.Rack.{pasted}
+use Rattle.btr_rack.specs.declared.place.Place.{Place as Range}
+use Rattle.btr_read.specs.Candidates.{Target, candidates, copies, element, others, reading, rebuilt, size_of, slice_count, slices, stands, value_of}
+use Rattle.btr_read.specs.Layout.{Layout}
+use Rattle.btr_read.specs.Solution.{byte_lists, the_one}
+use Rattle.btr_read.specs.Want.{passes}
+use Rattle.btr_read.specs.declared.candidate.Candidate.{Candidate}
+use Rattle.btr_read.specs.declared.candidate.Candidate.TheVariants.{Stands, ByP, ByQ, ByBoth}
+use Rattle.btr_read.proofs.Ones.{in_below}
+use Rattle.btr_mend.specs.Blocks.{accepted, bad_parts, block_writes, is_good, own_parts}
+use Rattle.btr_mend.specs.Writes.{Images, Write}
+use Rattle.btr_row.specs.Rows as rows
+use Rattle.btr_row.specs.Rows.{Row, blocks_at, column_of, differing, differs, element_with, is_decided, meets, parities, parity_writes, range_in_element, row_writes, sector_write, slice_with, slices_with, with_block}
+use Rattle.btr_scrub.specs.Glue.{In}
+use Rattle.btr_scrub.proofs.Agreeing.{Alike, filter_map_same, filter_same, of_mapped, writes_alike}
+use Rattle.btr_scrub.proofs.Survival.{of_filter}
+
+-- ---- lists
+
+pub map_same : {X Y : Type 0} (f g : X → Y) (xs : List X) → ((x : X) → In x xs → f x ≡ g x) → map f xs ≡ map g xs
+map_same f g [] h = refl
+map_same f g (x ∷ xs) h = ap (λ y. y ∷ map f xs) (h x (inl refl)) ∙ ap (λ ys. g x ∷ ys) (map_same f g xs (λ y i. h y (inr i)))
+
+pub flat_same : {X Y : Type 0} (f g : X → List Y) (xs : List X) → ((x : X) → In x xs → f x ≡ g x) → flat_map f xs ≡ flat_map g xs
+flat_same f g [] h = refl
+flat_same f g (x ∷ xs) h = ap (λ ys. ys ++ flat_map f xs) (h x (inl refl)) ∙ ap (λ ys. g x ++ ys) (flat_same f g xs (λ y i. h y (inr i)))
+
+pub fold_same : {X Y : Type 0} (f g : Y → X → Y) (xs : List X) (y : Y) → ((x : X) → In x xs → (z : Y) → f z x ≡ g z x) → fold f y xs ≡ fold g y xs
+fold_same f g [] y h = refl
+fold_same f g (x ∷ xs) y h = ap (λ z. fold f z xs) (h x (inl refl) y) ∙ fold_same f g xs (g y x) (λ z i. h z (inr i))
+
+all_same : {X : Type 0} (f g : X → Bool) (xs : List X) → ((x : X) → In x xs → f x ≡ g x) → list_all f xs ≡ list_all g xs
+all_same f g [] h = refl
+all_same f g (x ∷ xs) h = ap (λ b. b && list_all f xs) (h x (inl refl)) ∙ ap (λ b. g x && b) (all_same f g xs (λ y i. h y (inr i)))
+
+-- ---- one block
+
+module _ (images images' : Images) (t : Target) (none : mirrors t.chunk ≡ None) (index : t.at.index < slice_count t)
+    (same : (part : Part) → HasPart t.chunk.profile (length t.chunk.stripes) part → element images' t part ≡ element images t part) where
+  slice_has : (k : ℕ) → k < slice_count t → HasPart t.chunk.profile (length t.chunk.stripes) (part.Slice k)
+  slice_has k lt = (subst IsNone (sym none) refl, lt)
+
+  same_slices : slices images' t ≡ slices images t
+  same_slices = map_same (λ k. element images' t (part.Slice k)) (λ k. element images t (part.Slice k)) (range_with_len 0 (slice_count t)) (λ k i. same (part.Slice k) (slice_has k (in_below (slice_count t) k i)))
+
+  same_p : element images' t part.P ≡ element images t part.P
+  same_p = same part.P (subst IsNone (sym none) refl)
+
+  by_value : (c : Candidate) → value_of images' t c ≡ value_of images t c → reading images' t c ≡ reading images t c
+  by_value c e = ap (λ bytes. cond (stands t c) (Some bytes) None) e
+
+  own_value : reading images' t (Stands (part.Slice t.at.index)) ≡ reading images t (Stands (part.Slice t.at.index))
+  own_value = by_value (Stands (part.Slice t.at.index)) (same (part.Slice t.at.index) (slice_has t.at.index index))
+
+  p_value : reading images' t ByP ≡ reading images t ByP
+  p_value = by_value ByP (
+      ap (λ ss. the_one (size_of t) (λ X. bytes_eq (parity_p (size_of t) (set ss t.at.index X)) (element images' t part.P))) same_slices
+      ∙ ap (λ p. the_one (size_of t) (λ X. bytes_eq (parity_p (size_of t) (set (slices images t) t.at.index X)) p)) same_p)
+
+  module _ (six : t.chunk.profile ≡ Raid6) where
+    same_q : element images' t part.Q ≡ element images t part.Q
+    same_q = same part.Q six
+
+    q_value : reading images' t ByQ ≡ reading images t ByQ
+    q_value = by_value ByQ (
+        ap (λ ss. the_one (size_of t) (λ X. bytes_eq (parity_q (size_of t) (set ss t.at.index X)) (element images' t part.Q))) same_slices
+        ∙ ap (λ q. the_one (size_of t) (λ X. bytes_eq (parity_q (size_of t) (set (slices images t) t.at.index X)) q)) same_q)
+
+    both_value : (j : ℕ) → reading images' t (ByBoth j) ≡ reading images t (ByBoth j)
+    both_value j = by_value (ByBoth j) (
+        ap (λ ss. the_one (size_of t) (λ X. list_any (λ Y. bytes_eq (parity_p (size_of t) (set (set ss j Y) t.at.index X)) (element images' t part.P) && bytes_eq (parity_q (size_of t) (set (set ss j Y) t.at.index X)) (element images' t part.Q)) (byte_lists (size_of t)))) same_slices
+        ∙ ap (λ p. the_one (size_of t) (λ X. list_any (λ Y. bytes_eq (parity_p (size_of t) (set (set (slices images t) j Y) t.at.index X)) p && bytes_eq (parity_q (size_of t) (set (set (slices images t) j Y) t.at.index X)) (element images' t part.Q)) (byte_lists (size_of t)))) same_p
+        ∙ ap (λ q. the_one (size_of t) (λ X. list_any (λ Y. bytes_eq (parity_p (size_of t) (set (set (slices images t) j Y) t.at.index X)) (element images t part.P) && bytes_eq (parity_q (size_of t) (set (set (slices images t) j Y) t.at.index X)) q) (byte_lists (size_of t)))) same_q)
+
+  all : (o : Option ℕ) → mirrors t.chunk ≡ o → candidates t ≡ option_map_or copies o (rebuilt t.chunk.profile (slice_count t) t.at.index)
+  all o e = ap (λ o. option_map_or copies o (rebuilt t.chunk.profile (slice_count t) t.at.index)) e
+
+  with_five : t.chunk.profile ≡ Raid5 → (c : Candidate) → In c (rebuilt Raid5 (slice_count t) t.at.index) → reading images' t c ≡ reading images t c
+  with_five five c (inl e) = subst (λ d. reading images' t d ≡ reading images t d) e own_value
+  with_five five c (inr (inl e)) = subst (λ d. reading images' t d ≡ reading images t d) e p_value
+  with_five five c (inr (inr i)) = absurd i
+
+  with_six : t.chunk.profile ≡ Raid6 → (c : Candidate) → In c (rebuilt Raid6 (slice_count t) t.at.index) → reading images' t c ≡ reading images t c
+  with_six six c (inl e) = subst (λ d. reading images' t d ≡ reading images t d) e own_value
+  with_six six c (inr (inl e)) = subst (λ d. reading images' t d ≡ reading images t d) e p_value
+  with_six six c (inr (inr (inl e))) = subst (λ d. reading images' t d ≡ reading images t d) e (q_value six)
+  with_six six c (inr (inr (inr i))) =
+      let r = of_mapped ByBoth c (others (slice_count t) t.at.index) i in
+      subst (λ d. reading images' t d ≡ reading images t d) r.2 (both_value six r.0)
+
+  reads : (c : Candidate) → In c (candidates t) → reading images' t c ≡ reading images t c
+  reads c i = elim (without_copies t.chunk.profile (length t.chunk.stripes) none) [
+    | inl five ↦ with_five five c (subst (λ p. In c (rebuilt p (slice_count t) t.at.index)) five (subst (In c) (all None none) i))
+    | inr six ↦ with_six six c (subst (λ p. In c (rebuilt p (slice_count t) t.at.index)) six (subst (In c) (all None none) i))
+  ]
+
+  own : own_parts t ≡ part.Slice t.at.index ∷ []
+  own = ap (λ o. option_map_or (λ copies. map part.Mirror (range_with_len 0 copies)) o (part.Slice t.at.index ∷ [])) none
+
+  bads : (q : Part) → In q (part.Slice t.at.index ∷ []) → not (is_good images' t q) ≡ not (is_good images t q)
+  bads q (inl e) = subst (λ q. not (is_good images' t q) ≡ not (is_good images t q)) e (ap (λ bytes. not (passes t.setting t.want bytes)) (same (part.Slice t.at.index) (slice_has t.at.index index)))
+  bads q (inr i) = absurd i
+
+  -- a block whose slices and parities are the same
+  pub parity_alike : Alike images images' t
+  parity_alike = record {
+    bad = filter_same (λ q. not (is_good images' t q)) (λ q. not (is_good images t q)) (own_parts t) (λ q i. bads q (subst (In q) own i));
+    accepted = ap (λ xs. slice_get (filter (passes t.setting t.want) xs) 0) (filter_map_same (reading images' t) (reading images t) (candidates t) reads);
+  }
+
+-- ---- a row
+
+-- the parities of a profile are parts of it
+pub parity_has : (p : Profile) (n : ℕ) (q : Part) → mirror_count p n ≡ None → In q (parities p) → HasPart p n q × ((q ≡ part.P) ⊎ (q ≡ part.Q))
+parity_has p n q none i = elim (without_copies p n none) [
+  | inl five ↦ subst (λ p. HasPart p n q × ((q ≡ part.P) ⊎ (q ≡ part.Q))) (sym five) (with_one (subst (λ p. In q (parities p)) five i))
+  | inr six ↦ subst (λ p. HasPart p n q × ((q ≡ part.P) ⊎ (q ≡ part.Q))) (sym six) (with_two (subst (λ p. In q (parities p)) six i))
+]
+  where
+    with_one : In q (part.P ∷ []) → HasPart Raid5 n q × ((q ≡ part.P) ⊎ (q ≡ part.Q))
+    with_one (inl e) = subst (λ q. HasPart Raid5 n q × ((q ≡ part.P) ⊎ (q ≡ part.Q))) e (refl, inl refl)
+    with_one (inr h) = absurd h
+
+    with_two : In q (part.P ∷ part.Q ∷ []) → HasPart Raid6 n q × ((q ≡ part.P) ⊎ (q ≡ part.Q))
+    with_two (inl e) = subst (λ q. HasPart Raid6 n q × ((q ≡ part.P) ⊎ (q ≡ part.Q))) e (refl, inl refl)
+    with_two (inr (inl e)) = subst (λ q. HasPart Raid6 n q × ((q ≡ part.P) ⊎ (q ≡ part.Q))) e (refl, inr refl)
+    with_two (inr (inr h)) = absurd h
+
+-- what is told of a row
+pub record RowAlike (images images' : Images) (layout : Layout) (row : Row) : Type 0 where
+  pub blocks : (t : Target) → In t row.blocks → Alike images images' t
+  pub parities : (q : Part) → In q (parities row.chunk.profile) → parity_writes images' layout row q ≡ parity_writes images layout row q
+
+pub row_writes_alike : (images images' : Images) (layout : Layout) (row : Row) → RowAlike images images' layout row → row_writes images' layout row ≡ row_writes images layout row
+row_writes_alike images images' layout row a =
+    ap (λ ws. ws ++ flat_map (parity_writes images' layout row) (parities row.chunk.profile)) (flat_same (block_writes images') (block_writes images) row.blocks (λ t i. writes_alike images images' t (a.blocks t i)))
+    ∙ ap (λ ws. flat_map (block_writes images) row.blocks ++ ws) (flat_same (parity_writes images' layout row) (parity_writes images layout row) (parities row.chunk.profile) a.parities)
+
+module _ (images images' : Images) (layout : Layout) (row : Row) (none : mirrors row.chunk ≡ None)
+    (same : (q : Part) → HasPart row.chunk.profile (length row.chunk.stripes) q → rows.element images' layout row q ≡ rows.element images layout row q)
+    (blocks : (t : Target) → In t row.blocks → Alike images images' t) where
+  given_same : (t : Target) → In t row.blocks → (bytes : List ℕ) → with_block images' layout (accepted images') bytes t ≡ with_block images layout (accepted images) bytes t
+  given_same t i bytes = ap (λ o. option_map_or (pasted bytes t.at.rest) o bytes) (blocks t i).accepted
+
+  slice_same : (k : ℕ) → k < rows.slice_count row → slice_with images' layout (accepted images') row k ≡ slice_with images layout (accepted images) row k
+  slice_same k lt =
+      ap (λ bytes. fold (with_block images' layout (accepted images')) bytes (blocks_at row k)) (same (part.Slice k) (subst IsNone (sym none) refl, lt))
+      ∙ fold_same (with_block images' layout (accepted images')) (with_block images layout (accepted images)) (blocks_at row k) (rows.element images layout row (part.Slice k)) (λ t i bytes. given_same t (of_filter (λ u. eqb u.at.index k) t row.blocks i) bytes)
+
+  slices_same : slices_with images' layout (accepted images') row ≡ slices_with images layout (accepted images) row
+  slices_same = map_same (slice_with images' layout (accepted images') row) (slice_with images layout (accepted images) row) (range_with_len 0 (rows.slice_count row)) (λ k i. slice_same k (in_below (rows.slice_count row) k i))
+
+  with_same : (q : Part) → (q ≡ part.P) ⊎ (q ≡ part.Q) → element_with images' layout (accepted images') row q ≡ element_with images layout (accepted images) row q
+  with_same q (inl e) = subst (λ q. element_with images' layout (accepted images') row q ≡ element_with images layout (accepted images) row q) (sym e) (ap (parity_p 65536) slices_same)
+  with_same q (inr e) = subst (λ q. element_with images' layout (accepted images') row q ≡ element_with images layout (accepted images) row q) (sym e) (ap (parity_q 65536) slices_same)
+
+  decided_same : (column : ℕ) → is_decided images' layout row column ≡ is_decided images layout row column
+  decided_same column =
+      ap (λ b. list_any (meets column) row.blocks && b)
+      (all_same (λ t. not (meets column t) || is_some (accepted images' t)) (λ t. not (meets column t) || is_some (accepted images t)) row.blocks (λ t i. ap (λ o. not (meets column t) || is_some o) (blocks t i).accepted))
+
+  parity_same : (q : Part) → In q (parities row.chunk.profile) → parity_writes images' layout row q ≡ parity_writes images layout row q
+  parity_same q i =
+      let has = parity_has row.chunk.profile (length row.chunk.stripes) q none i in
+      let wanted = with_same q has.1 in
+      let old = same q has.0 in
+      let differ : (column : ℕ) → differs images' layout row q column ≡ differs images layout row q column =
+      λ column. ap (λ xs. not (bytes_eq (column_of column xs) (column_of column (element_with images' layout (accepted images') row q)))) old
+      ∙ ap (λ xs. not (bytes_eq (column_of column (rows.element images layout row q)) (column_of column xs))) wanted in
+      ap (filter_map (sector_write images' layout row q))
+      (filter_same (λ column. is_decided images' layout row column && differs images' layout row q column) (λ column. is_decided images layout row column && differs images layout row q column) (range_with_len 0 16)
+      (λ column _. ap (λ b. b && differs images' layout row q column) (decided_same column) ∙ ap (λ b. is_decided images layout row column && b) (differ column)))
+      ∙ filter_map_same (sector_write images' layout row q) (sector_write images layout row q) (differing images layout row q)
+      (λ column _. ap (λ xs. option_map (λ (range : Range). record { range = range; bytes = column_of column xs }) (range_in_element layout row q (column * 4096) 4096)) wanted)
+
+  -- a row whose elements and blocks are the same
+  pub row_alike : RowAlike images images' layout row
+  row_alike = record { blocks = blocks; parities = parity_same }

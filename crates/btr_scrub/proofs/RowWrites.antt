@@ -1,0 +1,264 @@
+-- The writes for a full stripe lie in its elements, and leave those of other rows.
+use Rattle.std.proofs.Common.{◌≡◌, ◌⊎◌, ℕ, ◌+◌, ◌-◌, ◌*◌, ◌<◌, ◌≤◌, Bool, true, false, not, cond, ◌&&◌, ◌||◌, leb, ltb, List, [], ◌∷◌, ◌++◌, map, length, drop, slice_range, slice_get, All, Option, Some, None, IsNone, IsSome, is_some, IsSomeAnd, refl, sym, ap, ◌∙◌, subst, inl, inr, arith, length-take}
+use Rattle.std.proofs.lemmas.Bool.{false≢true, and_parts}
+use Rattle.std.proofs.lemmas.List.Elements.{All-append, All-cons, All-nil}
+use Rattle.std.proofs.lemmas.Option.{same_Some}
+use Rattle.std.specs.List.{cons_option, filter, filter_map, flat_map, list_any, range_with_len}
+use Rattle.std.specs.Option.{option_map, option_map_or}
+use Rattle.btr_chunk.specs.Chunk.{IsChunk, is_striped, mirrors}
+use Rattle.btr_chunk.specs.Mapping.{HasPart, IsPosition, crosses, place_at, place_on, stripe_of}
+use Rattle.btr_chunk.specs.Table.{IsTable}
+use Rattle.btr_chunk.specs.declared.place.Part.{Part}
+use Rattle.btr_chunk.specs.declared.place.Part.TheVariants as part
+use Rattle.btr_chunk.specs.declared.place.Place.{Place}
+use Rattle.btr_chunk.specs.declared.position.Elements.{Elements}
+use Rattle.btr_chunk.specs.declared.profile.Profile.{Profile}
+use Rattle.btr_chunk.specs.declared.profile.Profile.TheVariants.{Raid5, Raid6}
+use Rattle.btr_chunk.proofs.Bytes.{IsPosition-position, placed_part}
+use Rattle.btr_chunk.proofs.Rows.{without_copies}
+use Rattle.btr_rack.specs.Rack.{bytes_of, image_of, range_in}
+use Rattle.btr_rack.specs.declared.place.Place.{Place as Range}
+use Rattle.btr_read.specs.Candidates.{Target, range_of, range_on, size_of}
+use Rattle.btr_read.specs.Layout.{HaveOwnSlots, Layout, device_in}
+use Rattle.btr_read.specs.Want.{addr_of}
+use Rattle.btr_read.specs.declared.device.Device.{Device}
+use Rattle.btr_read.proofs.Ones.{in_below}
+use Rattle.btr_mend.specs.Blocks.{accepted, bad_parts, block_writes, is_good, own_parts, written_over}
+use Rattle.btr_mend.specs.Writes.{Images, Write, write_on, writes_if}
+use Rattle.btr_row.specs.Rows as rows
+use Rattle.btr_row.specs.Rows.{Row, column_of, differing, differs, element_with, is_decided, parities, parity_writes, range_in_element, row_writes, sector_write}
+use Rattle.btr_scrub.specs.Devices.{HaveLengths}
+use Rattle.btr_scrub.specs.Glue.{In}
+use Rattle.btr_scrub.specs.Leaves.{KeepsOutside}
+use Rattle.btr_scrub.specs.Order.{IsSought}
+use Rattle.btr_scrub.specs.Places.{IsOfElement}
+use Rattle.btr_scrub.specs.Repair.{covers}
+use Rattle.btr_scrub.proofs.Agreeing.{Alike}
+use Rattle.btr_scrub.proofs.CopyWrites.{same_element}
+use Rattle.btr_scrub.proofs.Elements.{range_stands, stands_on, stripe-row}
+use Rattle.btr_scrub.proofs.Places.{covering, elements_apart}
+use Rattle.btr_scrub.proofs.Positions.{striped_fits, striped_position}
+use Rattle.btr_scrub.proofs.RowAgreeing.{RowAlike, parity_alike, parity_has, row_alike}
+use Rattle.btr_scrub.proofs.Shorts.{Short, block_short, shorts_keep_if}
+use Rattle.btr_scrub.proofs.Staying.{covered, range_same}
+use Rattle.btr_scrub.proofs.Writes.{any_append, any_filter_map, any_flat, any_map, mapped, passing_filter}
+
+-- a full stripe of the table, all of whose elements stand
+pub record IsRowIn (layout : Layout) (row : Row) : Type 0 where
+  pub chunk_number : ℕ
+  pub there : slice_get layout.chunks chunk_number ≡ Some row.chunk
+  pub parity : mirrors row.chunk ≡ None
+  pub position : IsPosition row.chunk (record { row = row.number; index = 0; rest = 65535 })
+  pub stand : (q : Part) → HasPart row.chunk.profile (length row.chunk.stripes) q → IsSome (range_in_element layout row q 0 65536)
+
+-- a block that lies in it
+pub record IsBlockOf (layout : Layout) (row : Row) (t : Target) : Type 0 where
+  pub is : IsSought layout t
+  pub chunk : t.chunk ≡ row.chunk
+  pub number : t.at.row ≡ row.number
+
+-- a block of a chunk with parity lies in one element
+in_one_element : (layout : Layout) (t : Target) → IsSought layout t → mirrors t.chunk ≡ None → t.at.rest + size_of t ≤ 65536
+in_one_element layout t is none =
+    let striped : is_striped t.chunk.profile ≡ true = elim (without_copies t.chunk.profile (length t.chunk.stripes) none) [ inl five ↦ ap is_striped five | inr six ↦ ap is_striped six ] in
+    let rest = ap (λ (e : Elements). e.rest) (is.at ∙ striped_position t.chunk (addr_of t.want) striped) in
+    let small = striped_fits t.chunk (addr_of t.want) (size_of t) striped is.uncrossed in
+    omega (arith, rest, small)
+
+module _ (layout : Layout) (row : Row) (table : IsTable layout.chunks) (is_row : IsRowIn layout row) where
+  sound : IsChunk row.chunk
+  sound = (table.sound is_row.chunk_number row.chunk is_row.there).0
+
+  -- where an element begins, and on which device
+  record Begins (q : Part) : Type 0 where
+    device : Device
+    given : device_in layout.devices (place_at row.chunk q (record { row = row.number; index = 0; rest = 0 })).devid ≡ Some device
+    whole : range_in_element layout row q 0 65536 ≡ Some (range_in device.slot (place_at row.chunk q (record { row = row.number; index = 0; rest = 0 })).offset 65536)
+    within : (place_at row.chunk q (record { row = row.number; index = 0; rest = 0 })).offset + 65536 ≤ device.len
+
+  begins : (q : Part) → HasPart row.chunk.profile (length row.chunk.stripes) q → Begins q
+  begins q has =
+      let place = place_at row.chunk q (record { row = row.number; index = 0; rest = 0 }) in
+      let s = stands_on place.offset 65536 (device_in layout.devices place.devid) (is_row.stand q has) in
+      record { device = s.device; given = s.there; whole = range_stands place.offset 65536 (device_in layout.devices place.devid) s.device s.there s.within; within = s.within }
+
+  -- a byte of an element
+  of_element : (q : Part) (has : HasPart row.chunk.profile (length row.chunk.stripes) q) (b : Begins q) (off : ℕ) → (place_at row.chunk q (record { row = row.number; index = 0; rest = 0 })).offset ≤ off
+      → off < (place_at row.chunk q (record { row = row.number; index = 0; rest = 0 })).offset + 65536 → IsOfElement layout row q b.device.slot off
+  of_element q has b off from to = record {
+    number = is_row.chunk_number;
+    there = is_row.there;
+    parity = is_row.parity;
+    position = is_row.position;
+    has = has;
+    covers = subst (λ o. IsSomeAnd o (λ range. covers b.device.slot off range ≡ true)) (sym b.whole) (covered b.device.slot (place_at row.chunk q (record { row = row.number; index = 0; rest = 0 })).offset 65536 off from to);
+  }
+
+  -- what lies at a place in an element, from a byte of it on
+  record Lies (q : Part) (index rest : ℕ) : Type 0 where
+    devid : (place_at row.chunk q (record { row = row.number; index = index; rest = rest })).devid ≡ (place_at row.chunk q (record { row = row.number; index = 0; rest = 0 })).devid
+    offset : (place_at row.chunk q (record { row = row.number; index = index; rest = rest })).offset ≡ (place_at row.chunk q (record { row = row.number; index = 0; rest = 0 })).offset + rest
+
+  lies : (q : Part) (index rest : ℕ) → HasPart row.chunk.profile (length row.chunk.stripes) q → IsPosition row.chunk (record { row = row.number; index = index; rest = rest }) → Lies q index rest
+  lies q index rest has position =
+      let at0 : Elements = record { row = row.number; index = 0; rest = 0 } in
+      let at1 : Elements = record { row = row.number; index = index; rest = rest } in
+      let p = placed_part row.chunk q at0 sound has (record { index = is_row.position.index; inside = omega (arith, is_row.position.inside) }) in
+      let r = placed_part row.chunk q at1 sound has position in
+      let same : p.stripe ≡ r.stripe = same_Some p.stripe r.stripe (sym p.there ∙ ap (slice_get row.chunk.stripes) (stripe-row row.chunk.profile (length row.chunk.stripes) q at0 at1 is_row.parity refl) ∙ r.there) in
+      let one : place_at row.chunk q at1 ≡ place_on p.stripe at1 = r.place ∙ ap (λ s. place_on s at1) (sym same) in
+      let offset : (place_at row.chunk q at1).offset ≡ p.stripe.offset + row.number * 65536 + rest = ap (λ (x : Place). x.offset) one in
+      let start : (place_at row.chunk q at0).offset ≡ p.stripe.offset + row.number * 65536 + 0 = ap (λ (x : Place). x.offset) p.place in
+      record { devid = ap (λ (x : Place). x.devid) one ∙ sym (ap (λ (x : Place). x.devid) p.place); offset = omega (arith, offset, start) }
+
+  -- a byte of a range in an element is of the element
+  in_element : (q : Part) (index rest len slot off : ℕ) (range : Range) → HasPart row.chunk.profile (length row.chunk.stripes) q → IsPosition row.chunk (record { row = row.number; index = index; rest = rest }) → rest + len ≤ 65536
+      → range_on (place_at row.chunk q (record { row = row.number; index = index; rest = rest })).offset len (device_in layout.devices (place_at row.chunk q (record { row = row.number; index = index; rest = rest })).devid) ≡ Some range
+      → covers slot off range ≡ true → IsOfElement layout row q slot off
+  in_element q index rest len slot off range has position fits e c =
+      let b = begins q has in
+      let l = lies q index rest has position in
+      let place = place_at row.chunk q (record { row = row.number; index = index; rest = rest }) in
+      let given : device_in layout.devices place.devid ≡ Some b.device = ap (device_in layout.devices) l.devid ∙ b.given in
+      let stands = range_stands place.offset len (device_in layout.devices place.devid) b.device given (omega (arith, b.within, l.offset, fits)) in
+      let same : range ≡ range_in b.device.slot place.offset len = same_Some range (range_in b.device.slot place.offset len) (sym e ∙ stands) in
+      let at = covering slot off (range_in b.device.slot place.offset len) (ap (covers slot off) (sym same) ∙ c) in
+      subst (λ s. IsOfElement layout row q s off) at.0 (of_element q has b off (omega (arith, at.1, l.offset)) (omega (arith, at.2, l.offset, fits)))
+
+  -- ---- blocks of the row
+
+  has_own : (t : Target) → IsBlockOf layout row t → HasPart row.chunk.profile (length row.chunk.stripes) (part.Slice t.at.index)
+  has_own t of =
+      let position : IsPosition t.chunk t.at = subst (IsPosition t.chunk) (sym of.is.at) (IsPosition-position t.chunk (addr_of t.want) (table.sound of.is.number t.chunk of.is.there).0 of.is.held) in
+      (subst IsNone (sym is_row.parity) refl, (subst (λ c. IsPosition c t.at) of.chunk position).index)
+
+  -- a byte of a part of a block is of the part's element
+  pub block_byte : (t : Target) (q : Part) (slot off : ℕ) → IsBlockOf layout row t → HasPart row.chunk.profile (length row.chunk.stripes) q → IsSomeAnd (range_of t q) (λ range. covers slot off range ≡ true) → IsOfElement layout row q slot off
+  block_byte t q slot off of has c = by (range_of t q) refl c
+    where
+      position : IsPosition row.chunk (record { row = row.number; index = t.at.index; rest = t.at.rest })
+      position =
+          let mine : IsPosition t.chunk t.at = subst (IsPosition t.chunk) (sym of.is.at) (IsPosition-position t.chunk (addr_of t.want) (table.sound of.is.number t.chunk of.is.there).0 of.is.held) in
+          subst (λ n. IsPosition row.chunk (record { row = n; index = t.at.index; rest = t.at.rest })) of.number (subst (λ c. IsPosition c t.at) of.chunk mine)
+
+      fits : t.at.rest + size_of t ≤ 65536
+      fits = in_one_element layout t of.is (subst (λ c. mirrors c ≡ None) (sym of.chunk) is_row.parity)
+
+      by : (o : Option Range) → range_of t q ≡ o → IsSomeAnd o (λ range. covers slot off range ≡ true) → IsOfElement layout row q slot off
+      by None e c = absurd c
+      by (Some range) e c =
+          let place = place_at t.chunk q t.at in
+          let as_row : range_on (place_at row.chunk q (record { row = row.number; index = t.at.index; rest = t.at.rest })).offset (size_of t) (device_in layout.devices (place_at row.chunk q (record { row = row.number; index = t.at.index; rest = t.at.rest })).devid) ≡ Some range =
+          ap (λ n. range_on (place_at row.chunk q (record { row = n; index = t.at.index; rest = t.at.rest })).offset (size_of t) (device_in layout.devices (place_at row.chunk q (record { row = n; index = t.at.index; rest = t.at.rest })).devid)) (sym of.number)
+          ∙ ap (λ k. range_on (place_at k q t.at).offset (size_of t) (device_in layout.devices (place_at k q t.at).devid)) (sym of.chunk)
+          ∙ ap (λ ds. range_on place.offset (size_of t) (device_in ds place.devid)) (sym of.is.devices) ∙ e in
+          in_element q t.at.index t.at.rest (size_of t) slot off range has position fits as_row c
+
+  -- ---- what is written
+
+  -- a byte that is written for a block
+  written_block : (images : Images) (t : Target) (slot off : ℕ) → IsBlockOf layout row t → list_any (λ (w : Write). covers slot off w.range) (block_writes images t) ≡ true → IsOfElement layout row (part.Slice t.at.index) slot off
+  written_block images t slot off of h = by (accepted images t) h
+    where
+      own : own_parts t ≡ part.Slice t.at.index ∷ []
+      own = ap (λ o. option_map_or (λ copies. map part.Mirror (range_with_len 0 copies)) o (part.Slice t.at.index ∷ [])) (subst (λ c. mirrors c ≡ None) (sym of.chunk) is_row.parity)
+
+      only : (q : Part) → In q (part.Slice t.at.index ∷ []) → part.Slice t.at.index ≡ q
+      only q (inl e) = e
+      only q (inr i) = absurd i
+
+      by : (o : Option (List ℕ)) → list_any (λ (w : Write). covers slot off w.range) (option_map_or (written_over images t) o []) ≡ true → IsOfElement layout row (part.Slice t.at.index) slot off
+      by None h = absurd (false≢true h)
+      by (Some bytes) h =
+          let f = any_filter_map (λ (w : Write). covers slot off w.range) (λ q. option_map (λ (range : Range). record { range = range; bytes = bytes }) (range_of t q)) (bad_parts images t) h in
+          let bad = passing_filter (λ q. not (is_good images t q)) f.0 (own_parts t) f.1 in
+          let q : part.Slice t.at.index ≡ f.0 = only f.0 (subst (In f.0) own bad.0) in
+          let m = mapped (λ (range : Range). record { range = range; bytes = bytes }) (range_of t f.0) f.2.0 f.2.1 in
+          let cover : covers slot off m.0 ≡ true = ap (λ (w : Write). covers slot off w.range) m.2 ∙ f.2.2 in
+          block_byte t (part.Slice t.at.index) slot off of (has_own t of) (subst (λ o. IsSomeAnd o (λ range. covers slot off range ≡ true)) (sym (ap (range_of t) q ∙ m.1)) cover)
+
+  column_at : (column : ℕ) → column < 16 → IsPosition row.chunk (record { row = row.number; index = 0; rest = column * 4096 })
+  column_at column few = record { index = is_row.position.index; inside = omega (arith, is_row.position.inside, few) }
+
+  -- .. for a parity
+  written_parity : (images : Images) (q : Part) (slot off : ℕ) → HasPart row.chunk.profile (length row.chunk.stripes) q → list_any (λ (w : Write). covers slot off w.range) (parity_writes images layout row q) ≡ true → IsOfElement layout row q slot off
+  written_parity images q slot off has h =
+      let f = any_filter_map (λ (w : Write). covers slot off w.range) (sector_write images layout row q) (differing images layout row q) h in
+      let column = f.0 in
+      let d = passing_filter (λ column. is_decided images layout row column && differs images layout row q column) column (range_with_len 0 16) f.1 in
+      let few : column < 16 = in_below 16 column d.0 in
+      let m = mapped (λ (range : Range). record { range = range; bytes = column_of column (element_with images layout (accepted images) row q) }) (range_in_element layout row q (column * 4096) 4096) f.2.0 f.2.1 in
+      in_element q 0 (column * 4096) 4096 slot off m.0 has (column_at column few) (omega (arith, few)) m.1 (ap (λ (w : Write). covers slot off w.range) m.2 ∙ f.2.2)
+
+  -- each byte that is written for the row is of one of its elements
+  pub written_row : (images : Images) (slot off : ℕ) → ((t : Target) → In t row.blocks → IsBlockOf layout row t) → list_any (λ (w : Write). covers slot off w.range) (row_writes images layout row) ≡ true
+      → (q : Part) × IsOfElement layout row q slot off
+  written_row images slot off of h =
+      let W = λ (w : Write). covers slot off w.range in
+      elim (any_append W (flat_map (block_writes images) row.blocks) (flat_map (parity_writes images layout row) (parities row.chunk.profile)) h) [
+        | inl bad ↦ let f = any_flat W (block_writes images) row.blocks bad in (part.Slice f.0.at.index, written_block images f.0 slot off (of f.0 f.1) f.2)
+        | inr parity ↦
+            let f = any_flat W (parity_writes images layout row) (parities row.chunk.profile) parity in
+            let p = parity_has row.chunk.profile (length row.chunk.stripes) f.0 is_row.parity f.1 in
+            (f.0, written_parity images f.0 slot off p.0 f.2)
+      ]
+
+  -- ---- the writes have at most as many bytes as their ranges
+
+  flat_short : {X : Type 0} (images : Images) (f : X → List Write) (xs : List X) → ((x : X) → In x xs → All (Short images) (f x)) → All (Short images) (flat_map f xs)
+  flat_short images f [] h = All-nil (Short images)
+  flat_short images f (x ∷ xs) h = All-append (Short images) (f x) (flat_map f xs) (h x (inl refl)) (flat_short images f xs (λ y i. h y (inr i)))
+
+  module _ (images : Images) (lengths : HaveLengths images layout) where
+    sector_short : (q : Part) (column : ℕ) → HasPart row.chunk.profile (length row.chunk.stripes) q → column < 16 → (o : Option Range) → range_in_element layout row q (column * 4096) 4096 ≡ o → (others : List Write) → All (Short images) others
+        → All (Short images) (cons_option (option_map (λ (range : Range). record { range = range; bytes = column_of column (element_with images layout (accepted images) row q) }) o) others)
+    sector_short q column has few None e others rest = rest
+    sector_short q column has few (Some range) e others rest =
+        let b = begins q has in
+        let l = lies q 0 (column * 4096) has (column_at column few) in
+        let place = place_at row.chunk q (record { row = row.number; index = 0; rest = column * 4096 }) in
+        let given : device_in layout.devices place.devid ≡ Some b.device = ap (device_in layout.devices) l.devid ∙ b.given in
+        let inside : place.offset + 4096 ≤ b.device.len = omega (arith, b.within, l.offset, few) in
+        let same : range ≡ range_in b.device.slot place.offset 4096 = same_Some range (range_in b.device.slot place.offset 4096) (sym e ∙ range_stands place.offset 4096 (device_in layout.devices place.devid) b.device given inside) in
+        let bytes = element_with images layout (accepted images) row q in
+        let slot : range.slot ≡ b.device.slot = ap (λ (r : Range). r.slot) same in
+        let off : range.off ≡ place.offset = ap (λ (r : Range). r.off) same in
+        let len : range.len ≡ 4096 = ap (λ (r : Range). r.len) same in
+        let image : length (image_of images range.slot) ≡ b.device.len = ap (λ s. length (image_of images s)) slot ∙ lengths place.devid b.device given in
+        All-cons (Short images) (record { range = range; bytes = column_of column bytes }) others (record { short = omega (arith, len, length-take (column * 4096 + 4096 - column * 4096) (drop (column * 4096) bytes)); within = omega (arith, off, len, image, inside) }) rest
+
+    sectors_short : (q : Part) → HasPart row.chunk.profile (length row.chunk.stripes) q → (columns : List ℕ) → ((column : ℕ) → In column columns → column < 16) → All (Short images) (filter_map (sector_write images layout row q) columns)
+    sectors_short q has [] few = All-nil (Short images)
+    sectors_short q has (column ∷ columns) few =
+        sector_short q column has (few column (inl refl)) (range_in_element layout row q (column * 4096) 4096) refl (filter_map (sector_write images layout row q) columns) (sectors_short q has columns (λ k i. few k (inr i)))
+
+    pub row_short : ((t : Target) → In t row.blocks → IsBlockOf layout row t) → All (Short images) (row_writes images layout row)
+    row_short of =
+        All-append (Short images) (flat_map (block_writes images) row.blocks) (flat_map (parity_writes images layout row) (parities row.chunk.profile))
+        (flat_short images (block_writes images) row.blocks (λ t i. block_short images layout lengths t (of t i).is))
+        (flat_short images (parity_writes images layout row) (parities row.chunk.profile) (λ q i. let p = parity_has row.chunk.profile (length row.chunk.stripes) q is_row.parity i in
+        sectors_short q p.0 (differing images layout row q) (λ column j. in_below 16 column (passing_filter (λ column. is_decided images layout row column && differs images layout row q column) column (range_with_len 0 16) j).0)))
+
+    -- ---- what is told of the row, where none of its bytes was written
+
+    pub row_stays : (images' : Images) (ranges : List Range) → ((t : Target) → In t row.blocks → IsBlockOf layout row t) → KeepsOutside ranges images images'
+        → ((q : Part) (slot off : ℕ) → IsOfElement layout row q slot off → list_any (covers slot off) ranges ≡ false) → RowAlike images images' layout row
+    row_stays images' ranges of keeps free = row_alike images images' layout row is_row.parity elements blocks
+      where
+        elements : (q : Part) → HasPart row.chunk.profile (length row.chunk.stripes) q → rows.element images' layout row q ≡ rows.element images layout row q
+        elements q has =
+            let b = begins q has in
+            let slot = b.device.slot in
+            let off = (place_at row.chunk q (record { row = row.number; index = 0; rest = 0 })).offset in
+            let long = lengths (place_at row.chunk q (record { row = row.number; index = 0; rest = 0 })).devid b.device b.given in
+            ap (λ (o : Option Range). option_map_or (λ range. bytes_of images' range.slot range.off range.len) o []) b.whole
+            ∙ range_same (image_of images' slot) (image_of images slot) off (off + 65536) (omega (arith, b.within, long, keeps.lengths slot)) (sym (keeps.lengths slot)) (λ i from to. keeps.bytes slot i (free q slot i (of_element q has b i from to)))
+            ∙ sym (ap (λ (o : Option Range). option_map_or (λ range. bytes_of images range.slot range.off range.len) o []) b.whole)
+
+        blocks : (t : Target) → In t row.blocks → Alike images images' t
+        blocks t i =
+            let o = of t i in
+            let position : IsPosition t.chunk t.at = subst (IsPosition t.chunk) (sym o.is.at) (IsPosition-position t.chunk (addr_of t.want) (table.sound o.is.number t.chunk o.is.there).0 o.is.held) in
+            parity_alike images images' t (subst (λ c. mirrors c ≡ None) (sym o.chunk) is_row.parity) position.index
+            (λ q has. same_element images images' layout ranges t q lengths o.is keeps
+            (λ slot off c. free q slot off (block_byte t q slot off o (subst (λ k. HasPart k.profile (length k.stripes) q) o.chunk has) c)))

@@ -1,0 +1,200 @@
+-- Mending one thing after another.
+use Rattle.std.proofs.Common.{◌≡◌, ℕ, ◌+◌, ◌≤◌, Bool, true, false, List, [], ◌∷◌, ◌++◌, length, Option, Some, None, IfSome, OnOk, is_none, is_some, Result, Ok, Err, refl, sym, ap, ◌∙◌, subst, arith}
+use Rattle.std.proofs.lemmas.Bool.{false≢true}
+use Rattle.std.proofs.lemmas.Option.{same_Some}
+use Rattle.std.specs.List.{count_by, fold}
+use Rattle.btr_rack.specs.Rack.{NoneFailed, OnlyReads, Seen}
+use Rattle.btr_rack.specs.declared.place.Place.{Place as Range}
+use Rattle.btr_read.specs.Layout.{Layout}
+use Rattle.btr_chunk.specs.Table.{IsTable}
+use Rattle.btr_read.specs.Candidates.{Target}
+use Rattle.btr_read.specs.Serves.{Serves}
+use Rattle.btr_read.specs.Store.{Blocks, SameLoans}
+use Rattle.btr_mend.specs.Blocks.{block_writes}
+use Rattle.btr_mend.specs.Mending.{IsOfCopy, Mends, mended_of}
+use Rattle.btr_mend.specs.declared.mended.Mended.{Mended}
+use Rattle.btr_mend.specs.Writes.{AccountsMend, AreWritable, Does, Images, Leaves, Write, writes_if, write_on}
+use Rattle.btr_mend.specs.declared.mended.MendFault.{MendFault}
+use Rattle.btr_mend.specs.declared.mended.MendFault.TheVariants.{Image, Memory}
+use Rattle.btr_mend.proofs.Doing.{does_as, does_as_halt, does_failed, does_halt, does_reads, does_then}
+use Rattle.btr_scrub.specs.Leaves.{LiesInStripe}
+use Rattle.btr_scrub.specs.Repair.{first_missing}
+use Rattle.btr_scrub.specs.Scrubbing.{CanMend, Scrubs, count_block, counted}
+use Rattle.btr_scrub.specs.declared.tally.Tally.{Tally}
+
+none_some : {X : Type 0} (x : X) → None ≡ Some x → ⊥
+none_some x e = false≢true (ap is_some e)
+
+-- what is said of the images, where they are told
+pub tell : (o : Option Images) (Q : Images → Type 0) → ((images : Images) → o ≡ Some images → Q images) → IfSome o Q
+tell None Q h = tt
+tell (Some images) Q h = h images refl
+
+pub told : (o : Option Images) (Q : Images → Type 0) (images : Images) → o ≡ Some images → IfSome o Q → Q images
+told o Q images e h = subst (λ o. IfSome o Q) e h
+
+-- ---- what was done
+
+account_weaker : {A : Type 0} (P Q : Range → Type 0) (a b : Seen) (r : Result A MendFault) → ((range : Range) → P range → Q range) → AccountsMend P a b r → AccountsMend Q a b r
+account_weaker P Q a b (Ok x) weak h = h
+account_weaker P Q a b (Err (Image slot)) weak h = record { place = h.place; failed = h.failed; on_slot = h.on_slot; lies = weak h.place h.lies }
+account_weaker P Q a b (Err Memory) weak h = h
+
+pub does_weaker : {A : Type 0} (P Q : Range → Type 0) (f : Images → List Write) (m n : List Bool) (a b : Seen) (r : Result A MendFault) → ((range : Range) → P range → Q range) → Does P f m n a b r → Does Q f m n a b r
+does_weaker P Q f m n a b r weak h = record { ranges = h.ranges; only = h.only; marked = h.marked; held = h.held; account = account_weaker P Q a b r weak h.account }
+
+account_other : (A B : Type 0) (P : Range → Type 0) (a b : Seen) (f : MendFault) → AccountsMend {A = A} P a b (Err f) → AccountsMend {A = B} P a b (Err f)
+account_other A B P a b (Image slot) h = h
+account_other A B P a b Memory h = h
+
+leaves_other : (A B : Type 0) (f : Images → List Write) (a b : Option Images) (e : MendFault) → Leaves {A = A} f a b (Err e) → Leaves {A = B} f a b (Err e)
+leaves_other A B f None b e h = h
+leaves_other A B f (Some images) b e h = h
+
+leaves_value : {A B : Type 0} (f : Images → List Write) (a b : Option Images) (x : A) (y : B) → Leaves {A = A} {E = MendFault} f a b (Ok x) → Leaves {A = B} {E = MendFault} f a b (Ok y)
+leaves_value f None b x y h = h
+leaves_value f (Some images) b x y h = h
+
+-- with another value
+pub does_value : {A B : Type 0} (P : Range → Type 0) (f : Images → List Write) (m n : List Bool) (a b : Seen) (x : A) (y : B) → Does P f m n a b (Ok x) → Does P f m n a b (Ok y)
+does_value P f m n a b x y h = record { ranges = h.ranges; only = h.only; marked = h.marked; held = leaves_value f a.held b.held x y h.held; account = h.account }
+
+pub does_fault : {A B : Type 0} (P : Range → Type 0) (f : Images → List Write) (m n : List Bool) (a b : Seen) (e : MendFault) → Does {A = A} P f m n a b (Err e) → Does {A = B} P f m n a b (Err e)
+does_fault {A = A} {B = B} P f m n a b e h = record { ranges = h.ranges; only = h.only; marked = h.marked; held = leaves_other A B f a.held b.held e h.held; account = account_other A B P a b e h.account }
+
+-- the same writes, said otherwise
+pub recast : {A : Type 0} (P : Range → Type 0) (f g : Images → List Write) (m n : List Bool) (a b : Seen) (r : Result A MendFault) → ((images : Images) → a.held ≡ Some images → f images ≡ g images) → Does P f m n a b r → Does P g m n a b r
+recast P f g m n a b (Ok x) e h = does_as P f g m n a b x x e h
+recast {A = A} P f g m n a b (Err x) e h = does_as_halt P A A f g m n a b x e h
+
+-- the images after writes
+pub held_after : {U : Type 0} (P : Range → Type 0) (f : Images → List Write) (m n : List Bool) (a b : Seen) (u : U) (images : Images) → a.held ≡ Some images → Does P f m n a b (Ok u) → b.held ≡ Some (fold write_on images (f images))
+held_after {U = U} P f m n a b u images e h = subst (λ o. Leaves {A = U} {E = MendFault} f o b.held (Ok u)) e h.held
+
+held_none : {U : Type 0} (P : Range → Type 0) (f : Images → List Write) (m n : List Bool) (a b : Seen) (u : U) → a.held ≡ None → Does P f m n a b (Ok u) → b.held ≡ None
+held_none {U = U} P f m n a b u e h = subst (λ o. Leaves {A = U} {E = MendFault} f o b.held (Ok u)) e h.held
+
+-- two works, of which the other's writes are the same over the images as they were before
+pub does_next : (A U : Type 0) (P : Range → Type 0) (f g : Images → List Write) (m n o : List Bool) (a b c : Seen) (u : U) (r : Result A MendFault)
+    → ((images : Images) → a.held ≡ Some images → g (fold write_on images (f images)) ≡ g images) → Does P f m n a b (Ok u) → Does P g n o b c r → Does P (λ i. f i ++ g i) m o a c r
+does_next A U P f g m n o a b c u r same h k = by a.held refl
+  where
+    by : (held : Option Images) → a.held ≡ held → Does P (λ i. f i ++ g i) m o a c r
+    by None e =
+        let none = held_none P f m n a b u e h in
+        recast P (λ i. [] ++ []) (λ i. f i ++ g i) m o a c r (λ images e'. absurd (none_some images (sym e ∙ e')))
+        (does_then P A U [] [] m n o a b c u r
+        (recast P f (λ i. []) m n a b (Ok u) (λ images e'. absurd (none_some images (sym e ∙ e'))) h)
+        (recast P g (λ i. []) n o b c r (λ images e'. absurd (none_some images (sym none ∙ e'))) k))
+    by (Some images) e =
+        let some = held_after P f m n a b u images e h in
+        recast P (λ i. f images ++ g images) (λ i. f i ++ g i) m o a c r (λ images' e'. ap (λ i. f i ++ g i) (same_Some images images' (sym e ∙ e')))
+        (does_then P A U (f images) (g images) m n o a b c u r
+        (recast P f (λ i. f images) m n a b (Ok u) (λ images' e'. ap f (same_Some images' images (sym e' ∙ e))) h)
+        (recast P g (λ i. g images) n o b c r (λ images' e'. ap g (same_Some images' (fold write_on images (f images)) (sym e' ∙ some)) ∙ same images e) k))
+
+-- a work that came to a halt, and others to come
+pub does_cut : (A B : Type 0) (P : Range → Type 0) (f g : Images → List Write) (m n : List Bool) (a b : Seen) (e : MendFault) → Does {A = A} P f m n a b (Err e) → Does {A = B} P (λ i. f i ++ g i) m n a b (Err e)
+does_cut A B P f g m n a b x h = by a.held refl
+  where
+    by : (held : Option Images) → a.held ≡ held → Does {A = B} P (λ i. f i ++ g i) m n a b (Err x)
+    by None e =
+        recast {A = B} P (λ i. [] ++ []) (λ i. f i ++ g i) m n a b (Err x) (λ images e'. absurd (none_some images (sym e ∙ e')))
+        (does_halt P A B [] [] m n a b x (recast {A = A} P f (λ i. []) m n a b (Err x) (λ images e'. absurd (none_some images (sym e ∙ e'))) h))
+    by (Some images) e =
+        recast {A = B} P (λ i. f images ++ g images) (λ i. f i ++ g i) m n a b (Err x) (λ images' e'. ap (λ i. f i ++ g i) (same_Some images images' (sym e ∙ e')))
+        (does_halt P A B (f images) (g images) m n a b x (recast {A = A} P f (λ i. f images) m n a b (Err x) (λ images' e'. ap f (same_Some images' images (sym e' ∙ e))) h))
+
+-- ---- with counts
+
+pub if_append : (write : Bool) (xs ys : List Write) → writes_if write xs ++ writes_if write ys ≡ writes_if write (xs ++ ys)
+if_append true xs ys = refl
+if_append false xs ys = refl
+
+module _ (layout : Layout) (write : Bool) where
+  -- what is written and counted, said otherwise
+  pub scrubs_as : {A : Type 0} (f g : Images → List Write) (c d : Images → Tally → Tally) (m n : List Bool) (a b : Seen) (t u : Tally) (r : Result A MendFault)
+      → ((images : Images) → a.held ≡ Some images → (f images ≡ g images) × (c images t ≡ d images t)) → Scrubs layout write f c m n a b t u r → Scrubs layout write g d m n a b t u r
+  scrubs_as {A = A} f g c d m n a b t u r same h = record {
+    does = recast (LiesInStripe layout) (λ i. writes_if write (f i)) (λ i. writes_if write (g i)) m n a b r (λ images e. ap (writes_if write) (same images e).0) h.does;
+    counts = by r h.counts;
+  }
+    where
+      by : (r : Result A MendFault) → OnOk r (IfSome a.held (λ images. u ≡ c images t)) → OnOk r (IfSome a.held (λ images. u ≡ d images t))
+      by (Ok x) k = tell a.held (λ images. u ≡ d images t) (λ images e. told a.held (λ images. u ≡ c images t) images e k ∙ (same images e).1)
+      by (Err x) k = tt
+
+  -- what was done before leaves what is written and counted next
+  abbrev pub IsUnmoved : (f g : Images → List Write) (d : Images → Tally → Tally) → Option Images → Type 0
+  IsUnmoved f g d held = (images : Images) → held ≡ Some images → (g (fold write_on images (writes_if write (f images))) ≡ g images) × ((x : Tally) → d (fold write_on images (writes_if write (f images))) x ≡ d images x)
+
+  pub scrubs_then : (A U : Type 0) (f g : Images → List Write) (c d : Images → Tally → Tally) (m n o : List Bool) (a b z : Seen) (t u v : Tally) (x : U) (r : Result A MendFault)
+      → IsUnmoved f g d a.held → Scrubs layout write f c m n a b t u (Ok x) → Scrubs layout write g d n o b z u v r → Scrubs layout write (λ i. f i ++ g i) (λ i y. d i (c i y)) m o a z t v r
+  scrubs_then A U f g c d m n o a b z t u v x r same h k = record {
+    does = recast (LiesInStripe layout) (λ i. writes_if write (f i) ++ writes_if write (g i)) (λ i. writes_if write (f i ++ g i)) m o a z r (λ images e. if_append write (f images) (g images))
+        (does_next A U (LiesInStripe layout) (λ i. writes_if write (f i)) (λ i. writes_if write (g i)) m n o a b z x r (λ images e. ap (writes_if write) (same images e).0) h.does k.does);
+    counts = by r k.counts;
+  }
+    where
+      by : (r : Result A MendFault) → OnOk r (IfSome b.held (λ images. v ≡ d images u)) → OnOk r (IfSome a.held (λ images. v ≡ d images (c images t)))
+      by (Ok y) l = tell a.held (λ images. v ≡ d images (c images t)) (λ images e.
+          let after = held_after (LiesInStripe layout) (λ i. writes_if write (f i)) m n a b x images e h.does in
+          told b.held (λ images. v ≡ d images u) (fold write_on images (writes_if write (f images))) after l
+          ∙ (same images e).1 u ∙ ap (d images) (told a.held (λ images. u ≡ c images t) images e h.counts))
+      by (Err y) l = tt
+
+  pub scrubs_cut : (A B : Type 0) (f g : Images → List Write) (c d : Images → Tally → Tally) (m n : List Bool) (a b : Seen) (t u : Tally) (x : MendFault)
+      → Scrubs {A = A} layout write f c m n a b t u (Err x) → Scrubs {A = B} layout write (λ i. f i ++ g i) d m n a b t u (Err x)
+  scrubs_cut A B f g c d m n a b t u x h = record {
+    does = recast {A = B} (LiesInStripe layout) (λ i. writes_if write (f i) ++ writes_if write (g i)) (λ i. writes_if write (f i ++ g i)) m n a b (Err x) (λ images e. if_append write (f images) (g images))
+        (does_cut A B (LiesInStripe layout) (λ i. writes_if write (f i)) (λ i. writes_if write (g i)) m n a b x h.does);
+    counts = tt;
+  }
+
+  -- nothing was done
+  pub scrubs_none : {A : Type 0} (marks : List Bool) (a : Seen) (t : Tally) (x : A) → Scrubs {A = A} layout write (λ i. []) (λ i y. y) marks marks a a t t (Ok x)
+  scrubs_none marks a t x = record {
+    does = recast (LiesInStripe layout) (λ i. []) (λ i. writes_if write []) marks marks a a (Ok x) (λ images e. none write)
+        (does_reads (LiesInStripe layout) marks a a x (record { same = refl; later = omega arith; same_shut = refl }) (record { faults = refl; fresh = refl; missed = refl; last = refl; opening = refl; shut = refl }));
+    counts = tell a.held (λ images. t ≡ t) (λ images e. refl);
+  }
+    where
+      none : (b : Bool) → [] ≡ writes_if b []
+      none true = refl
+      none false = refl
+
+-- nothing was done, as there was no memory
+pub scrubs_nothing : (layout : Layout) (write : Bool) (marks : List Bool) (a : Seen) (t : Tally) → Scrubs {A = Unit {0}} layout write (λ i. []) (λ i y. y) marks marks a a t t (Err Memory)
+scrubs_nothing layout write marks a t = record {
+  does = does_failed (LiesInStripe layout) (Unit {0}) (Unit {0}) (λ i. writes_if write []) marks a a Memory (record { same = refl; later = omega arith; same_shut = refl }) (record { faults = refl; fresh = refl; missed = refl; last = refl; opening = refl; shut = refl });
+  counts = tt;
+}
+
+-- ---- a block
+
+-- what was done for a block by its copies, and counted
+pub scrubs_block : (layout : Layout) (write : Bool) (t : Target) (m n : List Bool) (a b : Seen) (tally tally' : Tally) (mended : Mended) → ((range : Range) → IsOfCopy t range → LiesInStripe layout range)
+    → Mends t write m n a b (Ok mended) → tally' ≡ counted tally mended → Scrubs {A = Unit {0}} layout write (λ images. block_writes images t) (λ images tally. count_block images write tally t) m n a b tally tally' (Ok tt)
+scrubs_block layout write t m n a b tally tally' mended in_stripe h e = record {
+  does = does_value (LiesInStripe layout) (λ images. writes_if write (block_writes images t)) m n a b mended tt (does_weaker (IsOfCopy t) (LiesInStripe layout) (λ images. writes_if write (block_writes images t)) m n a b (Ok mended) in_stripe h.does);
+  counts = tell a.held (λ images. tally' ≡ count_block images write tally t) (λ images held. e ∙ ap (counted tally) (told a.held (λ images. mended ≡ mended_of images t write) images held h.counts));
+}
+
+pub scrubs_block_not : (layout : Layout) (write : Bool) (t : Target) (m n : List Bool) (a b : Seen) (tally : Tally) (fault : MendFault) → ((range : Range) → IsOfCopy t range → LiesInStripe layout range)
+    → Mends t write m n a b (Err fault) → Scrubs {A = Unit {0}} layout write (λ images. block_writes images t) (λ images tally. count_block images write tally t) m n a b tally tally (Err fault)
+scrubs_block_not layout write t m n a b tally fault in_stripe h = record {
+  does = does_fault {A = Mended} {B = Unit {0}} (LiesInStripe layout) (λ images. writes_if write (block_writes images t)) m n a b fault (does_weaker {A = Mended} (IsOfCopy t) (LiesInStripe layout) (λ images. writes_if write (block_writes images t)) m n a b (Err fault) in_stripe h.does);
+  counts = tt;
+}
+
+-- ---- what can be mended can be mended again
+
+pub can_mend_then : (write : Bool) (a b : Seen) (store store' : Blocks) (m n : List Bool) → CanMend write a store m → b.slots ≡ a.slots → SameLoans store store' → Serves b store' → length n ≡ length m → CanMend write b store' n
+can_mend_then write a b store store' m n can slots same serves long = record {
+  serves = serves;
+  room = omega (arith, can.room, ap (count_by is_none) same.loans);
+  writable = λ w. subst AreWritable (sym slots) (can.writable w);
+  slots = omega (arith, can.slots, ap length slots, long);
+  table = subst (λ (l : Layout). IsTable l.chunks) (sym same.layout) can.table;
+  given = ap first_missing same.layout ∙ can.given;
+}

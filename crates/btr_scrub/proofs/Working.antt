@@ -1,0 +1,344 @@
+-- Chunk after chunk, each with its syncs.
+use Rattle.std.proofs.Common.{◌≡◌, ◌⊎◌, ℕ, zero, suc, ◌+◌, ◌<◌, ◌≤◌, Bool, true, false, cond, ◌&&◌, eqb, leb, ltb, ◌/◌, List, [], ◌∷◌, ◌++◌, length, take, drop, get_or, slice_get, All, Option, Some, None, is_none, IfSome, IsSomeAnd, OnOk, Result, Ok, Err, IsOk, refl, sym, ap, ◌∙◌, subst, inl, inr, arith, append-nil, append_assoc, add-one}
+use Rattle.std.proofs.lemmas.Bool.{false≢true, and_parts, cases_lt, cases_order, eqb-true, leb-true, ltb-true}
+use Rattle.std.proofs.lemmas.Grind.{flat_map-append}
+use Rattle.std.proofs.lemmas.List.{get_or_past, take-append-drop}
+use Rattle.std.proofs.lemmas.List.Elements.{All-nil, filter-append, filter_map-append}
+use Rattle.std.proofs.lemmas.Option.{same_Some}
+use Rattle.std.specs.List.{filter, flat_map, fold, range_with_len}
+use Rattle.btr_chunk.specs.Chunk.{mirrors, stripe_length}
+use Rattle.btr_chunk.specs.Table.{IsTable}
+use Rattle.btr_chunk.specs.declared.chunk.Chunk.{Chunk}
+use Rattle.btr_chunk.proofs.Bytes.{at-below}
+use Rattle.btr_chunk.proofs.Rule.{facts}
+use Rattle.btr_rack.specs.Rack.{NoneFailed, OnlyReads, Seen}
+use Rattle.btr_rack.specs.declared.place.Place.{Place as Range}
+use Rattle.btr_read.specs.Candidates.{Target}
+use Rattle.btr_read.specs.Fate.{sought}
+use Rattle.btr_read.specs.Layout.{Layout}
+use Rattle.btr_read.specs.Want.{addr_of, len_of}
+use Rattle.btr_read.specs.declared.want.Want.{Want}
+use Rattle.btr_read.proofs.Fates.{sought_of}
+use Rattle.btr_read.proofs.Serving.{serves_as}
+use Rattle.btr_read.specs.Store.{Blocks}
+use Rattle.btr_mend.specs.Writes.{AccountsMend, AreWritable, Does, Images, IsMarked, Marks, Write, writes_if, write_on}
+use Rattle.btr_mend.specs.declared.mended.MendFault.{MendFault}
+use Rattle.btr_mend.specs.declared.mended.MendFault.TheVariants.{Image, Memory}
+use Rattle.btr_mend.proofs.Doing.{does_failed, does_reads}
+use Rattle.btr_scrub.specs.Glue.{In}
+use Rattle.btr_scrub.specs.Leaves.{LiesInStripe}
+use Rattle.btr_scrub.specs.Order.{AreApart, IsSought, targets}
+use Rattle.btr_scrub.specs.Repair.{is_in_chunk, is_in_row, ok_or_none, row_of, rows_in}
+use Rattle.btr_scrub.specs.Scrubbing.{AreSynced, CanMend, IsOfScrub, IsPastChunk, OnlySyncs, Scrubs, SyncsMarked, Works, all_count_for, all_writes_for, blocks_count, blocks_in, blocks_writes, chunk_count_for, chunk_writes_for, plain, rows_count, rows_writes}
+use Rattle.btr_scrub.specs.declared.tally.Tally.{Tally}
+use Rattle.btr_scrub.proofs.Blockwise.{all_behind, filter_none, fold_append, in_append, of_targets, ok_of}
+use Rattle.btr_scrub.proofs.Firsts.{drop_one}
+use Rattle.btr_scrub.proofs.Positions.{is_sought}
+use Rattle.btr_scrub.proofs.RowAgreeing.{map_same}
+use Rattle.btr_scrub.proofs.Syncs.{sync_held, sync_slots}
+use Rattle.btr_scrub.proofs.Scrubbing.{IsUnmoved, does_cut, does_next, held_after, if_append, recast, tell, told}
+
+-- ---- a rack, whatever waits for a sync
+
+fails_plain : {A : Type 0} (P Q : Range → Type 0) (a b : Seen) (r : Result A MendFault) → ((range : Range) → P range → Q range) → AccountsMend P a b r → AccountsMend Q (plain a) (plain b) r
+fails_plain P Q a b (Ok x) weak h = h
+fails_plain P Q a b (Err (Image slot)) weak h = record {
+  place = h.place;
+  failed = record { one = h.failed.one; read = h.failed.read; shut = h.failed.shut; unsure = h.failed.unsure };
+  on_slot = h.on_slot;
+  lies = weak h.place h.lies;
+}
+fails_plain P Q a b (Err Memory) weak h = h
+
+no_marks : Marks [] [] []
+no_marks = record { added = All-nil (λ (r : Range). IsMarked [] r.slot); kept = λ slot m. m }
+
+does_plain : {A : Type 0} (P Q : Range → Type 0) (f : Images → List Write) (m n : List Bool) (a b : Seen) (r : Result A MendFault) → ((range : Range) → P range → Q range) → Does P f m n a b r → Does Q f [] [] (plain a) (plain b) r
+does_plain P Q f m n a b r weak h = record {
+  ranges = [];
+  only = record { same = ap plain h.only.same; later = h.only.later; same_shut = h.only.same_shut };
+  marked = no_marks;
+  held = h.held;
+  account = fails_plain P Q a b r weak h.account;
+}
+
+sync_reads : (a b : Seen) → OnlySyncs a b → OnlyReads (plain a) (plain b)
+sync_reads a b h = record { same = h.same; later = h.later; same_shut = h.same_shut }
+
+does_sync : (layout : Layout) (m : List Bool) (a b : Seen) (r : Result (Unit {0}) MendFault) → SyncsMarked m a b r → Does (IsOfScrub layout) (λ i. []) [] [] (plain a) (plain b) r
+does_sync layout m a b (Ok x) h = does_reads (IsOfScrub layout) [] (plain a) (plain b) x (sync_reads a b h.only) h.account
+does_sync layout m a b (Err e) h =
+    does_failed (IsOfScrub layout) (Unit {0}) (Unit {0}) (λ i. []) [] (plain a) (plain b) e (sync_reads a b h.only)
+    (fails_plain {A = Unit {0}} (λ (range : Range). range.len ≡ 0) (IsOfScrub layout) a b (Err e) (λ range l. inl l) h.account)
+
+-- ---- one chunk
+
+all_at : {X : Type 0} (P : X → Type 0) (xs : List X) (x : X) → All P xs → In x xs → P x
+all_at P [] x all i = absurd i
+all_at P (y ∷ xs) x all (inl e) = subst P e (all 0 y (omega arith))
+all_at P (y ∷ xs) x all (inr i) = all_at P xs x (λ j d lt. all (suc j) d (omega (arith, lt))) i
+
+nothing : {X : Type 0} (xs : List X) → ((x : X) → In x xs → ⊥) → xs ≡ []
+nothing [] h = refl
+nothing (x ∷ xs) h = absurd (h x (inl refl))
+
+marked_below : (marks : List Bool) (slot : ℕ) → get_or marks slot false ≡ true → slot < length marks
+marked_below marks slot e = elim (cases_lt slot (length marks)) [ inl lt ↦ lt | inr le ↦ absurd (false≢true (sym (get_or_past marks slot false le) ∙ e)) ]
+
+module _ (layout : Layout) (write : Bool) where
+  -- nothing that was written waits behind the syncs
+  none_waits : (f : Images → List Write) (m m' : List Bool) (a b z : Seen) (x : Unit {0}) → Does (LiesInStripe layout) (λ i. writes_if write (f i)) m m' a b (Ok x) → AreSynced m' (length m') b.unsynced z.unsynced → a.unsynced ≡ [] → z.unsynced ≡ []
+  none_waits f m m' a b z x h s none = nothing z.unsynced (λ range i.
+      let among = s.among range i in
+      let waiting : b.unsynced ≡ h.ranges = ap (λ (r : Seen). r.unsynced) h.only.same ∙ ap (λ u. u ++ h.ranges) none in
+      let marked = all_at (λ (r : Range). IsMarked m' r.slot) h.ranges range h.marked.added (subst (In range) waiting among.0) in
+      false≢true (sym (among.1 (marked_below m' range.slot marked)) ∙ marked))
+
+  -- a chunk was mended, and its images synced
+  pub works_synced : (f : Images → List Write) (c : Images → Tally → Tally) (m m' : List Bool) (a b z : Seen) (t u : Tally) (x : Unit {0}) (r : Result (Unit {0}) MendFault)
+      → Scrubs layout write f c m m' a b t u (Ok x) → SyncsMarked m' b z r → Works layout write f c a z t u r
+  works_synced f c m m' a b z t u x r h s = record {
+    does = recast (IsOfScrub layout) (λ i. writes_if write (f i) ++ []) (λ i. writes_if write (f i)) [] [] (plain a) (plain z) r (λ images e. append-nil (writes_if write (f images)))
+        (does_next (Unit {0}) (Unit {0}) (IsOfScrub layout) (λ i. writes_if write (f i)) (λ i. []) [] [] [] (plain a) (plain b) (plain z) x r (λ images e. refl)
+        (does_plain (LiesInStripe layout) (IsOfScrub layout) (λ i. writes_if write (f i)) m m' a b (Ok x) (λ range l. inr l) h.does) (does_sync layout m' b z r s));
+    counts = counted r;
+    synced = waits r s.synced;
+  }
+    where
+      counted : (r : Result (Unit {0}) MendFault) → OnOk r (IfSome a.held (λ images. u ≡ c images t))
+      counted (Ok y) = h.counts
+      counted (Err e) = tt
+
+      waits : (r : Result (Unit {0}) MendFault) → OnOk r (AreSynced m' (length m') b.unsynced z.unsynced) → OnOk r (a.unsynced ≡ [] → z.unsynced ≡ [])
+      waits (Ok y) k = λ none. none_waits f m m' a b z x h.does k none
+      waits (Err e) k = tt
+
+  -- .. or came to a halt
+  pub works_halted : (f : Images → List Write) (c : Images → Tally → Tally) (m m' : List Bool) (a b : Seen) (t u : Tally) (e : MendFault) → Scrubs {A = Unit {0}} layout write f c m m' a b t u (Err e) → Works {A = Unit {0}} layout write f c a b t u (Err e)
+  works_halted f c m m' a b t u e h = record {
+    does = does_plain {A = Unit {0}} (LiesInStripe layout) (IsOfScrub layout) (λ i. writes_if write (f i)) m m' a b (Err e) (λ range l. inr l) h.does;
+    counts = tt;
+    synced = tt;
+  }
+
+  -- ---- one after another
+
+  pub works_as : (f g : Images → List Write) (c d : Images → Tally → Tally) (a b : Seen) (t u : Tally) (r : Result (Unit {0}) MendFault)
+      → ((images : Images) → a.held ≡ Some images → (f images ≡ g images) × (c images t ≡ d images t)) → Works layout write f c a b t u r → Works layout write g d a b t u r
+  works_as f g c d a b t u r same h = record {
+    does = recast (IsOfScrub layout) (λ i. writes_if write (f i)) (λ i. writes_if write (g i)) [] [] (plain a) (plain b) r (λ images e. ap (writes_if write) (same images e).0) h.does;
+    counts = by r h.counts;
+    synced = h.synced;
+  }
+    where
+      by : (r : Result (Unit {0}) MendFault) → OnOk r (IfSome a.held (λ images. u ≡ c images t)) → OnOk r (IfSome a.held (λ images. u ≡ d images t))
+      by (Ok x) k = tell a.held (λ images. u ≡ d images t) (λ images e. told a.held (λ images. u ≡ c images t) images e k ∙ (same images e).1)
+      by (Err x) k = tt
+
+  pub works_then : (f g : Images → List Write) (c d : Images → Tally → Tally) (a b z : Seen) (t u v : Tally) (x : Unit {0}) (r : Result (Unit {0}) MendFault)
+      → IsUnmoved layout write f g d a.held → Works layout write f c a b t u (Ok x) → Works layout write g d b z u v r → Works layout write (λ i. f i ++ g i) (λ i y. d i (c i y)) a z t v r
+  works_then f g c d a b z t u v x r same h k = record {
+    does = recast (IsOfScrub layout) (λ i. writes_if write (f i) ++ writes_if write (g i)) (λ i. writes_if write (f i ++ g i)) [] [] (plain a) (plain z) r (λ images e. if_append write (f images) (g images))
+        (does_next (Unit {0}) (Unit {0}) (IsOfScrub layout) (λ i. writes_if write (f i)) (λ i. writes_if write (g i)) [] [] [] (plain a) (plain b) (plain z) x r (λ images e. ap (writes_if write) (same images e).0) h.does k.does);
+    counts = by r k.counts;
+    synced = waits r k.synced;
+  }
+    where
+      by : (r : Result (Unit {0}) MendFault) → OnOk r (IfSome b.held (λ images. v ≡ d images u)) → OnOk r (IfSome a.held (λ images. v ≡ d images (c images t)))
+      by (Ok y) l = tell a.held (λ images. v ≡ d images (c images t)) (λ images e.
+          let after = held_after (IsOfScrub layout) (λ i. writes_if write (f i)) [] [] (plain a) (plain b) x images e h.does in
+          told b.held (λ images. v ≡ d images u) (fold write_on images (writes_if write (f images))) after l
+          ∙ (same images e).1 u ∙ ap (d images) (told a.held (λ images. u ≡ c images t) images e h.counts))
+      by (Err y) l = tt
+
+      waits : (r : Result (Unit {0}) MendFault) → OnOk r (b.unsynced ≡ [] → z.unsynced ≡ []) → OnOk r (a.unsynced ≡ [] → z.unsynced ≡ [])
+      waits (Ok y) l = λ none. l (h.synced none)
+      waits (Err y) l = tt
+
+  pub works_cut : (f g : Images → List Write) (c d : Images → Tally → Tally) (a b : Seen) (t u : Tally) (e : MendFault) → Works {A = Unit {0}} layout write f c a b t u (Err e) → Works {A = Unit {0}} layout write (λ i. f i ++ g i) d a b t u (Err e)
+  works_cut f g c d a b t u x h = record {
+    does = recast {A = Unit {0}} (IsOfScrub layout) (λ i. writes_if write (f i) ++ writes_if write (g i)) (λ i. writes_if write (f i ++ g i)) [] [] (plain a) (plain b) (Err x) (λ images e. if_append write (f images) (g images))
+        (does_cut (Unit {0}) (Unit {0}) (IsOfScrub layout) (λ i. writes_if write (f i)) (λ i. writes_if write (g i)) [] [] (plain a) (plain b) x h.does);
+    counts = tt;
+    synced = tt;
+  }
+
+  pub works_none : (a : Seen) (t : Tally) → Works {A = Unit {0}} layout write (λ i. []) (λ i y. y) a a t t (Ok tt)
+  works_none a t = record {
+    does = recast (IsOfScrub layout) (λ i. []) (λ i. writes_if write []) [] [] (plain a) (plain a) (Ok tt) (λ images e. none write)
+        (does_reads (IsOfScrub layout) [] (plain a) (plain a) tt (record { same = refl; later = omega arith; same_shut = refl }) (record { faults = refl; fresh = refl; missed = refl; last = refl; opening = refl; shut = refl }));
+    counts = tell a.held (λ images. t ≡ t) (λ images e. refl);
+    synced = λ none. none;
+  }
+    where
+      none : (b : Bool) → [] ≡ writes_if b []
+      none true = refl
+      none false = refl
+
+-- ---- the chunks of a table
+
+take_suc : {X : Type 0} (xs : List X) (i : ℕ) (x : X) → slice_get xs i ≡ Some x → take (suc i) xs ≡ take i xs ++ x ∷ []
+take_suc [] i x e = cc
+take_suc (y ∷ xs) zero x e = ap (λ z. z ∷ []) (same_Some y x e)
+take_suc (y ∷ xs) (suc i) x e = ap (λ zs. y ∷ zs) (take_suc xs i x e)
+
+take_one : {X : Type 0} (xs : List X) (i : ℕ) (x : X) → slice_get xs i ≡ Some x → take (i + 1) xs ≡ take i xs ++ x ∷ []
+take_one xs i x e = ap (λ n. take n xs) (add-one i) ∙ take_suc xs i x e
+
+split_at : {X : Type 0} (xs : List X) (i : ℕ) (x : X) → slice_get xs i ≡ Some x → xs ≡ take i xs ++ x ∷ drop (i + 1) xs
+split_at xs i x e = sym (take-append-drop i xs) ∙ ap (λ ys. take i xs ++ ys) (drop_one xs i x e)
+
+module _ (layout : Layout) (wants : List Want) where
+  -- the chunks before one are past, mended and synced
+  pub record ChunksPast (write : Bool) (left : List Want) (number : ℕ) (old new : Seen) (tally tally' : Tally) : Type 0 where
+    pub past : List Want
+    pub split : wants ≡ past ++ left
+    pub outside : (t : Target) (k : ℕ) (c : Chunk) → In t (targets layout past) → number ≤ k → slice_get layout.chunks k ≡ Some c → is_in_chunk c t ≡ false
+    pub end : ℕ
+    pub passed : (j : ℕ) (c : Chunk) → j < number → slice_get layout.chunks j ≡ Some c → c.start + c.length ≤ end
+    pub apart : AreApart layout end left
+    pub done : Works {A = Unit {0}} layout write (all_writes_for layout (take number layout.chunks) wants) (all_count_for layout write (take number layout.chunks) wants) old new tally tally' (Ok tt)
+
+module _ (layout : Layout) (table : IsTable layout.chunks) (wants : List Want) where
+  -- what is written in a chunk is so for the blocks that are left, where those past lie in none of its rows
+  pub left_for : (write : Bool) (chunk : Chunk) (past left : List Want) → wants ≡ past ++ left → ((t : Target) → In t (targets layout past) → is_in_chunk chunk t ≡ false) → (images : Images)
+      → (chunk_writes_for layout chunk left images ≡ chunk_writes_for layout chunk wants images) × ((x : Tally) → chunk_count_for layout write chunk left images x ≡ chunk_count_for layout write chunk wants images x)
+  left_for write chunk past left split outside images =
+      let both : targets layout wants ≡ targets layout past ++ targets layout left = ap (targets layout) split ∙ filter_map-append (λ w. ok_or_none (sought layout w)) past left in
+      let blocks : blocks_in layout chunk wants ≡ blocks_in layout chunk left =
+      ap (filter (is_in_chunk chunk)) both ∙ filter-append (is_in_chunk chunk) (targets layout past) (targets layout left) ∙ ap (λ xs. xs ++ blocks_in layout chunk left) (filter_none (is_in_chunk chunk) (targets layout past) outside) in
+      let in_rows : (r : ℕ) → row_of (targets layout wants) chunk r ≡ row_of (targets layout left) chunk r = λ r. ap (λ bs. record { chunk = chunk; number = r; blocks = bs }) (
+      ap (filter (is_in_row chunk r)) both ∙ filter-append (is_in_row chunk r) (targets layout past) (targets layout left)
+      ∙ ap (λ xs. xs ++ filter (is_in_row chunk r) (targets layout left)) (filter_none (is_in_row chunk r) (targets layout past) (λ t i. ap (λ b. b && eqb t.at.row r) (outside t i)))) in
+      let rs : rows_in (targets layout wants) chunk ≡ rows_in (targets layout left) chunk = ap (λ xs. cond (is_none (mirrors chunk)) xs []) (map_same (row_of (targets layout wants) chunk) (row_of (targets layout left) chunk) (range_with_len 0 (stripe_length chunk / 65536)) (λ r _. in_rows r)) in (
+        sym (ap (λ x. cond (is_none (mirrors chunk)) (rows_writes layout x images) (blocks_writes (blocks_in layout chunk wants) images)) rs ∙ ap (λ x. cond (is_none (mirrors chunk)) (rows_writes layout (rows_in (targets layout left) chunk) images) (blocks_writes x images)) blocks),
+        λ y. sym (ap (λ x. cond (is_none (mirrors chunk)) (rows_count layout write x images y) (blocks_count write (blocks_in layout chunk wants) images y)) rs ∙ ap (λ x. cond (is_none (mirrors chunk)) (rows_count layout write (rows_in (targets layout left) chunk) images y) (blocks_count write x images y)) blocks),
+      )
+
+  pub chunks_none : (write : Bool) (a : Seen) (tally : Tally) → AreApart layout 0 wants → ChunksPast layout wants write wants 0 a a tally tally
+  chunks_none write a tally apart = record {
+    past = [];
+    split = refl;
+    outside = λ t k c i le e. absurd i;
+    end = 0;
+    passed = λ j c lt e. absurd (omega (arith, lt));
+    apart = apart;
+    done = works_none layout write a tally;
+  }
+
+  module _ (number : ℕ) (chunk : Chunk) (there : slice_get layout.chunks number ≡ Some chunk) where
+    -- what is left begins in the next chunk or behind it
+    pub begins_there : (left : List Want) (end : ℕ) → ((j : ℕ) (c : Chunk) → j < number → slice_get layout.chunks j ≡ Some c → c.start + c.length ≤ end) → AreApart layout end left → AreApart layout chunk.start left
+    begins_there [] end passed apart = tt
+    begins_there (want ∷ rest) end passed apart =
+        let t = ok_of (sought layout want) apart.1 in
+        let is = is_sought layout want t.0 t.1 in
+        let addr : addr_of t.0.want ≡ addr_of want = ap addr_of (sought_of layout want t.0 t.1).want_is in
+        let h = and_parts (leb t.0.chunk.start (addr_of t.0.want)) (ltb (addr_of t.0.want) (t.0.chunk.start + t.0.chunk.length)) is.held in
+        let from = leb-true t.0.chunk.start (addr_of t.0.want) h.0 in
+        let to = ltb-true (addr_of t.0.want) (t.0.chunk.start + t.0.chunk.length) h.1 in
+        let begin : chunk.start ≤ addr_of want = elim (cases_order is.number number) [
+          | inl same ↦ omega (arith, addr, from, ap (λ (c : Chunk). c.start) (same_chunk t.0.chunk (sym is.there ∙ ap (slice_get layout.chunks) same ∙ there)))
+          | inr (inl before) ↦ absurd (omega (arith, passed is.number t.0.chunk before is.there, to, addr, apart.0))
+          | inr (inr after) ↦ omega (arith, addr, from, (table.apart number is.number chunk t.0.chunk after there is.there).0)
+        ] in
+        (begin, apart.1, apart.2)
+      where
+        same_chunk : (c : Chunk) → Some c ≡ Some chunk → c ≡ chunk
+        same_chunk c e = cc
+
+    module _ (write : Bool) (left left' : List Want) (a b z : Seen) (tally tally' tally'' : Tally) (h : ChunksPast layout wants write left number a b tally tally')
+        (unmoved : IsUnmoved layout write (all_writes_for layout (take number layout.chunks) wants) (chunk_writes_for layout chunk wants) (chunk_count_for layout write chunk wants) a.held) where
+      both : (r : Result (Unit {0}) MendFault) → Works layout write (chunk_writes_for layout chunk left) (chunk_count_for layout write chunk left) b z tally' tally'' r
+          → Works layout write (λ i. all_writes_for layout (take number layout.chunks) wants i ++ chunk_writes_for layout chunk wants i) (λ i y. chunk_count_for layout write chunk wants i (all_count_for layout write (take number layout.chunks) wants i y)) a z tally tally'' r
+      both r one =
+          let same = left_for write chunk h.past left h.split (λ t i. h.outside t number chunk i (omega arith) there) in
+          works_then layout write (all_writes_for layout (take number layout.chunks) wants) (chunk_writes_for layout chunk wants) (all_count_for layout write (take number layout.chunks) wants) (chunk_count_for layout write chunk wants) a b z tally tally' tally'' tt r unmoved h.done
+          (works_as layout write (chunk_writes_for layout chunk left) (chunk_writes_for layout chunk wants) (chunk_count_for layout write chunk left) (chunk_count_for layout write chunk wants) b z tally' tally'' r (λ images e. ((same images).0, (same images).1 tally')) one)
+
+      -- one chunk more
+      pub chunks_more : IsPastChunk layout chunk left left' → Works layout write (chunk_writes_for layout chunk left) (chunk_count_for layout write chunk left) b z tally' tally'' (Ok (tt {0})) → ChunksPast layout wants write left' (number + 1) a z tally tally''
+      chunks_more p one = record {
+        past = h.past ++ p.past;
+        split = h.split ∙ ap (λ ws. h.past ++ ws) p.split ∙ sym (append_assoc h.past p.past left');
+        outside = λ t k c i le e. elim (in_append t (targets layout h.past) (targets layout p.past) (subst (In t) (filter_map-append (λ w. ok_or_none (sought layout w)) h.past p.past) i)) [
+          | inl j ↦ h.outside t k c j (omega (arith, le)) e
+          | inr j ↦ not_later t k c le e (p.inside t j)
+        ];
+        end = chunk.start + chunk.length;
+        passed = λ j c lt e. elim (cases_lt j number) [
+          | inl below ↦ omega (arith, (table.apart j number c chunk below e there).0)
+          | inr above ↦ let same : j ≡ number = omega (arith, lt, above) in omega (arith, ap (λ (c : Chunk). c.start + c.length) (same_chunk c (sym e ∙ ap (slice_get layout.chunks) same ∙ there)))
+        ];
+        apart = p.behind;
+        done = works_as layout write (λ i. all_writes_for layout (take number layout.chunks) wants i ++ chunk_writes_for layout chunk wants i) (all_writes_for layout (take (number + 1) layout.chunks) wants)
+            (λ i y. chunk_count_for layout write chunk wants i (all_count_for layout write (take number layout.chunks) wants i y)) (all_count_for layout write (take (number + 1) layout.chunks) wants) a z tally tally'' (Ok (tt {0}))
+            (λ images e. (sym (writes_one images), sym (counts_one images tally))) (both (Ok (tt {0})) one);
+      }
+        where
+          same_chunk : (c : Chunk) → Some c ≡ Some chunk → c ≡ chunk
+          same_chunk c e = cc
+
+          not_later : (t : Target) (k : ℕ) (c : Chunk) → number + 1 ≤ k → slice_get layout.chunks k ≡ Some c → t.chunk ≡ chunk → is_in_chunk c t ≡ false
+          not_later t k c le e mine = by (is_in_chunk c t) refl
+            where
+              by : (b : Bool) → is_in_chunk c t ≡ b → is_in_chunk c t ≡ false
+              by false q = q
+              by true q = absurd (omega (arith, (table.apart number k chunk c (omega (arith, le)) there e).0, (facts chunk (table.sound number chunk there).0).some, eqb-true t.chunk.start c.start q, ap (λ (x : Chunk). x.start) mine))
+
+          writes_one : (images : Images) → all_writes_for layout (take (number + 1) layout.chunks) wants images ≡ all_writes_for layout (take number layout.chunks) wants images ++ chunk_writes_for layout chunk wants images
+          writes_one images =
+              ap (λ cs. all_writes_for layout cs wants images) (take_one layout.chunks number chunk there)
+              ∙ flat_map-append (λ c. chunk_writes_for layout c wants images) (take number layout.chunks) (chunk ∷ [])
+              ∙ ap (λ ws. all_writes_for layout (take number layout.chunks) wants images ++ ws) (append-nil (chunk_writes_for layout chunk wants images))
+
+          counts_one : (images : Images) (x : Tally) → all_count_for layout write (take (number + 1) layout.chunks) wants images x ≡ chunk_count_for layout write chunk wants images (all_count_for layout write (take number layout.chunks) wants images x)
+          counts_one images x =
+              ap (λ cs. all_count_for layout write cs wants images x) (take_one layout.chunks number chunk there)
+              ∙ fold_append (λ tally c. chunk_count_for layout write c wants images tally) x (take number layout.chunks) (chunk ∷ [])
+
+      -- a halt in it
+      pub chunks_cut : (e : MendFault) → Works {A = Unit {0}} layout write (chunk_writes_for layout chunk left) (chunk_count_for layout write chunk left) b z tally' tally'' (Err e)
+          → Works {A = Unit {0}} layout write (all_writes_for layout layout.chunks wants) (all_count_for layout write layout.chunks wants) a z tally tally'' (Err e)
+      chunks_cut x one =
+          let rest = drop (number + 1) layout.chunks in
+          works_as layout write (λ i. (all_writes_for layout (take number layout.chunks) wants i ++ chunk_writes_for layout chunk wants i) ++ all_writes_for layout rest wants i) (all_writes_for layout layout.chunks wants)
+          (all_count_for layout write layout.chunks wants) (all_count_for layout write layout.chunks wants) a z tally tally'' (Err x)
+          (λ images e. (
+            sym (ap (λ cs. all_writes_for layout cs wants images) (split_at layout.chunks number chunk there) ∙ flat_map-append (λ c. chunk_writes_for layout c wants images) (take number layout.chunks) (chunk ∷ rest)
+                ∙ sym (append_assoc (all_writes_for layout (take number layout.chunks) wants images) (chunk_writes_for layout chunk wants images) (all_writes_for layout rest wants images))),
+            refl,
+          ))
+          (works_cut layout write (λ i. all_writes_for layout (take number layout.chunks) wants i ++ chunk_writes_for layout chunk wants i) (all_writes_for layout rest wants)
+          (λ i y. chunk_count_for layout write chunk wants i (all_count_for layout write (take number layout.chunks) wants i y)) (all_count_for layout write layout.chunks wants) a z tally tally'' x (both (Err x) one))
+
+-- ---- what can be mended, behind syncs
+
+-- what holds of the value that there is
+pub some_and : {X : Type 0} (o : Option X) (P : X → Type 0) → IsSomeAnd o P → (x : X) × (o ≡ Some x) × P x
+some_and None P h = absurd h
+some_and (Some x) P h = (x, refl, h)
+
+pub can_mend_synced : (write : Bool) (a b : Seen) (store : Blocks) (m n : List Bool) → CanMend write a store m → OnlySyncs a b → length n ≡ length m → CanMend write b store n
+can_mend_synced write a b store m n can only long =
+    let slots = sync_slots a b only in
+    record {
+      serves = serves_as a b store store slots (sync_held a b only) refl refl can.serves;
+      room = can.room;
+      writable = λ w. subst AreWritable (sym slots) (can.writable w);
+      slots = omega (arith, can.slots, ap length slots, long);
+      table = can.table;
+      given = can.given;
+    }
+
+-- the chunk of a number below their count
+pub at_number : (layout : Layout) (i : ℕ) → i < length layout.chunks → (chunk : Chunk) × (slice_get layout.chunks i ≡ Some chunk)
+at_number layout i lt = at-below layout.chunks i lt
+
+-- nothing was done, as there was no memory
+pub works_nothing : (layout : Layout) (write : Bool) (f : Images → List Write) (c : Images → Tally → Tally) (a : Seen) (t : Tally) → Works {A = Unit {0}} layout write f c a a t t (Err Memory)
+works_nothing layout write f c a t = record {
+  does = does_failed (IsOfScrub layout) (Unit {0}) (Unit {0}) (λ i. writes_if write (f i)) [] (plain a) (plain a) Memory (record { same = refl; later = omega arith; same_shut = refl }) (record { faults = refl; fresh = refl; missed = refl; last = refl; opening = refl; shut = refl });
+  counts = tt;
+  synced = tt;
+}

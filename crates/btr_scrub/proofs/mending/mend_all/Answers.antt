@@ -1,0 +1,98 @@
+use Rattle.std.proofs.lemmas.List.{take_all}
+use Rattle.std.proofs.Common.{◌≡◌, ◌+◌, length, slice_get, take, Some, Ok, Err, IsSomeAnd, refl, sym, ap, ◌∙◌, subst, arith}
+use Rattle.std.proofs.lemmas.Option.{slice_get-get_or}
+use Rattle.btr_chunk.specs.declared.chunk.Chunk.{Chunk}
+use Rattle.btr_read.specs.Layout.{Layout}
+use Rattle.btr_read.proofs.Serving.{serving}
+use Rattle.btr_mend.proofs.Copied.{same_loans_then}
+use Rattle.btr_scrub.specs.Order.{AreApart}
+use Rattle.btr_scrub.specs.Scrubbing.{CanMend, HasRooms, IsPastChunk, Works, all_count_for, all_writes_for, chunk_count_for, chunk_writes_for}
+use Rattle.btr_scrub.proofs.Blockwise.{have_lengths}
+use Rattle.btr_scrub.proofs.AcrossChunks.{chunk_unmoved}
+use Rattle.btr_scrub.proofs.Working.{at_number, begins_there, chunks_cut, chunks_more, chunks_none}
+use Rattle.btr_scrub.proofs.mending.mend_all.Goals as goal
+
+pub loop-number-init : goal.loop-number-init
+loop-number-init g c = record {
+  ready = c.requires.ready;
+  marks = c.requires.marks;
+  loans = record { layout = refl; loans = refl };
+  rooms = c.requires.rooms;
+  past = chunks_none c.args.store.now.layout c.requires.ready.table c.args.blocks.now c.args.write (g.R.Rack.seen c.args.rack.now) c.args.tally.now c.requires.apart;
+}
+
+pub mend_and_sync-requires-clause-ready : goal.mend_and_sync-requires-clause-ready
+mend_and_sync-requires-clause-ready g c = c.loop-number.invariant.ready
+
+pub mend_and_sync-requires-clause-marks : goal.mend_and_sync-requires-clause-marks
+mend_and_sync-requires-clause-marks g c = c.loop-number.invariant.marks
+
+pub mend_and_sync-requires-clause-nodesize : goal.mend_and_sync-requires-clause-nodesize
+mend_and_sync-requires-clause-nodesize g c = c.requires.nodesize ∙ ap (λ (l : Layout). l.setting.nodesize) (sym c.loop-number.invariant.loans.layout)
+
+pub mend_and_sync-requires-clause-rooms : goal.mend_and_sync-requires-clause-rooms
+mend_and_sync-requires-clause-rooms g c = subst (λ (l : Layout). HasRooms l c.loop-number.room.buffer) (sym c.loop-number.invariant.loans.layout) c.loop-number.invariant.rooms
+
+pub mend_and_sync-requires-clause-chunk : goal.mend_and_sync-requires-clause-chunk
+mend_and_sync-requires-clause-chunk g c =
+    let layout = c.args.store.now.layout in
+    let table = c.requires.ready.table in
+    let h = c.loop-number.invariant.past in
+    let at = at_number layout c.loop-number.number (omega (arith, c.loop-number-test.true, c.count-number-end.ensures.count, ap length c.chunks.ensures)) in
+    let begin = begins_there layout table c.args.blocks.now c.loop-number.number at.0 at.1 c.loop-number.blocks h.end h.passed h.apart in
+    subst (λ (l : Layout). IsSomeAnd (slice_get l.chunks c.loop-number.number) (λ chunk. AreApart l chunk.start c.loop-number.blocks)) (sym c.loop-number.invariant.loans.layout)
+    (subst (λ o. IsSomeAnd o (λ chunk. AreApart layout chunk.start c.loop-number.blocks)) (sym at.1) begin)
+
+pub returns-in-Err-clause-loans : goal.returns-in-Err-clause-loans
+returns-in-Err-clause-loans g c = same_loans_then c.args.store.now c.loop-number.store c.mend_and_sync.new.store c.loop-number.invariant.loans c.in-Err.ensures.loans
+
+pub returns-in-Err-clause-works : goal.returns-in-Err-clause-works
+returns-in-Err-clause-works g c =
+    let layout = c.args.store.now.layout in
+    let table = c.requires.ready.table in
+    let a = g.R.Rack.seen c.args.rack.now in
+    let b = g.R.Rack.seen c.loop-number.rack in
+    let z = g.R.Rack.seen c.mend_and_sync.new.rack in
+    let was = serving a c.args.store.now c.requires.ready.serves in
+    let at = at_number layout c.loop-number.number (omega (arith, c.loop-number-test.true, c.count-number-end.ensures.count, ap length c.chunks.ensures)) in
+    let one = subst (λ (l : Layout). (chunk : Chunk) → slice_get l.chunks c.loop-number.number ≡ Some chunk
+    → Works {A = Unit {0}} l c.args.write (chunk_writes_for l chunk c.loop-number.blocks) (chunk_count_for l c.args.write chunk c.loop-number.blocks) b z c.loop-number.tally c.mend_and_sync.new.tally (Err c.in-Err.fault)) c.loop-number.invariant.loans.layout c.in-Err.ensures.works at.0 at.1 in
+    chunks_cut layout table c.args.blocks.now c.loop-number.number at.0 at.1 c.args.write c.loop-number.blocks c.mend_and_sync.new.blocks a b z c.args.tally.now c.loop-number.tally c.mend_and_sync.new.tally c.loop-number.invariant.past
+    (chunk_unmoved layout c.args.write c.args.blocks.now a.held c.loop-number.number at.0 table was.own_slots c.requires.ready.given at.1 (λ images held. have_lengths a layout images (g.met.R.Rack.sound c.args.rack.now) was.are_open held))
+    c.in-Err.fault one
+
+pub loop-number-preserved : goal.loop-number-preserved
+loop-number-preserved g c =
+    let layout = c.args.store.now.layout in
+    let table = c.requires.ready.table in
+    let inv = c.loop-number.invariant in
+    let a = g.R.Rack.seen c.args.rack.now in
+    let b = g.R.Rack.seen c.loop-number.rack in
+    let z = g.R.Rack.seen c.mend_and_sync.new.rack in
+    let was = serving a c.args.store.now c.requires.ready.serves in
+    let at = at_number layout c.loop-number.number (omega (arith, c.loop-number-test.true, c.count-number-end.ensures.count, ap length c.chunks.ensures)) in
+    let one = subst (λ (l : Layout). (chunk : Chunk) → slice_get l.chunks c.loop-number.number ≡ Some chunk
+    → Works {A = Unit {0}} l c.args.write (chunk_writes_for l chunk c.loop-number.blocks) (chunk_count_for l c.args.write chunk c.loop-number.blocks) b z c.loop-number.tally c.mend_and_sync.new.tally (Ok tt)) inv.loans.layout c.in-Ok.ensures.works at.0 at.1 in
+    let past = subst (λ (l : Layout). (chunk : Chunk) → slice_get l.chunks c.loop-number.number ≡ Some chunk → IsPastChunk l chunk c.loop-number.blocks c.mend_and_sync.new.blocks) inv.loans.layout c.in-Ok.ensures.past at.0 at.1 in
+    record {
+      ready = c.in-Ok.ensures.ready;
+      marks = c.mend_and_sync.auto.marks ∙ inv.marks ∙ sym c.in-Ok.ensures.slots;
+      loans = same_loans_then c.args.store.now c.loop-number.store c.mend_and_sync.new.store inv.loans c.in-Ok.ensures.loans;
+      rooms = subst (λ (l : Layout). HasRooms l c.mend_and_sync.new.room.buffer) inv.loans.layout c.in-Ok.ensures.rooms;
+      past = chunks_more layout table c.args.blocks.now c.loop-number.number at.0 at.1 c.args.write c.loop-number.blocks c.mend_and_sync.new.blocks a b z c.args.tally.now c.loop-number.tally c.mend_and_sync.new.tally inv.past
+          (chunk_unmoved layout c.args.write c.args.blocks.now a.held c.loop-number.number at.0 table was.own_slots c.requires.ready.given at.1 (λ images held. have_lengths a layout images (g.met.R.Rack.sound c.args.rack.now) was.are_open held))
+          past one;
+    }
+
+pub returns-clause-ready : goal.returns-clause-ready
+returns-clause-ready g c = c.loop-number.invariant.ready
+
+pub returns-clause-loans : goal.returns-clause-loans
+returns-clause-loans g c = c.loop-number.invariant.loans
+
+pub returns-clause-works : goal.returns-clause-works
+returns-clause-works g c =
+    let layout = c.args.store.now.layout in
+    let whole : take c.loop-number.number layout.chunks ≡ layout.chunks = take_all c.loop-number.number layout.chunks (omega (arith, c.loop-number-test.false, c.count-number-end.ensures.count, ap length c.chunks.ensures)) in
+    subst (λ cs. Works {A = Unit {0}} layout c.args.write (all_writes_for layout cs c.args.blocks.now) (all_count_for layout c.args.write cs c.args.blocks.now) (g.R.Rack.seen c.args.rack.now) (g.R.Rack.seen c.loop-number.rack) c.args.tally.now c.loop-number.tally (Ok tt)) whole
+    c.loop-number.invariant.past.done

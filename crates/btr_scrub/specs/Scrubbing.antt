@@ -1,0 +1,177 @@
+-- Mending block by block and chunk by chunk: what was done, and what is counted.
+use Rattle.std.specs.Prelude.{◌≡◌, ◌⊎◌, ℕ, ◌+◌, ◌-◌, ◌^◌, ◌<◌, ◌≤◌, min, Bool, List, [], ◌∷◌, ◌++◌, length, Option, Some, None, is_none, slice_index_or, false, IsTrue, IsSome, IsSomeAnd, IfSome, OnOk, Result, Ok, Err, slice_get, if◌then◌else◌}
+use Rattle.std.specs.List.{filter, flat_map, fold}
+use Rattle.btr_chunk.specs.Chunk.{mirrors}
+use Rattle.btr_chunk.specs.Table.{IsTable}
+use Rattle.btr_chunk.specs.declared.chunk.Chunk.{Chunk}
+use Rattle.btr_rack.specs.Rack.{Seen, in_others}
+use Rattle.btr_read.specs.Candidates.{Target}
+use Rattle.btr_read.specs.Layout.{Layout}
+use Rattle.btr_read.specs.Serves.{Serves}
+use Rattle.btr_read.specs.Store.{Blocks, free_count}
+use Rattle.btr_read.specs.Want.{addr_of}
+use Rattle.btr_read.specs.declared.want.Want.{Want}
+use Rattle.btr_mend.specs.Blocks.{block_writes}
+use Rattle.btr_mend.specs.Mending.{mended_of}
+use Rattle.btr_mend.specs.Writes.{AccountsMend, AreWritable, Does, Images, Write, writes_if}
+use Rattle.btr_mend.specs.declared.mended.MendFault.{MendFault}
+use Rattle.btr_mend.specs.declared.mended.Mended.{Mended}
+use Rattle.btr_rack.specs.declared.place.Place.{Place as Range}
+use Rattle.btr_row.specs.Mending.{HasRoom, mended_row}
+use Rattle.btr_row.specs.declared.buffer.RowBuffer.{RowBuffer}
+use Rattle.btr_row.specs.Rows.{Row, row_writes}
+use Rattle.btr_row.specs.declared.mended.MendedRow.{MendedRow}
+use Rattle.btr_scrub.specs.Glue.{In}
+use Rattle.btr_scrub.specs.Leaves.{LiesInStripe}
+use Rattle.btr_scrub.specs.Order.{AreApart, targets}
+use Rattle.btr_scrub.specs.Repair.{first_missing, is_in_chunk, rows_in}
+use Rattle.btr_scrub.specs.declared.tally.Tally.{Tally}
+
+-- the first of some blocks, if there is one, begins at or behind an address
+abbrev pub BeginsBehind : ℕ → List Want → Type 0
+BeginsBehind end [] = Unit {0}
+BeginsBehind end (want ∷ wants) = end ≤ addr_of want
+
+-- the next block, if it lies before an address; else the reader stays where it is
+abbrev pub GivesBelow : List Want → ℕ → Option Want → List Want → Type 0
+GivesBelow old end None new = (new ≡ old) × BeginsBehind end old
+GivesBelow old end (Some want) new = (old ≡ want ∷ new) × (addr_of want < end)
+
+-- a count, which stands still at its type's end
+abbrev pub stood : ℕ → ℕ
+stood n = min n (2 ^ 64 - 1)
+
+-- counts with those of one more block
+abbrev pub counted : Tally → Mended → Tally
+counted tally mended = record {
+  blocks = stood (tally.blocks + 1);
+  bad = stood (tally.bad + mended.bad);
+  repaired = stood (tally.repaired + mended.repaired);
+  lost = stood (tally.lost + (if mended.lost then 1 else 0));
+  parity = tally.parity;
+  unchecked = tally.unchecked;
+}
+
+abbrev pub count_block : Images → Bool → Tally → Target → Tally
+count_block images write tally t = counted tally (mended_of images t write)
+
+-- all blocks can be mended: devices are open and given, and where it is to be written each image was opened for writing
+pub record CanMend (write : Bool) (rack : Seen) (store : Blocks) (marks : List Bool) : Type 0 where
+  pub serves : Serves rack store
+  pub room : 2 ≤ free_count store
+  pub writable : IsTrue write → AreWritable rack.slots
+  pub slots : length rack.slots ≤ length marks
+  pub table : IsTable store.layout.chunks
+  pub given : first_missing store.layout ≡ None
+
+-- Images were read and written: exactly the writes that follow from what they held, or those up to one that failed. What follows from what they held was counted.
+pub record Scrubs {A : Type 0} (layout : Layout) (write : Bool) (writes : Images → List Write) (count : Images → Tally → Tally) (marks marks' : List Bool) (old new : Seen) (tally tally' : Tally) (result : Result A MendFault) : Type 0 where
+  pub does : Does (LiesInStripe layout) (λ images. writes_if write (writes images)) marks marks' old new result
+  pub counts : OnOk result (IfSome old.held (λ images. tally' ≡ count images tally))
+
+-- the writes for blocks, and the counts of them
+abbrev pub blocks_writes : List Target → Images → List Write
+blocks_writes ts images = flat_map (block_writes images) ts
+
+abbrev pub blocks_count : Bool → List Target → Images → Tally → Tally
+blocks_count write ts images tally = fold (count_block images write) tally ts
+
+-- those of some blocks that lie in a chunk
+abbrev pub blocks_in : Layout → Chunk → List Want → List Target
+blocks_in layout chunk wants = filter (is_in_chunk chunk) (targets layout wants)
+
+-- the blocks of a chunk are past, and those that come next lie behind it
+pub record IsPastChunk (layout : Layout) (chunk : Chunk) (old new : List Want) : Type 0 where
+  pub past : List Want
+  pub split : old ≡ past ++ new
+  pub inside : (t : Target) → In t (targets layout past) → t.chunk ≡ chunk
+  pub behind : AreApart layout (chunk.start + chunk.length) new
+
+-- ---- chunks with parity
+
+-- counts with those of a full stripe of so many checked blocks
+abbrev pub counted_row : Tally → ℕ → MendedRow → Tally
+counted_row tally blocks mended = record {
+  blocks = stood (tally.blocks + blocks);
+  bad = stood (tally.bad + mended.bad);
+  repaired = stood (tally.repaired + mended.repaired);
+  lost = stood (tally.lost + mended.lost);
+  parity = stood (tally.parity + mended.parity);
+  unchecked = tally.unchecked;
+}
+
+-- a full stripe without checked blocks isn't looked at
+abbrev pub count_row_of : List Target → Tally → MendedRow → Tally
+count_row_of [] tally mended = tally
+count_row_of (t ∷ ts) tally mended = counted_row tally (length (t ∷ ts)) mended
+
+abbrev pub count_row : Images → Layout → Bool → Tally → Row → Tally
+count_row images layout write tally row = count_row_of row.blocks tally (mended_row images layout row write)
+
+-- the writes for full stripes, and the counts of them
+abbrev pub rows_writes : Layout → List Row → Images → List Write
+rows_writes layout rs images = flat_map (row_writes images layout) rs
+
+abbrev pub rows_count : Layout → Bool → List Row → Images → Tally → Tally
+rows_count layout write rs images tally = fold (count_row images layout write) tally rs
+
+-- ---- one chunk
+
+-- the writes in a chunk for those of some blocks that lie in it: block by block where there are copies, and full stripe by full stripe where there is parity
+abbrev pub chunk_writes_for : Layout → Chunk → List Want → Images → List Write
+chunk_writes_for layout chunk wants images =
+    if is_none (mirrors chunk) then rows_writes layout (rows_in (targets layout wants) chunk) images else blocks_writes (blocks_in layout chunk wants) images
+
+abbrev pub chunk_count_for : Layout → Bool → Chunk → List Want → Images → Tally → Tally
+chunk_count_for layout write chunk wants images tally =
+    if is_none (mirrors chunk) then rows_count layout write (rows_in (targets layout wants) chunk) images tally else blocks_count write (blocks_in layout chunk wants) images tally
+
+-- .. and in all chunks
+abbrev pub all_writes_for : Layout → List Chunk → List Want → Images → List Write
+all_writes_for layout chunks wants images = flat_map (λ chunk. chunk_writes_for layout chunk wants images) chunks
+
+abbrev pub all_count_for : Layout → Bool → List Chunk → List Want → Images → Tally → Tally
+all_count_for layout write chunks wants images tally = fold (λ tally chunk. chunk_count_for layout write chunk wants images tally) tally chunks
+
+-- ---- with syncs
+
+-- a call is one of scrub's own: a sync, or one in a stripe of a chunk
+abbrev pub IsOfScrub : Layout → Range → Type 0
+IsOfScrub layout range = (range.len ≡ 0) ⊎ LiesInStripe layout range
+
+-- a rack, whatever waits for a sync
+abbrev pub plain : Seen → Seen
+plain rack = record rack { unsynced = [] }
+
+-- Images were read, written and synced: exactly the writes that follow from what they held, or those up to a call that failed. Where nothing waited for a
+-- sync nothing does.
+pub record Works {A : Type 0} (layout : Layout) (write : Bool) (writes : Images → List Write) (count : Images → Tally → Tally) (old new : Seen) (tally tally' : Tally) (result : Result A MendFault) : Type 0 where
+  pub does : Does (IsOfScrub layout) (λ images. writes_if write (writes images)) [] [] (plain old) (plain new) result
+  pub counts : OnOk result (IfSome old.held (λ images. tally' ≡ count images tally))
+  pub synced : OnOk result (old.unsynced ≡ [] → new.unsynced ≡ [])
+
+-- the images of the first n marks are synced: nothing waits for it any more there
+pub record AreSynced (marks : List Bool) (n : ℕ) (ranges left : List Range) : Type 0 where
+  pub among : (range : Range) → In range left → In range ranges × (range.slot < n → slice_index_or marks range.slot false ≡ false)
+
+-- images were synced at most
+pub record OnlySyncs (old new : Seen) : Type 0 where
+  pub same : plain new ≡ record (plain old) { account = new.account }
+  pub later : old.account.faults ≤ new.account.faults
+  pub same_shut : new.account.shut ≡ old.account.shut
+
+-- an image was synced, if it was to be
+pub record SyncsOne (marked : Bool) (slot : ℕ) (old new : Seen) (result : Result (Unit {0}) MendFault) : Type 0 where
+  pub only : OnlySyncs old new
+  pub account : AccountsMend (λ (range : Range). range.len ≡ 0) old new result
+  pub synced : OnOk result (new.unsynced ≡ (if marked then in_others slot old.unsynced else old.unsynced))
+
+-- the marked images were synced, up to one that failed
+pub record SyncsMarked (marks : List Bool) (old new : Seen) (result : Result (Unit {0}) MendFault) : Type 0 where
+  pub only : OnlySyncs old new
+  pub account : AccountsMend (λ (range : Range). range.len ≡ 0) old new result
+  pub synced : OnOk result (AreSynced marks (length marks) old.unsynced new.unsynced)
+
+-- a buffer has room for each full stripe of the table
+abbrev pub HasRooms : Layout → RowBuffer → Type 0
+HasRooms layout buffer = (i : ℕ) (chunk : Chunk) → slice_get layout.chunks i ≡ Some chunk → mirrors chunk ≡ None → HasRoom buffer (length chunk.stripes)

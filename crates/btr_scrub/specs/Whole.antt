@@ -1,0 +1,74 @@
+-- What a call of scrub did, whatever failed.
+use Rattle.std.specs.Prelude.{◌≡◌, ℕ, Bool, List, [], fold, map, Option, Some, None, Result, Ok, Err}
+use Rattle.btr_prog.specs.Answers.{Follows, no_part}
+use Rattle.btr_prog.specs.Prog.{exec}
+use Rattle.btr_rack.specs.Rack.{OnlyReads, Seen}
+use Rattle.btr_read.specs.Layout.{HaveOwnSlots, Layout}
+use Rattle.btr_read.specs.declared.want.Want.{Want}
+use Rattle.btr_super.specs.declared.superblock.Super.{Super}
+use Rattle.btr_walk.specs.Reading.{Tells, unread_by}
+use Rattle.btr_walk.specs.declared.fault.TreeFault.{TreeFault}
+use Rattle.btr_volume.specs.declared.stop.Stop.{Stop}
+use Rattle.btr_volume.specs.declared.stop.Stop.TheVariants as stop
+use Rattle.btr_mend.specs.declared.mended.MendFault.{MendFault}
+use Rattle.btr_mend.specs.declared.mended.MendFault.TheVariants.{Image, Memory}
+use Rattle.btr_scrub.specs.Gathering.{StopCause, checked_among, count_met, stop_halt}
+use Rattle.btr_mend.specs.Writes.{Images, Write}
+use Rattle.btr_scrub.specs.Filesystem.{Filesystem}
+use Rattle.btr_scrub.specs.Judging.{IsUnplaced}
+use Rattle.btr_chunk.specs.Table.{IsTable}
+use Rattle.btr_scrub.specs.Devices.{HaveLengths}
+use Rattle.btr_scrub.specs.Leaves.{KeepsOutside}
+use Rattle.btr_scrub.specs.Repair.{first_missing, met, writes}
+use Rattle.btr_scrub.specs.Scrubbing.{Works, all_count_for, all_writes_for}
+use Rattle.btr_scrub.specs.Units.{Met, units_in}
+use Rattle.btr_scrub.specs.declared.tally.Tally.{Tally}
+
+-- the counts before the first block
+abbrev pub first_tally : ℕ → Tally
+first_tally unchecked = record { blocks = 0; bad = 0; repaired = 0; lost = 0; parity = 0; unchecked = unchecked }
+
+-- what the end of all work is answered as
+abbrev pub answer_of : Result (Unit {0}) MendFault → Tally → Result Tally Stop
+answer_of (Ok u) tally = Ok tally
+answer_of (Err (Image slot)) tally = Err (stop.Image slot)
+answer_of (Err Memory) tally = Err stop.Memory
+
+-- the blocks of a list were mended, chunk by chunk: exactly the writes that follow from what the images held, or those up to a call that failed
+pub record WorksOn (layout : Layout) (write : Bool) (wants : List Want) (unchecked : ℕ) (old new : Seen) (result : Result Tally Stop) : Type 0 where
+  pub tally : Tally
+  pub ended : Result (Unit {0}) MendFault
+  pub works : Works layout write (all_writes_for layout layout.chunks wants) (all_count_for layout write layout.chunks wants) old new (first_tally unchecked) tally ended
+  pub says : result ≡ answer_of ended tally
+
+-- what became of the list of the checked blocks: it came to a stop, it was made, or it was refused as blocks in it have no position or overlap
+pub data Listing : Type 0 where
+  Stopped : Stop → Listing
+  Listed : Listing
+  Refused : TreeFault → Listing
+
+-- .. and of the call by that: a list that isn't made or is refused is the answer, and nothing is written. It is never refused so far as its reads were steady.
+abbrev pub Goes : Super → Layout → Bool → Seen → Seen → Seen → List Met → Result Tally Stop → Listing → Type 0
+Goes s layout write old mid new done result (Stopped why) =
+    (result ≡ Err why) × (new ≡ mid) × Tells layout old mid (λ B. Follows (unread_by layout old mid) no_part [] (exec B (units_in s layout.chunks)) done (Err (stop_halt why))) × StopCause {A = Tally} layout old mid (Err why)
+Goes s layout write old mid new done result Listed =
+    Tells layout old mid (λ B. Follows (unread_by layout old mid) no_part [] (exec B (units_in s layout.chunks)) done (Ok tt)) × WorksOn layout write (checked_among done) (fold count_met 0 done) mid new result
+Goes s layout write old mid new done result (Refused fault) = (result ≡ Err (stop.Tree fault)) × (new ≡ mid) × IsUnplaced layout fault × Tells layout old mid (λ B. ⊥)
+
+-- The checked blocks were listed, and then mended.
+pub record ScrubsAll (s : Super) (layout : Layout) (write : Bool) (old new : Seen) (result : Result Tally Stop) : Type 0 where
+  pub mid : Seen
+  pub reads : OnlyReads old mid
+  pub done : List Met
+  pub listing : Listing
+  pub goes : Goes s layout write old mid new done result listing
+
+-- the writes for a list of all blocks that are met are those that mend the filesystem
+abbrev pub ListedWrites : Type 0
+ListedWrites = (images : Images) (fs : Filesystem) → all_writes_for fs.layout fs.layout.chunks (checked_among (met images fs)) images ≡ writes images fs
+
+-- whatever failed, all that lies outside the ranges of those writes is as before
+abbrev pub WorksKeepTheRest : Type 0
+WorksKeepTheRest = (layout : Layout) (write : Bool) (wants : List Want) (count : Images → Tally → Tally) (old new : Seen) (t u : Tally) (result : Result (Unit {0}) MendFault) (images left : Images)
+    → IsTable layout.chunks → HaveOwnSlots layout.devices → first_missing layout ≡ None → HaveLengths images layout → old.held ≡ Some images → new.held ≡ Some left
+    → Works layout write (all_writes_for layout layout.chunks wants) count old new t u result → KeepsOutside (map (λ (write : Write). write.range) (all_writes_for layout layout.chunks wants images)) images left

@@ -1,0 +1,204 @@
+// The full stripes of a chunk with parity.
+ghost use Rattle.std.specs.Prelude.{◌≡◌, ℕ, ◌∷◌, [], ◌++◌, ◌<◌, Some, None, IsSome, IfOk, IsSomeAnd, OnOk, slice_get, length};
+ghost use Rattle.btr_chunk.specs.Chunk.{IsChunk, mirrors};
+ghost use Rattle.btr_chunk.specs.Table.{chunk_at};
+ghost use Rattle.btr_chunk.specs.declared.chunk.Chunk.{Chunk};
+ghost use Rattle.btr_read.specs.Store.{SameLoans};
+ghost use Rattle.btr_read.specs.Want.{addr_of};
+ghost use Rattle.btr_mend.specs.Writes.{Images};
+ghost use Rattle.btr_row.specs.Mending.{IsRow, IsRowOf, mended_row};
+ghost use Rattle.btr_row.specs.Rows.{Row, row_writes};
+ghost use Rattle.btr_scrub.specs.Order.{AreApart, targets};
+ghost use Rattle.btr_scrub.specs.Repair.{rows_in};
+ghost use Rattle.btr_scrub.specs.Rowing.{Collects, GivesInRow, row_in};
+ghost use Rattle.btr_scrub.specs.Scrubbing.{CanMend, HasRooms, IsPastChunk, Scrubs, counted_row, rows_count, rows_writes};
+
+use crate::copied::next_below;
+use crate::reader::Reader;
+use crate::tally::Tally;
+use btr_base::Memory;
+use btr_chunk::{Chunk, elements};
+use btr_mend::MendFault;
+use btr_rack::Rack;
+use btr_read::{Store, Want};
+use btr_row::{MendedRow, RowBuffer, mend_row};
+
+/// Memory for the full stripes, one after another: the checked blocks of one, and its bytes.
+#[derive(Drop)]
+pub(crate) struct RowRoom {
+    pub(crate) wants: Vec<Want>,
+    pub(crate) buffer: RowBuffer,
+}
+
+// The row of a chunk in which an address lies, if it lies in the chunk.
+fn row_in(chunk: &Chunk, addr: u64) -> Option<u64>
+    requires { IsChunk chunk.now }
+    ensures { result ≡ row_in chunk.now addr }
+{
+    match elements(chunk, addr, 1) {
+        Ok(at) => Some(at.row),
+        Err(_) => None,
+    }
+}
+
+// The next block, if it lies in a row of a chunk; else the reader stays where it is.
+fn next_in_row(chunk: &Chunk, row: u64, blocks: &mut Reader<'_>) -> Option<Want>
+    requires { IsChunk chunk.now }
+    ensures { GivesInRow chunk.now row blocks.old result blocks.new }
+{
+    let mut ahead = blocks.again();
+    let want = ahead.next()?;
+    if row_in(chunk, want.addr()) != Some(row) {
+        return None;
+    }
+    *blocks = ahead;
+    Some(want)
+}
+
+// Puts a block behind the others of its row.
+fn push(wants: &mut Vec<Want>, want: Want) -> Result<(), Memory>
+    ensures { OnOk result (wants.new.items ≡ wants.old.items ++ want ∷ []) }
+{
+    match wants.push(want) {
+        Ok(()) => Ok(()),
+        Err(_) => Err(Memory),
+    }
+}
+
+// Collects the blocks of a row: a first one, and those that a reader has next.
+fn collect(
+    chunk: &Chunk,
+    row: u64,
+    first: Want,
+    blocks: &mut Reader<'_>,
+    wants: &mut Vec<Want>,
+) -> Result<(), Memory>
+    requires { IsChunk chunk.now }
+    ensures { OnOk result (Collects chunk.now row first blocks.old blocks.new wants.new.items) }
+{
+    wants.clear();
+    push(wants, first)?;
+    while let Some(want) = next_in_row(chunk, row, blocks) {
+        push(wants, want)?;
+    }
+    Ok(())
+}
+
+// The same for the row in which the first block lies, whose number comes out.
+fn collect_row(
+    store: &Store,
+    first: Want,
+    blocks: &mut Reader<'_>,
+    wants: &mut Vec<Want>,
+) -> Result<u64, Memory>
+    requires { IsSome (chunk_at store.now.layout.chunks (addr_of first)) }
+    ensures { (chunk : Chunk) → chunk_at store.now.layout.chunks (addr_of first) ≡ Some chunk
+        → IfOk result (λ row. (row_in chunk (addr_of first) ≡ Some row) × Collects chunk row first blocks.old blocks.new wants.new.items) }
+{
+    let Some(chunk) = store.chunks().find(first.addr()) else {
+        unreachable!();
+    };
+    let Some(row) = row_in(chunk, first.addr()) else {
+        unreachable!();
+    };
+    match collect(chunk, row, first, blocks, wants) {
+        Ok(()) => Ok(row),
+        Err(fault) => Err(fault),
+    }
+}
+
+// Counts with those of a row of so many blocks, each of which stands still at its type's end.
+fn counted_row(tally: &Tally, blocks: u64, mended: &MendedRow) -> Tally
+    ensures { result ≡ counted_row tally.now blocks mended.now }
+{
+    Tally {
+        blocks: tally.blocks.saturating_add(blocks),
+        bad: tally.bad.saturating_add(mended.bad),
+        repaired: tally.repaired.saturating_add(mended.repaired),
+        lost: tally.lost.saturating_add(mended.lost),
+        parity: tally.parity.saturating_add(mended.parity),
+        unchecked: tally.unchecked,
+    }
+}
+
+// Mends a row of the chunk that starts at an address, whose blocks were collected, and counts what came of it.
+fn mend_collected<R: Rack>(
+    start: u64,
+    row: u64,
+    nodesize: u32,
+    write: bool,
+    rack: &mut R,
+    store: &mut Store,
+    room: &mut RowRoom,
+    marks: &mut [bool],
+    tally: &mut Tally,
+) -> Result<(), MendFault>
+    requires ready { CanMend write (R.seen rack.old) store.old marks.old }
+    requires nodesize { nodesize ≡ store.old.layout.setting.nodesize }
+    requires rooms { HasRooms store.old.layout room.old.buffer }
+    requires row { IsRow store.old.layout start row room.old.wants.items }
+    ensures ready { CanMend write (R.seen rack.new) store.new marks.new }
+    ensures loans { SameLoans store.old store.new }
+    ensures rooms { HasRooms store.old.layout room.new.buffer }
+    ensures scrubs { (r : Row) → IsRowOf store.old.layout start row room.old.wants.items r
+        → Scrubs store.old.layout write (λ images. row_writes images store.old.layout r) (λ images tally. counted_row tally (length r.blocks) (mended_row images store.old.layout r write)) marks.old marks.new (R.seen rack.old) (R.seen rack.new) tally.old tally.new result }
+{
+    match mend_row(
+        start,
+        row,
+        &room.wants,
+        nodesize,
+        write,
+        rack,
+        store,
+        &mut room.buffer,
+        marks,
+    ) {
+        Ok(mended) => {
+            *tally = counted_row(tally, room.wants.len() as u64, &mended);
+            Ok(())
+        }
+        Err(fault) => Err(fault),
+    }
+}
+
+/// Mends the full stripes of the chunk of a number, a chunk with parity, whose blocks a reader has next.
+///
+/// `Image`: a read or a write of an image failed, and nothing was tried behind it. `Memory`: a write wanted memory.
+pub(crate) fn mend_rows<R: Rack>(
+    number: usize,
+    nodesize: u32,
+    write: bool,
+    blocks: &mut Reader<'_>,
+    rack: &mut R,
+    store: &mut Store,
+    room: &mut RowRoom,
+    marks: &mut [bool],
+    tally: &mut Tally,
+) -> Result<(), MendFault>
+    requires ready { CanMend write (R.seen rack.old) store.old marks.old }
+    requires nodesize { nodesize ≡ store.old.layout.setting.nodesize }
+    requires rooms { HasRooms store.old.layout room.old.buffer }
+    requires chunk { IsSomeAnd (slice_get store.old.layout.chunks number) (λ chunk. (mirrors chunk ≡ None) × AreApart store.old.layout chunk.start blocks.old) }
+    ensures ready { CanMend write (R.seen rack.new) store.new marks.new }
+    ensures loans { SameLoans store.old store.new }
+    ensures rooms { HasRooms store.old.layout room.new.buffer }
+    ensures past { OnOk result ((chunk : Chunk) → slice_get store.old.layout.chunks number ≡ Some chunk → IsPastChunk store.old.layout chunk blocks.old blocks.new) }
+    ensures scrubs { (chunk : Chunk) → slice_get store.old.layout.chunks number ≡ Some chunk
+        → Scrubs store.old.layout write (rows_writes store.old.layout (rows_in (targets store.old.layout blocks.old) chunk)) (rows_count store.old.layout write (rows_in (targets store.old.layout blocks.old) chunk)) marks.old marks.new (R.seen rack.old) (R.seen rack.new) tally.old tally.new result }
+{
+    let chunk = store.chunks().at(number);
+    let start = chunk.start;
+    let end = start + chunk.length;
+    while let Some(first) = next_below(blocks, end) {
+        let row = match collect_row(store, first, blocks, &mut room.wants) {
+            Ok(row) => row,
+            Err(_) => return Err(MendFault::Memory),
+        };
+        match mend_collected(start, row, nodesize, write, rack, store, room, marks, tally) {
+            Ok(()) => {}
+            Err(fault) => return Err(fault),
+        }
+    }
+    Ok(())
+}

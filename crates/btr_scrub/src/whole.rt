@@ -1,0 +1,156 @@
+// Scrub as a whole.
+ghost use Rattle.std.specs.Prelude.{◌≡◌, ℕ, ◌≤◌, Some, None, Err, IfSome, IfOk, IsTrue, length, slice_get};
+ghost use Rattle.btr_chunk.specs.Chunk.{mirrors};
+ghost use Rattle.btr_chunk.specs.Table.{IsTable};
+ghost use Rattle.btr_chunk.specs.declared.chunk.Chunk.{Chunk};
+ghost use Rattle.btr_row.specs.Mending.{HasRoom};
+ghost use Rattle.btr_read.specs.Serves.{Serves};
+ghost use Rattle.btr_read.specs.Store.{SameLoans, free_count};
+ghost use Rattle.btr_mend.specs.Writes.{AreWritable};
+ghost use Rattle.btr_volume.specs.Looking.{SameVolume};
+ghost use Rattle.btr_volume.specs.declared.stop.Stop.TheVariants as stop;
+ghost use Rattle.btr_scrub.specs.Listed.{IsList, kept_wants};
+ghost use Rattle.btr_scrub.specs.Order.{AreApart};
+ghost use Rattle.btr_scrub.specs.Repair.{first_missing};
+ghost use Rattle.btr_scrub.specs.Scrubbing.{CanMend, HasRooms};
+ghost use Rattle.btr_scrub.specs.Whole.{ScrubsAll, WorksOn, first_tally};
+
+use crate::gathered::Gathered;
+use crate::judging::judge_blocks;
+use crate::mending::mend_all;
+use crate::missing::missing_device;
+use crate::reader::read_all;
+use crate::rowed::RowRoom;
+use crate::tally::Tally;
+use crate::units::list_blocks;
+use btr_base::Memory;
+use btr_mend::MendFault;
+use btr_rack::Rack;
+use btr_read::Store;
+use btr_row::RowBuffer;
+use btr_volume::{Stop, Volume};
+use std::alloc::Global;
+
+// A row has at most 62 slices, of 16 sectors each.
+const ROW_BLOCKS: usize = 992;
+
+// The stripes of the widest chunk with parity.
+fn widest(store: &Store) -> usize
+    ensures table { IsTable store.now.layout.chunks }
+    ensures few { result ≤ 64 }
+    ensures wide { (i : ℕ) (chunk : Chunk) → slice_get store.now.layout.chunks i ≡ Some chunk → mirrors chunk ≡ None → length chunk.stripes ≤ result }
+{
+    let mut most = 0;
+    for i in 0..store.chunks().count() {
+        let chunk = store.chunks().at(i);
+        if chunk.mirrors().is_none() && chunk.stripes.len() > most {
+            most = chunk.stripes.len();
+        }
+    }
+    most
+}
+
+// Memory for the full stripes of a filesystem.
+fn make_room(alloc: Global, store: &Store) -> Result<RowRoom, Memory>
+    ensures table { IfOk result (λ room. IsTable store.now.layout.chunks) }
+    ensures rooms { IfOk result (λ room. HasRooms store.now.layout room.buffer) }
+{
+    let Ok(wants) = Vec::with_capacity(alloc, ROW_BLOCKS) else {
+        return Err(Memory);
+    };
+    let buffer = RowBuffer::new(alloc, widest(store))?;
+    Ok(RowRoom { wants, buffer })
+}
+
+// The counts before the first block.
+fn first_tally(unchecked: u64) -> Tally
+    ensures { result ≡ first_tally unchecked }
+{
+    Tally {
+        blocks: 0,
+        bad: 0,
+        repaired: 0,
+        lost: 0,
+        parity: 0,
+        unchecked,
+    }
+}
+
+// Mends the blocks of a list, in which they have a position and are apart.
+fn mend_listed<R: Rack>(
+    alloc: Global,
+    write: bool,
+    gathered: &Gathered,
+    rack: &mut R,
+    vol: &mut Volume,
+) -> Result<Tally, Stop>
+    requires serves { Serves (R.seen rack.old) vol.old.store }
+    requires room { 2 ≤ free_count vol.old.store }
+    requires writable { IsTrue write → AreWritable (R.seen rack.old).slots }
+    requires nodesize { vol.old.sup.nodesize ≡ vol.old.store.layout.setting.nodesize }
+    requires given { first_missing vol.old.store.layout ≡ None }
+    requires is_list { IsList gathered.now.list }
+    requires apart { AreApart vol.old.store.layout 0 (kept_wants gathered.now.list) }
+    ensures serves { Serves (R.seen rack.new) vol.new.store }
+    ensures volume { SameVolume vol.old vol.new }
+    ensures works { WorksOn vol.old.store.layout write (kept_wants gathered.now.list) gathered.now.unchecked (R.seen rack.old) (R.seen rack.new) result }
+{
+    let Ok(mut room) = make_room(alloc, &vol.store) else {
+        return Err(Stop::Memory);
+    };
+    let Ok(mut marks) = vec![in alloc; false; rack.count()] else {
+        return Err(Stop::Memory);
+    };
+    let mut tally = first_tally(gathered.unchecked);
+    let mut blocks = read_all(&gathered.list);
+    match mend_all(
+        vol.sup.nodesize,
+        write,
+        &mut blocks,
+        rack,
+        &mut vol.store,
+        &mut room,
+        &mut marks,
+        &mut tally,
+    ) {
+        Ok(()) => Ok(tally),
+        Err(MendFault::Image(slot)) => Err(Stop::Image(slot)),
+        Err(MendFault::Memory) => Err(Stop::Memory),
+    }
+}
+
+/// Reads each copy of each checked block, and writes what is bad anew where a right copy or enough parity is left; with `write` false it only reads. The
+/// images of a chunk that were written are synced behind it. Five slots are free; where it writes, each image was opened for writing.
+///
+/// `Missing`: the device of a stripe isn't given, or its image ends before the stripe's end; nothing was read. `NoTree` and `Tree`: the checked blocks
+/// can't be listed, and nothing was written. `Image`: a read, a write or a sync of an image failed, and nothing was tried behind it. `Memory`: for want
+/// of memory.
+pub fn scrub<R: Rack>(
+    alloc: Global,
+    write: bool,
+    rack: &mut R,
+    vol: &mut Volume,
+) -> Result<Tally, Stop>
+    requires serves { Serves (R.seen rack.old) vol.old.store }
+    requires room { 5 ≤ free_count vol.old.store }
+    requires writable { IsTrue write → AreWritable (R.seen rack.old).slots }
+    requires nodesize { vol.old.sup.nodesize ≡ vol.old.store.layout.setting.nodesize }
+    requires large { 4096 ≤ vol.old.sup.nodesize }
+    ensures serves { Serves (R.seen rack.new) vol.new.store }
+    ensures volume { SameVolume vol.old vol.new }
+    ensures missing { IfSome (first_missing vol.old.store.layout) (λ stripe. (result ≡ Err (stop.Missing stripe.devid)) × (R.seen rack.new ≡ R.seen rack.old)) }
+    ensures scrubs { first_missing vol.old.store.layout ≡ None → ScrubsAll vol.old.sup vol.old.store.layout write (R.seen rack.old) (R.seen rack.new) result }
+{
+    if let Some(devid) = missing_device(&vol.store) {
+        return Err(Stop::Missing(devid));
+    }
+    let gathered = match list_blocks(alloc, rack, vol) {
+        Ok(gathered) => gathered,
+        Err(stop) => return Err(stop),
+    };
+    let mut blocks = read_all(&gathered.list);
+    match judge_blocks(&mut blocks, vol.sup.nodesize, &vol.store) {
+        Ok(()) => mend_listed(alloc, write, &gathered, rack, vol),
+        Err(fault) => Err(Stop::Tree(fault)),
+    }
+}
