@@ -1,5 +1,13 @@
 //! Mending one full stripe of a chunk with parity.
 //!
-//! A row of a chunk in RAID5 or RAID6 has an element on each stripe: the slices of data, P, and in RAID6 Q. `specs/Rows.antt` says which blocks of a row
-//! are bad, what is written for them, and which sectors of P and Q differ from those of the new data.
+//! A row of a chunk in RAID5 or RAID6 has an element on each stripe: the slices of data, P, and in RAID6 Q. It is read whole, and every choice is made
+//! from those bytes: which checked blocks are bad and what is accepted for them, and which sectors of P and Q differ from those of the new data.
+//! The layer above is promised exactly the writes that follow from them, one call each, or those up to one that failed. `specs/Rows.antt` says what they
+//! are, and `specs/Mending.antt` what a call did.
 #![tactic(auto)]
+
+mod buffer;
+mod mended;
+
+pub use buffer::RowBuffer;
+pub use mended::MendedRow;

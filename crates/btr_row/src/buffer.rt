@@ -1,0 +1,52 @@
+ghost use Rattle.std.specs.Prelude.{◌≡◌, ◌≤◌, IfOk, length};
+ghost use Rattle.btr_row.specs.Mending.{HasRoom};
+
+use btr_base::Memory;
+use std::alloc::Global;
+
+// How many bytes an element has.
+pub(crate) const ELEMENT: usize = 65536;
+
+/// Memory for one full stripe, which serves row after row.
+#[derive(Drop)]
+pub struct RowBuffer {
+    // The elements as they were read: the slices, P, and Q.
+    pub(crate) old: Vec<u8>,
+    // The slices as they are to be.
+    pub(crate) new: Vec<u8>,
+    // P and Q of those.
+    pub(crate) p: Vec<u8>,
+    pub(crate) q: Vec<u8>,
+    // A block, and what is needed to compute it.
+    pub(crate) block: Vec<u8>,
+    pub(crate) spare: Vec<u8>,
+}
+
+// So many zeros.
+fn zeros(alloc: Global, len: usize) -> Result<Vec<u8>, Memory>
+    ensures { IfOk result (λ bytes. length bytes.items ≡ len) }
+{
+    let Ok(bytes) = vec![in alloc; 0u8; len] else {
+        return Err(Memory);
+    };
+    Ok(bytes)
+}
+
+/// Memory for the rows of chunks with this many stripes at most, which is up to 64.
+///
+/// `Memory`: it couldn't be had.
+impl RowBuffer {
+    pub fn new(alloc: Global, elements: usize) -> Result<RowBuffer, Memory>
+        requires { elements ≤ 64 }
+        ensures { IfOk result (λ buffer. HasRoom buffer elements) }
+    {
+        Ok(RowBuffer {
+            old: zeros(alloc, elements * ELEMENT)?,
+            new: zeros(alloc, elements * ELEMENT)?,
+            p: zeros(alloc, ELEMENT)?,
+            q: zeros(alloc, ELEMENT)?,
+            block: zeros(alloc, ELEMENT)?,
+            spare: zeros(alloc, ELEMENT)?,
+        })
+    }
+}
