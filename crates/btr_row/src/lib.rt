@@ -6,8 +6,13 @@
 //! are, and `specs/Mending.antt` what a call did.
 #![tactic(auto)]
 
+mod accepting;
 mod buffer;
+mod gathering;
 mod mended;
+mod parity;
+mod shape;
+mod spot;
 
 pub use buffer::RowBuffer;
 pub use mended::MendedRow;

@@ -1,0 +1,130 @@
+-- A row's bytes in memory, element by element: the slices, P, and Q; and a block of it.
+use Rattle.std.specs.List.{All}
+use Rattle.std.specs.Prelude.{◌≡◌, ℕ, ◌+◌, ◌*◌, ◌<◌, ◌≤◌, ◌==◌, Bool, false, List, length, take, Option, Some, None, IfOk, IsSome, slice_range}
+use Rattle.btr_chunk.specs.Chunk.{mirrors}
+use Rattle.btr_chunk.specs.Mapping.{HasPart}
+use Rattle.btr_chunk.specs.declared.place.Part.{Part}
+use Rattle.btr_chunk.specs.declared.place.Part.TheVariants.{Slice, P, Q}
+use Rattle.btr_chunk.specs.declared.profile.Profile.{Profile}
+use Rattle.btr_chunk.specs.declared.profile.Profile.TheVariants.{Raid6}
+use Rattle.btr_parity.specs.Field.{power}
+use Rattle.btr_parity.specs.Slices.{IsSlice, plus, scaled, parity_p, parity_q}
+use Rattle.btr_read.specs.Candidates as candidates
+use Rattle.btr_read.specs.Candidates.{Target, size_of}
+use Rattle.btr_read.specs.Gathering.{read_slices}
+use Rattle.btr_read.specs.Layout.{Layout}
+use Rattle.btr_read.specs.Sought.{IsTarget}
+use Rattle.btr_read.specs.declared.candidate.Candidate.{Candidate}
+use Rattle.btr_read.specs.declared.candidate.Candidate.TheVariants.{Stands, ByP, ByQ, ByBoth}
+use Rattle.btr_mend.specs.Blocks.{accepted, is_good}
+use Rattle.btr_mend.specs.Writes.{Images}
+use Rattle.btr_row.specs.Rows.{Row, element, slice_count}
+use Rattle.btr_row.specs.declared.parity.Parity.{Parity}
+use Rattle.btr_row.specs.declared.parity.Parity.TheVariants as parity
+use Rattle.btr_row.specs.declared.shape.Shape.{Shape}
+use Rattle.btr_row.specs.declared.spot.Spot.{Spot}
+
+-- the profile of a row, and how many slices it has
+pub record IsShape (row : Row) (shape : Shape) : Type 0 where
+  pub slices : shape.slices ≡ slice_count row
+  pub profile : shape.profile ≡ row.chunk.profile
+
+-- the bytes of an element
+abbrev pub element_in : List ℕ → ℕ → List ℕ
+element_in bytes e = slice_range bytes (e * 65536) (e * 65536 + 65536)
+
+-- the bytes of a row are in memory
+pub record HoldsRow (images : Images) (layout : Layout) (row : Row) (bytes : List ℕ) : Type 0 where
+  pub slices : (i : ℕ) → i < slice_count row → element_in bytes i ≡ element images layout row (Slice i)
+  pub p : element_in bytes (slice_count row) ≡ element images layout row P
+  pub q : row.chunk.profile ≡ Raid6 → element_in bytes (slice_count row + 1) ≡ element images layout row Q
+
+-- ---- a block
+
+-- the bytes of an element at a block's place
+abbrev pub piece_in : List ℕ → Spot → ℕ → List ℕ
+piece_in bytes spot e = slice_range bytes (e * 65536 + spot.rest) (e * 65536 + spot.rest + spot.len)
+
+-- a block's place in a row
+pub record IsSpot (t : Target) (spot : Spot) : Type 0 where
+  pub slices : spot.shape.slices ≡ candidates.slice_count t
+  pub profile : spot.shape.profile ≡ t.chunk.profile
+  pub index : spot.index ≡ t.at.index
+  pub rest : spot.rest ≡ t.at.rest
+  pub len : spot.len ≡ size_of t
+
+-- a place that lies in the elements in memory
+pub record FitsIn (bytes : List ℕ) (spot : Spot) : Type 0 where
+  pub few : spot.shape.slices ≤ 63
+  pub index : spot.index < spot.shape.slices
+  pub inside : spot.rest + spot.len ≤ 65536
+  pub p : (spot.shape.slices + 1) * 65536 ≤ length bytes
+  pub q : spot.shape.profile ≡ Raid6 → (spot.shape.slices + 2) * 65536 ≤ length bytes
+
+-- all that a block's candidates read is in memory
+pub record HoldsBlock (images : Images) (t : Target) (spot : Spot) (bytes : List ℕ) : Type 0 where
+  pub target : IsTarget t.setting t.chunk t.at
+  pub parity : mirrors t.chunk ≡ None
+  pub stand : (part : Part) → HasPart t.chunk.profile (length t.chunk.stripes) part → IsSome (candidates.range_of t part)
+  pub slices : (i : ℕ) → i < candidates.slice_count t → piece_in bytes spot i ≡ candidates.element images t (Slice i)
+  pub p : piece_in bytes spot (candidates.slice_count t) ≡ candidates.element images t P
+  pub q : t.chunk.profile ≡ Raid6 → piece_in bytes spot (candidates.slice_count t + 1) ≡ candidates.element images t Q
+
+-- a block with its place, whose candidates are in memory
+pub record IsHeld (images : Images) (t : Target) (spot : Spot) (bytes : List ℕ) : Type 0 where
+  pub place : IsSpot t spot
+  pub block : HoldsBlock images t spot bytes
+
+-- ---- what the parities leave of slices
+
+-- the part that a parity is, and the number of its element
+abbrev pub part_of : Parity → Part
+part_of parity.P = P
+part_of parity.Q = Q
+
+abbrev pub element_of : Parity → ℕ → ℕ
+element_of parity.P slices = slices
+element_of parity.Q slices = slices + 1
+
+-- what a slice adds to a parity
+abbrev pub weighed : Parity → ℕ → List ℕ → List ℕ
+weighed parity.P i slice = slice
+weighed parity.Q i slice = scaled (power i) slice
+
+-- the parity of slices
+abbrev pub parity_of : Parity → ℕ → List (List ℕ) → List ℕ
+parity_of parity.P size slices = parity_p size slices
+parity_of parity.Q size slices = parity_q size slices
+
+-- a parity less the slices that a candidate reads
+pub record IsLeft (images : Images) (t : Target) (c : Candidate) (p : Parity) (bytes : List ℕ) : Type 0 where
+  pub slices : All (IsSlice (size_of t)) (read_slices images t c)
+  pub whole : IsSlice (size_of t) (candidates.element images t (part_of p))
+  pub sum : bytes ≡ plus (candidates.element images t (part_of p)) (parity_of p (size_of t) (read_slices images t c))
+
+-- the row has a parity
+abbrev pub HasParity : Profile → Parity → Type 0
+HasParity profile parity.P = Unit {0}
+HasParity profile parity.Q = profile ≡ Raid6
+
+-- a candidate reads Q
+abbrev pub ReadsQ : Candidate → Type 0
+ReadsQ (Stands part) = ⊥
+ReadsQ ByP = ⊥
+ReadsQ ByQ = Unit {0}
+ReadsQ (ByBoth j) = Unit {0}
+
+-- the number of the first candidate that passes, and what is accepted for the block, in the front of a buffer
+pub record IsAccepted (images : Images) (t : Target) (block : List ℕ) (n : ℕ) : Type 0 where
+  pub bytes : accepted images t ≡ Some (take (size_of t) block)
+  pub good : is_good images t (Slice t.at.index) ≡ (n == 0)
+
+-- no candidate passes
+pub record IsGone (images : Images) (t : Target) : Type 0 where
+  pub bytes : accepted images t ≡ None
+  pub good : is_good images t (Slice t.at.index) ≡ false
+
+-- what is accepted for a block
+abbrev pub Accepts : Images → Target → List ℕ → Option ℕ → Type 0
+Accepts images t block (Some n) = IsAccepted images t block n
+Accepts images t block None = IsGone images t
