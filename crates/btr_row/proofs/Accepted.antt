@@ -5,7 +5,7 @@ use Rattle.std.proofs.lemmas.List.{take_more, take_all, take-append-drop, drop_m
 use Rattle.std.proofs.lemmas.Option.{get_or_from_slice_get, same_Some}
 use Rattle.std.specs.List.{filter, list_all, range_with_len}
 use Rattle.btr_chunk.specs.Chunk.{data_count, mirror_count, mirrors}
-use Rattle.btr_chunk.specs.Mapping.{HasPart}
+use Rattle.btr_chunk.specs.Mapping.{HasPart, IsPosition}
 use Rattle.btr_chunk.specs.declared.place.Part.{Part}
 use Rattle.btr_chunk.specs.declared.place.Part.TheVariants.{Slice, P, Q}
 use Rattle.btr_chunk.specs.declared.profile.Profile.{Profile}
@@ -15,13 +15,13 @@ use Rattle.btr_chunk.proofs.Rows.{without_copies}
 use Rattle.btr_read.specs.Candidates.{Target, candidates, element, parts_read, range_of, reading, reads_slice, rebuilt, size_of, slice_count, stands, value_of}
 use Rattle.btr_read.specs.Fate.{passing, sought}
 use Rattle.btr_read.specs.Layout.{Layout}
-use Rattle.btr_read.specs.Sought.{IsTarget, IsTwoParities}
+use Rattle.btr_read.specs.Sought.{IsTwoParities}
 use Rattle.btr_read.specs.Want.{passes}
 use Rattle.btr_read.specs.declared.candidate.Candidate.{Candidate}
 use Rattle.btr_read.specs.declared.candidate.Candidate.TheVariants.{Stands, ByP, ByQ, ByBoth}
 use Rattle.btr_read.specs.declared.want.Want.{Want}
 use Rattle.btr_read.proofs.Fates.{sought_of}
-use Rattle.btr_read.proofs.InOrder.{is_slice, length-with_p_and_q, with_p, with_p_and_q}
+use Rattle.btr_read.proofs.InOrder.{length-with_p_and_q, with_p, with_p_and_q}
 use Rattle.btr_read.proofs.Standing.{all_read, both}
 use Rattle.btr_read.proofs.Trials.{differs_alone, passes_first, passing-append, passing_of, reading_stands}
 use Rattle.btr_mend.specs.Blocks.{accepted, is_good}
@@ -86,6 +86,10 @@ module _ (t : Target) (parity : mirrors t.chunk ≡ None) (stand : (part : Part)
 
 -- ---- the order
 
+-- the slice that is sought is one of the row
+slice_below : (t : Target) → IsPosition t.chunk t.at → t.chunk.profile ≡ Raid6 → t.at.index < data_count Raid6 (length t.chunk.stripes)
+slice_below t h e = subst (λ p. t.at.index < data_count p (length t.chunk.stripes)) e h.index
+
 module _ (images : Images) (t : Target) (spot : Spot) (bytes : List ℕ) (h : IsHeld images t spot bytes) (count : ℕ) (is : IsCount spot count) where
   either : (t.chunk.profile ≡ Raid5) ⊎ (t.chunk.profile ≡ Raid6)
   either = without_copies t.chunk.profile (length t.chunk.stripes) h.block.parity
@@ -97,14 +101,14 @@ module _ (images : Images) (t : Target) (spot : Spot) (bytes : List ℕ) (h : Is
   six e = h.place.profile ∙ e
 
   index_below : t.at.index < slice_count t
-  index_below = h.block.target.position.index
+  index_below = h.block.position.index
 
   pub length-candidates : length (candidates t) ≡ count
   length-candidates = elim either [
     | inl five ↦ ap length (with_p t five) ∙ sym (is.five (not_six five))
     | inr e ↦
         let n : slice_count t ≡ length t.chunk.stripes - 2 = ap (λ p. data_count p (length t.chunk.stripes)) e in
-        ap length (with_p_and_q t e) ∙ length-with_p_and_q (length t.chunk.stripes - 2) t.at.index (is_slice t Raid6 h.block.target e)
+        ap length (with_p_and_q t e) ∙ length-with_p_and_q (length t.chunk.stripes - 2) t.at.index (slice_below t h.block.position e)
         ∙ ap (λ m. m + 2) (sym n ∙ sym h.place.slices) ∙ sym (is.six (six e))
   ]
 
@@ -117,7 +121,7 @@ module _ (images : Images) (t : Target) (spot : Spot) (bytes : List ℕ) (h : Is
       | inl five ↦ ap (λ cs. slice_get cs k) (with_p t five) ∙ at'.one (length t.chunk.stripes - 1) (omega (arith, lt, is.five (not_six five)))
       | inr e ↦
           let n : slice_count t ≡ length t.chunk.stripes - 2 = ap (λ p. data_count p (length t.chunk.stripes)) e in
-          ap (λ cs. slice_get cs k) (with_p_and_q t e) ∙ at'.two (length t.chunk.stripes - 2) (is_slice t Raid6 h.block.target e) (omega (arith, lt, is.six (six e), h.place.slices, n))
+          ap (λ cs. slice_get cs k) (with_p_and_q t e) ∙ at'.two (length t.chunk.stripes - 2) (slice_below t h.block.position e) (omega (arith, lt, is.six (six e), h.place.slices, n))
     ]
 
     pub parts_are : IsTwoParities (slice_count t) t.at.index c

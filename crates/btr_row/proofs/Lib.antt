@@ -1,2 +1,4 @@
 pub mod Gathered
 pub mod Accepted
+pub mod Pasted
+pub mod Elements

@@ -1,8 +1,8 @@
 -- A row's bytes in memory, element by element: the slices, P, and Q; and a block of it.
 use Rattle.std.specs.List.{All}
-use Rattle.std.specs.Prelude.{◌≡◌, ℕ, ◌+◌, ◌*◌, ◌<◌, ◌≤◌, ◌==◌, Bool, false, List, length, take, Option, Some, None, IfOk, IsSome, slice_range}
-use Rattle.btr_chunk.specs.Chunk.{mirrors}
-use Rattle.btr_chunk.specs.Mapping.{HasPart}
+use Rattle.std.specs.Prelude.{◌≡◌, ℕ, ◌+◌, ◌*◌, ◌<◌, ◌≤◌, ◌==◌, Bool, false, List, length, nat_lt, take, Option, Some, None, IfSome, IsSome, slice_range, if◌then◌else◌}
+use Rattle.btr_chunk.specs.Chunk.{IsChunk, mirrors}
+use Rattle.btr_chunk.specs.Mapping.{HasPart, IsPosition}
 use Rattle.btr_chunk.specs.declared.place.Part.{Part}
 use Rattle.btr_chunk.specs.declared.place.Part.TheVariants.{Slice, P, Q}
 use Rattle.btr_chunk.specs.declared.profile.Profile.{Profile}
@@ -13,12 +13,13 @@ use Rattle.btr_read.specs.Candidates as candidates
 use Rattle.btr_read.specs.Candidates.{Target, size_of}
 use Rattle.btr_read.specs.Gathering.{read_slices}
 use Rattle.btr_read.specs.Layout.{Layout}
-use Rattle.btr_read.specs.Sought.{IsTarget}
 use Rattle.btr_read.specs.declared.candidate.Candidate.{Candidate}
 use Rattle.btr_read.specs.declared.candidate.Candidate.TheVariants.{Stands, ByP, ByQ, ByBoth}
 use Rattle.btr_mend.specs.Blocks.{accepted, is_good}
 use Rattle.btr_mend.specs.Writes.{Images}
-use Rattle.btr_row.specs.Rows.{Row, element, slice_count}
+use Rattle.btr_row.specs.Rows.{Row, element, parities, slice_count}
+use Rattle.btr_row.specs.Mending.{IsFullStripe}
+use Rattle.btr_row.specs.declared.stripe.FullStripe.{FullStripe}
 use Rattle.btr_row.specs.declared.parity.Parity.{Parity}
 use Rattle.btr_row.specs.declared.parity.Parity.TheVariants as parity
 use Rattle.btr_row.specs.declared.shape.Shape.{Shape}
@@ -33,11 +34,41 @@ pub record IsShape (row : Row) (shape : Shape) : Type 0 where
 abbrev pub element_in : List ℕ → ℕ → List ℕ
 element_in bytes e = slice_range bytes (e * 65536) (e * 65536 + 65536)
 
--- the bytes of a row are in memory
-pub record HoldsRow (images : Images) (layout : Layout) (row : Row) (bytes : List ℕ) : Type 0 where
-  pub slices : (i : ℕ) → i < slice_count row → element_in bytes i ≡ element images layout row (Slice i)
-  pub p : element_in bytes (slice_count row) ≡ element images layout row P
-  pub q : row.chunk.profile ≡ Raid6 → element_in bytes (slice_count row + 1) ≡ element images layout row Q
+-- the part whose element has a number, of k slices
+abbrev pub part_at : ℕ → ℕ → Part
+part_at k e = if nat_lt e k then Slice e else (if e == k then P else Q)
+
+-- how many elements a row has
+abbrev pub element_count : Row → ℕ
+element_count row = slice_count row + length (parities row.chunk.profile)
+
+-- the first elements of a row are in memory
+pub record HoldsFirst (images : Images) (layout : Layout) (row : Row) (bytes : List ℕ) (n : ℕ) : Type 0 where
+  pub elements : (e : ℕ) → e < n → element_in bytes e ≡ element images layout row (part_at (slice_count row) e)
+
+-- all are
+abbrev pub HoldsRow : Images → Layout → Row → List ℕ → Type 0
+HoldsRow images layout row bytes = HoldsFirst images layout row bytes (element_count row)
+
+-- a full stripe is this row, in a chunk that keeps the rule
+pub record IsStripeOf (layout : Layout) (stripe : FullStripe) (row : Row) : Type 0 where
+  pub is : IsFullStripe layout stripe.chunk stripe.number row
+  pub shape : IsShape row stripe.shape
+  pub keeps_rule : IsChunk row.chunk
+  pub nodesize : stripe.nodesize ≡ layout.setting.nodesize
+
+-- there is such a row
+pub record IsStripe (layout : Layout) (stripe : FullStripe) : Type 0 where
+  pub row : Row
+  pub of : IsStripeOf layout stripe row
+
+-- an element was read, where no read failed
+abbrev pub ReadsElement : Layout → FullStripe → Part → List ℕ → Option Images → Type 0
+ReadsElement layout stripe part bytes held = IfSome held (λ images. (row : Row) → IsStripeOf layout stripe row → bytes ≡ element images layout row part)
+
+-- so were all
+abbrev pub ReadsRow : Layout → FullStripe → List ℕ → Option Images → Type 0
+ReadsRow layout stripe bytes held = IfSome held (λ images. (row : Row) → IsStripeOf layout stripe row → HoldsRow images layout row bytes)
 
 -- ---- a block
 
@@ -63,7 +94,8 @@ pub record FitsIn (bytes : List ℕ) (spot : Spot) : Type 0 where
 
 -- all that a block's candidates read is in memory
 pub record HoldsBlock (images : Images) (t : Target) (spot : Spot) (bytes : List ℕ) : Type 0 where
-  pub target : IsTarget t.setting t.chunk t.at
+  pub keeps_rule : IsChunk t.chunk
+  pub position : IsPosition t.chunk t.at
   pub parity : mirrors t.chunk ≡ None
   pub stand : (part : Part) → HasPart t.chunk.profile (length t.chunk.stripes) part → IsSome (candidates.range_of t part)
   pub slices : (i : ℕ) → i < candidates.slice_count t → piece_in bytes spot i ≡ candidates.element images t (Slice i)

@@ -27,6 +27,11 @@ pub record IsFullStripe (layout : Layout) (start number : ℕ) (row : Row) : Typ
   pub inside : number * 65536 + 65536 ≤ stripe_length row.chunk
   pub stand : (part : Part) → HasPart row.chunk.profile (length row.chunk.stripes) part → IsSome (range_in_element layout row part 0 65536)
 
+-- there is such a row
+pub record HasStripe (layout : Layout) (start number : ℕ) : Type 0 where
+  pub row : Row
+  pub is : IsFullStripe layout start number row
+
 -- a block lies in the row
 pub record IsOn (row : Row) (t : Target) : Type 0 where
   pub chunk : t.chunk ≡ row.chunk

@@ -11,8 +11,10 @@ mod buffer;
 mod gathering;
 mod mended;
 mod parity;
+mod reading;
 mod shape;
 mod spot;
+mod stripe;
 
 pub use buffer::RowBuffer;
 pub use mended::MendedRow;

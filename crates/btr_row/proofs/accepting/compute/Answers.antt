@@ -9,7 +9,7 @@ pub returns-in-ByP-clause-value : goal.returns-in-ByP-clause-value
 returns-in-ByP-clause-value c = λ images t h.
     let left = c.gather.ensures.left images t h in
     ap (value_of images t) c.in-ByP.is
-    ∙ by_p images t (take c.args.spot.now.len c.gather.new.sum) h.block.target.position.index (record { slices = left.slices; whole = left.whole; sum = left.sum })
+    ∙ by_p images t (take c.args.spot.now.len c.gather.new.sum) h.block.position.index (record { slices = left.slices; whole = left.whole; sum = left.sum })
 
 pub returns-in-ByQ-clause-value : goal.returns-in-ByQ-clause-value
 returns-in-ByQ-clause-value c = λ images t h.
@@ -19,7 +19,7 @@ returns-in-ByQ-clause-value c = λ images t h.
     let sized : IsTheOne (size_of t) (Weighs c.args.spot.now.index sum) X = subst (λ n. IsTheOne n (Weighs c.args.spot.now.index sum) X) h.place.len c.divide_front.ensures.one in
     let one : IsTheOne (size_of t) (Weighs t.at.index sum) X = subst (λ i. IsTheOne (size_of t) (Weighs i sum) X) h.place.index sized in
     ap (value_of images t) c.in-ByQ.is
-    ∙ by_q images t sum X h.block.target.position.index (record { slices = left.slices; whole = left.whole; sum = left.sum }) one
+    ∙ by_q images t sum X h.block.position.index (record { slices = left.slices; whole = left.whole; sum = left.sum }) one
 
 pub returns-in-ByBoth-clause-value : goal.returns-in-ByBoth-clause-value
 returns-in-ByBoth-clause-value c = λ images t h.
@@ -35,5 +35,5 @@ returns-in-ByBoth-clause-value c = λ images t h.
     let below : j < slice_count t = omega (arith, parts.0, h.place.slices) in
     let differ : t.at.index ≢ j = λ e. parts.1 (sym e ∙ sym h.place.index) in
     ap (value_of images t) c.in-ByBoth.is
-    ∙ by_both images t j sum weighted X h.block.target.position.index below differ
+    ∙ by_both images t j sum weighted X h.block.position.index below differ
     (record { slices = p.slices; whole = p.whole; sum = p.sum }) (record { slices = q.slices; whole = q.whole; sum = q.sum }) one
