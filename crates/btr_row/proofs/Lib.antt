@@ -2,3 +2,4 @@ pub mod Gathered
 pub mod Accepted
 pub mod Pasted
 pub mod Elements
+pub mod Shapes

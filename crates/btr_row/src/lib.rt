@@ -9,6 +9,7 @@
 mod accepting;
 mod buffer;
 mod gathering;
+mod judging;
 mod mended;
 mod parity;
 mod reading;
