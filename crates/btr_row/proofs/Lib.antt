@@ -3,3 +3,4 @@ pub mod Accepted
 pub mod Pasted
 pub mod Elements
 pub mod Shapes
+pub mod Held

@@ -43,7 +43,7 @@ pub record FitsVerdict (images : Images) (t : Target) (old new : List ℕ) (verd
   pub spot : IsSpot t verdict.spot
   pub good : verdict.good ≡ is_good images t (Slice t.at.index)
   pub lost : verdict.lost ≡ is_lost images t
-  pub data : new ≡ option_map_or (pasted old (t.at.index * 65536 + t.at.rest)) (accepted images t) old
+  pub pasted_is : new ≡ option_map_or (pasted old (t.at.index * 65536 + t.at.rest)) (accepted images t) old
 
 -- a block has bytes in a column
 abbrev pub meets_spot : ℕ → Spot → Bool

@@ -87,13 +87,19 @@ pub(crate) fn judge_block(
     ensures spare_long { length spare.new ≡ length spare.old }
 {
     let spot = spot_of(want, stripe, store);
-    let accepted = accept(want, &spot, store, old, block, spare);
-    if accepted.is_some() {
-        paste(new, spot.start(spot.index), block, spot.len);
-    }
-    Verdict {
-        spot,
-        good: accepted == Some(0),
-        lost: accepted.is_none(),
+    match accept(want, &spot, store, old, block, spare) {
+        Some(k) => {
+            paste(new, spot.start(spot.index), block, spot.len);
+            Verdict {
+                spot,
+                good: k == 0,
+                lost: false,
+            }
+        }
+        None => Verdict {
+            spot,
+            good: false,
+            lost: true,
+        },
     }
 }
