@@ -4,3 +4,4 @@ pub mod Pasted
 pub mod Elements
 pub mod Shapes
 pub mod Held
+pub mod Judges

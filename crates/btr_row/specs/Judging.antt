@@ -1,20 +1,22 @@
 -- What comes of one block, and of the first blocks of a row.
-use Rattle.std.specs.Prelude.{◌≡◌, ℕ, ◌+◌, ◌*◌, ◌≤◌, ◌<◌, ◌&&◌, ◌||◌, Bool, false, not, List, length, take, nat_lt, slice_index_or, slice_range, Option, Some, None, Ok, is_none, count_by}
-use Rattle.std.specs.List.{list_any, sum_by}
+use Rattle.std.specs.Prelude.{◌≡◌, ℕ, ◌+◌, ◌*◌, ◌≤◌, ◌<◌, ◌&&◌, ◌||◌, Bool, false, not, List, length, take, nat_lt, slice_index_or, slice_range, Option, Some, None, IsSome, Ok, count_by, ◌==◌, if◌then◌else◌}
+use Rattle.std.specs.List.{filter, fold, list_any, sum_by}
 use Rattle.std.specs.Option.{option_map_or}
-use Rattle.btr_chunk.specs.Chunk.{IsChunk}
+use Rattle.btr_chunk.specs.Chunk.{IsChunk, mirrors}
 use Rattle.btr_chunk.specs.Mapping.{IsPosition}
 use Rattle.btr_chunk.specs.declared.place.Part.TheVariants.{Slice}
 use Rattle.btr_rack.specs.Rack.{pasted}
-use Rattle.btr_read.specs.Candidates.{Target, size_of}
+use Rattle.btr_read.specs.Candidates as candidates
+use Rattle.btr_read.specs.Candidates.{Target, range_of, size_of}
 use Rattle.btr_read.specs.Fate.{sought}
 use Rattle.btr_read.specs.Layout.{Layout}
 use Rattle.btr_read.specs.declared.want.Want.{Want}
-use Rattle.btr_mend.specs.Blocks.{accepted, bad_parts, is_good, is_lost}
+use Rattle.btr_mend.specs.Blocks.{accepted, bad_parts, block_writes, is_good, is_lost}
 use Rattle.btr_mend.specs.Writes.{Images}
 use Rattle.btr_row.specs.Rows.{Row, blocks_at, element, meets, slice_count, with_block}
 use Rattle.btr_row.specs.Mending.{IsOn}
 use Rattle.btr_row.specs.Memory.{IsSpot, IsStripeOf, element_in}
+use Rattle.btr_row.specs.declared.judged.Judged.{Judged}
 use Rattle.btr_row.specs.declared.judging.Verdict.{Verdict}
 use Rattle.btr_row.specs.declared.shape.Shape.{Shape}
 use Rattle.btr_row.specs.declared.spot.Spot.{Spot}
@@ -40,6 +42,11 @@ pub record IsPlaced (shape : Shape) (t : Target) (spot : Spot) : Type 0 where
 
 -- what comes of a block, and of the new data
 pub record FitsVerdict (images : Images) (t : Target) (old new : List ℕ) (verdict : Verdict) : Type 0 where
+  pub parity : mirrors t.chunk ≡ None
+  pub index : t.at.index < candidates.slice_count t
+  pub inside : t.at.rest + size_of t ≤ 65536
+  pub stand : IsSome (range_of t (Slice t.at.index))
+  pub long : (bytes : List ℕ) → accepted images t ≡ Some bytes → length bytes ≡ size_of t
   pub spot : IsSpot t verdict.spot
   pub good : verdict.good ≡ is_good images t (Slice t.at.index)
   pub lost : verdict.lost ≡ is_lost images t
@@ -48,3 +55,20 @@ pub record FitsVerdict (images : Images) (t : Target) (old new : List ℕ) (verd
 -- a block has bytes in a column
 abbrev pub meets_spot : ℕ → Spot → Bool
 meets_spot column spot = nat_lt spot.rest (column * 4096 + 4096) && nat_lt (column * 4096) (spot.rest + spot.len)
+
+-- one more block was counted
+pub record IsCounted (old : Judged) (verdict : Verdict) (new : Judged) : Type 0 where
+  pub bad : new.bad ≡ old.bad + (if not verdict.good then 1 else 0)
+  pub rebuilt : new.rebuilt ≡ old.rebuilt + (if not verdict.good && not verdict.lost then 1 else 0)
+  pub lost : new.lost ≡ old.lost + (if verdict.lost then 1 else 0)
+  pub met : (column : ℕ) → column < 16 → slice_index_or new.met column false ≡ (slice_index_or old.met column false || meets_spot column verdict.spot)
+  pub broken : (column : ℕ) → column < 16 → slice_index_or new.broken column false ≡ (slice_index_or old.broken column false || (verdict.lost && meets_spot column verdict.spot))
+
+-- what some blocks of a row come to: the new data, the counts, and the columns
+pub record AreJudged (images : Images) (layout : Layout) (row : Row) (ts : List Target) (new : List ℕ) (judged : Judged) : Type 0 where
+  pub slices : (i : ℕ) → i < slice_count row → element_in new i ≡ fold (with_block images layout (accepted images)) (element images layout row (Slice i)) (filter (λ t. t.at.index == i) ts)
+  pub bad : judged.bad ≡ sum_by (λ t. length (bad_parts images t)) ts
+  pub rebuilt : judged.rebuilt ≡ sum_by (λ t. length (block_writes images t)) ts
+  pub lost : judged.lost ≡ count_by (is_lost images) ts
+  pub met : (column : ℕ) → column < 16 → slice_index_or judged.met column false ≡ list_any (meets column) ts
+  pub broken : (column : ℕ) → column < 16 → slice_index_or judged.broken column false ≡ list_any (λ t. is_lost images t && meets column t) ts

@@ -82,6 +82,7 @@ pub(crate) fn judge_block(
     requires block { 65536 ≤ length block.old }
     requires spare { 65536 ≤ length spare.old }
     ensures verdict { (images : Images) (row : Row) (t : Target) → IsStripeOf store.now.layout stripe.now row → HoldsRow images store.now.layout row old.now → sought store.now.layout want.now ≡ Ok t → FitsVerdict images t new.old new.new result }
+    ensures inside { result.spot.rest + result.spot.len ≤ 65536 }
     ensures long { length new.new ≡ length new.old }
     ensures block_long { length block.new ≡ length block.old }
     ensures spare_long { length spare.new ≡ length spare.old }

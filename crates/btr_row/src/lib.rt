@@ -9,8 +9,10 @@
 mod accepting;
 mod buffer;
 mod gathering;
+mod judged;
 mod judging;
 mod mended;
+mod parities;
 mod parity;
 mod reading;
 mod shape;
