@@ -5,3 +5,5 @@ pub mod Elements
 pub mod Shapes
 pub mod Held
 pub mod Judges
+pub mod Folded
+pub mod Wrote

@@ -22,7 +22,7 @@ pub(crate) fn copy_front(front: &mut [u8], bytes: &[u8], start: usize, len: usiz
 }
 
 // Adds some bytes of a slice to what the front of a buffer has of a parity.
-fn add_front(
+pub(crate) fn add_front(
     parity: Parity,
     front: &mut [u8],
     bytes: &[u8],

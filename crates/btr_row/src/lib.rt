@@ -18,6 +18,7 @@ mod reading;
 mod shape;
 mod spot;
 mod stripe;
+mod writing;
 
 pub use buffer::RowBuffer;
 pub use mended::MendedRow;

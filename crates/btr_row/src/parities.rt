@@ -1,69 +1,53 @@
 // P and Q of the new data.
-ghost use Rattle.std.specs.Prelude.{◌≡◌, ℕ, ◌+◌, ◌*◌, ◌≤◌, length, map, slice_range, take};
+ghost use Rattle.std.specs.Prelude.{◌≡◌, ℕ, ◌+◌, ◌*◌, ◌<◌, ◌≤◌, length, map, slice_range, take};
 ghost use Rattle.std.specs.List.{range_with_len};
-ghost use Rattle.btr_parity.specs.Slices.{parity_p, parity_q, plus, scaled, zeros};
+ghost use Rattle.btr_parity.specs.Slices.{parity_p, parity_q, plus, scaled};
 ghost use Rattle.btr_row.specs.Memory.{element_in};
 
 use crate::buffer::ELEMENT;
-use btr_parity::{double_and_add, fold_p};
+use crate::gathering::{add_front, copy_front};
+use crate::parity::Parity;
+use btr_parity::double_and_add;
 
-// Adds an element in memory to P, in the front of a buffer.
-fn add_element(p: &mut [u8], bytes: &[u8], element: u32)
-    requires fits { 65536 ≤ length p.old }
-    requires few { element ≤ 64 }
-    requires within { (element + 1) * 65536 ≤ length bytes.now }
-    ensures sum { take 65536 p.new ≡ plus (take 65536 p.old) (element_in bytes.now element) }
-    ensures long { length p.new ≡ length p.old }
-{
-    let start = element as usize * ELEMENT;
-    fold_p(&mut p[..ELEMENT], &bytes[start..start + ELEMENT]);
-}
-
-// Adds the element in front to Q, in the front of a buffer.
-fn double_and_add_element(q: &mut [u8], bytes: &[u8], element: u32)
-    requires fits { 65536 ≤ length q.old }
-    requires few { element ≤ 64 }
-    requires within { (element + 1) * 65536 ≤ length bytes.now }
-    ensures sum { take 65536 q.new ≡ plus (scaled 2 (take 65536 q.old)) (element_in bytes.now element) }
-    ensures long { length q.new ≡ length q.old }
-{
-    let start = element as usize * ELEMENT;
-    double_and_add(&mut q[..ELEMENT], &bytes[start..start + ELEMENT]);
-}
-
-// Zeros, in the front of a buffer.
-fn clear(front: &mut [u8])
-    requires fits { 65536 ≤ length front.old }
-    ensures zeros { take 65536 front.new ≡ zeros 65536 }
+// Doubles what the front of a buffer has of Q, and adds some bytes of the slice in front.
+fn double_front(front: &mut [u8], bytes: &[u8], start: usize, len: usize)
+    requires fits { len ≤ length front.old }
+    requires within { start + len ≤ length bytes.now }
+    ensures sum { take len front.new ≡ plus (scaled 2 (take len front.old)) (slice_range bytes.now start (start + len)) }
     ensures long { length front.new ≡ length front.old }
 {
-    front[..ELEMENT].fill(0);
+    double_and_add(&mut front[..len], &bytes[start..start + len]);
 }
 
 // Makes P of the first slices in memory, in the front of a buffer.
 pub(crate) fn make_p(slices: u32, bytes: &[u8], p: &mut [u8])
     requires fits { 65536 ≤ length p.old }
+    requires some { 0 < slices }
     requires few { slices ≤ 63 }
     requires within { slices * 65536 ≤ length bytes.now }
     ensures p { take 65536 p.new ≡ parity_p 65536 (map (element_in bytes.now) (range_with_len 0 slices)) }
     ensures long { length p.new ≡ length p.old }
 {
-    clear(p);
-    for slice in 0..slices {
-        add_element(p, bytes, slice);
+    copy_front(p, bytes, 0, ELEMENT);
+    for slice in 1..slices {
+        let start = slice as usize * ELEMENT;
+        add_front(Parity::P, p, bytes, start, ELEMENT, slice as u8);
     }
 }
 
 // Makes Q of the first slices in memory, in the front of a buffer, from the last one down.
 pub(crate) fn make_q(slices: u32, bytes: &[u8], q: &mut [u8])
     requires fits { 65536 ≤ length q.old }
+    requires some { 0 < slices }
     requires few { slices ≤ 63 }
     requires within { slices * 65536 ≤ length bytes.now }
     ensures q { take 65536 q.new ≡ parity_q 65536 (map (element_in bytes.now) (range_with_len 0 slices)) }
     ensures long { length q.new ≡ length q.old }
 {
-    clear(q);
-    for done in 0..slices {
-        double_and_add_element(q, bytes, slices - 1 - done);
+    let last = (slices - 1) as usize * ELEMENT;
+    copy_front(q, bytes, last, ELEMENT);
+    for done in 1..slices {
+        let start = (slices - 1 - done) as usize * ELEMENT;
+        double_front(q, bytes, start, ELEMENT);
     }
 }

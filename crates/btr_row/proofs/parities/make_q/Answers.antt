@@ -5,6 +5,7 @@ use Rattle.btr_parity.specs.Slices.{IsSlice, parity_q, plus, scaled}
 use Rattle.btr_parity.proofs.Folding.{parity_by_folding}
 use Rattle.btr_parity.proofs.Solving.{bytes_of}
 use Rattle.btr_row.specs.Memory.{element_in}
+use Rattle.btr_row.proofs.Folded.{q_of_one}
 use Rattle.btr_row.proofs.Gathered.{cut_slice}
 use Rattle.btr_row.proofs.parities.make_q.Goals as goal
 
@@ -21,7 +22,15 @@ one_before bytes a b n e =
     ap (λ m. map (element_in bytes) (range_with_len a m)) more ∙ ap (λ s. element_in bytes a ∷ map (element_in bytes) (range_with_len s n)) (sym e)
 
 pub loop-done-init : goal.loop-done-init
-loop-done-init c = record { long = c.clear.ensures.long; sum = c.clear.ensures.zeros ∙ sym (parity_by_folding.q_of_none 65536) }
+loop-done-init c =
+    let bytes = c.args.bytes.now in
+    let a = c.args.slices - 1 in
+    let d = element_in bytes a in
+    let slice : IsSlice 65536 d = cut_slice bytes (a * 65536) 65536 (bytes_of bytes c.type_inv.bytes) (omega (arith, c.requires.some, c.requires.within)) in
+    record {
+      long = c.copy_front.ensures.long;
+      sum = c.copy_front.ensures.front ∙ sym (q_of_one 65536 d slice);
+    }
 
 pub loop-done-preserved : goal.loop-done-preserved
 loop-done-preserved c =
@@ -32,8 +41,8 @@ loop-done-preserved c =
     let b = c.args.slices - n in
     let next : b ≡ a + 1 = omega (arith, c.loop-done-test.true) in
     record {
-      long = c.double_and_add_element.ensures.long ∙ c.loop-done.invariant.long;
-      sum = c.double_and_add_element.ensures.sum
+      long = c.double_front.ensures.long ∙ c.loop-done.invariant.long;
+      sum = c.double_front.ensures.sum
           ∙ ap (λ q. plus (scaled 2 q) (element_in bytes a)) c.loop-done.invariant.sum
           ∙ sym (parity_by_folding.q_of_one_before 65536 (map (element_in bytes) (range_with_len b n)) (element_in bytes a)
           (elements_are bytes b n all (omega (arith, c.loop-done-test.true, c.requires.within)))

@@ -1,0 +1,16 @@
+-- P and Q of one slice.
+use Rattle.std.proofs.Common.{◌≡◌, ℕ, List, [], ◌∷◌, sym, ap, ◌∙◌, arith}
+use Rattle.btr_parity.specs.Slices.{IsSlice, parity_p, parity_q, plus, scaled, zeros}
+use Rattle.btr_parity.proofs.Folding.{parity_by_folding}
+use Rattle.btr_parity.proofs.Lost.{plus_comm, plus-zeros, scaled-zeros}
+
+zeros_first : (size : ℕ) (d : List ℕ) → IsSlice size d → plus (zeros size) d ≡ d
+zeros_first size d h = plus_comm (zeros size) d ∙ plus-zeros d size h.long
+
+pub p_of_one : (size : ℕ) (d : List ℕ) → IsSlice size d → parity_p size (d ∷ []) ≡ d
+p_of_one size d h = parity_by_folding.p_of_one_more size [] d h ∙ ap (λ z. plus z d) (parity_by_folding.p_of_none size) ∙ zeros_first size d h
+
+pub q_of_one : (size : ℕ) (d : List ℕ) → IsSlice size d → parity_q size (d ∷ []) ≡ d
+q_of_one size d h =
+    parity_by_folding.q_of_one_before size [] d (λ k e lt. absurd (omega (arith, lt))) h
+    ∙ ap (λ z. plus (scaled 2 z) d) (parity_by_folding.q_of_none size) ∙ ap (λ z. plus z d) (scaled-zeros 2 size) ∙ zeros_first size d h

@@ -1,0 +1,72 @@
+-- One write into an element, and writes one after another.
+use Rattle.std.proofs.Common.{◌≡◌, ◌⊎◌, ℕ, ◌+◌, ◌<◌, ◌≤◌, Bool, true, false, List, [], ◌∷◌, ◌++◌, length, get_or, set, Option, Some, None, IfSome, IsSomeAnd, Result, Ok, Err, refl, sym, ap, ◌∙◌, subst, inl, inr, arith}
+use Rattle.std.proofs.lemmas.Bool.{cases_eq}
+use Rattle.std.proofs.lemmas.List.{get_or-set_other, get_or-set_same}
+use Rattle.std.proofs.lemmas.List.Elements.{All-cons, All-nil}
+use Rattle.btr_rack.specs.Rack.{Accounts, Seen, Unsyncs, Writes, range_in}
+use Rattle.btr_rack.specs.declared.error.RackError.{RackError}
+use Rattle.btr_rack.specs.declared.error.RackError.TheVariants as error
+use Rattle.btr_rack.specs.declared.place.Place.{Place as Range}
+use Rattle.btr_mend.specs.Writes.{Does, Images, IsMarked, IsStopped, Leaves, Marks, Write}
+use Rattle.btr_mend.specs.declared.mended.MendFault.{MendFault}
+use Rattle.btr_mend.specs.declared.mended.MendFault.TheVariants.{Image, Memory}
+use Rattle.btr_row.specs.Writing.{told_writes, write_at}
+
+module _ (P : Range → Type 0) (slot off : ℕ) (bytes : List ℕ) (marks : List Bool) (a b : Seen) (lies : P (range_in slot off (length bytes))) (below : slot < length marks) where
+  abbrev place : Range
+  place = range_in slot off (length bytes)
+
+  marked : Marks (place ∷ []) marks (set marks slot true)
+  marked = record {
+    added = All-cons (λ (r : Range). IsMarked (set marks slot true) r.slot) place [] (get_or-set_same marks slot true false below) (All-nil (λ (r : Range). IsMarked (set marks slot true) r.slot));
+    kept = λ s is. elim (cases_eq s slot) [
+      | inl same ↦ subst (λ s. get_or (set marks slot true) s false ≡ true) (sym same) (get_or-set_same marks slot true false below)
+      | inr other ↦ get_or-set_other marks slot s true false other ∙ is
+    ];
+  }
+
+  module _ (A : Type 0) where
+    leaves_ok : (held left : Option Images) (x : Unit {0}) (y : A) → Writes {T = Unit {0}} slot off bytes held left (Ok x) → Leaves {A = A} {E = MendFault} (λ i. write_at slot off bytes ∷ []) held left (Ok y)
+    leaves_ok None left x y h = h
+    leaves_ok (Some images) left x y h = h
+
+    leaves_err : (held left : Option Images) (x : RackError) (e : MendFault) → Writes {T = Unit {0}} slot off bytes held left (Err x) → Leaves {A = A} {E = MendFault} (λ i. write_at slot off bytes ∷ []) held left (Err e)
+    leaves_err None left x e h = h
+    leaves_err (Some images) left x e h =
+        subst (λ o. IsSomeAnd o (IsStopped (write_at slot off bytes ∷ []) images)) (sym h.2) (record { before = []; behind = write_at slot off bytes ∷ []; place = refl; stands = inr (h.0, h.1, refl) })
+
+    module _ (unsyncs : Unsyncs place a b) where
+      pub wrote : (x : Unit {0}) (y : A) → Writes {T = Unit {0}} slot off bytes a.held b.held (Ok x) → Accounts {T = Unit {0}} place a.account b.account (Ok x)
+          → Does P (λ i. write_at slot off bytes ∷ []) marks (set marks slot true) a b (Ok y)
+      wrote x y held account = record {
+        ranges = place ∷ [];
+        only = record { same = unsyncs; later = omega (arith, account.faults); same_shut = account.shut };
+        marked = marked;
+        held = leaves_ok a.held b.held x y held;
+        account = account;
+      }
+
+      pub wrote_not : Writes {T = Unit {0}} slot off bytes a.held b.held (Err error.Failed) → Accounts {T = Unit {0}} place a.account b.account (Err error.Failed) → a.sure ≡ false
+          → Does {A = A} P (λ i. write_at slot off bytes ∷ []) marks (set marks slot true) a b (Err (Image slot))
+      wrote_not held account unsure = record {
+        ranges = place ∷ [];
+        only = record { same = unsyncs; later = account.0.faults.0; same_shut = account.2 };
+        marked = marked;
+        held = leaves_err a.held b.held error.Failed (Image slot) held;
+        account = record {
+          place = place;
+          failed = record { one = account.0; read = account.1; shut = account.2; unsure = unsure };
+          on_slot = refl;
+          lies = lies;
+        };
+      }
+
+      pub wrote_memory : Writes {T = Unit {0}} slot off bytes a.held b.held (Err error.Memory) → Accounts {T = Unit {0}} place a.account b.account (Err error.Memory)
+          → Does {A = A} P (λ i. write_at slot off bytes ∷ []) marks (set marks slot true) a b (Err Memory)
+      wrote_memory held account = record {
+        ranges = place ∷ [];
+        only = record { same = unsyncs; later = omega (arith, account.faults); same_shut = account.shut };
+        marked = marked;
+        held = leaves_err a.held b.held error.Memory Memory held;
+        account = account;
+      }

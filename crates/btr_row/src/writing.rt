@@ -1,0 +1,37 @@
+// Writing what mends a row.
+ghost use Rattle.std.specs.Prelude.{◌≡◌, ◌+◌, ◌≤◌, ◌<◌, ◌^◌, [], ◌∷◌, length};
+ghost use Rattle.btr_rack.specs.Rack.{len_of, range_in};
+ghost use Rattle.btr_read.specs.Layout.{AreOpen, Layout};
+ghost use Rattle.btr_mend.specs.Writes.{AreWritable, Does};
+ghost use Rattle.btr_row.specs.Rows.{Row};
+ghost use Rattle.btr_row.specs.Mending.{IsOfRow};
+ghost use Rattle.btr_row.specs.Writing.{write_at};
+
+use btr_mend::MendFault;
+use btr_rack::{Place, Rack, RackError};
+
+// Writes bytes into an element, from a byte of it on, and marks its slot.
+pub(crate) fn write_in<R: Rack>(
+    element: Place,
+    rest: u64,
+    bytes: &[u8],
+    rack: &mut R,
+    marks: &mut [bool],
+) -> Result<(), MendFault>
+    requires open { element.slot < length (R.seen rack.old).slots }
+    requires writable { AreWritable (R.seen rack.old).slots }
+    requires slots { length (R.seen rack.old).slots ≤ length marks.old }
+    requires range { element.off + rest + length bytes.now ≤ len_of (R.seen rack.old).slots element.slot }
+    requires small { element.off + rest < 2 ^ 64 }
+    ensures slots { (R.seen rack.new).slots ≡ (R.seen rack.old).slots }
+    ensures marks { length marks.new ≡ length marks.old }
+    ensures writes { (layout : Layout) (row : Row) → IsOfRow layout row (range_in element.slot (element.off + rest) (length bytes.now))
+        → Does (IsOfRow layout row) (λ images. write_at element.slot (element.off + rest) bytes.now ∷ []) marks.old marks.new (R.seen rack.old) (R.seen rack.new) result }
+{
+    marks[element.slot] = true;
+    match rack.write_at(element.slot, element.off + rest, bytes) {
+        Ok(()) => Ok(()),
+        Err(RackError::Failed) => Err(MendFault::Image(element.slot)),
+        Err(RackError::Memory) => Err(MendFault::Memory),
+    }
+}
