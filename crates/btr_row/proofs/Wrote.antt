@@ -10,7 +10,9 @@ use Rattle.btr_rack.specs.declared.place.Place.{Place as Range}
 use Rattle.btr_mend.specs.Writes.{Does, Images, IsMarked, IsStopped, Leaves, Marks, Write}
 use Rattle.btr_mend.specs.declared.mended.MendFault.{MendFault}
 use Rattle.btr_mend.specs.declared.mended.MendFault.TheVariants.{Image, Memory}
-use Rattle.btr_row.specs.Writing.{told_writes, write_at}
+use Rattle.btr_read.specs.Layout.{Layout}
+use Rattle.btr_row.specs.Rows.{Row}
+use Rattle.btr_row.specs.Writing.{Tells, told_writes, write_at}
 
 module _ (P : Range → Type 0) (slot off : ℕ) (bytes : List ℕ) (marks : List Bool) (a b : Seen) (lies : P (range_in slot off (length bytes))) (below : slot < length marks) where
   abbrev place : Range
@@ -70,3 +72,52 @@ module _ (P : Range → Type 0) (slot off : ℕ) (bytes : List ℕ) (marks : Lis
         held = leaves_err a.held b.held error.Memory Memory held;
         account = account;
       }
+
+-- ---- writes of a row, by what was told
+
+-- no write is told where the images aren't
+pub does_untold : {A : Type 0} (P : Range → Type 0) (f g : Images → List Write) (marks marks' : List Bool) (a b : Seen) (r : Result A MendFault) → a.held ≡ None → Does P f marks marks' a b r → Does P g marks marks' a b r
+does_untold P f g marks marks' a b r none h = record {
+  ranges = h.ranges;
+  only = h.only;
+  marked = h.marked;
+  held = untold a.held b.held none h.held;
+  account = h.account;
+}
+  where
+    untold : (old new : Option Images) → old ≡ None → Leaves f old new r → Leaves g old new r
+    untold None new e h = h
+    untold (Some images) new e h = absurd (some_none images e)
+      where
+        some_none : (x : Images) → Some x ≡ None → ⊥
+        some_none x e = cc
+
+-- what is left where the images aren't told
+pub still_untold : {A : Type 0} (P : Range → Type 0) (f : Images → List Write) (marks marks' : List Bool) (a b : Seen) (r : Result A MendFault) → Does P f marks marks' a b r → a.held ≡ None → b.held ≡ None
+still_untold P f marks marks' a b r h none = of a.held none h.held
+  where
+    of : (old : Option Images) → old ≡ None → Leaves f old b.held r → b.held ≡ None
+    of None e h = h
+    of (Some images) e h = absurd (some_none images e)
+      where
+        some_none : (x : Images) → Some x ≡ None → ⊥
+        some_none x e = cc
+
+-- what was told is still known after some writes
+pub tells_still : {A : Type 0} (P : Range → Type 0) (f : Images → List Write) (layout : Layout) (row : Row) (bytes : List ℕ) (told : Option Images) (marks marks' : List Bool) (a b : Seen) (r : Result A MendFault) → Does P f marks marks' a b r → Tells layout row bytes told a.held → Tells layout row bytes told b.held
+tells_still P f layout row bytes told marks marks' a b r h t = record { known = t.known; untold = λ e. still_untold P f marks marks' a b r h (t.untold e) }
+
+-- the same writes as those that are told
+pub does_told : {A : Type 0} (P : Range → Type 0) (w : List Write) (f : Images → List Write) (told : Option Images) (marks marks' : List Bool) (a b : Seen) (r : Result A MendFault) → ((images : Images) → told ≡ Some images → w ≡ f images) → (told ≡ None → a.held ≡ None)
+    → Does P (λ i. w) marks marks' a b r → Does P (λ i. told_writes f told) marks marks' a b r
+does_told P w f None marks marks' a b r same none h = does_untold P (λ i. w) (λ i. []) marks marks' a b r (none refl) h
+does_told P w f (Some images) marks marks' a b r same none h = subst (λ ws. Does P (λ i. ws) marks marks' a b r) (same images refl) h
+
+-- told writes, put together
+pub told-append : (f g : Images → List Write) (told : Option Images) → told_writes (λ images. f images ++ g images) told ≡ told_writes f told ++ told_writes g told
+told-append f g None = refl
+told-append f g (Some images) = refl
+
+pub told-same : (f g : Images → List Write) (told : Option Images) → ((images : Images) → f images ≡ g images) → told_writes f told ≡ told_writes g told
+told-same f g None e = refl
+told-same f g (Some images) e = e images

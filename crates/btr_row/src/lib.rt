@@ -7,6 +7,7 @@
 #![tactic(auto)]
 
 mod accepting;
+mod blocks;
 mod buffer;
 mod gathering;
 mod judged;

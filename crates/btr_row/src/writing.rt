@@ -1,5 +1,5 @@
 // Writing what mends a row.
-ghost use Rattle.std.specs.Prelude.{◌≡◌, ◌+◌, ◌≤◌, ◌<◌, ◌^◌, [], ◌∷◌, length};
+ghost use Rattle.std.specs.Prelude.{◌≡◌, ◌+◌, ◌≤◌, ◌<◌, ◌^◌, [], ◌∷◌, length, take};
 ghost use Rattle.btr_rack.specs.Rack.{len_of, range_in};
 ghost use Rattle.btr_read.specs.Layout.{AreOpen, Layout};
 ghost use Rattle.btr_mend.specs.Writes.{AreWritable, Does};
@@ -34,4 +34,27 @@ pub(crate) fn write_in<R: Rack>(
         Err(RackError::Failed) => Err(MendFault::Image(element.slot)),
         Err(RackError::Memory) => Err(MendFault::Memory),
     }
+}
+
+// Writes the front of a buffer into an element, from a byte of it on, and marks its slot.
+pub(crate) fn write_front<R: Rack>(
+    element: Place,
+    rest: u64,
+    front: &[u8],
+    len: usize,
+    rack: &mut R,
+    marks: &mut [bool],
+) -> Result<(), MendFault>
+    requires fits { len ≤ length front.now }
+    requires open { element.slot < length (R.seen rack.old).slots }
+    requires writable { AreWritable (R.seen rack.old).slots }
+    requires slots { length (R.seen rack.old).slots ≤ length marks.old }
+    requires range { element.off + rest + len ≤ len_of (R.seen rack.old).slots element.slot }
+    requires small { element.off + rest < 2 ^ 64 }
+    ensures slots { (R.seen rack.new).slots ≡ (R.seen rack.old).slots }
+    ensures marks { length marks.new ≡ length marks.old }
+    ensures writes { (layout : Layout) (row : Row) → IsOfRow layout row (range_in element.slot (element.off + rest) (length (take len front.now)))
+        → Does (IsOfRow layout row) (λ images. write_at element.slot (element.off + rest) (take len front.now) ∷ []) marks.old marks.new (R.seen rack.old) (R.seen rack.new) result }
+{
+    write_in(element, rest, &front[..len], rack, marks)
 }
