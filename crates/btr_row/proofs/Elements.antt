@@ -1,5 +1,5 @@
 -- Where the elements of a row lie, and the blocks in them.
-use Rattle.std.proofs.Common.{◌≡◌, ℕ, ◌+◌, ◌-◌, ◌*◌, ◌%◌, ◌<◌, ◌≤◌, Bool, true, false, cond, List, [], ◌∷◌, length, take, drop, slice_range, slice_get, Option, Some, None, IsSome, IsNone, IsSomeAnd, leb, refl, sym, ap, ◌∙◌, subst, inl, inr, arith}
+use Rattle.std.proofs.Common.{◌≡◌, ℕ, ◌+◌, ◌-◌, ◌*◌, ◌%◌, ◌^◌, ◌<◌, ◌≤◌, Bool, true, false, cond, List, [], ◌∷◌, length, take, drop, slice_range, slice_get, Option, Some, None, IsSome, IsNone, IsSomeAnd, leb, refl, sym, ap, ◌∙◌, subst, inl, inr, arith}
 use Rattle.std.proofs.lemmas.Bool.{false≢true, leb-true, le-leb}
 use Rattle.std.proofs.lemmas.List.{drop-take, take-take, drop-drop}
 use Rattle.std.proofs.lemmas.Option.{same_Some}
@@ -13,7 +13,7 @@ use Rattle.btr_chunk.specs.declared.profile.Profile.{Profile}
 use Rattle.btr_chunk.specs.declared.profile.Profile.TheVariants.{Raid5, Raid6}
 use Rattle.btr_chunk.specs.declared.stripe.Stripe.{Stripe}
 use Rattle.btr_chunk.proofs.Bytes.{placed_part}
-use Rattle.btr_chunk.proofs.Rule.{data_count-some, facts}
+use Rattle.btr_chunk.proofs.Rule.{data_count-some, facts, stripe-fits}
 use Rattle.btr_chunk.proofs.Rows.{without_copies}
 use Rattle.btr_rack.specs.Rack.{Slot, bytes_of, image_of, len_of, range_in}
 use Rattle.btr_rack.specs.declared.place.Place.{Place as Range}
@@ -89,6 +89,7 @@ pub record Lies (layout : Layout) (row : Row) (q : Part) : Type 0 where
   pub there : device_in layout.devices devid ≡ Some device
   pub slot_is : device.slot ≡ slot
   pub within : off + 65536 ≤ device.len
+  pub small : off + 65536 < 2 ^ 64
   pub at : (at : Elements) → at.row ≡ row.number → IsPosition row.chunk at → place_at row.chunk q at ≡ record { devid = devid; offset = off + at.rest }
 
 module _ (layout : Layout) (start number : ℕ) (row : Row) (g : IsGood layout start number row) (q : Part) (has : HasPart row.chunk.profile (length row.chunk.stripes) q) where
@@ -112,6 +113,7 @@ module _ (layout : Layout) (start number : ℕ) (row : Row) (g : IsGood layout s
         there = s.there;
         slot_is = refl;
         within = s.within;
+        small = omega (arith, stripe-fits row.chunk (stripe_of row.chunk.profile (length row.chunk.stripes) q first) one.stripe g.keeps_rule one.there, g.is.inside, g.is.number_is);
         at = λ at e position.
             let two = placed_part row.chunk q at g.keeps_rule has position in
             let same : Some two.stripe ≡ Some one.stripe = sym two.there ∙ ap (slice_get row.chunk.stripes) (stripe-row row.chunk.profile (length row.chunk.stripes) q at first g.is.parity e) ∙ one.there in

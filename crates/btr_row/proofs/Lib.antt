@@ -7,3 +7,4 @@ pub mod Held
 pub mod Judges
 pub mod Folded
 pub mod Wrote
+pub mod BlockWrites

@@ -1,13 +1,16 @@
 -- One write into an element, and writes one after another.
-use Rattle.std.proofs.Common.{◌≡◌, ◌⊎◌, ℕ, ◌+◌, ◌<◌, ◌≤◌, Bool, true, false, List, [], ◌∷◌, ◌++◌, length, get_or, set, Option, Some, None, IfSome, IsSomeAnd, Result, Ok, Err, refl, sym, ap, ◌∙◌, subst, inl, inr, arith}
+use Rattle.std.proofs.Common.{◌≡◌, ◌⊎◌, ℕ, ◌+◌, ◌<◌, ◌≤◌, Bool, true, false, List, [], ◌∷◌, ◌++◌, length, take, drop, get_or, set, append-nil, Option, Some, None, IfSome, IsSomeAnd, Result, Ok, Err, refl, sym, ap, ◌∙◌, subst, inl, inr, arith}
 use Rattle.std.proofs.lemmas.Bool.{cases_eq}
-use Rattle.std.proofs.lemmas.List.{get_or-set_other, get_or-set_same}
+use Rattle.std.specs.List.{flat_map}
+use Rattle.std.proofs.lemmas.Grind.{flat_map-append}
+use Rattle.std.proofs.lemmas.List.{get_or-set_other, get_or-set_same, take-append-drop, take_more}
 use Rattle.std.proofs.lemmas.List.Elements.{All-cons, All-nil}
 use Rattle.btr_rack.specs.Rack.{Accounts, Seen, Unsyncs, Writes, range_in}
 use Rattle.btr_rack.specs.declared.error.RackError.{RackError}
 use Rattle.btr_rack.specs.declared.error.RackError.TheVariants as error
 use Rattle.btr_rack.specs.declared.place.Place.{Place as Range}
 use Rattle.btr_mend.specs.Writes.{Does, Images, IsMarked, IsStopped, Leaves, Marks, Write}
+use Rattle.btr_mend.proofs.Doing.{does_halt, does_then}
 use Rattle.btr_mend.specs.declared.mended.MendFault.{MendFault}
 use Rattle.btr_mend.specs.declared.mended.MendFault.TheVariants.{Image, Memory}
 use Rattle.btr_read.specs.Layout.{Layout}
@@ -121,3 +124,51 @@ told-append f g (Some images) = refl
 pub told-same : (f g : Images → List Write) (told : Option Images) → ((images : Images) → f images ≡ g images) → told_writes f told ≡ told_writes g told
 told-same f g None e = refl
 told-same f g (Some images) e = e images
+
+-- the told writes of some things, one after another
+module _ {X : Type 0} (F : Images → X → List Write) (told : Option Images) where
+  abbrev pub flat_told : List X → List Write
+  flat_told xs = told_writes (λ images. flat_map (F images) xs) told
+
+  pub flat_told-append : (xs ys : List X) → flat_told (xs ++ ys) ≡ flat_told xs ++ flat_told ys
+  flat_told-append xs ys = by told
+    where
+      by : (o : Option Images) → told_writes (λ images. flat_map (F images) (xs ++ ys)) o ≡ told_writes (λ images. flat_map (F images) xs) o ++ told_writes (λ images. flat_map (F images) ys) o
+      by None = refl
+      by (Some images) = flat_map-append (F images) xs ys
+
+  pub flat_told-one : (x : X) → flat_told (x ∷ []) ≡ told_writes (λ images. F images x) told
+  flat_told-one x = by told
+    where
+      by : (o : Option Images) → told_writes (λ images. flat_map (F images) (x ∷ [])) o ≡ told_writes (λ images. F images x) o
+      by None = refl
+      by (Some images) = append-nil (F images x)
+
+  pub flat_told-none : flat_told [] ≡ []
+  flat_told-none = by told
+    where
+      by : (o : Option Images) → told_writes (λ images. flat_map (F images) []) o ≡ []
+      by None = refl
+      by (Some images) = refl
+
+  module _ (P : Range → Type 0) (A U : Type 0) (xs : List X) (i : ℕ) (x : X) (lt : i < length xs) (at : get_or xs i x ≡ x) (m n o : List Bool) (a b c : Seen) (u : U) where
+    more : take (i + 1) xs ≡ take i xs ++ x ∷ []
+    more = take_more xs i x lt ∙ ap (λ y. take i xs ++ y ∷ []) at
+
+    -- one more
+    pub flat_next : (y : A) → Does P (λ i'. flat_told (take i xs)) m n a b (Ok u) → Does P (λ i'. told_writes (λ images. F images x) told) n o b c (Ok y) → Does P (λ i'. flat_told (take (i + 1) xs)) m o a c (Ok y)
+    flat_next y h g =
+        subst (λ ws. Does P (λ i'. ws) m o a c (Ok y)) (sym (ap flat_told more ∙ flat_told-append (take i xs) (x ∷ []) ∙ ap (λ ws. flat_told (take i xs) ++ ws) (flat_told-one x)))
+        (does_then P A U (flat_told (take i xs)) (told_writes (λ images. F images x) told) m n o a b c u (Ok y) h g)
+
+    -- or it was cut off
+    pub flat_cut : (fault : MendFault) → Does P (λ i'. flat_told (take i xs)) m n a b (Ok u) → Does {A = A} P (λ i'. told_writes (λ images. F images x) told) n o b c (Err fault) → Does {A = A} P (λ i'. flat_told xs) m o a c (Err fault)
+    flat_cut fault h g =
+        let first = flat_told (take i xs) in
+        let second = told_writes (λ images. F images x) told in
+        let third = flat_told (drop (i + 1) xs) in
+        let all : flat_told xs ≡ (first ++ second) ++ third =
+        ap flat_told (sym (take-append-drop (i + 1) xs)) ∙ flat_told-append (take (i + 1) xs) (drop (i + 1) xs)
+        ∙ ap (λ ws. ws ++ third) (ap flat_told more ∙ flat_told-append (take i xs) (x ∷ []) ∙ ap (λ ws. first ++ ws) (flat_told-one x)) in
+        subst (λ ws. Does {A = A} P (λ i'. ws) m o a c (Err fault)) (sym all)
+        (does_halt P A A (first ++ second) third m o a c fault (does_then P A U first second m n o a b c u (Err fault) h g))

@@ -49,8 +49,10 @@ fn write_block<R: Rack>(
     let spot = spot_of(want, stripe, store);
     match accept(want, &spot, store, old, block, spare) {
         None => Ok(()),
-        Some(0) => Ok(()),
-        Some(_) => {
+        Some(k) => {
+            if k == 0 {
+                return Ok(());
+            }
             let element = place_of_part(stripe, Part::Slice(spot.index), store);
             write_front(element, spot.rest as u64, block, spot.len, rack, marks)
         }
@@ -84,7 +86,10 @@ pub(crate) fn write_blocks<R: Rack>(
         → Does (IsOfRow store.now.layout row) (λ images. told_writes (λ images. flat_map (block_writes images) row.blocks) told) marks.old marks.new (R.seen rack.old) (R.seen rack.new) result }
 {
     for want in wants {
-        write_block(want, stripe, rack, store, old, block, spare, marks)?;
+        match write_block(want, stripe, rack, store, old, block, spare, marks) {
+            Ok(()) => {}
+            Err(fault) => return Err(fault),
+        }
     }
     Ok(())
 }
