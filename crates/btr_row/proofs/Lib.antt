@@ -8,3 +8,5 @@ pub mod Judges
 pub mod Folded
 pub mod Wrote
 pub mod BlockWrites
+pub mod Columns
+pub mod Parts

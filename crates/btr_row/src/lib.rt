@@ -16,6 +16,7 @@ mod mended;
 mod parities;
 mod parity;
 mod reading;
+mod sectors;
 mod shape;
 mod spot;
 mod stripe;

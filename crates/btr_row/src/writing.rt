@@ -1,5 +1,5 @@
 // Writing what mends a row.
-ghost use Rattle.std.specs.Prelude.{◌≡◌, ◌+◌, ◌≤◌, ◌<◌, ◌^◌, [], ◌∷◌, length, take};
+ghost use Rattle.std.specs.Prelude.{◌≡◌, ◌+◌, ◌≤◌, ◌<◌, ◌^◌, [], ◌∷◌, length, slice_range, take};
 ghost use Rattle.btr_rack.specs.Rack.{len_of, range_in};
 ghost use Rattle.btr_read.specs.Layout.{AreOpen, Layout};
 ghost use Rattle.btr_mend.specs.Writes.{AreWritable, Does};
@@ -34,6 +34,35 @@ pub(crate) fn write_in<R: Rack>(
         Err(RackError::Failed) => Err(MendFault::Image(element.slot)),
         Err(RackError::Memory) => Err(MendFault::Memory),
     }
+}
+
+// Writes some bytes of a buffer into an element, at the same place, and marks its slot.
+pub(crate) fn write_range<R: Rack>(
+    element: Place,
+    buffer: &[u8],
+    start: usize,
+    len: usize,
+    rack: &mut R,
+    marks: &mut [bool],
+) -> Result<(), MendFault>
+    requires fits { start + len ≤ length buffer.now }
+    requires open { element.slot < length (R.seen rack.old).slots }
+    requires writable { AreWritable (R.seen rack.old).slots }
+    requires slots { length (R.seen rack.old).slots ≤ length marks.old }
+    requires range { element.off + start + len ≤ len_of (R.seen rack.old).slots element.slot }
+    requires small { element.off + start < 2 ^ 64 }
+    ensures slots { (R.seen rack.new).slots ≡ (R.seen rack.old).slots }
+    ensures marks { length marks.new ≡ length marks.old }
+    ensures writes { (layout : Layout) (row : Row) → IsOfRow layout row (range_in element.slot (element.off + start) (length (slice_range buffer.now start (start + len))))
+        → Does (IsOfRow layout row) (λ images. write_at element.slot (element.off + start) (slice_range buffer.now start (start + len)) ∷ []) marks.old marks.new (R.seen rack.old) (R.seen rack.new) result }
+{
+    write_in(
+        element,
+        start as u64,
+        &buffer[start..start + len],
+        rack,
+        marks,
+    )
 }
 
 // Writes the front of a buffer into an element, from a byte of it on, and marks its slot.
