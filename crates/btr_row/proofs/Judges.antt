@@ -199,12 +199,12 @@ same_front xs ys n a b e le most =
     let whole = λ (zs : List ℕ). range-range zs 0 n a b le most ∙ ap (λ m. slice_range zs m (0 + b)) (zero_more a) ∙ ap (slice_range zs a) (zero_more b) in
     sym (whole xs) ∙ ap (λ zs. slice_range zs a b) (cut ∙ e) ∙ whole ys
 
-pub judged_none : (images : Images) (layout : Layout) (row : Row) (old new : List ℕ) → HoldsRow images layout row old → slice_count row ≤ element_count row → slice_count row * 65536 ≤ length old → take (length old) new ≡ slice_range old 0 (0 + length old)
+pub judged_none : (images : Images) (layout : Layout) (row : Row) (old new : List ℕ) → HoldsRow images layout row old → slice_count row ≤ element_count row → (n : ℕ) → slice_count row * 65536 ≤ n → take n new ≡ slice_range old 0 (0 + n)
     → (judged : Judged) → judged.bad ≡ 0 → judged.rebuilt ≡ 0 → judged.lost ≡ 0 → ((c : ℕ) → c < 16 → get_or judged.met c false ≡ false) → ((c : ℕ) → c < 16 → get_or judged.broken c false ≡ false)
     → AreJudged images layout row [] new judged
-judged_none images layout row old new holds most room e judged bad rebuilt lost met broken = record {
+judged_none images layout row old new holds most n room e judged bad rebuilt lost met broken = record {
   slices = λ i lt.
-      same_front new old (length old) (i * 65536) (i * 65536 + 65536) e (omega arith) (omega (arith, lt, room))
+      same_front new old n (i * 65536) (i * 65536 + 65536) e (omega arith) (omega (arith, lt, room))
       ∙ holds.elements i (omega (arith, lt, most)) ∙ ap (element images layout row) (part_slice (slice_count row) i lt);
   bad = bad;
   rebuilt = rebuilt;

@@ -10,3 +10,4 @@ pub mod Wrote
 pub mod BlockWrites
 pub mod Columns
 pub mod Parts
+pub mod Prepared

@@ -53,9 +53,9 @@ pub record IsRow (layout : Layout) (start number : ℕ) (wants : List Want) : Ty
   pub is : IsRowOf layout start number wants row
 
 -- a buffer has room for the elements of a row
-pub record HasRoom (buffer : RowBuffer) (elements : ℕ) : Type 0 where
-  pub old : elements * 65536 ≤ length buffer.old.items
-  pub new : elements * 65536 ≤ length buffer.new.items
+pub record HasRoom (buffer : RowBuffer) (count : ℕ) : Type 0 where
+  pub elements : count * 65536 ≤ length buffer.elements.items
+  pub slices : count * 65536 ≤ length buffer.slices.items
   pub p : 65536 ≤ length buffer.p.items
   pub q : 65536 ≤ length buffer.q.items
   pub block : 65536 ≤ length buffer.block.items

@@ -11,9 +11,9 @@ pub(crate) const ELEMENT: usize = 65536;
 #[derive(Drop)]
 pub struct RowBuffer {
     // The elements as they were read: the slices, P, and Q.
-    pub(crate) old: Vec<u8>,
+    pub(crate) elements: Vec<u8>,
     // The slices as they are to be.
-    pub(crate) new: Vec<u8>,
+    pub(crate) slices: Vec<u8>,
     // P and Q of those.
     pub(crate) p: Vec<u8>,
     pub(crate) q: Vec<u8>,
@@ -41,8 +41,8 @@ impl RowBuffer {
         ensures { IfOk result (λ buffer. HasRoom buffer elements) }
     {
         Ok(RowBuffer {
-            old: zeros(alloc, elements * ELEMENT)?,
-            new: zeros(alloc, elements * ELEMENT)?,
+            elements: zeros(alloc, elements * ELEMENT)?,
+            slices: zeros(alloc, elements * ELEMENT)?,
             p: zeros(alloc, ELEMENT)?,
             q: zeros(alloc, ELEMENT)?,
             block: zeros(alloc, ELEMENT)?,

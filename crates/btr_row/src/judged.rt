@@ -6,6 +6,7 @@ ghost use Rattle.btr_row.specs.Mending.{IsRow, IsRowOf};
 ghost use Rattle.btr_row.specs.Memory.{HoldsRow, IsStripe, IsStripeOf};
 ghost use Rattle.btr_row.specs.Judging.{AreJudged, IsCounted, meets_spot};
 
+use crate::buffer::ELEMENT;
 use crate::gathering::copy_front;
 use crate::judging::{Verdict, judge_block};
 use crate::spot::Spot;
@@ -89,7 +90,7 @@ pub(crate) fn judge(
     requires row { IsRow store.now.layout stripe.now.chunk stripe.now.number wants.now }
     requires stripe { IsStripe store.now.layout stripe.now }
     requires room { (row : Row) → IsStripeOf store.now.layout stripe.now row → length row.chunk.stripes * 65536 ≤ length old.now }
-    requires same { length old.now ≤ length new.old }
+    requires new_room { (row : Row) → IsStripeOf store.now.layout stripe.now row → length row.chunk.stripes * 65536 ≤ length new.old }
     requires block { 65536 ≤ length block.old }
     requires spare { 65536 ≤ length spare.old }
     ensures judged { (images : Images) (row : Row) → IsStripeOf store.now.layout stripe.now row → IsRowOf store.now.layout stripe.now.chunk stripe.now.number wants.now row → HoldsRow images store.now.layout row old.now → AreJudged images store.now.layout row row.blocks new.new result }
@@ -97,7 +98,7 @@ pub(crate) fn judge(
     ensures block_long { length block.new ≡ length block.old }
     ensures spare_long { length spare.new ≡ length spare.old }
 {
-    copy_front(new, old, 0, old.len());
+    copy_front(new, old, 0, stripe.shape.slices as usize * ELEMENT);
     let mut judged = Judged {
         bad: 0,
         rebuilt: 0,

@@ -78,7 +78,7 @@ pub(crate) fn judge_block(
 ) -> Verdict
     requires within { IsIn store.now.layout stripe.now want.now }
     requires room { (row : Row) → IsStripeOf store.now.layout stripe.now row → length row.chunk.stripes * 65536 ≤ length old.now }
-    requires same { length old.now ≤ length new.old }
+    requires new_room { (row : Row) → IsStripeOf store.now.layout stripe.now row → length row.chunk.stripes * 65536 ≤ length new.old }
     requires block { 65536 ≤ length block.old }
     requires spare { 65536 ≤ length spare.old }
     ensures verdict { (images : Images) (row : Row) (t : Target) → IsStripeOf store.now.layout stripe.now row → HoldsRow images store.now.layout row old.now → sought store.now.layout want.now ≡ Ok t → FitsVerdict images t new.old new.new result }

@@ -7,6 +7,7 @@
 #![tactic(auto)]
 
 mod accepting;
+mod applying;
 mod blocks;
 mod buffer;
 mod gathering;
@@ -15,6 +16,7 @@ mod judging;
 mod mended;
 mod parities;
 mod parity;
+mod preparing;
 mod reading;
 mod sectors;
 mod shape;

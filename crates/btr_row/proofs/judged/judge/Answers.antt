@@ -29,9 +29,7 @@ loop-want-init c = record {
   rebuilt = omega arith;
   lost = omega arith;
   judged = λ images row of is holds.
-      let count = row_counted row of.is.parity of.keeps_rule in
-      let room = c.requires.room row of in
-      judged_none images c.args.store.now.layout row c.args.old.now c.copy_front.new.front holds (omega arith) (omega (arith, room, count.whole)) c.copy_front.ensures.front
+      judged_none images c.args.store.now.layout row c.args.old.now c.copy_front.new.front holds (omega arith) (c.args.stripe.now.shape.slices * 65536) (omega (arith, of.shape.slices)) c.copy_front.ensures.front
       (record { bad = 0; rebuilt = 0; lost = 0; met = replicate 16 false; broken = replicate 16 false }) refl refl refl none_of_sixteen none_of_sixteen;
 }
 
@@ -67,7 +65,7 @@ loop-want-preserved c =
           let count = row_counted row of.is.parity of.keeps_rule in
           let range = the_one (range_of t (Slice t.at.index)) fits.stand in
           let below : t.at.index < slice_count row = omega (arith, fits.index, ap (λ c. data_count c.profile (length c.stripes)) on.chunk) in
-          let room : slice_count row * 65536 ≤ length c.loop-want.new = omega (arith, c.requires.room row of, count.whole, c.requires.same, c.loop-want.invariant.long) in
+          let room : slice_count row * 65536 ≤ length c.loop-want.new = omega (arith, c.requires.new_room row of, count.whole, c.loop-want.invariant.long) in
           let more = judged_more images layout row (take i row.blocks) t c.loop-want.new c.judge_block-verdict.new.new c.loop-want.judged c.counted-judged.result verdict
           fits.parity range.0 range.1 below fits.inside room (c.loop-want.invariant.judged images row of is holds) fits
           (record { bad = e.bad; rebuilt = e.rebuilt; lost = e.lost; met = e.met; broken = e.broken }) fits.long in

@@ -1,0 +1,159 @@
+// Writing all that mends a row.
+ghost use Rattle.std.specs.Prelude.{◌≡◌, ℕ, ◌≤◌, length, Option};
+ghost use Rattle.std.specs.List.{flat_map, sum_by};
+ghost use Rattle.btr_read.specs.Layout.{AreOpen, Layout};
+ghost use Rattle.btr_mend.specs.Blocks.{block_writes};
+ghost use Rattle.btr_mend.specs.Writes.{AreWritable, Does, Images};
+ghost use Rattle.btr_row.specs.Rows.{Row, parities, parity_writes, row_writes};
+ghost use Rattle.btr_row.specs.Mending.{HasRoom, IsOfRow, IsRow, IsRowOf};
+ghost use Rattle.btr_row.specs.Memory.{IsStripe, IsStripeOf};
+ghost use Rattle.btr_row.specs.Preparing.{IsPrepared, TellsRow};
+ghost use Rattle.btr_row.specs.Writing.{told_writes};
+
+use crate::RowBuffer;
+use crate::blocks::write_blocks;
+use crate::judged::Judged;
+use crate::parity::Parity;
+use crate::sectors::{count_wrong, write_parity};
+use crate::stripe::FullStripe;
+use btr_chunk::Profile;
+use btr_mend::MendFault;
+use btr_rack::Rack;
+use btr_read::{Store, Want};
+
+// How many sectors of the parities are wrong.
+pub(crate) fn count_parities(
+    stripe: &FullStripe,
+    judged: &Judged,
+    store: &Store,
+    buffer: &RowBuffer,
+) -> u64
+    requires stripe { IsStripe store.now.layout stripe.now }
+    requires room { (row : Row) → IsStripeOf store.now.layout stripe.now row → HasRoom buffer.now (length row.chunk.stripes) }
+    ensures { (images : Images) (row : Row) → IsStripeOf store.now.layout stripe.now row → IsPrepared images store.now.layout row judged.now buffer.now
+        → result ≡ sum_by (λ part. length (parity_writes images store.now.layout row part)) (parities row.chunk.profile) }
+{
+    let p = count_wrong(Parity::P, stripe, judged, &buffer.elements, &buffer.p);
+    match stripe.shape.profile {
+        Profile::Raid6 => {
+            p + count_wrong(Parity::Q, stripe, judged, &buffer.elements, &buffer.q)
+        }
+        _ => p,
+    }
+}
+
+// Writes the sectors of the parities that are wrong.
+fn write_parities<R: Rack>(
+    stripe: &FullStripe,
+    judged: &Judged,
+    rack: &mut R,
+    store: &Store,
+    buffer: &RowBuffer,
+    marks: &mut [bool],
+) -> Result<(), MendFault>
+    requires open { AreOpen (R.seen rack.old).slots store.now.layout.devices }
+    requires writable { AreWritable (R.seen rack.old).slots }
+    requires slots { length (R.seen rack.old).slots ≤ length marks.old }
+    requires stripe { IsStripe store.now.layout stripe.now }
+    requires room { (row : Row) → IsStripeOf store.now.layout stripe.now row → HasRoom buffer.now (length row.chunk.stripes) }
+    ensures slots { (R.seen rack.new).slots ≡ (R.seen rack.old).slots }
+    ensures writes { (told : Option Images) (row : Row) → IsStripeOf store.now.layout stripe.now row → TellsRow store.now.layout row judged.now buffer.now told (R.seen rack.old).held
+        → Does (IsOfRow store.now.layout row) (λ images. told_writes (λ images. flat_map (parity_writes images store.now.layout row) (parities row.chunk.profile)) told) marks.old marks.new (R.seen rack.old) (R.seen rack.new) result }
+{
+    match write_parity(
+        Parity::P,
+        stripe,
+        judged,
+        rack,
+        store,
+        &buffer.elements,
+        &buffer.p,
+        marks,
+    ) {
+        Ok(()) => {}
+        Err(fault) => return Err(fault),
+    }
+    match stripe.shape.profile {
+        Profile::Raid6 => write_parity(
+            Parity::Q,
+            stripe,
+            judged,
+            rack,
+            store,
+            &buffer.elements,
+            &buffer.q,
+            marks,
+        ),
+        _ => Ok(()),
+    }
+}
+
+// Writes the blocks that are bad, where some can be.
+fn write_rebuilt<R: Rack>(
+    wants: &[Want],
+    stripe: &FullStripe,
+    judged: &Judged,
+    rack: &mut R,
+    store: &Store,
+    buffer: &mut RowBuffer,
+    marks: &mut [bool],
+) -> Result<(), MendFault>
+    requires open { AreOpen (R.seen rack.old).slots store.now.layout.devices }
+    requires writable { AreWritable (R.seen rack.old).slots }
+    requires slots { length (R.seen rack.old).slots ≤ length marks.old }
+    requires row { IsRow store.now.layout stripe.now.chunk stripe.now.number wants.now }
+    requires stripe { IsStripe store.now.layout stripe.now }
+    requires room { (row : Row) → IsStripeOf store.now.layout stripe.now row → HasRoom buffer.old (length row.chunk.stripes) }
+    ensures slots { (R.seen rack.new).slots ≡ (R.seen rack.old).slots }
+    ensures marks { length marks.new ≡ length marks.old }
+    ensures elements { buffer.new.elements ≡ buffer.old.elements }
+    ensures made { buffer.new.slices ≡ buffer.old.slices }
+    ensures p { buffer.new.p ≡ buffer.old.p }
+    ensures q { buffer.new.q ≡ buffer.old.q }
+    ensures block { length buffer.new.block.items ≡ length buffer.old.block.items }
+    ensures spare { length buffer.new.spare.items ≡ length buffer.old.spare.items }
+    ensures writes { (told : Option Images) (row : Row) → IsStripeOf store.now.layout stripe.now row → IsRowOf store.now.layout stripe.now.chunk stripe.now.number wants.now row → TellsRow store.now.layout row judged.now buffer.old told (R.seen rack.old).held
+        → Does (IsOfRow store.now.layout row) (λ images. told_writes (λ images. flat_map (block_writes images) row.blocks) told) marks.old marks.new (R.seen rack.old) (R.seen rack.new) result }
+{
+    if judged.rebuilt == 0 {
+        return Ok(());
+    }
+    write_blocks(
+        wants,
+        stripe,
+        rack,
+        store,
+        &buffer.elements,
+        &mut buffer.block,
+        &mut buffer.spare,
+        marks,
+    )
+}
+
+// Writes all that mends a row: the blocks, P, and Q.
+pub(crate) fn write_row<R: Rack>(
+    wants: &[Want],
+    stripe: &FullStripe,
+    judged: &Judged,
+    rack: &mut R,
+    store: &Store,
+    buffer: &mut RowBuffer,
+    marks: &mut [bool],
+) -> Result<(), MendFault>
+    requires open { AreOpen (R.seen rack.old).slots store.now.layout.devices }
+    requires writable { AreWritable (R.seen rack.old).slots }
+    requires slots { length (R.seen rack.old).slots ≤ length marks.old }
+    requires row { IsRow store.now.layout stripe.now.chunk stripe.now.number wants.now }
+    requires stripe { IsStripe store.now.layout stripe.now }
+    requires room { (row : Row) → IsStripeOf store.now.layout stripe.now row → HasRoom buffer.old (length row.chunk.stripes) }
+    ensures slots { (R.seen rack.new).slots ≡ (R.seen rack.old).slots }
+    ensures room { (elements : ℕ) → HasRoom buffer.old elements → HasRoom buffer.new elements }
+    ensures prepared { (images : Images) (row : Row) → IsPrepared images store.now.layout row judged.now buffer.old → IsPrepared images store.now.layout row judged.now buffer.new }
+    ensures writes { (told : Option Images) (row : Row) → IsStripeOf store.now.layout stripe.now row → IsRowOf store.now.layout stripe.now.chunk stripe.now.number wants.now row → TellsRow store.now.layout row judged.now buffer.old told (R.seen rack.old).held
+        → Does (IsOfRow store.now.layout row) (λ images. told_writes (λ images. row_writes images store.now.layout row) told) marks.old marks.new (R.seen rack.old) (R.seen rack.new) result }
+{
+    match write_rebuilt(wants, stripe, judged, rack, store, buffer, marks) {
+        Ok(()) => write_parities(stripe, judged, rack, store, buffer, marks),
+        Err(fault) => Err(fault),
+    }
+}
