@@ -11,3 +11,4 @@ pub mod BlockWrites
 pub mod Columns
 pub mod Parts
 pub mod Prepared
+pub mod Applied
