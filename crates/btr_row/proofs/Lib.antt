@@ -12,3 +12,4 @@ pub mod Columns
 pub mod Parts
 pub mod Prepared
 pub mod Applied
+pub mod Outcomes

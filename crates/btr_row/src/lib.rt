@@ -14,6 +14,7 @@ mod gathering;
 mod judged;
 mod judging;
 mod mended;
+mod mending;
 mod parities;
 mod parity;
 mod preparing;
@@ -26,3 +27,4 @@ mod writing;
 
 pub use buffer::RowBuffer;
 pub use mended::MendedRow;
+pub use mending::mend_row;
