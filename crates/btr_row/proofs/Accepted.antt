@@ -1,10 +1,10 @@
 -- The candidates of a block of a row, tried in their order.
-use Rattle.std.proofs.Common.{◌≡◌, ◌≢◌, ◌⊎◌, ℕ, zero, suc, ◌+◌, ◌-◌, ◌<◌, ◌≤◌, ◌==◌, Bool, true, false, List, [], ◌∷◌, ◌++◌, length, map, take, drop, get_or, slice_get, Option, Some, None, IsSome, IsNone, is_some, refl, sym, ap, ◌∙◌, subst, inl, inr, arith}
+use Rattle.std.proofs.Common.{◌≡◌, ◌≢◌, ◌⊎◌, ℕ, zero, suc, ◌+◌, ◌-◌, ◌<◌, ◌≤◌, ◌==◌, true, false, List, [], ◌∷◌, ◌++◌, length, map, take, drop, get_or, slice_get, Some, None, IsSome, IsNone, is_some, refl, sym, ap, ◌∙◌, subst, inl, inr, arith}
 use Rattle.std.proofs.lemmas.Bool.{eq-eqb, ne_eqb}
 use Rattle.std.proofs.lemmas.List.{take_more, take_all, take-append-drop, drop_more}
 use Rattle.std.proofs.lemmas.Option.{get_or_from_slice_get, same_Some}
 use Rattle.std.specs.List.{filter, list_all, range_with_len}
-use Rattle.btr_chunk.specs.Chunk.{data_count, mirror_count, mirrors}
+use Rattle.btr_chunk.specs.Chunk.{data_count, mirrors}
 use Rattle.btr_chunk.specs.Mapping.{HasPart, IsPosition}
 use Rattle.btr_chunk.specs.declared.place.Part.{Part}
 use Rattle.btr_chunk.specs.declared.place.Part.TheVariants.{Slice, P, Q}
@@ -12,21 +12,18 @@ use Rattle.btr_chunk.specs.declared.profile.Profile.{Profile}
 use Rattle.btr_chunk.specs.declared.profile.Profile.TheVariants as profile
 use Rattle.btr_chunk.specs.declared.profile.Profile.TheVariants.{Raid5, Raid6}
 use Rattle.btr_chunk.proofs.Rows.{without_copies}
-use Rattle.btr_read.specs.Candidates.{Target, candidates, element, parts_read, range_of, reading, reads_slice, rebuilt, size_of, slice_count, stands, value_of}
-use Rattle.btr_read.specs.Fate.{passing, sought}
-use Rattle.btr_read.specs.Layout.{Layout}
+use Rattle.btr_read.specs.Candidates.{Target, candidates, range_of, reads_slice, rebuilt, size_of, slice_count, stands, value_of}
+use Rattle.btr_read.specs.Fate.{passing}
 use Rattle.btr_read.specs.Sought.{IsTwoParities}
 use Rattle.btr_read.specs.Want.{passes}
 use Rattle.btr_read.specs.declared.candidate.Candidate.{Candidate}
 use Rattle.btr_read.specs.declared.candidate.Candidate.TheVariants.{Stands, ByP, ByQ, ByBoth}
-use Rattle.btr_read.specs.declared.want.Want.{Want}
-use Rattle.btr_read.proofs.Fates.{sought_of}
 use Rattle.btr_read.proofs.InOrder.{length-with_p_and_q, with_p, with_p_and_q}
 use Rattle.btr_read.proofs.Standing.{all_read, both}
 use Rattle.btr_read.proofs.Trials.{differs_alone, passes_first, passing-append, passing_of, reading_stands}
-use Rattle.btr_mend.specs.Blocks.{accepted, is_good}
+use Rattle.btr_mend.specs.Blocks.{is_good}
 use Rattle.btr_mend.specs.Writes.{Images}
-use Rattle.btr_row.specs.Memory.{Accepts, FitsIn, HoldsBlock, IsHeld, IsSpot, ReadsQ}
+use Rattle.btr_row.specs.Memory.{Accepts, IsHeld, ReadsQ}
 use Rattle.btr_row.specs.declared.spot.Spot.{Spot}
 
 -- a profile has Q or not

@@ -1,15 +1,15 @@
 -- All writes of a row, put together.
-use Rattle.std.proofs.Common.{◌≡◌, ◌≢◌, ℕ, ◌+◌, ◌<◌, ◌≤◌, List, [], ◌∷◌, ◌++◌, length, Option, Some, None, IfSome, Result, Ok, Err, Bool, refl, sym, ap, ◌∙◌, subst, inl, inr, arith, append-nil}
+use Rattle.std.proofs.Common.{◌≡◌, ◌≢◌, ℕ, ◌+◌, List, [], ◌∷◌, ◌++◌, length, Option, Some, None, IfSome, refl, sym, ap, ◌∙◌, subst, inl, inr, arith}
 use Rattle.std.specs.List.{flat_map, sum_by}
 use Rattle.std.proofs.lemmas.List.Concat.{flat_map-cons, length-flat_map}
 use Rattle.std.proofs.lemmas.List.Sums.{sum_by-cons}
 use Rattle.btr_chunk.specs.Chunk.{mirrors}
 use Rattle.btr_chunk.specs.declared.place.Part.{Part}
 use Rattle.btr_chunk.specs.declared.place.Part.TheVariants.{P, Q}
-use Rattle.btr_chunk.specs.declared.profile.Profile.TheVariants.{Raid5, Raid6}
+use Rattle.btr_chunk.specs.declared.profile.Profile.TheVariants.{Raid6}
 use Rattle.btr_chunk.proofs.Rows.{without_copies}
 use Rattle.btr_read.specs.Layout.{Layout}
-use Rattle.btr_read.proofs.Trials.{telling, told}
+use Rattle.btr_read.proofs.Trials.{told}
 use Rattle.btr_mend.specs.Blocks.{block_writes}
 use Rattle.btr_mend.specs.Writes.{Images, Write}
 use Rattle.btr_row.specs.Rows.{Row, parities, parity_writes}

@@ -1,11 +1,11 @@
 -- The write that mends a block, as it is made from the bytes in memory.
-use Rattle.std.proofs.Common.{◌≡◌, ◌≢◌, ℕ, ◌+◌, ◌*◌, ◌^◌, ◌<◌, ◌≤◌, ◌==◌, Bool, true, false, not, cond, List, [], ◌∷◌, length, take, Option, Some, None, Ok, IsNone, refl, sym, ap, ◌∙◌, subst, arith, length-take}
+use Rattle.std.proofs.Common.{◌≡◌, ℕ, ◌+◌, ◌^◌, ◌<◌, ◌≤◌, Bool, false, not, cond, List, [], ◌∷◌, length, take, Some, None, Ok, IsNone, refl, sym, ap, ◌∙◌, subst, arith, length-take}
 use Rattle.std.specs.Option.{option_map_or}
 use Rattle.std.proofs.lemmas.Bool.{eq-eqb, ne_eqb}
 use Rattle.btr_chunk.specs.Chunk.{mirrors}
 use Rattle.btr_chunk.specs.Mapping.{HasPart}
 use Rattle.btr_chunk.specs.declared.place.Part.TheVariants.{Slice}
-use Rattle.btr_rack.specs.Rack.{OnlyReads, Seen, Slot, len_of, range_in}
+use Rattle.btr_rack.specs.Rack.{Seen, Slot, len_of, range_in}
 use Rattle.btr_rack.specs.declared.place.Place.{Place as Range}
 use Rattle.btr_read.specs.Candidates.{Target, range_of, size_of}
 use Rattle.btr_read.specs.Fate.{sought}
@@ -13,13 +13,12 @@ use Rattle.btr_read.specs.Layout.{AreOpen, Layout}
 use Rattle.btr_read.specs.declared.want.Want.{Want}
 use Rattle.btr_read.proofs.Fates.{sought_of}
 use Rattle.btr_read.proofs.Keeping.{none_failed}
-use Rattle.btr_mend.specs.Blocks.{accepted, block_writes, is_good}
-use Rattle.btr_mend.specs.Writes.{Does, Images, Write}
+use Rattle.btr_mend.specs.Blocks.{block_writes, is_good}
+use Rattle.btr_mend.specs.Writes.{Does, Images}
 use Rattle.btr_mend.proofs.Doing.{does_reads}
-use Rattle.btr_mend.specs.declared.mended.MendFault.{MendFault}
 use Rattle.btr_row.specs.Rows.{Row, range_in_element}
 use Rattle.btr_row.specs.Mending.{IsOfRow, IsOn}
-use Rattle.btr_row.specs.Memory.{Accepts, HoldsRow, IsAccepted, IsGone, IsStripeOf}
+use Rattle.btr_row.specs.Memory.{IsAccepted, IsGone, IsStripeOf}
 use Rattle.btr_row.specs.Judging.{IsPlaced}
 use Rattle.btr_row.specs.Writing.{write_at}
 use Rattle.btr_row.specs.declared.spot.Spot.{Spot}
@@ -96,11 +95,11 @@ module _ (layout : Layout) (stripe : FullStripe) (row : Row) (of : IsStripeOf la
 
     pub writes_no_good : (block : List ℕ) (k : ℕ) → k ≡ 0 → IsAccepted images t block k → [] ≡ block_writes images t
     writes_no_good block k z a = sym (
-      writes_one images t no_copies (range_in l.slot (l.off + t.at.rest) (size_of t)) stands'
-      ∙ ap (λ o. option_map_or (λ bytes. cond (not (is_good images t (Slice t.at.index))) (written_at (range_in l.slot (l.off + t.at.rest) (size_of t)) bytes ∷ []) []) o []) a.bytes
-      ∙ ap (λ b. cond (not b) (written_at (range_in l.slot (l.off + t.at.rest) (size_of t)) (take (size_of t) block) ∷ []) []) (a.good ∙ eq-eqb k 0 z))
+        writes_one images t no_copies (range_in l.slot (l.off + t.at.rest) (size_of t)) stands'
+        ∙ ap (λ o. option_map_or (λ bytes. cond (not (is_good images t (Slice t.at.index))) (written_at (range_in l.slot (l.off + t.at.rest) (size_of t)) bytes ∷ []) []) o []) a.bytes
+        ∙ ap (λ b. cond (not b) (written_at (range_in l.slot (l.off + t.at.rest) (size_of t)) (take (size_of t) block) ∷ []) []) (a.good ∙ eq-eqb k 0 z))
 
     pub writes_no_gone : IsGone images t → [] ≡ block_writes images t
     writes_no_gone a = sym (
-      writes_one images t no_copies (range_in l.slot (l.off + t.at.rest) (size_of t)) stands'
-      ∙ ap (λ o. option_map_or (λ bytes. cond (not (is_good images t (Slice t.at.index))) (written_at (range_in l.slot (l.off + t.at.rest) (size_of t)) bytes ∷ []) []) o []) a.bytes)
+        writes_one images t no_copies (range_in l.slot (l.off + t.at.rest) (size_of t)) stands'
+        ∙ ap (λ o. option_map_or (λ bytes. cond (not (is_good images t (Slice t.at.index))) (written_at (range_in l.slot (l.off + t.at.rest) (size_of t)) bytes ∷ []) []) o []) a.bytes)

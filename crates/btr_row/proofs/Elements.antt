@@ -1,17 +1,16 @@
 -- Where the elements of a row lie, and the blocks in them.
-use Rattle.std.proofs.Common.{◌≡◌, ℕ, ◌+◌, ◌-◌, ◌*◌, ◌%◌, ◌^◌, ◌<◌, ◌≤◌, Bool, true, false, cond, List, [], ◌∷◌, length, take, drop, slice_range, slice_get, Option, Some, None, IsSome, IsNone, IsSomeAnd, leb, refl, sym, ap, ◌∙◌, subst, inl, inr, arith}
+use Rattle.std.proofs.Common.{◌≡◌, ℕ, ◌+◌, ◌-◌, ◌*◌, ◌%◌, ◌^◌, ◌<◌, ◌≤◌, Bool, true, false, cond, List, [], length, take, drop, slice_range, slice_get, Option, Some, None, IsSome, IsSomeAnd, leb, refl, sym, ap, ◌∙◌, subst, inl, inr, arith}
 use Rattle.std.proofs.lemmas.Bool.{false≢true, leb-true, le-leb}
 use Rattle.std.proofs.lemmas.List.{drop-take, take-take, drop-drop}
 use Rattle.std.proofs.lemmas.Option.{same_Some}
 use Rattle.std.specs.Option.{option_map_or}
-use Rattle.btr_chunk.specs.Chunk.{IsChunk, data_count, mirror_count, mirrors, stripe_length}
+use Rattle.btr_chunk.specs.Chunk.{IsChunk, data_count, mirror_count}
 use Rattle.btr_chunk.specs.Mapping.{HasPart, IsPosition, place_at, place_on, stripe_of}
 use Rattle.btr_chunk.specs.declared.place.Part.{Part}
 use Rattle.btr_chunk.specs.declared.place.Part.TheVariants as part
 use Rattle.btr_chunk.specs.declared.position.Elements.{Elements}
 use Rattle.btr_chunk.specs.declared.profile.Profile.{Profile}
 use Rattle.btr_chunk.specs.declared.profile.Profile.TheVariants.{Raid5, Raid6}
-use Rattle.btr_chunk.specs.declared.stripe.Stripe.{Stripe}
 use Rattle.btr_chunk.proofs.Bytes.{placed_part}
 use Rattle.btr_chunk.proofs.Rule.{data_count-some, facts, stripe-fits}
 use Rattle.btr_chunk.proofs.Rows.{without_copies}

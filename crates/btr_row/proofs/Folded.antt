@@ -1,5 +1,5 @@
 -- P and Q of one slice.
-use Rattle.std.proofs.Common.{◌≡◌, ℕ, List, [], ◌∷◌, sym, ap, ◌∙◌, arith}
+use Rattle.std.proofs.Common.{◌≡◌, ℕ, List, [], ◌∷◌, ap, ◌∙◌, arith}
 use Rattle.btr_parity.specs.Slices.{IsSlice, parity_p, parity_q, plus, scaled, zeros}
 use Rattle.btr_parity.proofs.Folding.{parity_by_folding}
 use Rattle.btr_parity.proofs.Lost.{plus_comm, plus-zeros, scaled-zeros}

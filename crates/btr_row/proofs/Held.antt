@@ -1,5 +1,5 @@
 -- A row in memory has all that the candidates of its blocks read.
-use Rattle.std.proofs.Common.{◌≡◌, ℕ, ◌+◌, ◌*◌, ◌<◌, ◌≤◌, List, length, slice_range, Some, Ok, None, IsNone, IsSome, Result, refl, sym, ap, ◌∙◌, subst, arith}
+use Rattle.std.proofs.Common.{◌≡◌, ℕ, ◌+◌, ◌*◌, ◌<◌, ◌≤◌, List, length, slice_range, Ok, None, IsNone, IsSome, Result, refl, sym, ap, ◌∙◌, subst, arith}
 use Rattle.std.proofs.lemmas.Option.{same_Some}
 use Rattle.btr_chunk.specs.Chunk.{data_count, mirrors}
 use Rattle.btr_chunk.specs.Mapping.{HasPart}
@@ -15,7 +15,7 @@ use Rattle.btr_read.proofs.Fates.{sought_of}
 use Rattle.btr_mend.specs.Writes.{Images}
 use Rattle.btr_row.specs.Rows.{Row, element, parities, slice_count}
 use Rattle.btr_row.specs.Mending.{IsOn}
-use Rattle.btr_row.specs.Memory.{FitsIn, HoldsRow, IsHeld, IsStripeOf, element_count, element_in, part_at, piece_in}
+use Rattle.btr_row.specs.Memory.{FitsIn, HoldsRow, IsHeld, IsStripeOf, element_count, part_at, piece_in}
 use Rattle.btr_row.specs.Judging.{IsIn, IsPlaced}
 use Rattle.btr_row.specs.declared.spot.Spot.{Spot}
 use Rattle.btr_row.specs.declared.stripe.FullStripe.{FullStripe}

@@ -1,5 +1,5 @@
 -- What one more block adds to the new data, the counts and the columns.
-use Rattle.std.proofs.Common.{◌≡◌, ◌≢◌, ℕ, zero, suc, ◌+◌, ◌*◌, ◌-◌, ◌<◌, ◌≤◌, ◌==◌, ◌&&◌, ◌||◌, Bool, true, false, not, cond, List, [], ◌∷◌, ◌++◌, length, map, replicate, take, get_or, nat_lt, slice_range, Option, Some, None, is_none, Result, Ok, count_by, refl, sym, ap, ◌∙◌, subst, inl, inr, arith}
+use Rattle.std.proofs.Common.{◌≡◌, ◌≢◌, ℕ, zero, suc, ◌+◌, ◌*◌, ◌<◌, ◌≤◌, ◌==◌, ◌&&◌, ◌||◌, Bool, true, false, not, cond, List, [], ◌∷◌, ◌++◌, length, map, replicate, take, get_or, nat_lt, slice_range, Option, Some, None, is_none, Ok, count_by, refl, sym, ap, ◌∙◌, subst, inl, inr, arith}
 use Rattle.std.specs.List.{cons_option, filter, range_with_len, fold, list_any, sum_by}
 use Rattle.std.specs.Option.{option_map, option_map_or}
 use Rattle.std.proofs.lemmas.Bool.{cases_eq, eq-eqb, ne_eqb}
@@ -9,7 +9,6 @@ use Rattle.std.proofs.lemmas.List.Elements.{filter-append}
 use Rattle.std.proofs.lemmas.List.Folds.{list_any-append}
 use Rattle.std.proofs.lemmas.List.Sums.{fold-append, sum_by_push}
 use Rattle.btr_chunk.specs.Chunk.{IsChunk, data_count, mirrors}
-use Rattle.btr_chunk.specs.declared.place.Part.{Part}
 use Rattle.btr_chunk.specs.declared.place.Part.TheVariants.{Mirror, Slice}
 use Rattle.btr_rack.specs.Rack.{pasted}
 use Rattle.btr_rack.specs.declared.place.Place.{Place as Range}
@@ -21,7 +20,7 @@ use Rattle.btr_mend.specs.Blocks.{accepted, bad_parts, block_writes, copy_writes
 use Rattle.btr_mend.specs.Writes.{Images, Write}
 use Rattle.btr_row.specs.Rows.{Row, element, meets, slice_count, with_block}
 use Rattle.btr_row.specs.Mending.{IsFullStripe, IsOn, IsRowOf, is_at}
-use Rattle.btr_row.specs.Memory.{HoldsRow, IsSpot, IsStripeOf, element_count, element_in}
+use Rattle.btr_row.specs.Memory.{HoldsRow, IsStripeOf, element_count, element_in}
 use Rattle.btr_row.specs.Judging.{AreJudged, FitsVerdict, IsCounted, IsIn, meets_spot}
 use Rattle.btr_row.specs.declared.stripe.FullStripe.{FullStripe}
 use Rattle.btr_row.specs.declared.judged.Judged.{Judged}
@@ -87,7 +86,6 @@ module _ (images : Images) (layout : Layout) (row : Row) (ts : List Target) (t :
     (none : mirrors t.chunk ≡ None) (range : Range) (stands : range_of t (Slice t.at.index) ≡ Some range)
     (below : t.at.index < slice_count row) (inside : t.at.rest + size_of t ≤ 65536) (room : slice_count row * 65536 ≤ length old)
     (so_far : AreJudged images layout row ts old judged) (fits : FitsVerdict images t old new verdict) (counts : IsCounted judged verdict judged') where
-
   meets_same : (c : ℕ) → meets_spot c verdict.spot ≡ meets c t
   meets_same c = ap (λ r. nat_lt r (c * 4096 + 4096) && nat_lt (c * 4096) (r + verdict.spot.len)) fits.spot.rest
       ∙ ap (λ n. nat_lt t.at.rest (c * 4096 + 4096) && nat_lt (c * 4096) (t.at.rest + n)) fits.spot.len

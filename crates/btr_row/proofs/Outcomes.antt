@@ -1,5 +1,5 @@
 -- What mending a row comes to.
-use Rattle.std.proofs.Common.{◌≡◌, ℕ, ◌*◌, ◌≤◌, Bool, true, false, cond, List, [], length, Option, Some, None, IfSome, IfOk, Result, Ok, Err, count_by, refl, sym, ap, ◌∙◌, subst}
+use Rattle.std.proofs.Common.{◌≡◌, ℕ, Bool, true, false, cond, List, [], length, Some, Ok, Err, count_by, sym, ap, ◌∙◌, subst}
 use Rattle.std.specs.List.{sum_by}
 use Rattle.std.proofs.lemmas.Option.{same_Some}
 use Rattle.btr_rack.specs.Rack.{NoneFailed, OnlyReads, Seen}
@@ -8,7 +8,7 @@ use Rattle.btr_read.specs.declared.want.Want.{Want}
 use Rattle.btr_read.proofs.ReadsOn.{same_held}
 use Rattle.btr_read.proofs.Trials.{told}
 use Rattle.btr_mend.specs.Blocks.{bad_parts, block_writes, is_lost}
-use Rattle.btr_mend.specs.Writes.{AccountsMend, Does, Images, Write, writes_if}
+use Rattle.btr_mend.specs.Writes.{AccountsMend, Does, Images, writes_if}
 use Rattle.btr_mend.specs.declared.mended.MendFault.{MendFault}
 use Rattle.btr_mend.proofs.Doing.{does_as, does_as_halt, does_behind, does_failed, does_reads}
 use Rattle.btr_row.specs.Rows.{Row, parities, parity_writes, row_writes}

@@ -1,5 +1,5 @@
 -- The parities of a row are there.
-use Rattle.std.proofs.Common.{◌≡◌, length, IsNone, refl, sym, ◌∙◌, subst}
+use Rattle.std.proofs.Common.{length, IsNone, refl, sym, ◌∙◌, subst}
 use Rattle.btr_chunk.specs.Mapping.{HasPart}
 use Rattle.btr_read.specs.Layout.{Layout}
 use Rattle.btr_row.specs.Rows.{Row}

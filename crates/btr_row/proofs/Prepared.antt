@@ -1,5 +1,5 @@
 -- What is known of the parities of a row that was judged.
-use Rattle.std.proofs.Common.{◌≡◌, ℕ, ◌+◌, ◌*◌, ◌<◌, ◌≤◌, List, false, length, map, take, get_or, refl, sym, ap, ◌∙◌, subst, arith}
+use Rattle.std.proofs.Common.{◌≡◌, ℕ, ◌+◌, ◌<◌, List, false, length, map, take, get_or, refl, sym, ap, ◌∙◌, arith}
 use Rattle.std.specs.List.{range_with_len}
 use Rattle.std.proofs.lemmas.List.{same_lists}
 use Rattle.std.proofs.lemmas.List.FromFn.{get_or-map-range_with_len, length-map-range_with_len}
@@ -11,9 +11,7 @@ use Rattle.btr_mend.specs.Writes.{Images}
 use Rattle.btr_row.specs.Rows.{Row, element, parities, slice_count, slice_with, slices_with}
 use Rattle.btr_row.specs.Memory.{HoldsRow, IsStripeOf, element_in}
 use Rattle.btr_row.specs.Judging.{AreJudged}
-use Rattle.btr_row.specs.Preparing.{IsPrepared}
 use Rattle.btr_row.specs.Writing.{KnowsParity}
-use Rattle.btr_row.specs.declared.buffer.RowBuffer.{RowBuffer}
 use Rattle.btr_row.specs.declared.judged.Judged.{Judged}
 use Rattle.btr_row.specs.declared.parity.Parity.TheVariants as parity
 use Rattle.btr_row.specs.declared.stripe.FullStripe.{FullStripe}

@@ -1,13 +1,11 @@
 -- How many elements a row has, and which parts they are.
-use Rattle.std.proofs.Common.{◌≡◌, ◌≢◌, ◌⊎◌, ℕ, ◌+◌, ◌-◌, ◌*◌, ◌<◌, ◌≤◌, ◌==◌, Bool, true, false, cond, nat_lt, List, [], ◌∷◌, length, Option, None, IsNone, refl, sym, ap, ◌∙◌, subst, inl, inr, arith}
-use Rattle.std.proofs.lemmas.Bool.{cases_eq, cases_lt, eq-eqb, ne_eqb, le-leb, leb-true, le-ltb, lt-ltb}
+use Rattle.std.proofs.Common.{◌≡◌, ◌≢◌, ℕ, ◌+◌, ◌<◌, ◌≤◌, ◌==◌, true, false, cond, nat_lt, length, None, IsNone, refl, sym, ap, ◌∙◌, subst, inl, inr, arith}
+use Rattle.std.proofs.lemmas.Bool.{cases_eq, cases_lt, eq-eqb, ne_eqb, leb-true, le-ltb, lt-ltb}
 use Rattle.btr_chunk.specs.Chunk.{IsChunk, data_count, has_count, mirror_count, mirrors}
 use Rattle.btr_chunk.specs.Mapping.{HasPart}
-use Rattle.btr_chunk.specs.declared.chunk.Chunk.{Chunk}
-use Rattle.btr_chunk.specs.declared.place.Part.{Part}
 use Rattle.btr_chunk.specs.declared.place.Part.TheVariants.{Slice, P, Q}
 use Rattle.btr_chunk.specs.declared.profile.Profile.{Profile}
-use Rattle.btr_chunk.specs.declared.profile.Profile.TheVariants.{Raid5, Raid6}
+use Rattle.btr_chunk.specs.declared.profile.Profile.TheVariants.{Raid6}
 use Rattle.btr_chunk.proofs.Rule.{facts}
 use Rattle.btr_chunk.proofs.Rows.{without_copies}
 use Rattle.btr_row.specs.Rows.{Row, parities, slice_count}

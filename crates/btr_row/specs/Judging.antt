@@ -1,5 +1,5 @@
 -- What comes of one block, and of the first blocks of a row.
-use Rattle.std.specs.Prelude.{◌≡◌, ℕ, ◌+◌, ◌*◌, ◌≤◌, ◌<◌, ◌&&◌, ◌||◌, Bool, false, not, List, length, take, nat_lt, slice_index_or, slice_range, Option, Some, None, IsSome, Ok, count_by, ◌==◌, if◌then◌else◌}
+use Rattle.std.specs.Prelude.{◌≡◌, ℕ, ◌+◌, ◌*◌, ◌≤◌, ◌<◌, ◌&&◌, ◌||◌, Bool, false, not, List, length, nat_lt, slice_index_or, Some, None, IsSome, Ok, count_by, ◌==◌, if◌then◌else◌}
 use Rattle.std.specs.List.{filter, fold, list_any, sum_by}
 use Rattle.std.specs.Option.{option_map_or}
 use Rattle.btr_chunk.specs.Chunk.{IsChunk, mirrors}
@@ -13,7 +13,7 @@ use Rattle.btr_read.specs.Layout.{Layout}
 use Rattle.btr_read.specs.declared.want.Want.{Want}
 use Rattle.btr_mend.specs.Blocks.{accepted, bad_parts, block_writes, is_good, is_lost}
 use Rattle.btr_mend.specs.Writes.{Images}
-use Rattle.btr_row.specs.Rows.{Row, blocks_at, element, meets, slice_count, with_block}
+use Rattle.btr_row.specs.Rows.{Row, element, meets, slice_count, with_block}
 use Rattle.btr_row.specs.Mending.{IsOn}
 use Rattle.btr_row.specs.Memory.{IsSpot, IsStripeOf, element_in}
 use Rattle.btr_row.specs.declared.judged.Judged.{Judged}

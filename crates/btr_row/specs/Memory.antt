@@ -1,6 +1,6 @@
 -- A row's bytes in memory, element by element: the slices, P, and Q; and a block of it.
 use Rattle.std.specs.List.{All}
-use Rattle.std.specs.Prelude.{◌≡◌, ℕ, ◌+◌, ◌*◌, ◌<◌, ◌≤◌, ◌==◌, Bool, false, List, length, nat_lt, take, Option, Some, None, IfSome, IsSome, slice_range, if◌then◌else◌}
+use Rattle.std.specs.Prelude.{◌≡◌, ℕ, ◌+◌, ◌*◌, ◌<◌, ◌≤◌, ◌==◌, false, List, length, nat_lt, take, Option, Some, None, IfSome, IsSome, slice_range, if◌then◌else◌}
 use Rattle.btr_chunk.specs.Chunk.{IsChunk, mirrors}
 use Rattle.btr_chunk.specs.Mapping.{HasPart, IsPosition}
 use Rattle.btr_chunk.specs.declared.place.Part.{Part}

@@ -1,11 +1,10 @@
 -- A row that was read and judged, and whose parities were made.
-use Rattle.std.specs.Prelude.{◌≡◌, ℕ, Option, None, IfSome}
+use Rattle.std.specs.Prelude.{◌≡◌, Option, None, IfSome}
 use Rattle.btr_chunk.specs.declared.profile.Profile.TheVariants.{Raid6}
 use Rattle.btr_read.specs.Layout.{Layout}
 use Rattle.btr_mend.specs.Writes.{Images}
 use Rattle.btr_row.specs.Rows.{Row}
-use Rattle.btr_row.specs.Mending.{IsRowOf}
-use Rattle.btr_row.specs.Memory.{HoldsRow, IsStripeOf}
+use Rattle.btr_row.specs.Memory.{HoldsRow}
 use Rattle.btr_row.specs.Judging.{AreJudged}
 use Rattle.btr_row.specs.Writing.{KnowsParity}
 use Rattle.btr_row.specs.declared.buffer.RowBuffer.{RowBuffer}

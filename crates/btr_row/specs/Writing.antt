@@ -1,5 +1,5 @@
 -- The writes that mend a row, where the images are told.
-use Rattle.std.specs.Prelude.{◌≡◌, ℕ, ◌<◌, ◌&&◌, not, false, List, [], ◌∷◌, length, slice_index_or, take, Option, None, IfSome, if◌then◌else◌}
+use Rattle.std.specs.Prelude.{◌≡◌, ℕ, ◌<◌, ◌&&◌, not, false, List, [], length, slice_index_or, take, Option, None, IfSome, if◌then◌else◌}
 use Rattle.std.specs.List.{cons_option}
 use Rattle.std.specs.Option.{option_map_or}
 use Rattle.btr_chunk.specs.declared.place.Part.{Part}

@@ -32,10 +32,10 @@ fn zeros(alloc: Global, len: usize) -> Result<Vec<u8>, Memory>
     Ok(bytes)
 }
 
-/// Memory for the rows of chunks with this many stripes at most, which is up to 64.
-///
-/// `Memory`: it couldn't be had.
 impl RowBuffer {
+    /// Memory for the rows of chunks with this many stripes at most, which is up to 64. It is taken once, and no call on a row takes any.
+    ///
+    /// `Memory`: it couldn't be had.
     pub fn new(alloc: Global, elements: usize) -> Result<RowBuffer, Memory>
         requires { elements ≤ 64 }
         ensures { IfOk result (λ buffer. HasRoom buffer elements) }

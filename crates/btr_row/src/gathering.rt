@@ -96,14 +96,7 @@ pub(crate) fn gather(
     copy_front(sum, bytes, spot.start(element), spot.len);
     for slice in 0..spot.shape.slices {
         if reads(candidate, spot.index, slice) {
-            add_front(
-                parity,
-                sum,
-                bytes,
-                spot.start(slice),
-                spot.len,
-                slice as u8,
-            );
+            add_front(parity, sum, bytes, spot.start(slice), spot.len, slice as u8);
         }
     }
 }

@@ -148,7 +148,9 @@ pub(crate) fn write_parity<R: Rack>(
         → Does (IsOfRow store.now.layout row) (λ images. told_writes (λ images. parity_writes images store.now.layout row (part_of parity)) told) marks.old marks.new (R.seen rack.old) (R.seen rack.new) result }
 {
     for column in 0..16 {
-        match write_sector(column, parity, stripe, judged, rack, store, old, sums, marks) {
+        match write_sector(
+            column, parity, stripe, judged, rack, store, old, sums, marks,
+        ) {
             Ok(()) => {}
             Err(fault) => return Err(fault),
         }

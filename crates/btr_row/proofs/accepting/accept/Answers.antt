@@ -1,9 +1,7 @@
-use Rattle.std.proofs.Common.{◌≡◌, ℕ, ◌<◌, ◌≤◌, false, take, length, refl, sym, ap, ◌∙◌, subst, arith}
-use Rattle.btr_read.specs.Candidates.{Target, candidates, size_of, value_of}
-use Rattle.btr_read.specs.Fate.{sought}
+use Rattle.std.proofs.Common.{◌≡◌, false, take, refl, sym, ap, ◌∙◌, arith}
+use Rattle.btr_read.specs.Candidates.{value_of}
 use Rattle.btr_read.specs.Want.{passes}
 use Rattle.btr_read.proofs.Fates.{sought_of}
-use Rattle.btr_row.specs.Memory.{IsHeld}
 use Rattle.btr_row.proofs.Accepted.{IsAt, IsCount, candidate_is, candidate_stands, first_is, in_count, length-candidates, none_accepted, one_accepted, q_there, some_tried, tried_more, tried_none}
 use Rattle.btr_row.proofs.accepting.accept.Goals as goal
 

@@ -1,7 +1,6 @@
-use Rattle.std.proofs.Common.{◌≡◌, ◌≢◌, ℕ, ◌<◌, take, sym, ap, ◌∙◌, subst, arith}
+use Rattle.std.proofs.Common.{◌≢◌, ◌<◌, take, sym, ap, ◌∙◌, subst, arith}
 use Rattle.btr_parity.specs.Solutions.{IsTheOne, Weighs, WeighsWith}
 use Rattle.btr_read.specs.Candidates.{size_of, slice_count, value_of}
-use Rattle.btr_read.specs.declared.candidate.Candidate.TheVariants.{ByP, ByQ, ByBoth}
 use Rattle.btr_read.proofs.Rebuilt.{by_p, by_q, by_both}
 use Rattle.btr_row.proofs.accepting.compute.Goals as goal
 

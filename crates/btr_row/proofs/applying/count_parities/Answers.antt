@@ -1,6 +1,5 @@
-use Rattle.std.proofs.Common.{◌≡◌, ◌≢◌, ℕ, List, ◌+◌, length, sym, ap, ◌∙◌, subst}
-use Rattle.btr_chunk.specs.declared.place.Part.TheVariants.{P, Q}
-use Rattle.btr_chunk.specs.declared.profile.Profile.TheVariants.{Raid6}
+use Rattle.std.proofs.Common.{◌+◌, length, sym, ap, ◌∙◌, subst}
+use Rattle.btr_chunk.specs.declared.place.Part.TheVariants.{P}
 use Rattle.btr_row.specs.Rows.{parity_writes}
 use Rattle.btr_row.specs.Writing.{KnowsParity}
 use Rattle.btr_row.specs.declared.parity.Parity.TheVariants as parity

@@ -1,15 +1,15 @@
-use Rattle.std.proofs.Common.{◌≡◌, List, [], ◌∷◌, ◌++◌, Ok, Err, sym, ap, ◌∙◌, subst, append-nil}
+use Rattle.std.proofs.Common.{[], ◌∷◌, ◌++◌, Ok, Err, sym, ap, ◌∙◌, subst}
 use Rattle.std.specs.List.{flat_map}
 use Rattle.btr_chunk.specs.declared.place.Part.TheVariants.{P, Q}
 use Rattle.btr_read.specs.Layout.{AreOpen}
 use Rattle.btr_mend.specs.Writes.{Does, Images}
 use Rattle.btr_mend.proofs.Doing.{does_halt, does_then}
-use Rattle.btr_row.specs.Rows.{parities, parity_writes}
+use Rattle.btr_row.specs.Rows.{parity_writes}
 use Rattle.btr_row.specs.Mending.{IsOfRow}
 use Rattle.btr_row.specs.Preparing.{TellsRow}
 use Rattle.btr_row.specs.Writing.{told_writes}
 use Rattle.btr_row.proofs.Applied.{only_p, p_and_q, p_first, tells_p, tells_q, told-cons}
-use Rattle.btr_row.proofs.Wrote.{flat_told-none, flat_told-one, still_untold}
+use Rattle.btr_row.proofs.Wrote.{flat_told-one, still_untold}
 use Rattle.btr_row.proofs.applying.write_parities.Goals as goal
 
 pub returns-in-Err-clause-writes : goal.returns-in-Err-clause-writes

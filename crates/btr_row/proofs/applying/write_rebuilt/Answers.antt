@@ -1,10 +1,10 @@
-use Rattle.std.proofs.Common.{◌≡◌, [], Ok, sym, ap, ◌∙◌, subst}
+use Rattle.std.proofs.Common.{[], Ok}
 use Rattle.std.specs.List.{flat_map}
 use Rattle.btr_read.proofs.Trials.{telling}
 use Rattle.btr_mend.specs.Blocks.{block_writes}
 use Rattle.btr_row.specs.Mending.{IsOfRow}
 use Rattle.btr_row.specs.Preparing.{IsPrepared}
-use Rattle.btr_row.proofs.Applied.{no_writes, tells_blocks}
+use Rattle.btr_row.proofs.Applied.{no_writes}
 use Rattle.btr_row.proofs.BlockWrites.{does_nothing}
 use Rattle.btr_row.proofs.Wrote.{does_told}
 use Rattle.btr_row.proofs.applying.write_rebuilt.Goals as goal

@@ -1,4 +1,4 @@
-use Rattle.std.proofs.Common.{◌≡◌, List, [], ◌∷◌, ◌++◌, Ok, Err, sym, ap, ◌∙◌, subst}
+use Rattle.std.proofs.Common.{Ok, Err, sym, subst}
 use Rattle.std.specs.List.{flat_map}
 use Rattle.btr_read.specs.Layout.{AreOpen}
 use Rattle.btr_mend.specs.Blocks.{block_writes}

@@ -1,7 +1,5 @@
-use Rattle.std.proofs.Common.{◌≡◌, ℕ, ◌+◌, ◌≤◌, List, [], ◌∷◌, length, take, Option, Some, None, Ok, refl, sym, ap, ◌∙◌, subst, arith, length-take}
-use Rattle.btr_chunk.specs.declared.place.Part.TheVariants.{Slice}
+use Rattle.std.proofs.Common.{◌≡◌, ◌+◌, [], ◌∷◌, length, take, Ok, arith, length-take}
 use Rattle.btr_mend.specs.Blocks.{block_writes}
-use Rattle.btr_mend.specs.Writes.{Images}
 use Rattle.btr_read.proofs.Trials.{telling}
 use Rattle.btr_row.specs.Mending.{IsOfRow}
 use Rattle.btr_row.specs.Memory.{HoldsRow}

@@ -1,6 +1,6 @@
-use Rattle.std.proofs.Common.{◌≡◌, ◌+◌, ◌*◌, length, take, refl, sym, ap, ◌∙◌, subst, arith}
+use Rattle.std.proofs.Common.{◌+◌, ◌*◌, length, take, sym, ap, ◌∙◌, subst}
 use Rattle.btr_parity.proofs.Solving.{bytes_of}
-use Rattle.btr_row.proofs.Gathered.{LeftSoFar, left_begun, left_more, left_same, left_whole, start_in}
+use Rattle.btr_row.proofs.Gathered.{LeftSoFar, left_begun, left_more, left_same}
 use Rattle.btr_row.proofs.gathering.gather.Goals as goal
 use Rattle.btr_row.proofs.gathering.gather.Goals.{then-reads, else-reads}
 
@@ -18,16 +18,16 @@ loop-slice-preserved c =
     let bytes = c.args.bytes.now in
     elim c.if-reads.branch [
       | then-reads w ↦ record {
-          long = ap length w.sum-is ∙ w.add_front.ensures.long ∙ c.loop-slice.invariant.long;
-          left = λ images t h.
-              left_more images t spot bytes (bytes_of c.args.bytes.now c.type_inv.bytes) c.requires.within h c.args.candidate c.args.parity c.loop-slice.slice w.start-then-reads.result (take spot.len c.loop-slice.sum) (take spot.len c.if-reads.sum)
-              c.loop-slice-test.true (c.loop-slice.invariant.left images t h) (sym c.reads.ensures ∙ w.if-reads.true) w.start-then-reads.ensures
-              (ap (take spot.len) w.sum-is ∙ w.add_front.ensures.sum);
-        }
+        long = ap length w.sum-is ∙ w.add_front.ensures.long ∙ c.loop-slice.invariant.long;
+        left = λ images t h.
+            left_more images t spot bytes (bytes_of c.args.bytes.now c.type_inv.bytes) c.requires.within h c.args.candidate c.args.parity c.loop-slice.slice w.start-then-reads.result (take spot.len c.loop-slice.sum) (take spot.len c.if-reads.sum)
+            c.loop-slice-test.true (c.loop-slice.invariant.left images t h) (sym c.reads.ensures ∙ w.if-reads.true) w.start-then-reads.ensures
+            (ap (take spot.len) w.sum-is ∙ w.add_front.ensures.sum);
+      }
       | else-reads w ↦ record {
-          long = ap length w.sum-is ∙ c.loop-slice.invariant.long;
-          left = λ images t h.
-              left_same images t spot bytes (bytes_of c.args.bytes.now c.type_inv.bytes) c.requires.within h c.args.candidate c.args.parity c.loop-slice.slice (take spot.len c.if-reads.sum)
-              (subst (λ s. LeftSoFar images t c.args.candidate c.args.parity c.loop-slice.slice (take spot.len s)) (sym w.sum-is) (c.loop-slice.invariant.left images t h)) (sym c.reads.ensures ∙ w.if-reads.false);
-        }
+        long = ap length w.sum-is ∙ c.loop-slice.invariant.long;
+        left = λ images t h.
+            left_same images t spot bytes (bytes_of c.args.bytes.now c.type_inv.bytes) c.requires.within h c.args.candidate c.args.parity c.loop-slice.slice (take spot.len c.if-reads.sum)
+            (subst (λ s. LeftSoFar images t c.args.candidate c.args.parity c.loop-slice.slice (take spot.len s)) (sym w.sum-is) (c.loop-slice.invariant.left images t h)) (sym c.reads.ensures ∙ w.if-reads.false);
+      }
     ]

@@ -1,4 +1,4 @@
-use Rattle.std.proofs.Common.{◌≡◌, ℕ, List, length, Option, Some, Ok, Err, true, false, refl, sym, ap, ◌∙◌, subst}
+use Rattle.std.proofs.Common.{◌≡◌, length, Option, Some, Ok, Err, refl, sym, ap, ◌∙◌, subst}
 use Rattle.btr_read.specs.Layout.{AreOpen, Layout}
 use Rattle.btr_read.specs.Store.{Blocks}
 use Rattle.btr_read.proofs.ReadsOn.{open_still, same_held, same_slots}
@@ -7,7 +7,7 @@ use Rattle.btr_mend.specs.Writes.{Does, Images}
 use Rattle.btr_mend.proofs.Outcomes.{serves_forgot}
 use Rattle.std.specs.List.{sum_by}
 use Rattle.btr_row.specs.Rows.{Row, parities, parity_writes, row_writes}
-use Rattle.btr_row.specs.Mending.{HasRoom, IsOfRow, IsRowOf}
+use Rattle.btr_row.specs.Mending.{IsOfRow, IsRowOf}
 use Rattle.btr_row.specs.Memory.{IsStripeOf}
 use Rattle.btr_row.specs.Preparing.{IsPrepared, TellsRow}
 use Rattle.btr_row.specs.Writing.{told_writes}

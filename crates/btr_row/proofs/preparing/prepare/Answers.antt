@@ -1,6 +1,5 @@
-use Rattle.std.proofs.Common.{◌≡◌, ℕ, List, ◌++◌, length, take, drop, sym, ap, ◌∙◌, subst}
+use Rattle.std.proofs.Common.{◌≡◌, ◌++◌, length, take, drop, sym, ◌∙◌, subst}
 use Rattle.std.proofs.lemmas.List.{take_at}
-use Rattle.btr_chunk.specs.declared.profile.Profile.TheVariants.{Raid6}
 use Rattle.btr_read.proofs.Trials.{telling}
 use Rattle.btr_row.specs.Rows.{Row}
 use Rattle.btr_row.specs.Memory.{HoldsRow, IsStripeOf}

@@ -1,13 +1,8 @@
-use Rattle.std.proofs.Common.{◌≡◌, ◌≢◌, ℕ, ◌+◌, ◌*◌, ◌-◌, ◌≤◌, List, length, take, drop, slice_range, Ok, Err, refl, sym, ap, ◌∙◌, subst, arith, length-take, length-drop}
+use Rattle.std.proofs.Common.{◌≡◌, ◌≢◌, ℕ, ◌+◌, ◌*◌, ◌-◌, ◌≤◌, List, length, take, drop, slice_range, sym, ap, ◌∙◌, arith, length-take, length-drop}
 use borrow.Rule.Slice.PartMut.{put_mid}
-use Rattle.btr_mend.specs.Writes.{FailsAt, Images}
-use Rattle.btr_mend.specs.declared.mended.MendFault.TheVariants.{Image}
-use Rattle.btr_rack.specs.Rack.{bytes_of, pasted, range_in}
-use Rattle.btr_read.proofs.Trials.{told, telling}
-use Rattle.btr_row.specs.Rows.{Row, element}
-use Rattle.btr_row.specs.Mending.{IsOfRow}
-use Rattle.btr_row.specs.Memory.{IsStripeOf, element_in}
-use Rattle.btr_row.proofs.Elements.{IsGood, element_bytes, is_at, is_of_row, lies, open_at}
+use Rattle.btr_rack.specs.Rack.{pasted}
+use Rattle.btr_row.specs.Memory.{element_in}
+use Rattle.btr_row.proofs.Elements.{IsGood, is_at, lies, open_at}
 use Rattle.btr_row.proofs.Pasted.{element_other, put_is, range_pasted}
 use Rattle.btr_row.proofs.reading.read_element.Goals as goal
 

@@ -1,8 +1,4 @@
-use Rattle.std.proofs.Common.{◌≡◌, ℕ, ◌+◌, ◌*◌, ◌<◌, ◌≤◌, length, sym, ap, ◌∙◌, subst, arith}
 use Rattle.btr_read.proofs.ReadsOn.{open_still}
-use Rattle.btr_row.specs.Rows.{parities}
-use Rattle.btr_row.specs.Memory.{element_count}
-use Rattle.btr_row.proofs.Shapes.{has_part, row_counted}
 use Rattle.btr_row.proofs.reading.read_row.Goals as goal
 
 pub read_element-requires-clause-open : goal.read_element-requires-clause-open

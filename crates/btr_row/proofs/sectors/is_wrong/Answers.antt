@@ -1,4 +1,4 @@
-use Rattle.std.proofs.Common.{◌≡◌, ◌+◌, ◌*◌, ◌<◌, ◌&&◌, Bool, true, false, not, get_or, refl, sym, ap, ◌∙◌}
+use Rattle.std.proofs.Common.{◌≡◌, ◌+◌, ◌*◌, ◌&&◌, Bool, true, false, not, get_or, refl, sym, ap, ◌∙◌}
 use Rattle.btr_row.specs.Rows.{differs, is_decided}
 use Rattle.btr_row.specs.Memory.{element_in, element_of, part_of}
 use Rattle.btr_row.proofs.Columns.{differs_is}

@@ -1,6 +1,5 @@
-use Rattle.std.proofs.Common.{◌≡◌, ℕ, ◌+◌, ◌*◌, ◌<◌, ◌≤◌, List, [], ◌∷◌, length, slice_range, Option, Some, None, Ok, refl, sym, ap, ◌∙◌, subst, arith}
+use Rattle.std.proofs.Common.{◌≡◌, ◌+◌, ◌*◌, [], ◌∷◌, length, slice_range, Some, Ok, sym, ap, ◌∙◌, subst, arith}
 use Rattle.btr_chunk.specs.Mapping.{HasPart}
-use Rattle.btr_mend.specs.Writes.{Images}
 use Rattle.btr_read.proofs.Trials.{telling}
 use Rattle.btr_row.specs.Rows.{range_in_element}
 use Rattle.btr_row.specs.Mending.{IsOfRow}

@@ -1,4 +1,4 @@
-use Rattle.std.proofs.Common.{◌≡◌, ◌+◌, ◌<◌, ◌≤◌, length, arith}
+use Rattle.std.proofs.Common.{◌+◌, arith}
 use Rattle.btr_row.specs.Mending.{IsOfRow}
 use Rattle.btr_row.proofs.Wrote.{wrote, wrote_memory, wrote_not}
 use Rattle.btr_row.proofs.writing.write_in.Goals as goal
