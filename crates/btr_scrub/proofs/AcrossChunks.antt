@@ -1,12 +1,12 @@
 -- What is written in one chunk leaves the others.
-use Rattle.std.proofs.Common.{◌≡◌, ◌⊎◌, ℕ, zero, suc, ◌+◌, ◌-◌, ◌*◌, ◌/◌, ◌<◌, ◌≤◌, Bool, true, false, not, cond, ◌&&◌, eqb, List, [], ◌∷◌, ◌++◌, map, length, take, slice_get, All, Option, Some, None, is_none, IsSome, is_some, IsSomeAnd, refl, sym, ap, ◌∙◌, subst, inl, inr, arith}
-use Rattle.std.proofs.lemmas.Bool.{false≢true, and_parts, cases_order, eq-eqb, eqb-true}
+use Rattle.std.proofs.Common.{◌≡◌, ℕ, zero, suc, ◌+◌, ◌*◌, ◌/◌, ◌<◌, ◌≤◌, Bool, true, false, cond, eqb, List, [], ◌∷◌, map, length, take, slice_get, All, Option, Some, None, is_none, IsSome, is_some, IsSomeAnd, refl, sym, ap, ◌∙◌, subst, inl, inr, arith}
+use Rattle.std.proofs.lemmas.Bool.{false≢true, and_parts, cases_order, eqb-true}
 use Rattle.std.proofs.lemmas.List.Elements.{All-append, All-nil}
 use Rattle.std.proofs.lemmas.Option.{same_Some}
-use Rattle.std.specs.List.{count_by, filter, flat_map, fold, list_any, range_with_len, sum_by}
+use Rattle.std.specs.List.{count_by, flat_map, fold, list_any, range_with_len, sum_by}
 use Rattle.btr_chunk.specs.Apart.{LiesIn}
 use Rattle.btr_chunk.specs.Chunk.{IsChunk, mirrors, stripe_length}
-use Rattle.btr_chunk.specs.Mapping.{HasPart, IsPosition, place_at, stripe_of}
+use Rattle.btr_chunk.specs.Mapping.{HasPart, place_at, stripe_of}
 use Rattle.btr_chunk.specs.Table.{IsTable}
 use Rattle.btr_chunk.specs.declared.chunk.Chunk.{Chunk}
 use Rattle.btr_chunk.specs.declared.place.Part.{Part}
@@ -17,17 +17,14 @@ use Rattle.btr_chunk.proofs.Apart.{stripes_apart}
 use Rattle.btr_chunk.proofs.Bytes.{placed_part}
 use Rattle.btr_chunk.proofs.Rule.{data_count-some, facts}
 use Rattle.btr_rack.specs.declared.place.Place.{Place as Range}
-use Rattle.btr_read.specs.Candidates.{Target, range_of, range_on, size_of}
-use Rattle.btr_read.specs.Fate.{sought}
+use Rattle.btr_read.specs.Candidates.{Target, range_of, range_on}
 use Rattle.btr_read.specs.Layout.{HaveOwnSlots, Layout, device_in}
-use Rattle.btr_read.specs.Mirror.{HasMirror}
 use Rattle.btr_read.specs.declared.device.Device.{Device}
 use Rattle.btr_read.specs.declared.want.Want.{Want}
 use Rattle.btr_read.proofs.Ones.{in_below}
 use Rattle.btr_mend.specs.Blocks.{accepted, bad_parts, block_writes, is_lost}
 use Rattle.btr_mend.specs.Writes.{Images, Write, write_on, writes_if}
 use Rattle.btr_mend.proofs.Copied.{has_mirror}
-use Rattle.btr_row.specs.Mending.{mended_row}
 use Rattle.btr_row.specs.Rows.{Row, parities, parity_writes, range_in_element, row_writes}
 use Rattle.btr_scrub.specs.Devices.{HaveLengths}
 use Rattle.btr_scrub.specs.Glue.{In}

@@ -1,20 +1,17 @@
 -- What hangs on some bytes of the images stays where they do.
-use Rattle.std.proofs.Common.{◌≡◌, ℕ, ◌<◌, Bool, true, not, cond, List, [], ◌∷◌, map, length, slice_get, Option, Some, None, is_none, IsSomeAnd, refl, sym, ap, ◌∙◌, subst, inl, inr}
+use Rattle.std.proofs.Common.{◌≡◌, ℕ, ◌<◌, Bool, not, cond, List, [], ◌∷◌, map, slice_get, Option, Some, None, refl, ap, ◌∙◌, subst, inl, inr}
 use Rattle.std.specs.List.{cons_option, filter, filter_map, range_with_len}
 use Rattle.std.specs.Option.{option_map_or}
 use Rattle.btr_chunk.specs.Chunk.{mirrors}
-use Rattle.btr_chunk.specs.Mapping.{HasPart}
 use Rattle.btr_chunk.specs.declared.place.Part.{Part}
 use Rattle.btr_chunk.specs.declared.place.Part.TheVariants.{Mirror, Slice}
 use Rattle.btr_read.specs.Candidates.{Target, candidates, copies, element, reading, rebuilt, slice_count, stands}
-use Rattle.btr_read.specs.Fate.{passing}
 use Rattle.btr_read.specs.Want.{passes}
 use Rattle.btr_read.specs.declared.candidate.Candidate.{Candidate}
 use Rattle.btr_read.specs.declared.candidate.Candidate.TheVariants.{Stands}
 use Rattle.btr_read.proofs.Ones.{in_below}
-use Rattle.btr_mend.specs.Blocks.{accepted, bad_parts, block_writes, copy_writes, is_good, is_lost, own_parts}
-use Rattle.btr_mend.specs.Writes.{Images, Write}
-use Rattle.btr_mend.proofs.Copied.{has_mirror}
+use Rattle.btr_mend.specs.Blocks.{accepted, bad_parts, block_writes, copy_writes, is_good, own_parts}
+use Rattle.btr_mend.specs.Writes.{Images}
 use Rattle.btr_scrub.specs.Glue.{In}
 
 -- two tests that agree on all of a list pass the same

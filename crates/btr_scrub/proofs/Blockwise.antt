@@ -1,11 +1,11 @@
 -- The blocks of a chunk with copies, one after another.
-use Rattle.std.proofs.Common.{◌≡◌, ◌⊎◌, ℕ, zero, suc, ◌+◌, ◌-◌, ◌<◌, ◌≤◌, Bool, true, false, not, cond, leb, ltb, eqb, List, [], ◌∷◌, ◌++◌, map, length, All, get_or, slice_get, Option, Some, None, IsSome, is_none, is_some, IsSomeAnd, Result, Ok, Err, IsOk, refl, sym, ap, ◌∙◌, subst, inl, inr, arith, append_assoc, append-nil}
+use Rattle.std.proofs.Common.{◌≡◌, ◌⊎◌, ℕ, zero, suc, ◌+◌, ◌<◌, ◌≤◌, Bool, true, false, cond, leb, ltb, List, [], ◌∷◌, ◌++◌, map, length, All, get_or, slice_get, Option, Some, None, IsSome, is_none, is_some, Result, Ok, Err, IsOk, refl, sym, ap, ◌∙◌, subst, inl, inr, arith, append_assoc, append-nil}
 use Rattle.std.proofs.lemmas.Bool.{false≢true, and_parts, cases_order, eq-eqb, eqb-true, leb-true, ltb-true}
 use Rattle.std.proofs.lemmas.List.Elements.{filter-append, filter_map-append}
 use Rattle.std.proofs.lemmas.Grind.{flat_map-append}
 use Rattle.std.proofs.lemmas.List.{get_or-map, length-map}
 use Rattle.std.proofs.lemmas.Option.{same_Some}
-use Rattle.std.specs.List.{cons_option, filter, filter_map, flat_map, fold}
+use Rattle.std.specs.List.{cons_option, filter, flat_map, fold}
 use Rattle.btr_chunk.specs.Chunk.{mirrors, stripe_length}
 use Rattle.btr_chunk.specs.Mapping.{HasPart, place_at}
 use Rattle.btr_chunk.specs.declared.place.Part.{Part}

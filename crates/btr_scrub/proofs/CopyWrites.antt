@@ -1,9 +1,9 @@
 -- The writes of blocks with copies leave the bytes of the blocks behind them.
-use Rattle.std.proofs.Common.{◌≡◌, ◌⊎◌, ℕ, zero, suc, ◌+◌, ◌-◌, ◌<◌, ◌≤◌, Bool, true, false, not, cond, ◌&&◌, List, [], ◌∷◌, ◌++◌, map, length, All, slice_get, slice_range, Option, Some, None, IsSome, is_some, IsSomeAnd, refl, sym, ap, ◌∙◌, subst, inl, inr, arith}
+use Rattle.std.proofs.Common.{◌≡◌, ℕ, ◌+◌, ◌<◌, ◌≤◌, Bool, true, false, not, cond, ◌&&◌, List, [], ◌∷◌, map, length, All, slice_get, Option, Some, None, IsSome, is_some, IsSomeAnd, refl, sym, ap, ◌∙◌, subst, inl, inr, arith}
 use Rattle.std.proofs.lemmas.Bool.{false≢true}
 use Rattle.std.proofs.lemmas.List.Elements.{All-append, All-cons, All-nil}
 use Rattle.std.proofs.lemmas.Option.{same_Some}
-use Rattle.std.specs.List.{cons_option, filter, filter_map, flat_map, fold, list_any, range_with_len}
+use Rattle.std.specs.List.{cons_option, filter, filter_map, flat_map, list_any, range_with_len}
 use Rattle.std.specs.Option.{option_map, option_map_or}
 use Rattle.btr_chunk.specs.Chunk.{mirrors}
 use Rattle.btr_chunk.specs.Mapping.{place_at}
@@ -12,9 +12,8 @@ use Rattle.btr_chunk.specs.declared.place.Part.{Part}
 use Rattle.btr_chunk.specs.declared.place.Part.TheVariants.{Mirror, Slice}
 use Rattle.btr_rack.specs.Rack.{bytes_of, image_of, range_in}
 use Rattle.btr_rack.specs.declared.place.Place.{Place as Range}
-use Rattle.btr_read.specs.Candidates.{Target, candidates, copies, element, range_of, reading, rebuilt, size_of, slice_count, stands}
+use Rattle.btr_read.specs.Candidates.{Target, candidates, copies, element, range_of, reading, rebuilt, size_of, slice_count}
 use Rattle.btr_read.specs.Layout.{HaveOwnSlots, Layout, device_in}
-use Rattle.btr_read.specs.Mirror.{HasMirror}
 use Rattle.btr_read.specs.Want.{addr_of, passes}
 use Rattle.btr_read.specs.declared.candidate.Candidate.{Candidate}
 use Rattle.btr_read.specs.declared.candidate.Candidate.TheVariants.{Stands}
@@ -22,7 +21,7 @@ use Rattle.btr_read.specs.declared.device.Device.{Device}
 use Rattle.btr_read.proofs.Ones.{in_below}
 use Rattle.btr_read.proofs.Pieces.{length-slice_range}
 use Rattle.btr_mend.specs.Blocks.{accepted, bad_parts, block_writes, copy_writes, is_good, own_parts, written_over}
-use Rattle.btr_mend.specs.Writes.{Images, Write, write_on}
+use Rattle.btr_mend.specs.Writes.{Images, Write}
 use Rattle.btr_mend.proofs.Copied.{has_mirror}
 use Rattle.btr_scrub.specs.Devices.{HaveLengths}
 use Rattle.btr_scrub.specs.Glue.{In}
@@ -31,7 +30,6 @@ use Rattle.btr_scrub.specs.Order.{IsSought}
 use Rattle.btr_scrub.specs.Repair.{covers}
 use Rattle.btr_scrub.proofs.Agreeing.{Alike, copies_alike, of_mapped}
 use Rattle.btr_scrub.proofs.Elements.{range_stands, stands_on}
-use Rattle.btr_scrub.proofs.Pasting.{writes_keep_the_rest}
 use Rattle.btr_scrub.proofs.Positions.{IsCopyByte, of_range, shares}
 use Rattle.btr_scrub.proofs.Staying.{covered, range_same}
 use Rattle.btr_scrub.proofs.Writes.{any_filter_map, any_flat, any_map, mapped, passing_filter}

@@ -1,6 +1,5 @@
 -- What holds of the steps of a run that ends by itself.
-use Rattle.std.proofs.Common.{◌≡◌, ℕ, List, [], ◌∷◌, ◌++◌, Option, Some, None, Result, Ok, Err, refl, sym, ap, ◌∙◌, subst, append-nil, append_assoc}
-use Rattle.std.proofs.lemmas.Bool.{false≢true}
+use Rattle.std.proofs.Common.{◌≡◌, ℕ, List, [], ◌∷◌, ◌++◌, Result, Ok, Err, refl, sym, subst, append-nil, append_assoc}
 use Rattle.btr_prog.specs.Prog.{BlockMap, Prog, Return, Stop, Need, Emit, bind, exec, given, steps_of}
 use Rattle.btr_prog.specs.Quiet.{quiet}
 use Rattle.btr_prog.specs.Thread.{go_on, thread}

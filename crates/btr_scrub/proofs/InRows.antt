@@ -1,6 +1,6 @@
 -- The blocks of a row, collected one by one.
-use Rattle.std.proofs.Common.{◌≡◌, ◌⊎◌, ℕ, ◌+◌, ◌-◌, ◌%◌, ◌/◌, ◌<◌, ◌≤◌, Bool, true, false, cond, ◌&&◌, ◌||◌, leb, ltb, List, [], ◌∷◌, ◌++◌, Option, Some, None, Result, Ok, Err, refl, sym, ap, ◌∙◌, subst, inl, inr, arith, append_assoc}
-use Rattle.std.proofs.lemmas.Bool.{false≢true, and_parts, leb-true, ltb-true, cases_lt, lt-ltb}
+use Rattle.std.proofs.Common.{◌≡◌, ℕ, ◌+◌, ◌-◌, ◌%◌, ◌≤◌, Bool, true, false, cond, ◌&&◌, ◌||◌, leb, ltb, List, [], ◌∷◌, ◌++◌, Some, None, Result, Ok, Err, refl, sym, ap, ◌∙◌, subst, inl, inr, arith, append_assoc}
+use Rattle.std.proofs.lemmas.Bool.{false≢true, and_parts, ltb-true}
 use Rattle.btr_chunk.specs.Chunk.{is_striped}
 use Rattle.btr_chunk.specs.Mapping.{crosses, elements_of, holds, position}
 use Rattle.btr_chunk.specs.declared.chunk.Chunk.{Chunk}
@@ -10,7 +10,7 @@ use Rattle.btr_chunk.specs.declared.position.Elements.{Elements}
 use Rattle.btr_read.specs.Want.{addr_of}
 use Rattle.btr_read.specs.declared.want.Want.{Want}
 use Rattle.btr_scrub.specs.Glue.{In}
-use Rattle.btr_scrub.specs.Rowing.{BeginsElse, Collects, row_in}
+use Rattle.btr_scrub.specs.Rowing.{row_in}
 use Rattle.btr_scrub.proofs.Blockwise.{in_append}
 
 -- so far: a first block, and some behind it

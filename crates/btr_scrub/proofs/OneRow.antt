@@ -1,15 +1,14 @@
 -- One full stripe of the table, as it was mended.
-use Rattle.std.proofs.Common.{◌≡◌, ℕ, ◌+◌, ◌*◌, ◌≤◌, Bool, true, false, leb, cond, List, [], map, length, slice_get, Option, Some, None, IfSome, IsSomeAnd, is_some, Result, Ok, Err, refl, sym, ap, ◌∙◌, subst, arith}
+use Rattle.std.proofs.Common.{◌≡◌, ℕ, ◌+◌, ◌*◌, Bool, true, false, leb, cond, List, length, slice_get, Option, Some, None, IfSome, IsSomeAnd, is_some, Result, Ok, Err, refl, sym, ap, ◌∙◌, subst, arith}
 use Rattle.std.proofs.lemmas.List.{length-map}
 use Rattle.std.proofs.lemmas.Option.{same_Some, slice_get_within}
 use Rattle.std.specs.List.{Any}
 use Rattle.btr_chunk.specs.Chunk.{stripe_length}
-use Rattle.btr_chunk.specs.Mapping.{HasPart, elements_of, holds, place_at, stripe_of}
+use Rattle.btr_chunk.specs.Mapping.{elements_of, holds, place_at, stripe_of}
 use Rattle.btr_chunk.specs.declared.mapping.MapFault.{MapFault}
 use Rattle.btr_chunk.specs.declared.mapping.MapFault.TheVariants as map_fault
 use Rattle.btr_chunk.specs.Table.{IsTable, chunk_at}
 use Rattle.btr_chunk.specs.declared.chunk.Chunk.{Chunk}
-use Rattle.btr_chunk.specs.declared.place.Part.{Part}
 use Rattle.btr_chunk.specs.declared.place.Place.{Place}
 use Rattle.btr_chunk.specs.declared.position.Elements.{Elements}
 use Rattle.btr_chunk.specs.declared.stripe.Stripe.{Stripe}
@@ -23,7 +22,7 @@ use Rattle.btr_read.specs.Fate.{Fault, sought, sought_at, sought_in}
 use Rattle.btr_read.specs.Layout.{Layout, device_in}
 use Rattle.btr_read.specs.Want.{addr_of, len_of}
 use Rattle.btr_read.specs.declared.want.Want.{Want}
-use Rattle.btr_mend.specs.Writes.{Images, writes_if}
+use Rattle.btr_mend.specs.Writes.{writes_if}
 use Rattle.btr_mend.specs.declared.mended.MendFault.{MendFault}
 use Rattle.btr_row.specs.Mending.{HasRoom, IsFullStripe, IsOfRow, IsRowOf, MendsRow, is_at, mended_row}
 use Rattle.btr_row.specs.Rows.{Row, range_in_element, row_writes}

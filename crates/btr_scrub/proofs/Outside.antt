@@ -1,21 +1,14 @@
 -- Whatever failed, nothing changes but the ranges of the writes.
-use Rattle.std.proofs.Common.{◌≡◌, ◌⊎◌, ℕ, zero, suc, ◌+◌, ◌≤◌, Bool, true, false, ◌||◌, List, [], ◌∷◌, ◌++◌, map, length, All, slice_get, Option, Some, None, IsSomeAnd, Result, Ok, Err, refl, sym, ap, ◌∙◌, subst, inl, inr, arith}
-use Rattle.std.proofs.lemmas.Bool.{false≢true}
+use Rattle.std.proofs.Common.{◌≡◌, ℕ, zero, suc, Bool, true, false, List, [], ◌∷◌, ◌++◌, map, All, slice_get, Some, IsSomeAnd, Result, Ok, Err, refl, sym, ap, ◌∙◌, subst, inl, inr, arith}
 use Rattle.std.proofs.lemmas.Option.{same_Some}
 use Rattle.std.specs.List.{fold, list_any}
-use Rattle.btr_chunk.specs.declared.chunk.Chunk.{Chunk}
-use Rattle.btr_chunk.specs.Table.{IsTable}
-use Rattle.btr_rack.specs.Rack.{Seen}
 use Rattle.btr_rack.specs.declared.place.Place.{Place as Range}
-use Rattle.btr_read.specs.Layout.{HaveOwnSlots, Layout}
-use Rattle.btr_read.specs.declared.want.Want.{Want}
 use Rattle.btr_mend.specs.Writes.{Images, IsStopped, IsTorn, Leaves, Write, write_on, writes_if}
 use Rattle.btr_mend.specs.declared.mended.MendFault.{MendFault}
-use Rattle.btr_scrub.specs.Devices.{HaveLengths}
 use Rattle.btr_scrub.specs.Glue.{In}
 use Rattle.btr_scrub.specs.Leaves.{KeepsOutside}
-use Rattle.btr_scrub.specs.Repair.{covers, first_missing}
-use Rattle.btr_scrub.specs.Scrubbing.{Works, all_writes_for, chunk_writes_for}
+use Rattle.btr_scrub.specs.Repair.{covers}
+use Rattle.btr_scrub.specs.Scrubbing.{all_writes_for, chunk_writes_for}
 use Rattle.btr_scrub.specs.Whole.{WorksKeepTheRest}
 use Rattle.btr_scrub.proofs.AcrossChunks.{chunk_short, flat_short}
 use Rattle.btr_scrub.proofs.Shorts.{Short, one_short, shorts_keep, shorts_keep_if}

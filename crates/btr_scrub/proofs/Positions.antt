@@ -1,11 +1,11 @@
 -- Where blocks with copies lie.
-use Rattle.std.proofs.Common.{◌≡◌, ◌⊎◌, ℕ, zero, suc, ◌+◌, ◌-◌, ◌*◌, ◌/◌, ◌%◌, ◌<◌, ◌≤◌, Bool, true, false, cond, ◌&&◌, ◌||◌, leb, ltb, List, [], ◌∷◌, length, get_or, slice_get, Option, Some, None, IsSome, is_some, IsSomeAnd, IfSome, Result, Ok, Err, refl, sym, ap, ◌∙◌, subst, inl, inr, arith}
+use Rattle.std.proofs.Common.{◌≡◌, ℕ, zero, suc, ◌+◌, ◌-◌, ◌*◌, ◌/◌, ◌%◌, ◌<◌, ◌≤◌, Bool, true, false, cond, ◌&&◌, ◌||◌, leb, ltb, List, [], ◌∷◌, length, get_or, slice_get, Option, Some, None, is_some, IsSomeAnd, IfSome, Ok, Err, refl, sym, ap, ◌∙◌, subst, inl, inr, arith}
 use Rattle.std.proofs.lemmas.Bool.{false≢true, and_from, and_parts, leb-true, ltb-true, le-leb, lt-ltb, cases_lt}
 use Rattle.std.proofs.lemmas.Option.{same_Some, slice_get_within}
 use Rattle.std.specs.List.{Any, cons_option, find}
 use Rattle.btr_chunk.specs.Apart.{IsOfCopy}
 use Rattle.btr_chunk.specs.Chunk.{IsChunk, data_count, is_striped, mirror_count, stripe_length}
-use Rattle.btr_chunk.specs.Mapping.{HasPart, IsPosition, crosses, data_part, data_place, elements_of, holds, place_at, place_on, position, stripe_of}
+use Rattle.btr_chunk.specs.Mapping.{HasPart, crosses, data_part, holds, place_at, place_on, position, stripe_of}
 use Rattle.btr_chunk.specs.Table.{IsTable, chunk_at}
 use Rattle.btr_chunk.specs.declared.chunk.Chunk.{Chunk}
 use Rattle.btr_chunk.specs.declared.mapping.MapFault.TheVariants as map_fault
@@ -23,7 +23,7 @@ use Rattle.btr_rack.specs.Rack.{range_in}
 use Rattle.btr_rack.specs.declared.place.Place.{Place as Range}
 use Rattle.btr_read.specs.Candidates.{Target, range_of, range_on, size_of}
 use Rattle.btr_read.specs.Cause.{LiesIn}
-use Rattle.btr_read.specs.Fate.{Fault, sought, sought_at, sought_in}
+use Rattle.btr_read.specs.Fate.{sought, sought_at, sought_in}
 use Rattle.btr_read.specs.Layout.{HaveOwnSlots, Layout, device_in}
 use Rattle.btr_read.specs.Mirror.{HasMirror}
 use Rattle.btr_read.specs.Want.{addr_of, len_of}

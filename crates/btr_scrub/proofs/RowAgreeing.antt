@@ -1,9 +1,9 @@
 -- What is written for a full stripe hangs on the bytes of its elements alone.
-use Rattle.std.proofs.Common.{◌≡◌, ◌⊎◌, ℕ, ◌*◌, ◌<◌, Bool, true, not, cond, ◌&&◌, ◌||◌, eqb, List, [], ◌∷◌, ◌++◌, map, length, slice_get, set, Option, Some, None, IsNone, is_none, is_some, refl, sym, ap, ◌∙◌, subst, inl, inr}
-use Rattle.std.specs.List.{filter, filter_map, flat_map, fold, list_all, list_any, range_with_len, sum_by, count_by}
+use Rattle.std.proofs.Common.{◌≡◌, ◌⊎◌, ℕ, ◌*◌, ◌<◌, Bool, not, cond, ◌&&◌, ◌||◌, eqb, List, [], ◌∷◌, ◌++◌, map, length, slice_get, set, Option, Some, None, IsNone, is_some, refl, sym, ap, ◌∙◌, subst, inl, inr}
+use Rattle.std.specs.List.{filter, filter_map, flat_map, fold, list_all, list_any, range_with_len}
 use Rattle.std.specs.Option.{option_map, option_map_or}
 use Rattle.std.specs.Str.{bytes_eq}
-use Rattle.btr_chunk.specs.Chunk.{data_count, mirror_count, mirrors}
+use Rattle.btr_chunk.specs.Chunk.{mirror_count, mirrors}
 use Rattle.btr_chunk.specs.Mapping.{HasPart}
 use Rattle.btr_chunk.specs.declared.place.Part.{Part}
 use Rattle.btr_chunk.specs.declared.place.Part.TheVariants as part
@@ -20,8 +20,8 @@ use Rattle.btr_read.specs.Want.{passes}
 use Rattle.btr_read.specs.declared.candidate.Candidate.{Candidate}
 use Rattle.btr_read.specs.declared.candidate.Candidate.TheVariants.{Stands, ByP, ByQ, ByBoth}
 use Rattle.btr_read.proofs.Ones.{in_below}
-use Rattle.btr_mend.specs.Blocks.{accepted, bad_parts, block_writes, is_good, own_parts}
-use Rattle.btr_mend.specs.Writes.{Images, Write}
+use Rattle.btr_mend.specs.Blocks.{accepted, block_writes, is_good, own_parts}
+use Rattle.btr_mend.specs.Writes.{Images}
 use Rattle.btr_row.specs.Rows as rows
 use Rattle.btr_row.specs.Rows.{Row, blocks_at, column_of, differing, differs, element_with, is_decided, meets, parities, parity_writes, range_in_element, row_writes, sector_write, slice_with, slices_with, with_block}
 use Rattle.btr_scrub.specs.Glue.{In}

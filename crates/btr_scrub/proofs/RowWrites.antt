@@ -1,30 +1,28 @@
 -- The writes for a full stripe lie in its elements, and leave those of other rows.
-use Rattle.std.proofs.Common.{◌≡◌, ◌⊎◌, ℕ, ◌+◌, ◌-◌, ◌*◌, ◌<◌, ◌≤◌, Bool, true, false, not, cond, ◌&&◌, ◌||◌, leb, ltb, List, [], ◌∷◌, ◌++◌, map, length, drop, slice_range, slice_get, All, Option, Some, None, IsNone, IsSome, is_some, IsSomeAnd, refl, sym, ap, ◌∙◌, subst, inl, inr, arith, length-take}
-use Rattle.std.proofs.lemmas.Bool.{false≢true, and_parts}
+use Rattle.std.proofs.Common.{◌≡◌, ℕ, ◌+◌, ◌-◌, ◌*◌, ◌<◌, ◌≤◌, true, false, not, ◌&&◌, List, [], ◌∷◌, map, length, drop, slice_get, All, Option, Some, None, IsNone, IsSome, IsSomeAnd, refl, sym, ap, ◌∙◌, subst, inl, inr, arith, length-take}
+use Rattle.std.proofs.lemmas.Bool.{false≢true}
 use Rattle.std.proofs.lemmas.List.Elements.{All-append, All-cons, All-nil}
 use Rattle.std.proofs.lemmas.Option.{same_Some}
-use Rattle.std.specs.List.{cons_option, filter, filter_map, flat_map, list_any, range_with_len}
+use Rattle.std.specs.List.{cons_option, filter_map, flat_map, list_any, range_with_len}
 use Rattle.std.specs.Option.{option_map, option_map_or}
 use Rattle.btr_chunk.specs.Chunk.{IsChunk, is_striped, mirrors}
-use Rattle.btr_chunk.specs.Mapping.{HasPart, IsPosition, crosses, place_at, place_on, stripe_of}
+use Rattle.btr_chunk.specs.Mapping.{HasPart, IsPosition, place_at, place_on}
 use Rattle.btr_chunk.specs.Table.{IsTable}
 use Rattle.btr_chunk.specs.declared.place.Part.{Part}
 use Rattle.btr_chunk.specs.declared.place.Part.TheVariants as part
 use Rattle.btr_chunk.specs.declared.place.Place.{Place}
 use Rattle.btr_chunk.specs.declared.position.Elements.{Elements}
-use Rattle.btr_chunk.specs.declared.profile.Profile.{Profile}
-use Rattle.btr_chunk.specs.declared.profile.Profile.TheVariants.{Raid5, Raid6}
 use Rattle.btr_chunk.proofs.Bytes.{IsPosition-position, placed_part}
 use Rattle.btr_chunk.proofs.Rows.{without_copies}
 use Rattle.btr_rack.specs.Rack.{bytes_of, image_of, range_in}
 use Rattle.btr_rack.specs.declared.place.Place.{Place as Range}
 use Rattle.btr_read.specs.Candidates.{Target, range_of, range_on, size_of}
-use Rattle.btr_read.specs.Layout.{HaveOwnSlots, Layout, device_in}
+use Rattle.btr_read.specs.Layout.{Layout, device_in}
 use Rattle.btr_read.specs.Want.{addr_of}
 use Rattle.btr_read.specs.declared.device.Device.{Device}
 use Rattle.btr_read.proofs.Ones.{in_below}
 use Rattle.btr_mend.specs.Blocks.{accepted, bad_parts, block_writes, is_good, own_parts, written_over}
-use Rattle.btr_mend.specs.Writes.{Images, Write, write_on, writes_if}
+use Rattle.btr_mend.specs.Writes.{Images, Write}
 use Rattle.btr_row.specs.Rows as rows
 use Rattle.btr_row.specs.Rows.{Row, column_of, differing, differs, element_with, is_decided, parities, parity_writes, range_in_element, row_writes, sector_write}
 use Rattle.btr_scrub.specs.Devices.{HaveLengths}
@@ -36,12 +34,12 @@ use Rattle.btr_scrub.specs.Repair.{covers}
 use Rattle.btr_scrub.proofs.Agreeing.{Alike}
 use Rattle.btr_scrub.proofs.CopyWrites.{same_element}
 use Rattle.btr_scrub.proofs.Elements.{range_stands, stands_on, stripe-row}
-use Rattle.btr_scrub.proofs.Places.{covering, elements_apart}
+use Rattle.btr_scrub.proofs.Places.{covering}
 use Rattle.btr_scrub.proofs.Positions.{striped_fits, striped_position}
 use Rattle.btr_scrub.proofs.RowAgreeing.{RowAlike, parity_alike, parity_has, row_alike}
-use Rattle.btr_scrub.proofs.Shorts.{Short, block_short, shorts_keep_if}
+use Rattle.btr_scrub.proofs.Shorts.{Short, block_short}
 use Rattle.btr_scrub.proofs.Staying.{covered, range_same}
-use Rattle.btr_scrub.proofs.Writes.{any_append, any_filter_map, any_flat, any_map, mapped, passing_filter}
+use Rattle.btr_scrub.proofs.Writes.{any_append, any_filter_map, any_flat, mapped, passing_filter}
 
 -- a full stripe of the table, all of whose elements stand
 pub record IsRowIn (layout : Layout) (row : Row) : Type 0 where

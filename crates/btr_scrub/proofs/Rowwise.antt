@@ -1,13 +1,13 @@
 -- The full stripes of a chunk with parity, one after another.
-use Rattle.std.proofs.Common.{◌≡◌, ◌⊎◌, ℕ, zero, suc, ◌+◌, ◌-◌, ◌*◌, ◌/◌, ◌%◌, ◌<◌, ◌≤◌, Bool, true, false, not, cond, ◌&&◌, ◌||◌, eqb, leb, ltb, List, [], ◌∷◌, ◌++◌, map, length, All, slice_get, Option, Some, None, is_none, IsSome, Result, Ok, Err, IsOk, refl, sym, ap, ◌∙◌, subst, inl, inr, arith, append_assoc, append-nil, add-one}
-use Rattle.std.proofs.lemmas.Bool.{false≢true, and_parts, cases_eq, cases_lt, cases_order, eq-eqb, eqb-true, leb-true, ltb-true, and_from, le-leb, lt-ltb}
+use Rattle.std.proofs.Common.{◌≡◌, ◌⊎◌, ℕ, zero, suc, ◌+◌, ◌-◌, ◌*◌, ◌/◌, ◌%◌, ◌<◌, ◌≤◌, Bool, true, false, cond, ◌&&◌, eqb, leb, ltb, List, [], ◌∷◌, ◌++◌, map, length, All, slice_get, Option, Some, None, is_none, Result, Ok, Err, refl, sym, ap, ◌∙◌, subst, inl, inr, arith, append_assoc, append-nil}
+use Rattle.std.proofs.lemmas.Bool.{and_parts, cases_eq, cases_order, eq-eqb, eqb-true, leb-true, ltb-true, and_from, le-leb, lt-ltb}
 use Rattle.std.proofs.lemmas.Grind.{flat_map-append}
 use Rattle.std.proofs.lemmas.List.{map-append}
 use Rattle.std.proofs.lemmas.List.Elements.{All-cons, All-nil, filter-append, filter_map-append}
 use Rattle.std.proofs.lemmas.Nat.{le-div}
 use Rattle.std.proofs.Math.Nat.{div-mul-le_self}
 use Rattle.std.proofs.lemmas.Option.{same_Some}
-use Rattle.std.specs.List.{cons_option, filter, filter_map, flat_map, fold, list_any, range_with_len}
+use Rattle.std.specs.List.{cons_option, filter, flat_map, fold, list_any, range_with_len}
 use Rattle.btr_chunk.specs.Chunk.{data_count, is_striped, mirrors, stripe_length}
 use Rattle.btr_chunk.specs.Mapping.{holds, position}
 use Rattle.btr_chunk.specs.Table.{IsTable, chunk_at}
@@ -17,7 +17,7 @@ use Rattle.btr_chunk.proofs.Rows.{without_copies}
 use Rattle.btr_chunk.proofs.Rule.{data_count-some, element_inside, facts}
 use Rattle.btr_chunk.proofs.Searches.{find-first}
 use Rattle.btr_rack.specs.Rack.{Seen}
-use Rattle.btr_read.specs.Candidates.{Target, size_of}
+use Rattle.btr_read.specs.Candidates.{Target}
 use Rattle.btr_read.specs.Fate.{Fault, sought}
 use Rattle.btr_read.specs.Layout.{HaveOwnSlots, Layout}
 use Rattle.btr_read.specs.Want.{addr_of, len_of}
@@ -45,7 +45,7 @@ use Rattle.btr_scrub.proofs.RowWrites.{row_short, row_stays, written_row}
 use Rattle.btr_scrub.proofs.Shorts.{Short, shorts_keep_if}
 use Rattle.btr_scrub.proofs.Writes.{any_flat, any_map}
 use Rattle.btr_scrub.proofs.AcrossChunks.{element_stands, flat_short, row_counts_alike, row_is}
-use Rattle.btr_scrub.proofs.Blockwise.{all_behind, behind_not, chunk_same, filter_none, filter_all, fold_append, in_append, of_targets, ok_of}
+use Rattle.btr_scrub.proofs.Blockwise.{all_behind, chunk_same, filter_none, filter_all, fold_append, in_append, of_targets, ok_of}
 use Rattle.btr_scrub.proofs.Positions.{is_sought, striped_position}
 use Rattle.btr_scrub.proofs.Scrubbing.{IsUnmoved, scrubs_as, scrubs_cut, scrubs_none, scrubs_nothing, scrubs_then}
 

@@ -1,9 +1,9 @@
 -- Mending one thing after another.
-use Rattle.std.proofs.Common.{◌≡◌, ℕ, ◌+◌, ◌≤◌, Bool, true, false, List, [], ◌∷◌, ◌++◌, length, Option, Some, None, IfSome, OnOk, is_none, is_some, Result, Ok, Err, refl, sym, ap, ◌∙◌, subst, arith}
+use Rattle.std.proofs.Common.{◌≡◌, Bool, true, false, List, [], ◌++◌, length, Option, Some, None, IfSome, OnOk, is_none, is_some, Result, Ok, Err, refl, sym, ap, ◌∙◌, subst, arith}
 use Rattle.std.proofs.lemmas.Bool.{false≢true}
 use Rattle.std.proofs.lemmas.Option.{same_Some}
 use Rattle.std.specs.List.{count_by, fold}
-use Rattle.btr_rack.specs.Rack.{NoneFailed, OnlyReads, Seen}
+use Rattle.btr_rack.specs.Rack.{Seen}
 use Rattle.btr_rack.specs.declared.place.Place.{Place as Range}
 use Rattle.btr_read.specs.Layout.{Layout}
 use Rattle.btr_chunk.specs.Table.{IsTable}

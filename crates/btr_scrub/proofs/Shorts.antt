@@ -1,16 +1,16 @@
 -- Writes that have at most as many bytes as their ranges change nothing but those.
-use Rattle.std.proofs.Common.{◌≡◌, ◌⊎◌, ℕ, suc, ◌+◌, ◌-◌, ◌<◌, ◌≤◌, Bool, true, false, cond, ◌&&◌, ◌||◌, List, [], ◌∷◌, map, length, get_or, set, take, drop, slice_range, All, Option, Some, None, is_some, refl, sym, ap, ◌∙◌, subst, inl, inr, arith, length-take}
-use Rattle.std.proofs.lemmas.Bool.{false≢true, cases_eq, cases_lt}
+use Rattle.std.proofs.Common.{◌≡◌, ◌⊎◌, ℕ, suc, ◌+◌, ◌-◌, ◌<◌, ◌≤◌, Bool, true, false, cond, ◌||◌, List, [], ◌∷◌, map, length, get_or, set, drop, All, Option, Some, None, refl, sym, ap, ◌∙◌, inl, inr, arith, length-take}
+use Rattle.std.proofs.lemmas.Bool.{cases_eq, cases_lt}
 use Rattle.std.proofs.lemmas.List.{length-set, get_or-set_same, get_or-set_other, set_past}
 use Rattle.std.proofs.lemmas.List.Elements.{All-cons, All-nil}
 use Rattle.std.proofs.lemmas.Option.{same_Some}
-use Rattle.std.specs.List.{cons_option, find, fold, list_any}
+use Rattle.std.specs.List.{cons_option, find, fold}
 use Rattle.std.specs.Option.{option_map, option_map_or, unwrap_or}
 use Rattle.btr_chunk.specs.Mapping.{place_at}
 use Rattle.btr_chunk.specs.declared.place.Part.{Part}
 use Rattle.btr_rack.specs.Rack.{bytes_of, image_of, pasted, range_in, written}
 use Rattle.btr_rack.specs.declared.place.Place.{Place as Range}
-use Rattle.btr_read.specs.Candidates.{Target, candidates, element, range_of, range_on, reading, size_of, stands, value_of}
+use Rattle.btr_read.specs.Candidates.{Target, candidates, element, range_of, range_on, size_of, stands, value_of}
 use Rattle.btr_read.specs.Layout.{Layout, device_in}
 use Rattle.btr_read.specs.Solution.{byte_lists, the_one}
 use Rattle.btr_read.specs.declared.candidate.Candidate.{Candidate}

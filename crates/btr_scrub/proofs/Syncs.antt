@@ -1,19 +1,16 @@
 -- Syncing one image after another.
-use Rattle.std.proofs.Common.{◌≡◌, ◌⊎◌, ℕ, ◌+◌, ◌<◌, ◌≤◌, Bool, true, false, not, cond, eqb, List, [], ◌∷◌, length, get_or, Option, Some, None, OnOk, Result, Ok, Err, refl, sym, ap, ◌∙◌, subst, inl, inr, arith}
+use Rattle.std.proofs.Common.{◌≡◌, ℕ, ◌+◌, ◌<◌, ◌≤◌, Bool, true, false, not, cond, eqb, List, get_or, Result, Ok, Err, refl, sym, ap, ◌∙◌, subst, inl, inr, arith}
 use Rattle.std.proofs.lemmas.Bool.{false≢true, cases_lt, eq-eqb}
-use Rattle.std.specs.List.{filter}
 use Rattle.btr_rack.specs.Rack.{Accounts, NoneFailed, Seen, Syncs, in_others}
-use Rattle.btr_rack.specs.declared.error.RackError.{RackError}
 use Rattle.btr_rack.specs.declared.error.RackError.TheVariants as error
 use Rattle.btr_rack.specs.declared.place.Place.{Place as Range}
 use Rattle.btr_rack.specs.Rack.{range_in}
 use Rattle.btr_read.proofs.Keeping.{none_more, one_after}
-use Rattle.btr_mend.specs.Writes.{AccountsMend, FailsAt}
+use Rattle.btr_mend.specs.Writes.{AccountsMend}
 use Rattle.btr_mend.specs.declared.mended.MendFault.{MendFault}
 use Rattle.btr_mend.specs.declared.mended.MendFault.TheVariants.{Image, Memory}
 use Rattle.btr_scrub.specs.Glue.{In}
-use Rattle.btr_scrub.specs.Scrubbing.{AreSynced, OnlySyncs, SyncsMarked, SyncsOne, plain}
-use Rattle.btr_scrub.proofs.Survival.{of_filter}
+use Rattle.btr_scrub.specs.Scrubbing.{AreSynced, OnlySyncs, SyncsOne, plain}
 use Rattle.btr_scrub.proofs.Writes.{passing_filter}
 
 abbrev pub IsSync : Range → Type 0

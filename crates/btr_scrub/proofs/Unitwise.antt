@@ -1,18 +1,18 @@
 -- The checked blocks of a sound filesystem have a position, and are apart.
-use Rattle.std.proofs.Common.{◌≡◌, ◌⊎◌, ℕ, zero, suc, ◌+◌, ◌-◌, ◌*◌, ◌/◌, ◌%◌, ◌^◌, ◌<◌, ◌≤◌, Bool, true, false, not, cond, ◌&&◌, ◌||◌, eqb, leb, ltb, is_some, List, [], ◌∷◌, ◌++◌, map, length, drop, slice_get, Option, Some, None, Result, Ok, Err, IsOk, refl, sym, ap, ◌∙◌, subst, inl, inr, arith, append-nil}
+use Rattle.std.proofs.Common.{◌≡◌, ◌⊎◌, ℕ, zero, suc, ◌+◌, ◌-◌, ◌*◌, ◌/◌, ◌%◌, ◌^◌, ◌<◌, ◌≤◌, Bool, true, false, not, cond, ◌&&◌, ◌||◌, eqb, leb, ltb, is_some, List, [], ◌∷◌, ◌++◌, map, drop, slice_get, Option, Some, None, Result, Ok, Err, IsOk, refl, sym, ap, ◌∙◌, subst, inl, inr, arith, append-nil}
 use Rattle.std.proofs.lemmas.Bool.{false≢true, and_from, and_parts, eqb-true, leb-true, ltb-true, le-leb, lt-ltb}
 use Rattle.std.proofs.lemmas.List.{drop-drop}
 use Rattle.std.proofs.lemmas.Option.{same_Some}
-use Rattle.std.specs.List.{filter, find}
+use Rattle.std.specs.List.{filter}
 use Rattle.btr_base.specs.Key.{key_le, key_number}
 use Rattle.btr_base.specs.declared.key.Key.{Key}
-use Rattle.btr_prog.specs.Prog.{Emit, Need, Prog, Return, Stop, bind, exec, steps_of}
+use Rattle.btr_prog.specs.Prog.{Emit, Return, Stop, bind, exec, steps_of}
 use Rattle.btr_read.specs.Fate.{Crosses, Fault, Malformed}
 use Rattle.btr_read.specs.declared.want.Want.{Want}
 use Rattle.btr_node.specs.Block.{Item, KeyPointer}
 use Rattle.btr_node.specs.declared.node.Node.{Node}
 use Rattle.btr_node.specs.declared.node.Node.TheVariants.{Leaf, Inner}
-use Rattle.btr_walk.specs.Le.{TreeItem, below, tree_item, up_of, want_of, root_spot}
+use Rattle.btr_walk.specs.Le.{TreeItem, below, tree_item, up_of, root_spot}
 use Rattle.btr_walk.specs.Range.{RangeProg, emit_all, is_within, items_within, meets, over, range, range_at, range_inner, range_leaf}
 use Rattle.btr_walk.specs.Spot.{judged}
 use Rattle.btr_walk.specs.declared.place.RootPlace.{RootPlace}

@@ -1,22 +1,22 @@
 -- Chunk after chunk, each with its syncs.
-use Rattle.std.proofs.Common.{◌≡◌, ◌⊎◌, ℕ, zero, suc, ◌+◌, ◌<◌, ◌≤◌, Bool, true, false, cond, ◌&&◌, eqb, leb, ltb, ◌/◌, List, [], ◌∷◌, ◌++◌, length, take, drop, get_or, slice_get, All, Option, Some, None, is_none, IfSome, IsSomeAnd, OnOk, Result, Ok, Err, IsOk, refl, sym, ap, ◌∙◌, subst, inl, inr, arith, append-nil, append_assoc, add-one}
+use Rattle.std.proofs.Common.{◌≡◌, ℕ, zero, suc, ◌+◌, ◌<◌, ◌≤◌, Bool, true, false, cond, ◌&&◌, eqb, leb, ltb, ◌/◌, List, [], ◌∷◌, ◌++◌, length, take, drop, get_or, slice_get, All, Option, Some, None, is_none, IfSome, IsSomeAnd, OnOk, Result, Ok, Err, refl, sym, ap, ◌∙◌, subst, inl, inr, arith, append-nil, append_assoc, add-one}
 use Rattle.std.proofs.lemmas.Bool.{false≢true, and_parts, cases_lt, cases_order, eqb-true, leb-true, ltb-true}
 use Rattle.std.proofs.lemmas.Grind.{flat_map-append}
 use Rattle.std.proofs.lemmas.List.{get_or_past, take-append-drop}
 use Rattle.std.proofs.lemmas.List.Elements.{All-nil, filter-append, filter_map-append}
 use Rattle.std.proofs.lemmas.Option.{same_Some}
-use Rattle.std.specs.List.{filter, flat_map, fold, range_with_len}
+use Rattle.std.specs.List.{filter, fold, range_with_len}
 use Rattle.btr_chunk.specs.Chunk.{mirrors, stripe_length}
 use Rattle.btr_chunk.specs.Table.{IsTable}
 use Rattle.btr_chunk.specs.declared.chunk.Chunk.{Chunk}
 use Rattle.btr_chunk.proofs.Bytes.{at-below}
 use Rattle.btr_chunk.proofs.Rule.{facts}
-use Rattle.btr_rack.specs.Rack.{NoneFailed, OnlyReads, Seen}
+use Rattle.btr_rack.specs.Rack.{OnlyReads, Seen}
 use Rattle.btr_rack.specs.declared.place.Place.{Place as Range}
 use Rattle.btr_read.specs.Candidates.{Target}
 use Rattle.btr_read.specs.Fate.{sought}
 use Rattle.btr_read.specs.Layout.{Layout}
-use Rattle.btr_read.specs.Want.{addr_of, len_of}
+use Rattle.btr_read.specs.Want.{addr_of}
 use Rattle.btr_read.specs.declared.want.Want.{Want}
 use Rattle.btr_read.proofs.Fates.{sought_of}
 use Rattle.btr_read.proofs.Serving.{serves_as}
@@ -27,11 +27,11 @@ use Rattle.btr_mend.specs.declared.mended.MendFault.TheVariants.{Image, Memory}
 use Rattle.btr_mend.proofs.Doing.{does_failed, does_reads}
 use Rattle.btr_scrub.specs.Glue.{In}
 use Rattle.btr_scrub.specs.Leaves.{LiesInStripe}
-use Rattle.btr_scrub.specs.Order.{AreApart, IsSought, targets}
+use Rattle.btr_scrub.specs.Order.{AreApart, targets}
 use Rattle.btr_scrub.specs.Repair.{is_in_chunk, is_in_row, ok_or_none, row_of, rows_in}
 use Rattle.btr_scrub.specs.Scrubbing.{AreSynced, CanMend, IsOfScrub, IsPastChunk, OnlySyncs, Scrubs, SyncsMarked, Works, all_count_for, all_writes_for, blocks_count, blocks_in, blocks_writes, chunk_count_for, chunk_writes_for, plain, rows_count, rows_writes}
 use Rattle.btr_scrub.specs.declared.tally.Tally.{Tally}
-use Rattle.btr_scrub.proofs.Blockwise.{all_behind, filter_none, fold_append, in_append, of_targets, ok_of}
+use Rattle.btr_scrub.proofs.Blockwise.{filter_none, fold_append, in_append, ok_of}
 use Rattle.btr_scrub.proofs.Firsts.{drop_one}
 use Rattle.btr_scrub.proofs.Positions.{is_sought}
 use Rattle.btr_scrub.proofs.RowAgreeing.{map_same}

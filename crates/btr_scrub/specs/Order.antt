@@ -1,5 +1,5 @@
 -- The order of the checked blocks, and what is known of a block's position.
-use Rattle.std.specs.Prelude.{◌≡◌, ℕ, ◌+◌, ◌≤◌, true, false, List, [], ◌∷◌, Some, Ok, IsOk, slice_get}
+use Rattle.std.specs.Prelude.{◌≡◌, ℕ, ◌+◌, ◌≤◌, true, false, List, [], ◌∷◌, Some, IsOk, slice_get}
 use Rattle.std.specs.List.{filter_map}
 use Rattle.btr_chunk.specs.Mapping.{crosses, holds, position}
 use Rattle.btr_read.specs.Candidates.{Target}

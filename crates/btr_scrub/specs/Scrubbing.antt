@@ -1,5 +1,5 @@
 -- Mending block by block and chunk by chunk: what was done, and what is counted.
-use Rattle.std.specs.Prelude.{◌≡◌, ◌⊎◌, ℕ, ◌+◌, ◌-◌, ◌^◌, ◌<◌, ◌≤◌, min, Bool, List, [], ◌∷◌, ◌++◌, length, Option, Some, None, is_none, slice_index_or, false, IsTrue, IsSome, IsSomeAnd, IfSome, OnOk, Result, Ok, Err, slice_get, if◌then◌else◌}
+use Rattle.std.specs.Prelude.{◌≡◌, ◌⊎◌, ℕ, ◌+◌, ◌-◌, ◌^◌, ◌<◌, ◌≤◌, min, Bool, List, [], ◌∷◌, ◌++◌, length, Option, Some, None, is_none, slice_index_or, false, IsTrue, IfSome, OnOk, Result, slice_get, if◌then◌else◌}
 use Rattle.std.specs.List.{filter, flat_map, fold}
 use Rattle.btr_chunk.specs.Chunk.{mirrors}
 use Rattle.btr_chunk.specs.Table.{IsTable}

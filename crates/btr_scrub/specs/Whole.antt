@@ -1,5 +1,5 @@
 -- What a call of scrub did, whatever failed.
-use Rattle.std.specs.Prelude.{◌≡◌, ℕ, Bool, List, [], fold, map, Option, Some, None, Result, Ok, Err}
+use Rattle.std.specs.Prelude.{◌≡◌, ℕ, Bool, List, [], fold, map, Some, None, Result, Ok, Err}
 use Rattle.btr_prog.specs.Answers.{Follows, no_part}
 use Rattle.btr_prog.specs.Prog.{exec}
 use Rattle.btr_rack.specs.Rack.{OnlyReads, Seen}

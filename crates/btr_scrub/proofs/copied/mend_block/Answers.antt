@@ -1,6 +1,3 @@
-use Rattle.std.proofs.Common.{◌≡◌, Ok, Err, sym, ap, ◌∙◌, subst}
-use Rattle.btr_read.specs.Candidates.{Target}
-use Rattle.btr_mend.specs.Mending.{Mends}
 use Rattle.btr_mend.proofs.Doing.{only_slots}
 use Rattle.btr_scrub.proofs.Positions.{copy_in_stripe, is_sought}
 use Rattle.btr_scrub.proofs.Scrubbing.{can_mend_then, scrubs_block, scrubs_block_not}

@@ -12,7 +12,7 @@ use Rattle.btr_mend.specs.Mending.{IsCopied}
 use Rattle.btr_mend.proofs.Copied.{same_loans_then}
 use Rattle.btr_scrub.specs.Order.{AreApart}
 use Rattle.btr_scrub.specs.Scrubbing.{BeginsBehind, IsPastChunk, Scrubs, count_block}
-use Rattle.btr_scrub.proofs.Blockwise.{IsUnderway, chunk_mended, have_lengths, next_block, next_copied, past_chunk, underway_cut, underway_first, underway_more}
+use Rattle.btr_scrub.proofs.Blockwise.{chunk_mended, have_lengths, next_block, next_copied, past_chunk, underway_cut, underway_first, underway_more}
 use Rattle.btr_scrub.proofs.copied.mend_blocks.Goals as goal
 
 pub loop-want-init : goal.loop-want-init

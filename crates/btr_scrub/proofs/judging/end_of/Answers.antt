@@ -1,9 +1,7 @@
-use Rattle.std.proofs.Common.{◌≡◌, ◌+◌, Some, None, Ok, Err, sym, ap, ◌∙◌, subst, arith}
-use Rattle.btr_chunk.specs.Mapping.{elements_of}
+use Rattle.std.proofs.Common.{Err, sym, ap, ◌∙◌, arith}
 use Rattle.btr_chunk.specs.Table.{chunk_at}
-use Rattle.btr_chunk.specs.declared.mapping.MapFault.TheVariants as map_fault
 use Rattle.btr_chunk.proofs.Rule.{facts}
-use Rattle.btr_scrub.proofs.Placing.{crosses_there, ends_inside, is_placed, no_chunk, not_in_chunk}
+use Rattle.btr_scrub.proofs.Placing.{crosses_there, ends_inside, no_chunk, not_in_chunk}
 use Rattle.btr_scrub.proofs.judging.end_of.Goals as goal
 
 pub returns-in_default : goal.returns-in_default

@@ -1,4 +1,4 @@
-use Rattle.std.proofs.Common.{◌≡◌, length}
+use Rattle.std.proofs.Common.{length}
 use Rattle.btr_scrub.specs.Order.{AreApart}
 use Rattle.btr_scrub.proofs.judging.judge_blocks.Given as goal
 

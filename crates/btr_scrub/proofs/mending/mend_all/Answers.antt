@@ -1,12 +1,11 @@
 use Rattle.std.proofs.lemmas.List.{take_all}
-use Rattle.std.proofs.Common.{◌≡◌, ◌+◌, length, slice_get, take, Some, Ok, Err, IsSomeAnd, refl, sym, ap, ◌∙◌, subst, arith}
-use Rattle.std.proofs.lemmas.Option.{slice_get-get_or}
+use Rattle.std.proofs.Common.{◌≡◌, length, slice_get, take, Some, Ok, Err, IsSomeAnd, refl, sym, ap, ◌∙◌, subst, arith}
 use Rattle.btr_chunk.specs.declared.chunk.Chunk.{Chunk}
 use Rattle.btr_read.specs.Layout.{Layout}
 use Rattle.btr_read.proofs.Serving.{serving}
 use Rattle.btr_mend.proofs.Copied.{same_loans_then}
 use Rattle.btr_scrub.specs.Order.{AreApart}
-use Rattle.btr_scrub.specs.Scrubbing.{CanMend, HasRooms, IsPastChunk, Works, all_count_for, all_writes_for, chunk_count_for, chunk_writes_for}
+use Rattle.btr_scrub.specs.Scrubbing.{HasRooms, IsPastChunk, Works, all_count_for, all_writes_for, chunk_count_for, chunk_writes_for}
 use Rattle.btr_scrub.proofs.Blockwise.{have_lengths}
 use Rattle.btr_scrub.proofs.AcrossChunks.{chunk_unmoved}
 use Rattle.btr_scrub.proofs.Working.{at_number, begins_there, chunks_cut, chunks_more, chunks_none}

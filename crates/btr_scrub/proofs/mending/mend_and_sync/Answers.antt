@@ -1,4 +1,4 @@
-use Rattle.std.proofs.Common.{◌≡◌, length, slice_get, Ok, Err, sym, ap, ◌∙◌}
+use Rattle.std.proofs.Common.{length, slice_get, sym, ap, ◌∙◌}
 use Rattle.btr_mend.proofs.Doing.{only_slots}
 use Rattle.btr_scrub.specs.Order.{AreApart}
 use Rattle.btr_scrub.specs.Scrubbing.{chunk_count_for, chunk_writes_for}

@@ -1,6 +1,5 @@
-use Rattle.std.proofs.Common.{◌≡◌, Some, None, slice_get, sym, ap, ◌∙◌, subst}
+use Rattle.std.proofs.Common.{slice_get, sym, ap, ◌∙◌}
 use Rattle.std.specs.Option.{option_map}
-use Rattle.btr_chunk.specs.declared.chunk.Chunk.{Chunk}
 use Rattle.btr_scrub.specs.Repair.{devid_of, missing_stripes}
 use Rattle.btr_scrub.proofs.Firsts.{flat_here, flat_over}
 use Rattle.btr_scrub.proofs.missing.missing_device.Goals as goal

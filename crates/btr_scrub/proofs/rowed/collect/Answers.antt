@@ -1,4 +1,4 @@
-use Rattle.std.proofs.Common.{◌≡◌, ◌++◌, Ok, Some, refl, sym, ap, ◌∙◌, subst}
+use Rattle.std.proofs.Common.{◌++◌, sym, ap, ◌∙◌, subst}
 use Rattle.btr_scrub.specs.Rowing.{BeginsElse}
 use Rattle.btr_scrub.proofs.InRows.{collects_first, collects_more}
 use Rattle.btr_scrub.proofs.rowed.collect.Goals as goal

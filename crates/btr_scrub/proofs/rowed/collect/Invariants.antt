@@ -1,6 +1,4 @@
-use Rattle.std.proofs.Common.{◌≡◌, List, ◌∷◌, ◌++◌, Some, length}
-use Rattle.btr_read.specs.Want.{addr_of}
-use Rattle.btr_read.specs.declared.want.Want.{Want}
+use Rattle.std.proofs.Common.{length}
 use Rattle.btr_scrub.proofs.InRows.{CollectsSoFar}
 use Rattle.btr_scrub.proofs.rowed.collect.Given as goal
 

@@ -1,4 +1,4 @@
-use Rattle.std.proofs.Common.{◌≡◌, length, Ok, Err, sym, ap, ◌∙◌, subst}
+use Rattle.std.proofs.Common.{◌≡◌, length, sym, ap, ◌∙◌, subst}
 use Rattle.btr_row.specs.Mending.{IsRowOf}
 use Rattle.btr_scrub.specs.Scrubbing.{counted_row}
 use Rattle.btr_scrub.proofs.OneRow.{as_many, has_room, row_in_stripe, scrubs_row, scrubs_row_not}

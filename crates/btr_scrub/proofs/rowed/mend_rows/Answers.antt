@@ -1,4 +1,4 @@
-use Rattle.std.proofs.Common.{◌≡◌, ◌+◌, ◌∷◌, ◌++◌, ◌<◌, length, None, Ok, Err, Some, IsSome, is_some, IsSomeAnd, slice_get, refl, sym, ap, ◌∙◌, subst, arith, length-append}
+use Rattle.std.proofs.Common.{◌≡◌, ◌+◌, ◌∷◌, ◌<◌, length, None, Ok, Err, Some, is_some, IsSomeAnd, slice_get, refl, sym, ap, ◌∙◌, subst, arith, length-append}
 use Rattle.std.proofs.lemmas.Option.{same_Some}
 use Rattle.btr_chunk.specs.Chunk.{mirrors}
 use Rattle.btr_chunk.specs.Table.{chunk_at}
@@ -11,7 +11,6 @@ use Rattle.btr_row.specs.Mending.{IsRow, IsRowOf, mended_row}
 use Rattle.btr_row.specs.Rows.{Row, row_writes}
 use Rattle.btr_scrub.specs.Order.{AreApart, targets}
 use Rattle.btr_scrub.specs.Repair.{row_of}
-use Rattle.btr_scrub.specs.Rowing.{Collects, row_in}
 use Rattle.btr_scrub.specs.Scrubbing.{BeginsBehind, HasRooms, IsPastChunk, Scrubs, counted_row}
 use Rattle.btr_scrub.proofs.Blockwise.{have_lengths, next_block}
 use Rattle.btr_scrub.proofs.OneRow.{chunk_of}

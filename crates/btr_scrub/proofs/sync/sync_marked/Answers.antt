@@ -1,4 +1,4 @@
-use Rattle.std.proofs.Common.{◌≡◌, ◌+◌, false, get_or, Ok, sym, ap, ◌∙◌, subst, arith}
+use Rattle.std.proofs.Common.{false, get_or, Ok, ◌∙◌, arith}
 use Rattle.std.proofs.lemmas.List.{get_or-set_other}
 use Rattle.btr_read.proofs.Keeping.{none_more}
 use Rattle.btr_scrub.specs.Scrubbing.{SyncsOne}

@@ -1,4 +1,3 @@
-use Rattle.std.proofs.Common.{◌≡◌, length}
 use Rattle.btr_scrub.proofs.Syncs.{SyncedSoFar}
 use Rattle.btr_scrub.proofs.sync.sync_marked.Given as goal
 

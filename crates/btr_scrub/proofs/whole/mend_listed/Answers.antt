@@ -1,4 +1,4 @@
-use Rattle.std.proofs.Common.{◌≡◌, ◌≤◌, length, Err, refl, sym, ap, ◌∙◌, arith}
+use Rattle.std.proofs.Common.{Err, refl, arith}
 use Rattle.btr_mend.specs.declared.mended.MendFault.TheVariants.{Memory}
 use Rattle.btr_scrub.specs.Listed.{kept_wants}
 use Rattle.btr_scrub.specs.Scrubbing.{all_count_for, all_writes_for}

@@ -1,4 +1,4 @@
-use Rattle.std.proofs.Common.{◌≡◌, [], Ok, Err, refl, sym, ap, ◌∙◌, subst, arith}
+use Rattle.std.proofs.Common.{[], Ok, Err, refl, sym, ap, ◌∙◌, subst, arith}
 use Rattle.btr_prog.specs.Answers.{Follows, no_part}
 use Rattle.btr_prog.specs.Prog.{exec}
 use Rattle.btr_read.specs.Layout.{Layout}
@@ -9,7 +9,7 @@ use Rattle.btr_scrub.specs.Judging.{Judged}
 use Rattle.btr_scrub.specs.Order.{AreApart}
 use Rattle.btr_scrub.specs.Units.{units_in}
 use Rattle.btr_scrub.proofs.Unitwise.{units_apart}
-use Rattle.btr_scrub.specs.Whole.{Listed, Refused, Stopped}
+use Rattle.btr_scrub.specs.Whole.{Refused, Stopped}
 use Rattle.btr_scrub.proofs.whole.scrub.Goals as goal
 
 pub returns-in-Err-clause-scrubs : goal.returns-in-Err-clause-scrubs
