@@ -1,13 +1,16 @@
+ghost use Rattle.std.specs.Prelude.{◌≡◌, ◌<◌, [], length, OnOk};
+ghost use Rattle.btr_mend.specs.Writes.{AreWritable};
+ghost use Rattle.btr_rack.specs.Memory.{slots_of};
 ghost use Rattle.btr_scrub.specs.Listed.{IsList};
 
 use crate::listed::Listed;
 use crate::reader::{Reader, read_all};
 use crate::{
-    bad_block_is_wrong, block_of_element, chunks_are_synced, differing_parity_is_wrong,
+    Tally, bad_block_is_wrong, block_of_element, chunks_are_synced, differing_parity_is_wrong,
     elements_apart, elements_are_slices, few_bytes, list_blocks, listed_writes, parity_of_ranges,
     part_stands, right_stays, row_gives_blocks, row_outlives_writes, row_survives,
-    row_writes_are_wrong, some_candidate_is_right, stopped_keeps_the_rest, works_keep_the_rest,
-    writes_keep_the_rest,
+    row_writes_are_wrong, scrub, some_candidate_is_right, stopped_keeps_the_rest,
+    works_keep_the_rest, writes_keep_the_rest,
 };
 use btr_base::{Sum, SumKind};
 use btr_make::{RowVolume, row};
@@ -112,5 +115,79 @@ fn laws_do_nothing(_: HostRuntime) -> Result<(), Fail> {
     stopped_keeps_the_rest();
     works_keep_the_rest();
     writes_keep_the_rest();
+    Ok(())
+}
+
+// Opens an image more, to be written.
+fn open_to_write(rack: &mut MemRack, name: &str) -> Result<(), Fail>
+    requires { AreWritable (slots_of rack.old) }
+    ensures writable { OnOk result (AreWritable (slots_of rack.new)) }
+    ensures some { OnOk result (0 < length (slots_of rack.new)) }
+{
+    rack.open(name, true)?;
+    Ok(())
+}
+
+// What scrub of the images of a rack comes to.
+fn scrubbed(alloc: Global, write: bool, rack: &mut MemRack) -> Option<Tally>
+    requires some { 0 < length (slots_of rack.old) }
+    requires writable { AreWritable (slots_of rack.old) }
+    ensures some { 0 < length (slots_of rack.new) }
+    ensures writable { AreWritable (slots_of rack.new) }
+{
+    let Ok(mut volume) = Volume::open(alloc, rack) else {
+        return None;
+    };
+    if volume.sup.nodesize < 4096 {
+        return None;
+    }
+    match scrub(alloc, write, rack, &mut volume) {
+        Ok(tally) => Some(tally),
+        Err(_) => None,
+    }
+}
+
+// The counts of eight checked blocks.
+const fn counts(bad: u64, repaired: u64, parity: u64) -> Option<Tally> {
+    Some(Tally {
+        blocks: 8,
+        bad,
+        repaired,
+        lost: 0,
+        parity,
+        unchecked: 0,
+    })
+}
+
+// Scrubs a volume whose tree block has a bad copy: only reading, writing, and again.
+#[test]
+fn a_bad_copy_is_mended(rt: HostRuntime) -> Result<(), Fail> {
+    let alloc = rt.alloc();
+    let mut rack = row(alloc, RowVolume::V1d)?;
+    let was = rack.byte("a", 2146404);
+    rack.poke("a", 2146404, &[0x5a])?;
+    assert_eq!(rt; rack.count(), 0);
+    open_to_write(&mut rack, "a")?;
+    assert_eq!(rt; scrubbed(alloc, false, &mut rack), counts(1, 0, 0));
+    assert_eq!(rt; rack.byte("a", 2146404), Some(0x5a));
+    assert_eq!(rt; scrubbed(alloc, true, &mut rack), counts(1, 1, 0));
+    assert_eq!(rt; rack.byte("a", 2146404), was);
+    assert_eq!(rt; scrubbed(alloc, true, &mut rack), counts(0, 0, 0));
+    Ok(())
+}
+
+// Scrubs a volume in RAID5 of which a byte of P is wrong.
+#[test]
+fn a_parity_is_mended(rt: HostRuntime) -> Result<(), Fail> {
+    let alloc = rt.alloc();
+    let mut rack = row(alloc, RowVolume::W5)?;
+    let was = rack.byte("c", 10485760);
+    rack.poke("c", 10485760, &[0x5a])?;
+    assert_eq!(rt; rack.count(), 0);
+    open_to_write(&mut rack, "a")?;
+    open_to_write(&mut rack, "b")?;
+    open_to_write(&mut rack, "c")?;
+    assert_eq!(rt; scrubbed(alloc, true, &mut rack), counts(0, 0, 1));
+    assert_eq!(rt; rack.byte("c", 10485760), was);
     Ok(())
 }
