@@ -1,9 +1,10 @@
 // Words that begin as `check` does, and images that aren't checked.
-use super::answers;
+use super::{answers, called, words};
 use btr_make::{RowVolume, put_super, row};
-use btr_rack::{MemRack, Rack, RackError};
+use btr_rack::{MemOut, MemRack, MemTree, Rack, RackError};
 use btr_super::{Super, read_slot};
 use std::alloc::Global;
+use std::process::Abort;
 use std::test::Fail;
 
 const DATA: &str = "--check-data-csum";
@@ -50,4 +51,38 @@ fn one_device_twice(rt: HostRuntime) -> Result<(), Fail> {
     put_super(&mut rack, "b", 65536, &first)?;
     let expected = b"error: image 1 repeats a device\n";
     answers(&rt, alloc, &mut rack, &["check", "a", "b"], expected, 3)
+}
+
+const UNREAD: &[u8] = b"error: unread block 1048576 on image 0\n";
+
+// A call on the image fails: the chunk tree's block, which has one copy, couldn't be read, or another copy is there.
+fn mends_or_names(rt: &impl Abort, alloc: Global, n: u64) -> Result<(), Fail> {
+    let mut rack = row(alloc, RowVolume::V1d)?;
+    rack.fail_call(n)?;
+    let mut out = MemOut::new(alloc);
+    let words = words(alloc, &["check", "a"])?;
+    assert_eq!(rt; rack.count(), 0);
+    let answer = called(alloc, &words, &mut rack, &mut MemTree::new(alloc), &mut out);
+    let expected: &[u8] = if answer.code() == 0 {
+        b"no findings\n"
+    } else {
+        UNREAD
+    };
+    assert_eq!(rt; out.text(), expected);
+    Ok(())
+}
+
+#[test]
+fn calls_that_fail(rt: HostRuntime) -> Result<(), Fail> {
+    let alloc = rt.alloc();
+    for n in [1u64, 2] {
+        let rack = &mut row(alloc, RowVolume::V1d)?;
+        rack.fail_call(n)?;
+        let expected = b"error: image 0 failed\n";
+        answers(&rt, alloc, rack, &["check", "a"], expected, 4)?;
+    }
+    for n in 3..=30u64 {
+        mends_or_names(&rt, alloc, n)?;
+    }
+    Ok(())
 }
