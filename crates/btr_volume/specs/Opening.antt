@@ -162,10 +162,11 @@ OpenCause old new (Err (Limit which n)) = IsCounted which
 OpenCause old new (Err Memory) = ⊤
 OpenCause old new (Err refusal) = NoneFailed old.account new.account
 
--- a volume can be read from a rack, and no loan is live
+-- a volume can be read from a rack, no loan is live, and its nodes are as long as its superblock says
 pub record IsFresh (rack : Seen) (volume : Volume) : Type 0 where
   pub serves : Serves rack volume.store
   pub loans : volume.store.loans ≡ replicate 24 None
+  pub nodesize : volume.sup.nodesize ≡ volume.store.layout.setting.nodesize
 
 -- A volume is the one of these images: its superblock is the newest, its devices are the images, and its chunks are those of the chunk tree.
 pub record IsVolumeOf (images : Images) (volume : Volume) : Type 0 where

@@ -57,6 +57,7 @@ fn new_store(alloc: Global, s: &Super) -> Result<Store, OpenFault>
     requires small { s.now.nodesize ≤ 65536 }
     requires array { s.now.sys_chunk_array_size ≤ 2048 }
     ensures store { MakesStore s.now result }
+    ensures nodesize { IfOk result (λ store. store.layout.setting.nodesize ≡ s.now.nodesize) }
     ensures early { NoneAtFault result }
 {
     let Some(kind) = SumKind::from_type(s.csum_type) else {

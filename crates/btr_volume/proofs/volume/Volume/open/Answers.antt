@@ -51,6 +51,7 @@ returns-clause-fresh g c =
     record {
       serves = served_anew new c.read_table.new.store c.replace_chunks.new.self c.in_ok-chunks.chunks c.in_ok-chunks.ensures.serves c.replace_chunks.ensures;
       loans = ap (λ (s : Blocks). s.loans) c.replace_chunks.ensures ∙ c.in_ok-chunks.ensures.loans.loans ∙ c.in_ok-volume.ensures.fresh.loans;
+      nodesize = c.in_ok-volume.ensures.fresh.nodesize ∙ sym (ap (λ (s : Blocks). s.layout.setting.nodesize) c.replace_chunks.ensures ∙ ap (λ (l : Layout). l.setting.nodesize) c.in_ok-chunks.ensures.loans.layout);
     }
 
 pub returns-clause-content : goal.returns-clause-content
