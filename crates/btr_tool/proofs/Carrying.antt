@@ -365,9 +365,6 @@ module _ (words names : Words) (plan : Plan) (sentence : IsSentence plan words) 
       };
     }
       where
-        since : {slot : ℕ} → ImageFails plan.command mid new slot → ImageFails plan.command old new slot
-        since fails = ⊎_elim (λ super. inl (super_since super)) (λ own. inr (own.0, (own.1.0, own_since own.1.1))) fails
-
         own_since : {layout : Layout} {slot : ℕ} → IsUnmended layout mid new slot → IsUnmended layout old new slot
         own_since failed = record {
           place = failed.place;
@@ -391,6 +388,9 @@ module _ (words names : Words) (plan : Plan) (sentence : IsSentence plan words) 
           fresh = failed.fresh;
           shut = failed.shut ∙ opened.shut;
         }
+
+        since : {slot : ℕ} → ImageFails plan.command mid new slot → ImageFails plan.command old new slot
+        since fails = ⊎_elim (λ super. inl (super_since super)) (λ own. inr (own.0, (own.1.0, own_since own.1.1))) fails
 
     same_slots : new.slots ≡ mid.slots
     same_slots = ap (λ (s : Seen). s.slots) behind.keeps.same

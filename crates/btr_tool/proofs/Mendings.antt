@@ -80,6 +80,19 @@ told_at o Q x is told = subst (λ (p : Option _). IfSome p Q) is told
 the_images : (a b : Images) → ◌≡◌ {A = Option Images} (Some a) (Some b) → a ≡ b
 the_images a b e = cc e
 
+-- what a scrub comes to, leaves and writes, by the filesystem of the images
+outcome_by : (write : Bool) (images : Images) → scrub_outcome write images ≡ scrub_in write images (filesystem_of images)
+unfolding scrub_outcome
+outcome_by write images = refl
+
+images_by : (images : Images) → scrubbed_images images ≡ scrubbed_in images (filesystem_of images)
+unfolding scrubbed_images
+images_by images = refl
+
+writes_by : (images : Images) → mending_writes images ≡ writes_in images (filesystem_of images)
+unfolding mending_writes
+writes_by images = refl
+
 -- nothing was written
 module _ (write : Bool) (old new : Seen) (answer : Answer) (behind : IsBehind MayMend IsNoCrossing old new answer) where
   same_held : new.held ≡ old.held
@@ -108,7 +121,7 @@ not_opened write old new answer result is refusal reads image cause hidden count
     (unwritten write old new answer (unopened_behind answer answer refl refusal IsNoCrossing old new reads image cause hidden counted)
     (record { no_fault = subst IsNoFault (sym refusal.is) (open_no_fault refusal.refusal); line = λ e. open_line refusal.refusal (ap error_line (sym refusal.is) ∙ e) })
     (when_told old.held (λ images. Steady old.account.faults new.account.faults → OpensFilesystem images (Err answer)) (λ images. Steady old.account.faults new.account.faults → ScrubsTo write images (Err answer))
-    (λ images opens steady. ⊎_elim (λ none. inl (ap (scrub_in write images) none, ap (scrubbed_in images) none)) (λ want. inr want) (opens steady)) content))
+    (λ images opens steady. ⊎_elim (λ none. inl (outcome_by write images ∙ ap (scrub_in write images) none, images_by images ∙ ap (scrubbed_in images) none)) (λ want. inr want) (opens steady)) content))
 
 -- where nothing is to be written, nothing was
 left_nothing : (held left : Option Images) (e : Result (Unit {0}) MendFault) → Leaves (λ images. []) held left e → left ≡ held
@@ -150,8 +163,8 @@ module _ (write : Bool) (old mid : Seen) (first : OnlyReads old mid) (volume : V
   module _ (stripe : Stripe) (missing : first_missing layout ≡ Some stripe) where
     missing_to : (images : Images) → filesystem_of images ≡ Ok (filesystem_in volume) → ScrubsTo write images (Err (MissingDevice stripe.devid))
     missing_to images o = inl (
-      ap (scrub_in write images) o ∙ ap (scrub_unless write images fs) missing,
-      ap (scrubbed_in images) o ∙ ap (λ m. (effect_unless true images fs m).images) missing,
+      outcome_by write images ∙ ap (scrub_in write images) o ∙ ap (scrub_unless write images fs) missing,
+      images_by images ∙ ap (scrubbed_in images) o ∙ ap (λ m. (effect_unless true images fs m).images) missing,
     )
 
     missing_behind : IsBehind MayMend IsNoCrossing old mid (MissingDevice stripe.devid)
@@ -176,8 +189,8 @@ module _ (write : Bool) (old mid : Seen) (first : OnlyReads old mid) (volume : V
     -- the blocks can't be listed
     ending_refused : (images : Images) (f : Fault) → filesystem_of images ≡ Ok (filesystem_in volume) → (meeting images fs).ending ≡ Err f → (scrub_outcome write images ≡ refused (fault_answer f)) × (scrubbed_images images ≡ images)
     ending_refused images f o e = (
-      ap (scrub_in write images) o ∙ ap (scrub_unless write images fs) given ∙ ap (scrub_ended write images fs) e,
-      ap (scrubbed_in images) o ∙ ap (λ m. (effect_unless true images fs m).images) given ∙ ap (λ r. (effect_of_ending true images fs r).images) e,
+      outcome_by write images ∙ ap (scrub_in write images) o ∙ ap (scrub_unless write images fs) given ∙ ap (scrub_ended write images fs) e,
+      images_by images ∙ ap (scrubbed_in images) o ∙ ap (λ m. (effect_unless true images fs m).images) given ∙ ap (λ r. (effect_of_ending true images fs r).images) e,
     )
 
     module _ (why : Stop) (cause : StopCause {A = Tally} layout mid at (Err why)) where
@@ -308,7 +321,7 @@ module _ (write : Bool) (old mid : Seen) (first : OnlyReads old mid) (volume : V
           where
             stopped_at : (images left : Images) → old.held ≡ Some images → new.held ≡ Some left → Both Is images → IsStopped (mending_writes images) images left
             stopped_at images left told told' h =
-                let mending : writes_if write (ws images) ≡ mending_writes images = ap (λ b. writes_if b (ws images)) is ∙ writes_are images h.1.0 ∙ sym (ap (writes_in images) h.0) in
+                let mending : writes_if write (ws images) ≡ mending_writes images = ap (λ b. writes_if b (ws images)) is ∙ writes_are images h.1.0 ∙ sym (writes_by images ∙ ap (writes_in images) h.0) in
                 subst (λ w. IsStopped w images left) mending
                 (stop_place (λ i. writes_if write (ws i)) images left ended (subst (λ (o : Option Images). Leaves (λ i. writes_if write (ws i)) (Some images) o ended) told' (held_as ended refl images told)))
 
@@ -378,12 +391,12 @@ module _ (write : Bool) (old mid : Seen) (first : OnlyReads old mid) (volume : V
 
             counted : (images : Images) → old.held ≡ Some images → Both Is images → scrub_outcome write images ≡ showing (tally_shown tally)
             counted images told h =
-                ap (scrub_in write images) h.0 ∙ ap (scrub_unless write images fs) given ∙ ap (scrub_ended write images fs) h.1.1 ∙ ap (λ t. showing (tally_shown t)) (sym (tally_is images told h.1.0))
+                outcome_by write images ∙ ap (scrub_in write images) h.0 ∙ ap (scrub_unless write images fs) given ∙ ap (scrub_ended write images fs) h.1.1 ∙ ap (λ t. showing (tally_shown t)) (sym (tally_is images told h.1.0))
 
             stands : (images : Images) → old.held ≡ Some images → write ≡ true → Both Is images → new.held ≡ Some (scrubbed_images images)
             stands images told w h =
                 held_as (Ok u) is images told ∙ ap (λ b. Some (fold write_on images (writes_if b (ws images)))) w ∙ ap (λ l. Some (fold write_on images l)) (writes_are images h.1.0)
-                ∙ sym (ap (λ (i : Images). Some i) (ap (scrubbed_in images) h.0 ∙ ap (λ m. (effect_unless true images fs m).images) given ∙ ap (λ r. (effect_of_ending true images fs r).images) h.1.1))
+                ∙ sym (ap (λ (i : Images). Some i) (images_by images ∙ ap (scrubbed_in images) h.0 ∙ ap (λ m. (effect_unless true images fs m).images) given ∙ ap (λ r. (effect_of_ending true images fs r).images) h.1.1))
 
         pub worked : Scrubs write old new (answered (whole.answer_of ended tally))
         worked = mended ended refl
@@ -393,16 +406,16 @@ module _ (write : Bool) (old mid : Seen) (first : OnlyReads old mid) (volume : V
       → (first_missing layout ≡ None → ScrubsAll volume.sup layout write mid new result) → Scrubs write old new (answered result)
   scrubs_so listed new result missing scrubs = of (first_missing layout) refl missing
     where
-      as : (r : Result Tally Stop) (n : Seen) → result ≡ r → new ≡ n → Scrubs write old n (answered r) → Scrubs write old new (answered result)
-      as r n is same s = subst (λ q. Scrubs write old new (answered q)) (sym is) (subst (λ m. Scrubs write old m (answered r)) (sym same) s)
+      ended_as : (r : Result Tally Stop) (n : Seen) → result ≡ r → new ≡ n → Scrubs write old n (answered r) → Scrubs write old new (answered result)
+      ended_as r n is same s = subst (λ q. Scrubs write old new (answered q)) (sym is) (subst (λ m. Scrubs write old m (answered r)) (sym same) s)
 
       by : (given : first_missing layout ≡ None) (at : Seen) → OnlyReads mid at → (done : List Met) (l : Listing) → Goes volume.sup layout write mid at new done result l → Scrubs write old new (answered result)
-      by given at second done (Stopped why) g = as (Err why) at g.0 g.1 (listing_stopped given at second why g.3 done g.2)
-      by given at second done Listed g = as (whole.answer_of g.1.ended g.1.tally) new g.1.says refl (worked given at second listed new done g.0 g.1.tally g.1.ended g.1.works)
-      by given at second done (Refused f) g = as (Err (stop.Tree f)) at g.0 g.1 (listing_refused given at second f g.2 g.3)
+      by given at second done (Stopped why) g = ended_as (Err why) at g.0 g.1 (listing_stopped given at second why g.3 done g.2)
+      by given at second done Listed g = ended_as (whole.answer_of g.1.ended g.1.tally) new g.1.says refl (worked given at second listed new done g.0 g.1.tally g.1.ended g.1.works)
+      by given at second done (Refused f) g = ended_as (Err (stop.Tree f)) at g.0 g.1 (listing_refused given at second f g.2 g.3)
 
       of : (m : Option Stripe) → first_missing layout ≡ m → IfSome m (λ stripe. (result ≡ Err (stop.Missing stripe.devid)) × (new ≡ mid)) → Scrubs write old new (answered result)
-      of (Some stripe) is gone = as (Err (stop.Missing stripe.devid)) mid gone.0 gone.1 (lacking stripe is)
+      of (Some stripe) is gone = ended_as (Err (stop.Missing stripe.devid)) mid gone.0 gone.1 (lacking stripe is)
       of None is gone = let s = scrubs is in by is s.mid s.reads s.done s.listing s.goes
 
 -- The scrub was refused, before any text.

@@ -50,7 +50,7 @@ scrub_in write images (Ok fs) = scrub_unless write images (filesystem_as fs) (fi
 scrub_in write images (Err answer) = refused answer
 
 -- what scrubbing the filesystem of some images comes to, where it writes or only reads
-abbrev pub scrub_outcome : Bool → Images → Outcome
+unfoldable pub scrub_outcome : Bool → Images → Outcome
 scrub_outcome write images = scrub_in write images (filesystem_of images)
 
 -- what scrubbing may come to, whatever the blocks are, beside refusals before anything else: some counts
@@ -63,7 +63,7 @@ scrubbed_in images (Ok fs) = (effect true images (filesystem_as fs)).images
 scrubbed_in images (Err answer) = images
 
 -- the images behind a scrub that writes: those with the writes done that mend the filesystem
-abbrev pub scrubbed_images : Images → Images
+unfoldable pub scrubbed_images : Images → Images
 scrubbed_images images = scrubbed_in images (filesystem_of images)
 
 abbrev pub writes_in : Images → Result Filesystem Answer → List Write
@@ -71,5 +71,5 @@ writes_in images (Ok fs) = writes images (filesystem_as fs)
 writes_in images (Err answer) = []
 
 -- the writes that mend the filesystem of some images, in their order
-abbrev pub mending_writes : Images → List Write
+unfoldable pub mending_writes : Images → List Write
 mending_writes images = writes_in images (filesystem_of images)

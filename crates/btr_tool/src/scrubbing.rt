@@ -51,7 +51,7 @@ pub(crate) fn scrub_images<R: Rack, O: Out>(
 fn scrub_filesystem<R: Rack>(alloc: Global, write: bool, rack: &mut R) -> Result<Tally, Answer>
     requires open { 0 < length (R.seen rack.old).slots }
     requires writable { write ≡ true → AreWritable (R.seen rack.old).slots }
-    ensures scrubs { Scrubs write (R.seen rack.old) (R.seen rack.new) result }
+    ensures { Scrubs write (R.seen rack.old) (R.seen rack.new) result }
 {
     listed_writes();
     let mut volume = open_filesystem(alloc, rack)?;
