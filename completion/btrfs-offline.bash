@@ -10,8 +10,8 @@ _btrfs_offline() {
     COMPREPLY=()
     [[ ${COMP_WORDS[1]-} == --build ]] && first=2
     if ((COMP_CWORD <= first)); then
-        local words='super inspect-internal check restore help --help -h --version --build'
-        ((first == 2)) && words='super inspect-internal check restore'
+        local words='super inspect-internal check scrub restore help --help -h --version --build'
+        ((first == 2)) && words='super inspect-internal check scrub restore'
         mapfile -t COMPREPLY < <(compgen -W "$words" -- "$current")
         return
     fi
@@ -41,6 +41,15 @@ _btrfs_offline() {
             return
         fi
         _btrfs_offline_images "$current"
+        ;;
+    scrub)
+        if ((COMP_CWORD == first + 1)); then
+            mapfile -t COMPREPLY < <(compgen -W 'start --help -h' -- "$current")
+        elif [[ $current == -* ]]; then
+            ((COMP_CWORD == first + 2)) && mapfile -t COMPREPLY < <(compgen -W '-r --help -h' -- "$current")
+        else
+            _btrfs_offline_images "$current"
+        fi
         ;;
     restore)
         if [[ ${COMP_WORDS[COMP_CWORD - 1]} == -r ]]; then

@@ -124,7 +124,7 @@ unopened_agreed read_data old new answer result is text account = of old.held re
 -- The filesystem is open.
 module _ (read_data : Bool) (old mid new : Seen) (first : OnlyReads old mid) (volume : Volume) (opens : IfSome old.held (λ images. OpensAs images old mid (Ok volume))) where
   -- what was told of it: where the images agree, it is theirs
-  agreeing : (P : Map → Type 0) (Q : Images → Type 0) → ((images : Images) → filesystem_of images ≡ Ok (filesystem_in volume) → P (fate images volume.store.layout) → Q images) → Tells volume.store.layout mid new P
+  pub agreeing : (P : Map → Type 0) (Q : Images → Type 0) → ((images : Images) → filesystem_of images ≡ Ok (filesystem_in volume) → P (fate images volume.store.layout) → Q images) → Tells volume.store.layout mid new P
       → IfSome old.held (λ images. AreAgreed images → Q images)
   agreeing P Q then tells = of old.held refl opens
     where

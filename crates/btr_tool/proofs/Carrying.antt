@@ -1,12 +1,13 @@
 -- What doing what the words say comes to, by the step that ended it.
 use Rattle.std.proofs.Common.{◌≡◌, ◌≢◌, inl, inr, ⊎_elim, Bool, true, false, ltb, cond, ℕ, ◌<◌, ◌≤◌, ◌-◌, List, [], get_or, length, map, take, drop, String, Option, Some, None, Ok, Err, refl, sym, ap, ◌∙◌, subst, arith}
+use Rattle.std.specs.List.{All}
 use Rattle.std.specs.Option.{IfSome, option_and_then}
 use Rattle.std.specs.String.{string_bytes}
 use Rattle.std.specs.declared.alloc.Global.{Global}
 use Rattle.std.proofs.lemmas.Bool.{cases_lt}
 use Rattle.std.proofs.lemmas.Bool.Decides.{nat_tests}
 use Rattle.std.proofs.lemmas.List.{drop-map, take_rest}
-use Rattle.btr_rack.specs.Rack.{Seen, Rose, Steady, NoneFailed, Shelf}
+use Rattle.btr_rack.specs.Rack.{Seen, Slot, Rose, Steady, NoneFailed, Shelf}
 use Rattle.btr_files.specs.declared.plan.RestorePlan.{RestorePlan}
 use Rattle.btr_prog.specs.Answers.{Broke}
 use Rattle.btr_read.specs.Fate.{choices}
@@ -17,24 +18,26 @@ use Rattle.btr_volume.specs.Start.{Start}
 use Rattle.btr_walk.specs.Reading.{FaultCause}
 use Rattle.btr_tool.specs.Agreeing.{AreAgreed, FollowsCheck, IsCheckOrUnread}
 use Rattle.btr_tool.specs.Answers.{error_line}
-use Rattle.btr_tool.specs.Behind.{IsBehind, IsFault}
+use Rattle.btr_tool.specs.Behind.{IfSteady, IsFault}
 use Rattle.btr_tool.specs.Causes.{IsBehindWords, opened_with}
-use Rattle.btr_tool.specs.Commands.{command_outcome, MayCome, MayFail, MayWant, TellsCause}
+use Rattle.btr_tool.specs.Commands.{ImageFails, IsBehindCommand, IsScrub, IsUnmended, command_outcome, MayCome, MayWant, opens_to_write}
 use Rattle.btr_tool.specs.Effects.{FollowsWords, IsDecided, IsOutcome, MayFollow, MayWantBy, images_outcome}
-use Rattle.btr_tool.specs.Images.{AreUnchanged, IsMissing, most_images, taken}
+use Rattle.btr_tool.specs.Images.{AreOpenedAs, AreUnchanged, IsMissing, most_images, taken}
 use Rattle.btr_tool.specs.Opening.{HasTooMany, OpeningCause, OpeningFailed, OpensAll, opening_answer}
 use Rattle.btr_tool.specs.Order.{FollowsOrder, InOrder, KeepsTo}
 use Rattle.btr_tool.specs.Outcomes.{Outcome, refused, Comes, IsNoFault, OrBare, OrMemory}
+use Rattle.btr_tool.specs.Repaired.{AreLeft, AsksToWrite, KeepsRepair, LeavesImages, ScrubsFrom}
+use Rattle.btr_tool.specs.Scrubbed.{mending_writes, scrubbed_images}
 use Rattle.btr_tool.specs.Words.{Words, IsSentence, IsUsageAt, images_of}
 use Rattle.btr_tool.specs.declared.plan.Command.{Command}
-use Rattle.btr_tool.specs.declared.plan.Command.TheVariants.{Check, Restore}
+use Rattle.btr_tool.specs.declared.plan.Command.TheVariants.{Super, Dump, Roots, Check, Restore, Scrub}
 use Rattle.btr_tool.specs.declared.plan.Plan.{Plan}
 use Rattle.btr_tool.specs.declared.opening.OpeningFault.{OpeningFault}
 use Rattle.btr_tool.specs.declared.opening.OpeningFault.TheVariants.{TooMany, Failed, Memory as memory_fault}
 use Rattle.btr_volume.specs.Opening.{SuperUnread}
 use Rattle.btr_volume.specs.declared.which.Which.TheVariants.{Images as images_limit}
 use Rattle.btr_tool.specs.declared.answer.Answer.{Answer}
-use Rattle.btr_tool.specs.declared.answer.Answer.TheVariants.{Usage, Limit, ImageFault, SinkFault, OutFault}
+use Rattle.btr_tool.specs.declared.answer.Answer.TheVariants.{Usage, Limit, ImageFault, SinkFault, OutFault, Memory}
 use Rattle.btr_tool.proofs.Causing.{none_failed_yet, none_failed_twice, opened_again}
 use Rattle.btr_tool.proofs.Coming.{comes_bare, comes_also}
 use Rattle.btr_tool.proofs.Faulting.{no_tree, tree_in}
@@ -64,6 +67,16 @@ usage_once words at other a b = of (le at other a b) (le other at b a)
     le : (i j : ℕ) → IsUsageAt words i → IsUsageAt words j → i ≤ j
     le i j x y = ⊎_elim (λ past. absurd (y.longest i past x.within x.begins)) (λ le. le) (cases_lt j i)
 
+-- images that are as they were
+pub as_they_were : (calm : Type 0) (images left : Images) (answer : Answer) → left ≡ images → LeavesImages calm images left answer
+as_they_were calm images left answer same = record { stopped = λ sure. record { before = []; behind = mending_writes images; place = refl; stands = inl same }; unchanged = inl same }
+
+as_opened : (calm : Type 0) (shelf : Option Shelf) (held : Option Images) (slots : List Slot) (answer : Answer) → IfSome shelf (λ at. IfSome held (λ images. taken (map (λ s. s.name) slots) at ≡ Some images))
+    → IfSome shelf (λ at. IfSome held (λ left. (images : Images) × (taken (map (λ s. s.name) slots) at ≡ Some images) × LeavesImages calm images left answer))
+as_opened calm None held slots answer opens = tt
+as_opened calm (Some at) None slots answer opens = tt
+as_opened calm (Some at) (Some images) slots answer opens = (images, opens, as_they_were calm images images answer refl)
+
 -- words that are no sentence
 module _ (words : Words) (at : ℕ) (usage : IsUsageAt words at) where
   usage_no_fault : IsNoFault (Usage at)
@@ -81,6 +94,12 @@ module _ (words : Words) (at : ℕ) (usage : IsUsageAt words at) where
 
   pub usage_checked : (shelf : Option Shelf) (x : Outside) → IfSome shelf (λ s. FollowsCheck words s x x (Usage at))
   usage_checked shelf x = all_told shelf _ (λ s read_data images from. absurd (usage.no_sentence _ from.sentence))
+
+  pub usage_repaired : (shelf : Option Shelf) (steady : Type 0) (held : Option Images) → IfSome shelf (λ s. steady → Usage at ≢ Memory → KeepsRepair words s held)
+  usage_repaired shelf steady held = all_told shelf _ (λ s calm enough images from. absurd (usage.no_sentence _ from.sentence))
+
+  pub usage_left : AsksToWrite words → ⊥
+  usage_left asks = usage.no_sentence asks.0 asks.1
 
   pub usage_decided : (answer : Answer) → IsDecided words answer → Usage at ≡ answer
   usage_decided answer decided =
@@ -150,11 +169,11 @@ module _ (words names : Words) (plan : Plan) (sentence : IsSentence plan words) 
       (λ many. let same = ap (λ p. length (images_of p words)) (one_plan words many.0 plan many.1 sentence) ∙ ap length named in (subst (λ n. most_images < n) same many.2, many.3 ∙ ap (λ n. Limit images_limit n) same)) decided
 
   -- the images aren't open
-  module _ (old new : Seen) (fault : OpeningFault) (many : HasTooMany names (Err fault)) (cause : OpeningCause names old new (Err fault)) where
+  module _ (old new : Seen) (fault : OpeningFault) (many : HasTooMany names (Err fault)) (cause : OpeningCause (opens_to_write plan.command) names old new (Err fault)) where
     opening_comes : (shelf : Shelf) (x : Outside) → Steady old.account.faults new.account.faults → Comes (MayWantBy words x.out_calls) (OrMemory (IsOutcome words shelf)) x x (opening_answer fault)
     opening_comes shelf x steady = comes_bare (MayWantBy words x.out_calls) (OrMemory (IsOutcome words shelf)) x (opening_answer fault) (of fault many cause) (opening_no_fault fault)
       where
-        of : (f : OpeningFault) → HasTooMany names (Err f) → OpeningCause names old new (Err f) → OrMemory (IsOutcome words shelf) (refused (opening_answer f))
+        of : (f : OpeningFault) → HasTooMany names (Err f) → OpeningCause (opens_to_write plan.command) names old new (Err f) → OrMemory (IsOutcome words shelf) (refused (opening_answer f))
         of (TooMany count) many cause =
             inl (outcome_is shelf (refused (Limit images_limit count)) (limit_outcome plan.command words names shelf (omega (arith, many.0, many.1)) ∙ ap (λ n. Some (refused (Limit images_limit n))) (sym many.0)))
         of (Failed slot) many cause = absurd (steady_not_rose old.account.faults new.account.faults steady cause.faults)
@@ -195,6 +214,30 @@ module _ (words names : Words) (plan : Plan) (sentence : IsSentence plan words) 
         of read_data images few (Failed slot) many = inr (inr (inl (slot, refl)))
         of read_data images few memory_fault many = inr (inr (inr refl))
 
+    pub opening_unchanged : AreOpenedAs (opens_to_write plan.command) old.shelf new.slots new.held → (AsksToWrite words → ⊥) → AreUnchanged old.shelf new.slots new.held
+    opening_unchanged opens never = of (opens_to_write plan.command) refl opens
+      where
+        of : (write : Bool) → opens_to_write plan.command ≡ write → AreOpenedAs write old.shelf new.slots new.held → AreUnchanged old.shelf new.slots new.held
+        of true is opens = absurd (never (plan, sentence, is))
+        of false is opens = opens
+
+    pub opening_repaired : (result : Answer) → result ≡ opening_answer fault
+        → IfSome old.shelf (λ shelf. Steady old.account.faults new.account.faults → result ≢ Memory → KeepsRepair words shelf new.held)
+    opening_repaired result is =
+        all_told old.shelf _ (λ s steady enough images from.
+        absurd (of (subst (λ l. length l ≤ most_images) (ap (λ (q : Plan). images_of q words) (one_plan words _ plan from.sentence sentence) ∙ named) from.few) steady fault many cause (λ e. enough (is ∙ e))))
+      where
+        of : length names ≤ most_images → Steady old.account.faults new.account.faults → (f : OpeningFault) → HasTooMany names (Err f) → OpeningCause (opens_to_write plan.command) names old new (Err f) → opening_answer f ≢ Memory → ⊥
+        of few steady (TooMany count) many cause enough = omega (arith, few, many.0, many.1)
+        of few steady (Failed slot) many cause enough = steady_not_rose old.account.faults new.account.faults steady cause.faults
+        of few steady memory_fault many cause enough = enough refl
+
+    pub opening_left : (calm : Type 0) (result : Answer) → AreOpenedAs (opens_to_write plan.command) old.shelf new.slots new.held → AsksToWrite words → AreLeft calm old.shelf new.slots new.held result
+    opening_left calm result opens asks = (subst (λ b. All (λ (s : Slot). s.write ≡ b) new.slots) writes opens.0, as_opened calm old.shelf new.held new.slots result opens.1)
+      where
+        writes : opens_to_write plan.command ≡ true
+        writes = ap (λ (q : Plan). opens_to_write q.command) (one_plan words plan asks.0 sentence asks.1) ∙ asks.2
+
     pub opening_decided : (result answer : Answer) → result ≡ opening_answer fault → IsDecided words answer → (most_images < length names) × (result ≡ answer)
     opening_decided result answer is decided = let all = too_many_decided answer decided in (all.0, is ∙ of fault many all.0 ∙ sym all.1)
       where
@@ -226,12 +269,12 @@ module _ (words names : Words) (plan : Plan) (sentence : IsSentence plan words) 
           tree = λ fault e. absurd (no_tree (opening_answer f) (opening_no_tree f) fault e);
         }
 
-        of : (f : OpeningFault) → OpeningCause names old new (Err f) → ((slot : ℕ) → f ≡ Failed slot → old.sure ≡ true → IsMissing names old.shelf slot) → IsBehindWords words old new (opening_answer f)
+        of : (f : OpeningFault) → OpeningCause (opens_to_write plan.command) names old new (Err f) → ((slot : ℕ) → f ≡ Failed slot → old.sure ≡ true → IsMissing names old.shelf slot) → IsBehindWords words old new (opening_answer f)
         of (TooMany count) cause sure = calm (TooMany count) cause (λ slot e. cc)
         of memory_fault cause sure = calm memory_fault cause (λ slot e. cc)
         of (Failed slot) failed sure =
-            let failed' = subst (λ l. OpeningFailed l new.slots old.account new.account slot) (sym named) failed in record {
-              image = λ other is. record { plan = plan; sentence = sentence; failed = inl (subst (OpeningFailed (images_of plan words) new.slots old.account new.account) (cc) failed') };
+            let failed' = subst (λ l. OpeningFailed (opens_to_write plan.command) l new.slots old.account new.account slot) (sym named) failed in record {
+              image = λ other is. record { plan = plan; sentence = sentence; failed = inl (subst (OpeningFailed (opens_to_write plan.command) (images_of plan words) new.slots old.account new.account) (cc) failed') };
               shut = λ more. (slot, refl, record { plan = plan; sentence = sentence; failed = failed' });
               hidden = inr (inl (inl (slot, refl)));
               sure = λ other is certain. record {
@@ -243,7 +286,7 @@ module _ (words names : Words) (plan : Plan) (sentence : IsSentence plan words) 
             }
 
   -- the images are open, and the command was done, or not
-  module _ (old mid new : Seen) (few : length names ≤ most_images) (opened : NoneFailed old.account mid.account) (answer : Answer) (behind : IsBehind (MayFail plan.command) (TellsCause plan.command) mid new answer) where
+  module _ (old mid new : Seen) (few : length names ≤ most_images) (opened : NoneFailed old.account mid.account) (answer : Answer) (behind : IsBehindCommand plan.command mid new answer) where
     may_want : (x : Outside) → MayWant plan.command x.out_calls → MayWantBy words x.out_calls
     may_want x may = ⊎_elim (λ scarce. inl scarce) (λ writes. inr (plan, sentence, writes)) may
 
@@ -283,7 +326,7 @@ module _ (words names : Words) (plan : Plan) (sentence : IsSentence plan words) 
         of (Some at) (Some held) opens order = λ p dest images from.
             let one = one_plan words _ plan from.sentence sentence in
             let same : ◌≡◌ {A = Option Images} (Some held) (Some images) = sym opens ∙ sym (ap (λ (q : Plan). taken (images_of q words) at) one ∙ ap (λ l. taken l at) named) ∙ from.from in
-            subst (λ before. InOrder p dest images before new x y answer) (opened_again old mid new opened behind.reads.same)
+            subst (λ before. InOrder p dest images before new x y answer) (opened_again old mid new opened (behind.reads (λ scrub. subst IsScrub (sym (ap (λ (q : Plan). q.command) one)) scrub)).same)
             (subst (λ d. InOrder p d images mid new x y answer) from.named
             (subst (λ i. InOrder p (get_or words from.number []) i mid new x y answer) (the_images held images same) (order from.number p (sym (ap (λ (q : Plan). q.command) one)))))
 
@@ -312,18 +355,31 @@ module _ (words names : Words) (plan : Plan) (sentence : IsSentence plan words) 
     pub command_cause : mid.sure ≡ old.sure → IsBehindWords words old new answer
     command_cause kept = record {
       image = λ slot is. record { plan = plan; sentence = sentence; failed = inr (since (behind.image slot is)) };
-      shut = λ more. absurd (omega (arith, more, behind.reads.same_shut, opened.shut));
+      shut = λ more. absurd (omega (arith, more, behind.keeps.same_shut, opened.shut));
       hidden = ⊎_elim (λ none. inl (none_failed_twice old.account mid.account new.account opened none)) (λ rest. ⊎_elim (λ fault. inr (inl fault)) (λ may. inr (inr (plan, sentence, may))) rest) behind.hidden;
-      sure = λ slot is certain. absurd (cc (sym certain ∙ sym kept ∙ (behind.image slot is).unsure));
+      sure = λ slot is certain. absurd (⊎_elim (λ super. cc (sym certain ∙ sym kept ∙ super.unsure)) (λ own. cc (sym certain ∙ sym kept ∙ own.1.1.unsure)) (behind.image slot is));
       tree = λ fault e. record {
         plan = plan;
         sentence = sentence;
-        cause = λ told. subst (λ s. (layout : Layout) × FaultCause layout s new fault) (opened_again old mid new opened behind.reads.same) (behind.tree fault e told);
+        cause = λ told. let tree = behind.tree fault e in subst (λ s. (layout : Layout) × FaultCause layout s new fault) (opened_again old mid new opened tree.0.same) (tree.1 told);
       };
     }
       where
-        since : {slot : ℕ} → SuperUnread mid new slot → SuperUnread old new slot
-        since failed = record {
+        own_since : {layout : Layout} {slot : ℕ} → IsUnmended layout mid new slot → IsUnmended layout old new slot
+        own_since failed = record {
+          place = failed.place;
+          of_scrub = failed.of_scrub;
+          on_slot = failed.on_slot;
+          unsure = sym kept ∙ failed.unsure;
+          last = failed.last;
+          no_opening = failed.no_opening;
+          faults = subst (λ n. Rose n new.account.faults) opened.faults failed.faults;
+          fresh = failed.fresh;
+          shut = failed.shut ∙ opened.shut;
+        }
+
+        super_since : {slot : ℕ} → SuperUnread mid new slot → SuperUnread old new slot
+        super_since failed = record {
           place = failed.place;
           of_super = failed.of_super;
           unsure = sym kept ∙ failed.unsure;
@@ -333,6 +389,69 @@ module _ (words names : Words) (plan : Plan) (sentence : IsSentence plan words) 
           shut = failed.shut ∙ opened.shut;
         }
 
-    pub command_unchanged : AreUnchanged old.shelf mid.slots mid.held → AreUnchanged old.shelf new.slots new.held
-    command_unchanged unchanged =
-        subst (λ (s : Seen). AreUnchanged old.shelf s.slots s.held) (sym behind.reads.same) unchanged
+        since : {slot : ℕ} → ImageFails plan.command mid new slot → ImageFails plan.command old new slot
+        since fails = ⊎_elim (λ super. inl (super_since super)) (λ own. inr (own.0, (own.1.0, own_since own.1.1))) fails
+
+    same_slots : new.slots ≡ mid.slots
+    same_slots = ap (λ (s : Seen). s.slots) behind.keeps.same
+
+    pub command_unchanged : AreOpenedAs (opens_to_write plan.command) old.shelf mid.slots mid.held → (AsksToWrite words → ⊥) → AreUnchanged old.shelf new.slots new.held
+    command_unchanged opens never = of (opens_to_write plan.command) refl opens
+      where
+        of : (write : Bool) → opens_to_write plan.command ≡ write → AreOpenedAs write old.shelf mid.slots mid.held → AreUnchanged old.shelf new.slots new.held
+        of true is opens = absurd (never (plan, sentence, is))
+        of false is opens = subst (λ slots. AreUnchanged old.shelf slots new.held) (sym same_slots) (subst (AreUnchanged old.shelf mid.slots) (sym (behind.held is)) opens)
+
+    the_scrub : (images : Images) (shelf : Shelf) → ScrubsFrom words shelf images → plan.command ≡ Scrub true
+    the_scrub images shelf from = sym (ap (λ (q : Plan). q.command) (one_plan words _ plan from.sentence sentence))
+
+    pub command_repaired : OpensAll names old.shelf mid.held (Ok tt)
+        → (plan.command ≡ Scrub true → IfSteady mid.held mid.account new.account (λ images. answer ≢ Memory → new.held ≡ Some (scrubbed_images images)))
+        → IfSome old.shelf (λ shelf. Steady old.account.faults new.account.faults → answer ≢ Memory → KeepsRepair words shelf new.held)
+    command_repaired = of old.shelf mid.held
+      where
+        of : (shelf : Option Shelf) (held : Option Images) → OpensAll names shelf held (Ok tt)
+            → (plan.command ≡ Scrub true → IfSteady held mid.account new.account (λ images. answer ≢ Memory → new.held ≡ Some (scrubbed_images images)))
+            → IfSome shelf (λ shelf. Steady old.account.faults new.account.faults → answer ≢ Memory → KeepsRepair words shelf new.held)
+        of None held opens repaired = tt
+        of (Some at) None opens repaired = absurd opens
+        of (Some at) (Some held) opens repaired = λ steady enough images from.
+            let one = one_plan words _ plan from.sentence sentence in
+            let same : ◌≡◌ {A = Option Images} (Some held) (Some images) = sym opens ∙ sym (ap (λ (q : Plan). taken (images_of q words) at) one ∙ ap (λ l. taken l at) named) ∙ from.from in
+            subst (λ i. new.held ≡ Some (scrubbed_images i)) (the_images held images same)
+            (repaired (the_scrub images at from) (subst (λ n. Steady n new.account.faults) (sym opened.faults) steady) enough)
+
+    pub command_left : OpensAll names old.shelf mid.held (Ok tt) → AreOpenedAs (opens_to_write plan.command) old.shelf mid.slots mid.held
+        → (plan.command ≡ Scrub true → IfSome mid.held (λ images. IfSome new.held (λ left. LeavesImages (Steady mid.account.faults new.account.faults) images left answer)))
+        → AsksToWrite words → AreLeft (Steady old.account.faults new.account.faults) old.shelf new.slots new.held answer
+    command_left opens are left asks = (
+      subst (λ slots. All (λ (s : Slot). s.write ≡ true) slots) (sym same_slots) (subst (λ b. All (λ (s : Slot). s.write ≡ b) mid.slots) writes are.0),
+      of old.shelf mid.held opens are.1 (left (writing plan.command writes)),
+    )
+      where
+        writes : opens_to_write plan.command ≡ true
+        writes = ap (λ (q : Plan). opens_to_write q.command) (one_plan words plan asks.0 sentence asks.1) ∙ asks.2
+
+        writing : (command : Command) → opens_to_write command ≡ true → command ≡ Scrub true
+        writing (Scrub write) is = ap (λ b. Scrub b) is
+        writing Super is = absurd (cc is)
+        writing (Dump choice) is = absurd (cc is)
+        writing Roots is = absurd (cc is)
+        writing (Check read_data) is = absurd (cc is)
+        writing (Restore dest p) is = absurd (cc is)
+
+        at_end : (at : Shelf) (images : Images) (o : Option Images) → taken (map (λ s. s.name) mid.slots) at ≡ Some images → IfSome o (λ left. LeavesImages (Steady mid.account.faults new.account.faults) images left answer)
+            → IfSome o (λ left. (i : Images) × (taken (map (λ s. s.name) new.slots) at ≡ Some i) × LeavesImages (Steady old.account.faults new.account.faults) i left answer)
+        at_end at images None took l = tt
+        at_end at images (Some left) took l = (
+          images,
+          ap (λ slots. taken (map (λ s. s.name) slots) at) same_slots ∙ took,
+          subst (λ n. LeavesImages (Steady n new.account.faults) images left answer) opened.faults l,
+        )
+
+        of : (shelf : Option Shelf) (held : Option Images) → OpensAll names shelf held (Ok tt) → IfSome shelf (λ at. IfSome held (λ images. taken (map (λ s. s.name) mid.slots) at ≡ Some images))
+            → IfSome held (λ images. IfSome new.held (λ left. LeavesImages (Steady mid.account.faults new.account.faults) images left answer))
+            → IfSome shelf (λ at. IfSome new.held (λ left. (i : Images) × (taken (map (λ s. s.name) new.slots) at ≡ Some i) × LeavesImages (Steady old.account.faults new.account.faults) i left answer))
+        of None held opens are left = tt
+        of (Some at) None opens are left = absurd opens
+        of (Some at) (Some images) opens are left = at_end at images new.held are left

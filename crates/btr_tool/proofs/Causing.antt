@@ -1,5 +1,5 @@
 -- What lies behind a failed opening or read of an image, after calls that didn't fail.
-use Rattle.std.proofs.Common.{◌≡◌, ℕ, ◌<◌, ◌≤◌, List, [], length, map, take, get_or, String, Some, false, refl, sym, ap, ◌∙◌, arith}
+use Rattle.std.proofs.Common.{◌≡◌, ℕ, ◌<◌, ◌≤◌, List, [], length, map, take, get_or, String, Some, Bool, refl, sym, ap, ◌∙◌, arith}
 use Rattle.std.specs.Prelude.{slice_get}
 use Rattle.std.specs.String.{string_bytes}
 use Rattle.std.specs.declared.alloc.Global.{Global}
@@ -43,9 +43,9 @@ pub named_at : (xs : List (String Global)) (i : ℕ) (x : String Global) (w : Li
 named_at xs i x w lt is at =
     slice_get-get_or (map string_bytes xs) i [] (omega (arith, length-map xs string_bytes)) ∙ ap (λ b. Some b) (name_at xs i x w lt is at)
 
-pub opening_failed : (names : Words) (slots : List Slot) (old mid new : Account) (slot : ℕ) (name : List ℕ) → slice_get names slot ≡ Some name → map (λ s. s.name) slots ≡ take slot names
-    → NoneFailed old mid → OneFailed (range_in slot 0 0) mid new → new.opening ≡ Some (opening_of name false) → new.shut ≡ next_count mid.shut → OpeningFailed names slots old new slot
-opening_failed names slots old mid new slot name named before none one opening shut = record {
+pub opening_failed : (write : Bool) (names : Words) (slots : List Slot) (old mid new : Account) (slot : ℕ) (name : List ℕ) → slice_get names slot ≡ Some name → map (λ s. s.name) slots ≡ take slot names
+    → NoneFailed old mid → OneFailed (range_in slot 0 0) mid new → new.opening ≡ Some (opening_of name write) → new.shut ≡ next_count mid.shut → OpeningFailed write names slots old new slot
+opening_failed write names slots old mid new slot name named before none one opening shut = record {
   name = name;
   named = named;
   opening = opening;

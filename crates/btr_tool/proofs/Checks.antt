@@ -58,7 +58,7 @@ module _ (end : Stop) (reading : OfReading end) where
       of stop.Out r = absurd r
       of stop.Memory r = record { no_out = λ e. cc; no_sink = λ e. cc }
 
-  stop_line : error_line (stop_answer end) ≢ []
+  pub stop_line : error_line (stop_answer end) ≢ []
   stop_line = of end reading
     where
       of : (s : Stop) → OfReading s → error_line (stop_answer s) ≢ []
@@ -76,7 +76,7 @@ module _ (end : Stop) (reading : OfReading end) where
       of stop.Out r e = absurd r
       of stop.Memory r e = cc
 
-  stop_none : NoneOf (stop_answer end)
+  pub stop_none : NoneOf (stop_answer end)
   stop_none = of end reading
     where
       of : (s : Stop) → OfReading s → NoneOf (stop_answer s)
@@ -94,7 +94,7 @@ module _ (end : Stop) (reading : OfReading end) where
       of stop.Out r = absurd r
       of stop.Memory r = tt
 
-  stop_no_image : (slot : ℕ) → stop_answer end ≢ ImageFault slot
+  pub stop_no_image : (slot : ℕ) → stop_answer end ≢ ImageFault slot
   stop_no_image slot = of end reading
     where
       of : (s : Stop) → OfReading s → stop_answer s ≢ ImageFault slot
@@ -188,7 +188,7 @@ calm_by : (none : Bool) (count : ℕ) → IsNoFault (cond none (Done 0) (Found c
 calm_by true count = record { no_out = λ e. cc; no_sink = λ e. cc }
 calm_by false count = record { no_out = λ e. cc; no_sink = λ e. cc }
 
-found_calm : (count : ℕ) → IsNoFault (found count)
+pub found_calm : (count : ℕ) → IsNoFault (found count)
 found_calm count = calm_by (eqb count 0) count
 
 none_by : (none : Bool) (count : ℕ) (put : Result Unit SinkError) → NoneOf (due_after put (cond none (Done 0) (Found count)))
@@ -197,7 +197,7 @@ none_by false count (Ok u) = tt
 none_by none count (Err Failed) = tt
 none_by none count (Err memory_fault) = tt
 
-listed_none : (count : ℕ) (put : Result Unit SinkError) → NoneOf (due_after put (found count))
+pub listed_none : (count : ℕ) (put : Result Unit SinkError) → NoneOf (due_after put (found count))
 listed_none count put = none_by (eqb count 0) count put
 
 no_tree_by : (none : Bool) (count : ℕ) (put : Result Unit SinkError) → tree_in (due_after put (cond none (Done 0) (Found count))) ≡ None
@@ -206,7 +206,7 @@ no_tree_by false count (Ok u) = refl
 no_tree_by none count (Err Failed) = refl
 no_tree_by none count (Err memory_fault) = refl
 
-listed_no_tree : (count : ℕ) (put : Result Unit SinkError) → tree_in (due_after put (found count)) ≡ None
+pub listed_no_tree : (count : ℕ) (put : Result Unit SinkError) → tree_in (due_after put (found count)) ≡ None
 listed_no_tree count put = no_tree_by (eqb count 0) count put
 
 no_image_by : (none : Bool) (count : ℕ) (put : Result Unit SinkError) (slot : ℕ) → due_after put (cond none (Done 0) (Found count)) ≢ ImageFault slot
@@ -215,7 +215,7 @@ no_image_by false count (Ok u) slot e = cc
 no_image_by none count (Err Failed) slot e = cc
 no_image_by none count (Err memory_fault) slot e = cc
 
-listed_no_image : (count : ℕ) (put : Result Unit SinkError) (slot : ℕ) → due_after put (found count) ≢ ImageFault slot
+pub listed_no_image : (count : ℕ) (put : Result Unit SinkError) (slot : ℕ) → due_after put (found count) ≢ ImageFault slot
 listed_no_image count put slot = no_image_by (eqb count 0) count put slot
 
 -- The filesystem is open, it was checked, and a list of findings was put.

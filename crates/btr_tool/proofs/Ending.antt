@@ -1,8 +1,8 @@
 -- How a run ends: what holds of an answer before its line is put holds of the run's.
-use Rattle.std.proofs.Common.{◌≡◌, ◌≢◌, ◌⊎◌, inl, inr, ⊎_elim, true, ℕ, ◌<◌, List, length, take, Option, Some, None, refl, sym, ap, ◌∙◌, subst, arith}
+use Rattle.std.proofs.Common.{◌≡◌, ◌≢◌, ◌⊎◌, inl, inr, ⊎_elim, true, ℕ, ◌<◌, List, length, map, take, Option, Some, None, refl, sym, ap, ◌∙◌, subst, arith}
 use Rattle.std.specs.Option.{IfSome}
 use Rattle.std.proofs.lemmas.List.{take_all}
-use Rattle.btr_rack.specs.Rack.{Seen, Rose, Steady, Shelf}
+use Rattle.btr_rack.specs.Rack.{Seen, Slot, Rose, Steady, Shelf}
 use Rattle.btr_rack.specs.Out.{CallAccount}
 use Rattle.btr_restore.specs.Running.{Outside}
 use Rattle.btr_tool.specs.Agreeing.{FollowsCheck, IsCheckOrUnread, KeepsCheck}
@@ -10,7 +10,10 @@ use Rattle.btr_tool.specs.Answers.{error_line}
 use Rattle.btr_tool.specs.Causes.{HidesNone, ImageCause, IsBehindWords, IsMissingImage, IsShut, TreeCause}
 use Rattle.btr_tool.specs.Effects.{FollowsWords, HasEffect, HasPart, IsOutcome, IsTold, MayFollow, MayWantBy}
 use Rattle.btr_tool.specs.Outcomes.{Outcome, refused, CallFailed, Comes, HasFirstPart, IsPrinted, IsPut, MayEnd, OrBare, OrMemory, Stands, StandsPartly}
+use Rattle.btr_tool.specs.Images.{taken}
+use Rattle.btr_tool.specs.Repaired.{AreLeft, LeavesImages, MayWrite}
 use Rattle.btr_tool.specs.Words.{Words}
+use Rattle.btr_volume.specs.Start.{Images}
 use Rattle.btr_tool.specs.declared.answer.Answer.{Answer}
 use Rattle.btr_tool.specs.declared.answer.Answer.TheVariants.{ImageFault, SinkFault, OutFault, Memory}
 use Rattle.btr_tool.proofs.Coming.{comes_printed, put_ends, whole_first, with_line}
@@ -83,6 +86,25 @@ module _ (words : Words) (x y : Outside) (new : Option (List ℕ)) (after : Call
   sink_failed IsOne comes is =
       ⊎_elim (λ done. absurd (comes.no_fault.no_sink (sym done.0 ∙ is)))
       (λ rest. ⊎_elim (λ fault. fault.1) (λ more. ⊎_elim (λ fault. absurd (cc (sym fault.0 ∙ is))) (λ want. absurd (cc (sym want.0 ∙ is))) more) rest) (print IsOne comes)
+
+  -- a scrub that writes
+  pub repaired : (P : Type 0) (IsOne : Outcome → Type 0) → Comes May IsOne x y answer → (answer ≢ Memory → P) → Steady x.out_calls.faults after.faults → result ≢ Memory → P
+  repaired P IsOne comes of steady enough =
+      ⊎_elim (λ same. of (λ e. enough (same ∙ e)))
+      (λ rest. ⊎_elim (λ out. absurd (not_steady x.out_calls.faults after.faults steady (out_failed IsOne comes out).1)) (λ want. absurd (enough want)) rest) ends
+
+  may_write : MayWrite answer → MayWrite result
+  may_write may =
+      ⊎_elim (λ same. subst MayWrite (sym same) may) (λ rest. ⊎_elim (λ out. inl (inr (inr (inl out)))) (λ want. inl (inr (inr (inr want)))) rest) ends
+
+  pub left : (calm : Type 0) (shelf : Option Shelf) (slots : List Slot) (held : Option Images) → AreLeft calm shelf slots held answer → AreLeft calm shelf slots held result
+  left calm shelf slots held are = (are.0, of shelf held are.1)
+    where
+      of : (shelf : Option Shelf) (held : Option Images) → IfSome shelf (λ at. IfSome held (λ left. (images : Images) × (taken (map (λ s. s.name) slots) at ≡ Some images) × LeavesImages calm images left answer))
+          → IfSome shelf (λ at. IfSome held (λ left. (images : Images) × (taken (map (λ s. s.name) slots) at ≡ Some images) × LeavesImages calm images left result))
+      of None held l = tt
+      of (Some at) None l = tt
+      of (Some at) (Some left) l = (l.0, l.1, record { stopped = l.2.stopped; unchanged = ⊎_elim (λ same. inl same) (λ may. inr (may_write may)) l.2.unchanged })
 
   pub decided : (one : Answer) → answer ≡ one → (result ≡ one) ⊎ (result ≡ OutFault) ⊎ (result ≡ Memory)
   decided one is = subst (λ a. Ends a result) is ends

@@ -20,3 +20,4 @@ pub mod Performing
 pub mod Promises
 pub mod Orders
 pub mod Agreements
+pub mod Mendings

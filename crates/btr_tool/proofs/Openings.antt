@@ -10,7 +10,7 @@ use Rattle.std.proofs.lemmas.Slice.Eq.{bytes_eq-Decides}
 use Rattle.btr_rack.specs.Rack.{Slot, Shelf, Takes, TakesImage}
 use Rattle.btr_tool.specs.Words.{Words}
 use Rattle.btr_rack.specs.declared.error.RackError.{RackError}
-use Rattle.btr_tool.specs.Images.{without, taken, AreUnchanged}
+use Rattle.btr_tool.specs.Images.{without, taken, AreOpenedAs}
 
 abbrev pub Images : Type 0
 Images = List (List ℕ)
@@ -129,10 +129,10 @@ none_taken : (names : Words) (at : Shelf) (held : Option Images) (slots : List S
 none_taken names at None slots sized none empty = tt
 none_taken names at (Some images) slots sized none empty = ap (λ l. taken l at) empty ∙ ap (λ l. Some l) (sym (none_open (Some images) images slots sized refl none))
 
--- the opened images are unchanged behind each opening
-pub so_far_unchanged : (at shelf : Option Shelf) (held : Option Images) (slots : List Slot) → All (λ (s : Slot). s.write ≡ false) slots → Sized held slots → OpenSoFar (map (λ s. s.name) slots) at shelf held → AreUnchanged at slots held
-so_far_unchanged None shelf held slots closed sized so = (closed, tt)
-so_far_unchanged (Some at) shelf held slots closed sized so = (
+-- the opened images are those of the shelf behind each opening
+pub so_far_opened : (write : Bool) (at shelf : Option Shelf) (held : Option Images) (slots : List Slot) → All (λ (s : Slot). s.write ≡ write) slots → Sized held slots → OpenSoFar (map (λ s. s.name) slots) at shelf held → AreOpenedAs write at slots held
+so_far_opened write None shelf held slots closed sized so = (closed, tt)
+so_far_opened write (Some at) shelf held slots closed sized so = (
   closed,
   ⊎_elim (λ first. none_taken (map (λ s. s.name) slots) at held slots sized (sym (length-map slots (λ s. s.name)) ∙ ap length first.0) first.0)
       (λ later. subst (λ h. IfSome h (λ images. taken (map (λ s. s.name) slots) at ≡ Some images)) (sym later.3) (held_are (map (λ s. s.name) slots) at shelf held later)) so,
@@ -146,22 +146,22 @@ takes_none name (Some x) (Some y) None held' e takes = takes.1
 takes_none name (Some x) (Some y) (Some z) None e takes = takes.1
 takes_none name (Some x) (Some y) (Some z) (Some w) e takes = takes.1
 
-pub refused_unchanged : (name : List ℕ) (at shelf shelf' : Option Shelf) (held held' : Option Images) (slots slots' : List Slot) (e : RackError) → All (λ (s : Slot). s.write ≡ false) slots → Sized held slots
-    → OpenSoFar (map (λ s. s.name) slots) at shelf held → Takes name shelf shelf' held held' (Err e) → slots' ≡ slots → AreUnchanged at slots' held'
-refused_unchanged name at shelf shelf' held held' slots slots' e closed sized so takes same =
-    subst (λ l. AreUnchanged at l held') (sym same) (subst (AreUnchanged at slots) (sym (takes_none name shelf shelf' held held' e takes)) (so_far_unchanged at shelf held slots closed sized so))
+pub refused_opened : (write : Bool) (name : List ℕ) (at shelf shelf' : Option Shelf) (held held' : Option Images) (slots slots' : List Slot) (e : RackError) → All (λ (s : Slot). s.write ≡ write) slots → Sized held slots
+    → OpenSoFar (map (λ s. s.name) slots) at shelf held → Takes name shelf shelf' held held' (Err e) → slots' ≡ slots → AreOpenedAs write at slots' held'
+refused_opened write name at shelf shelf' held held' slots slots' e closed sized so takes same =
+    subst (λ l. AreOpenedAs write at l held') (sym same) (subst (AreOpenedAs write at slots) (sym (takes_none name shelf shelf' held held' e takes)) (so_far_opened write at shelf held slots closed sized so))
 
 -- where none was opened
-pub unopened : (at : Option Shelf) (held : Option Images) (slots : List Slot) → Sized held slots → slots ≡ [] → AreUnchanged at slots held
-unopened at held slots sized none = so_far_unchanged at at held slots (subst (All (λ (s : Slot). s.write ≡ false)) (sym none) (All-nil (λ (s : Slot). s.write ≡ false))) sized (begins at)
+pub unopened : (write : Bool) (at : Option Shelf) (held : Option Images) (slots : List Slot) → Sized held slots → slots ≡ [] → AreOpenedAs write at slots held
+unopened write at held slots sized none = so_far_opened write at at held slots (subst (All (λ (s : Slot). s.write ≡ write)) (sym none) (All-nil (λ (s : Slot). s.write ≡ write))) sized (begins at)
   where
     begins : (o : Option Shelf) → OpenSoFar (map (λ s. s.name) slots) o o held
     begins None = tt
     begins (Some s) = inl (ap (map (λ s. s.name)) none, refl)
 
--- one slot more that is only read
-pub closed_more : (old new : List Slot) (s : Slot) → new ≡ old ++ s ∷ [] → s.write ≡ false → All (λ (t : Slot). t.write ≡ false) old → All (λ (t : Slot). t.write ≡ false) new
-closed_more old new s is shut all = subst (All (λ (t : Slot). t.write ≡ false)) (sym is) (All-append (λ (t : Slot). t.write ≡ false) old (s ∷ []) all (All-cons (λ (t : Slot). t.write ≡ false) s [] shut (All-nil (λ (t : Slot). t.write ≡ false))))
+-- one slot more that was opened so
+pub opened_more : (write : Bool) (old new : List Slot) (s : Slot) → new ≡ old ++ s ∷ [] → s.write ≡ write → All (λ (t : Slot). t.write ≡ write) old → All (λ (t : Slot). t.write ≡ write) new
+opened_more write old new s is so all = subst (All (λ (t : Slot). t.write ≡ write)) (sym is) (All-append (λ (t : Slot). t.write ≡ write) old (s ∷ []) all (All-cons (λ (t : Slot). t.write ≡ write) s [] so (All-nil (λ (t : Slot). t.write ≡ write))))
 
 -- one slot more
 pub slot_count : (old new : List Slot) (s : Slot) (i : ℕ) → new ≡ old ++ s ∷ [] → length old ≡ i → length new ≡ i + 1

@@ -1,19 +1,19 @@
 -- What a command that only shows something comes to, as a command among others.
-use Rattle.std.proofs.Common.{◌≡◌, inl, inr, ⊎_elim, ℕ, Bool, List, [], get_or, Option, Some, sym, ap, ◌∙◌, subst}
+use Rattle.std.proofs.Common.{◌≡◌, inl, inr, ⊎_elim, ℕ, Bool, true, List, [], get_or, Option, Some, sym, ap, ◌∙◌, subst}
 use Rattle.std.specs.Option.{IfSome}
 use Rattle.btr_files.specs.declared.plan.RestorePlan.{RestorePlan}
-use Rattle.btr_rack.specs.Rack.{Account, Seen, Steady}
+use Rattle.btr_rack.specs.Rack.{Account, OnlyReads, Seen, Steady}
 use Rattle.btr_restore.specs.Running.{Outside}
 use Rattle.btr_tool.specs.Agreeing.{AreAgreed, IsCheckOrUnread}
-use Rattle.btr_tool.specs.Behind.{IfSteady}
-use Rattle.btr_tool.specs.Commands.{MayWant, command_outcome}
+use Rattle.btr_tool.specs.Behind.{IfSteady, IsBehind}
+use Rattle.btr_tool.specs.Commands.{IsBehindCommand, KeepsRack, MayFail, MayWant, TellsCause, command_outcome}
 use Rattle.btr_tool.specs.Order.{InOrder}
 use Rattle.btr_tool.specs.Outcomes.{Outcome, Comes, OrBare, OrMemory, Shows}
 use Rattle.btr_tool.specs.Restored.{restored}
 use Rattle.btr_tool.specs.Words.{Words}
 use Rattle.btr_tool.specs.declared.answer.Answer.{Answer}
 use Rattle.btr_tool.specs.declared.plan.Command.{Command}
-use Rattle.btr_tool.specs.declared.plan.Command.TheVariants.{Check, Restore}
+use Rattle.btr_tool.specs.declared.plan.Command.TheVariants.{Check, Restore, Scrub}
 use Rattle.btr_tool.proofs.Coming.{comes_also, comes_shown}
 use Rattle.btr_tool.proofs.Ending.{when_told}
 use Rattle.btr_tool.proofs.Openings.{Images}
@@ -59,3 +59,26 @@ restored_order number other plan given words dest is old new x y answer named =
 
     same_number : other ≡ number
     same_number = cc is
+
+-- reading keeps a rack
+pub reads_keep : (old new : Seen) → OnlyReads old new → KeepsRack old new
+reads_keep old new reads =
+    let held : old.held ≡ new.held = sym (ap (λ (s : Seen). s.held) reads.same) in
+    let unsynced : old.unsynced ≡ new.unsynced = sym (ap (λ (s : Seen). s.unsynced) reads.same) in
+    record { same = reads.same ∙ (λ i. record old { held = held i; unsynced = unsynced i; account = new.account }); later = reads.later; same_shut = reads.same_shut }
+
+-- what lies behind the answer of a command that only reads
+pub only_reads : (command : Command) → (old new : Seen) (answer : Answer) → IsBehind (MayFail command) (TellsCause command) old new answer → IsBehindCommand command old new answer
+only_reads command old new answer behind = record {
+  keeps = reads_keep old new behind.reads;
+  reads = λ none. behind.reads;
+  held = λ is. ap (λ (s : Seen). s.held) behind.reads.same;
+  image = λ slot is. inl (behind.image slot is);
+  tree = λ fault is. (behind.reads, λ told. behind.tree fault is told);
+  hidden = behind.hidden;
+  no_usage = behind.no_usage;
+  no_limit = behind.no_limit;
+}
+
+pub scrub_writes : (write : Bool) → Scrub write ≡ Scrub true → write ≡ true
+scrub_writes write is = cc is

@@ -13,16 +13,16 @@ use Rattle.btr_tool.specs.Commands.{HasWords}
 use Rattle.btr_tool.specs.Numbers.{IsNumber, number_of}
 use Rattle.btr_tool.specs.Restores.{AreFree, IsFree, OneOption, Root, Snapshots, Verbose, Dry, is_subvolume, no_options, option_words, options_words, plan_by, with_option, with_options, with_root, words_in}
 use Rattle.btr_tool.specs.declared.options.Options.{Options}
-use Rattle.btr_tool.specs.Words.{Words, is_name, IsName, Asks, IsSentence, Begins, IsUsageAt, behind_all, dest_place, dump_words, plan_for, next_of, plan_of, root_place, roots_place}
+use Rattle.btr_tool.specs.Words.{Words, is_name, IsName, Asks, IsSentence, Begins, IsUsageAt, behind_all, dest_place, dump_words, plan_for, scrub_words, next_of, plan_of, root_place, roots_place}
 use Rattle.btr_tool.proofs.Numerals.{number_read, number_sound}
 use Rattle.btr_tool.proofs.Machine.{reached, reached_from, reached_stuck}
 use Rattle.btr_tool.proofs.RestoreWords.{all_counted, more_free, more_given, more_words, no_more_words, walked}
 use Rattle.btr_tool.specs.declared.plan.Command.{Command}
-use Rattle.btr_tool.specs.declared.plan.Command.TheVariants.{Super, Dump, Roots, Check as checking, Restore as restoring}
+use Rattle.btr_tool.specs.declared.plan.Command.TheVariants.{Super, Dump, Roots, Check as checking, Scrub as scrubbing, Restore as restoring}
 use Rattle.btr_tool.specs.declared.plan.DumpChoice.TheVariants.{All as all_trees, Block, Tree, RootLines}
 use Rattle.btr_tool.specs.declared.plan.Plan.{Plan}
 use Rattle.btr_tool.specs.declared.progress.Progress.{Progress}
-use Rattle.btr_tool.specs.declared.progress.Progress.TheVariants.{Start, Inspect, DumpTree, Address, TreeId, Check, Restore, RootId, FirstImage, Images}
+use Rattle.btr_tool.specs.declared.progress.Progress.TheVariants.{Start, Inspect, DumpTree, Address, TreeId, Check, Scrub, ScrubStart, Restore, RootId, FirstImage, Images}
 
 -- the walk from a place over these words ends with this plan
 abbrev Accepts : Progress → Words → Plan → Type 0
@@ -43,6 +43,8 @@ Led DumpTree words = words ≡ dump_words []
 Led Address words = words ≡ dump_words (codes "-b" ∷ [])
 Led TreeId words = words ≡ dump_words (codes "-t" ∷ [])
 Led Check words = words ≡ codes "check" ∷ []
+Led Scrub words = words ≡ codes "scrub" ∷ []
+Led ScrubStart words = words ≡ scrub_words []
 Led (Restore given) words = IsGiven given words
 Led (RootId given) words = (before : Words) × IsGiven given before × (given.root ≡ None) × (words ≡ before ++ codes "-r" ∷ [])
 Led (FirstImage plan) words = Asks plan.command words × (plan.images ≡ length words)
@@ -177,8 +179,10 @@ led_more Start next words word led on =
     (λ other.
     ⊎_elim (λ one. subst (λ p. Led p (words ++ word ∷ [])) one.1 (then words [] word (codes "check") led one.0))
     (λ other.
+    ⊎_elim (λ one. subst (λ p. Led p (words ++ word ∷ [])) one.1 (then words [] word (codes "scrub") led one.0))
+    (λ other.
     ⊎_elim (λ one. subst (λ p. Led p (words ++ word ∷ [])) one.1 (record { options = []; free = tt; given_is = refl; words_are = then words [] word (codes "restore") led one.0 })) (nowhere_led next (words ++ word ∷ []))
-    (one_or word (codes "restore") (Restore no_options) next None other)) (one_or word (codes "check") Check next _ other)) (one_or word (codes "inspect-internal") Inspect next _ other)) (one_or word (codes "super") (behind_all Super 1) next _ on)
+    (one_or word (codes "restore") (Restore no_options) next None other)) (one_or word (codes "scrub") Scrub next _ other)) (one_or word (codes "check") Check next _ other)) (one_or word (codes "inspect-internal") Inspect next _ other)) (one_or word (codes "super") (behind_all Super 1) next _ on)
 led_more Inspect next words word led on =
     ⊎_elim (λ one. subst (λ p. Led p (words ++ word ∷ [])) one.1 (then words (codes "inspect-internal" ∷ []) word (codes "dump-tree") led one.0)) (nowhere_led next (words ++ word ∷ []))
     (one_or word (codes "dump-tree") DumpTree next None on)
@@ -206,6 +210,15 @@ led_more Check next words word led on =
     let one = taken (is_name word) (Images (plan_for (checking false) 1)) next other in
     subst (λ p. Led p (words ++ word ∷ [])) one.1 (first_led (plan_for (checking false) 1) words word led (sym (ap (λ (l : Words). length l) led)) one.0))
     (one_or word (codes "--check-data-csum") (behind_all (checking true) 2) next _ on)
+led_more Scrub next words word led on =
+    ⊎_elim (λ one. subst (λ p. Led p (words ++ word ∷ [])) one.1 (then words (codes "scrub" ∷ []) word (codes "start") led one.0)) (nowhere_led next (words ++ word ∷ []))
+    (one_or word (codes "start") ScrubStart next None on)
+led_more ScrubStart next words word led on =
+    ⊎_elim (λ one. let is = then words (scrub_words []) word (codes "-r") led one.0 in subst (λ p. Led p (words ++ word ∷ [])) one.1 (is, sym (ap (λ (l : Words). length l) is)))
+    (λ other.
+    let one = taken (is_name word) (Images (plan_for (scrubbing true) 2)) next other in
+    subst (λ p. Led p (words ++ word ∷ [])) one.1 (first_led (plan_for (scrubbing true) 2) words word led (sym (ap (λ (l : Words). length l) led)) one.0))
+    (one_or word (codes "-r") (behind_all (scrubbing false) 3) next _ on)
 led_more (Restore given) next words word led on =
     ⊎_elim (λ one. roots_led given next words word led one.0 one.1)
     (λ other.
@@ -246,6 +259,8 @@ sound plan words = of (reached Start words) refl
     at_end Address led e = absurd (cc)
     at_end TreeId led e = absurd (cc)
     at_end Check led e = absurd (cc)
+    at_end Scrub led e = absurd (cc)
+    at_end ScrubStart led e = absurd (cc)
     at_end (Restore given) led e = absurd (cc)
     at_end (RootId given) led e = absurd (cc)
     at_end (FirstImage p) led e = absurd (cc)
@@ -287,6 +302,10 @@ all_dumped name is =
 checked : (name : List ℕ) → is_name name ≡ true → next_of Check name ≡ Some (Images (plan_for (checking false) 1))
 checked name is = no_option name (codes "--check-data-csum") (behind_all (checking true) 2) _ is refl ∙ ap (λ b. cond b (Some (Images (plan_for (checking false) 1))) None) is
 
+-- a name behind `scrub start`
+scrubbed : (name : List ℕ) → is_name name ≡ true → next_of ScrubStart name ≡ Some (Images (plan_for (scrubbing true) 2))
+scrubbed name is = no_option name (codes "-r") (behind_all (scrubbing false) 3) _ is refl ∙ ap (λ b. cond b (Some (Images (plan_for (scrubbing true) 2))) None) is
+
 -- behind these words the first name leads to the images
 by_name : (plan : Plan) (name : List ℕ) → is_name name ≡ true → reached (FirstImage plan) (name ∷ []) ≡ Some (Images plan)
 by_name plan name is = ap (λ b. option_and_then (λ p. reached p []) (cond b (Some (Images plan)) None)) is
@@ -316,6 +335,11 @@ asked (checking false) head first asks name =
     ∙ ap (λ (l : Words). Some (Images (plan_for (checking false) (length l)))) (sym asks)
 asked (checking true) head first asks name =
     ap (λ (l : Words). reached Start (l ++ first ∷ [])) asks ∙ by_name (plan_for (checking true) 2) first name ∙ ap (λ (l : Words). Some (Images (plan_for (checking true) (length l)))) (sym asks)
+asked (scrubbing true) head first asks name =
+    ap (λ (l : Words). reached Start (l ++ first ∷ [])) asks ∙ ap (option_and_then (λ p. reached p [])) (scrubbed first name)
+    ∙ ap (λ (l : Words). Some (Images (plan_for (scrubbing true) (length l)))) (sym asks)
+asked (scrubbing false) head first asks name =
+    ap (λ (l : Words). reached Start (l ++ first ∷ [])) asks ∙ by_name (plan_for (scrubbing false) 3) first name ∙ ap (λ (l : Words). Some (Images (plan_for (scrubbing false) (length l)))) (sym asks)
 asked (restoring dest plan) head first asks name =
     ap (λ (l : Words). reached Start (l ++ first ∷ [])) asks.words_are
     ∙ ap (reached (Restore no_options)) (append_assoc (options_words asks.options) (asks.name ∷ []) (first ∷ []))
@@ -376,6 +400,8 @@ live DumpTree = (some_name ∷ [], plan_for (Dump all_trees) 2, refl)
 live Address = (codes "0" ∷ some_name ∷ [], plan_for (Dump (Block 0)) 4, ap (option_and_then plan_of) (by_number (λ n. behind_all (Dump (Block n)) 4) 0 (codes "0") (some_name ∷ []) zero_is))
 live TreeId = (codes "0" ∷ some_name ∷ [], plan_for (Dump (Tree 0)) 4, ap (option_and_then plan_of) (by_number (λ n. behind_all (Dump (Tree n)) 4) 0 (codes "0") (some_name ∷ []) zero_is))
 live Check = (some_name ∷ [], plan_for (checking false) 1, refl)
+live Scrub = (codes "start" ∷ some_name ∷ [], plan_for (scrubbing true) 2, refl)
+live ScrubStart = (some_name ∷ [], plan_for (scrubbing true) 2, refl)
 live (Restore given) = (some_name ∷ some_name ∷ [], plan_for (restoring (words_in given) (plan_by given)) (words_in given + 1), refl)
 live (RootId given) = let after = with_option given (Root 5) in (
   codes "5" ∷ some_name ∷ some_name ∷ [],
@@ -430,5 +456,6 @@ has_words plan words s = of plan.command s.asks
     of (Dump choice) asks = tt
     of Roots asks = tt
     of (checking read_data) asks = tt
+    of (scrubbing write) asks = tt
     of (restoring dest p) asks =
         omega (arith, asks.dest_is, ap (λ (l : Words). length l) asks.words_are, length-append (options_words asks.options) (asks.name ∷ []), ap (λ (l : Words). length l) s.words_are, length-append s.head (s.first ∷ s.more))

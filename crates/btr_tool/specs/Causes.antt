@@ -2,11 +2,10 @@
 use Rattle.std.specs.Prelude.{◌≡◌, ◌⊎◌, ℕ, ◌<◌, true, Option}
 use Rattle.btr_rack.specs.Rack.{Account, Seen, Shelf, NoneFailed}
 use Rattle.btr_read.specs.Layout.{Layout}
-use Rattle.btr_volume.specs.Opening.{SuperUnread}
 use Rattle.btr_walk.specs.Reading.{FaultCause}
 use Rattle.btr_walk.specs.declared.fault.TreeFault.{TreeFault}
 use Rattle.btr_tool.specs.Behind.{IsFault}
-use Rattle.btr_tool.specs.Commands.{MayFail, TellsCause}
+use Rattle.btr_tool.specs.Commands.{ImageFails, MayFail, TellsCause, opens_to_write}
 use Rattle.btr_tool.specs.Faults.{tree_answer}
 use Rattle.btr_tool.specs.Images.{IsMissing}
 use Rattle.btr_tool.specs.Opening.{OpeningFailed}
@@ -19,13 +18,13 @@ use Rattle.btr_tool.specs.declared.answer.Answer.TheVariants.{ImageFault, OutFau
 pub record IsUnopened (words : Words) (old new : Seen) (slot : ℕ) : Type 0 where
   pub plan : Plan
   pub sentence : IsSentence plan words
-  pub failed : OpeningFailed (images_of plan words) new.slots old.account new.account slot
+  pub failed : OpeningFailed (opens_to_write plan.command) (images_of plan words) new.slots old.account new.account slot
 
--- the words are a sentence, and an opening of one of its images or a read of one's superblock failed last
+-- the words are a sentence, and an opening of one of its images, a read of one's superblock, or a call of a scrub on one failed last
 pub record ImageCause (words : Words) (old new : Seen) (slot : ℕ) : Type 0 where
   pub plan : Plan
   pub sentence : IsSentence plan words
-  pub failed : OpeningFailed (images_of plan words) new.slots old.account new.account slot ⊎ SuperUnread old new slot
+  pub failed : OpeningFailed (opens_to_write plan.command) (images_of plan words) new.slots old.account new.account slot ⊎ ImageFails plan.command old new slot
 
 -- the image that couldn't be opened is answered, or a failure of the output, or want of memory for the line
 abbrev pub IsShut : Words → Seen → Seen → Answer → Type 0

@@ -1,5 +1,5 @@
 -- The images that the words name.
-use Rattle.std.specs.Prelude.{◌≡◌, ℕ, ◌+◌, false, if◌then◌else◌, List, [], ◌∷◌, map, take, All, Option, Some, None, IfSome}
+use Rattle.std.specs.Prelude.{◌≡◌, ℕ, ◌+◌, Bool, false, if◌then◌else◌, List, [], ◌∷◌, map, take, All, Option, Some, None, IfSome}
 use Rattle.std.specs.Option.{option_and_then, option_map}
 use Rattle.std.specs.Str.{bytes_eq}
 use Rattle.btr_rack.specs.Rack.{Slot, Shelf}
@@ -18,9 +18,13 @@ abbrev pub taken : Words → Shelf → Option (List (List ℕ))
 taken [] shelf = Some []
 taken (name ∷ names) shelf = option_and_then (λ bytes. option_map (λ more. bytes ∷ more) (taken names (without name shelf))) (shelf name)
 
--- the opened images were opened only to be read, and hold what the shelf held under their names, where that is told
+-- the opened images were opened to be written, or only to be read, and hold what the shelf held under their names, where that is told
+abbrev pub AreOpenedAs : Bool → Option Shelf → List Slot → Option (List (List ℕ)) → Type 0
+AreOpenedAs write shelf slots held = All (λ s. s.write ≡ write) slots × IfSome shelf (λ at. IfSome held (λ images. taken (map (λ s. s.name) slots) at ≡ Some images))
+
+-- .. only to be read
 abbrev pub AreUnchanged : Option Shelf → List Slot → Option (List (List ℕ)) → Type 0
-AreUnchanged shelf slots held = All (λ s. s.write ≡ false) slots × IfSome shelf (λ at. IfSome held (λ images. taken (map (λ s. s.name) slots) at ≡ Some images))
+AreUnchanged shelf slots held = AreOpenedAs false shelf slots held
 
 -- an image isn't on the shelf, or is named before, where the shelf is told: the names up to its own can't be taken from it
 abbrev pub IsMissing : Words → Option Shelf → ℕ → Type 0

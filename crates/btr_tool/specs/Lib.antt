@@ -13,6 +13,7 @@ pub mod Newest
 pub mod Filesystem
 pub mod Trees
 pub mod Checked
+pub mod Scrubbed
 pub mod Restored
 pub mod Commands
 pub mod Causes
@@ -20,3 +21,4 @@ pub mod Effects
 pub mod Promise
 pub mod Order
 pub mod Agreeing
+pub mod Repaired

@@ -1,5 +1,5 @@
 -- Opening the named images.
-use Rattle.std.specs.Prelude.{◌≡◌, ℕ, ◌<◌, ◌≤◌, false, List, length, map, take, slice_get, Option, Some, IfSome, IsSomeAnd, Result, Ok, Err}
+use Rattle.std.specs.Prelude.{◌≡◌, ℕ, ◌<◌, ◌≤◌, Bool, List, length, map, take, slice_get, Option, Some, IfSome, IsSomeAnd, Result, Ok, Err}
 use Rattle.btr_rack.specs.Rack.{Slot, Seen, Account, Shelf, Rose, NoneFailed, next_count, range_in, opening_of}
 use Rattle.btr_tool.specs.Images.{taken, most_images}
 use Rattle.btr_tool.specs.Words.{Words}
@@ -28,10 +28,10 @@ HasTooMany names (Err (Failed slot)) = length names ≤ most_images
 HasTooMany names (Err memory_fault) = length names ≤ most_images
 
 -- an image couldn't be opened: this was the last failed call, with the images before it in the slots before
-pub record OpeningFailed (names : Words) (slots : List Slot) (old new : Account) (slot : ℕ) : Type 0 where
+pub record OpeningFailed (write : Bool) (names : Words) (slots : List Slot) (old new : Account) (slot : ℕ) : Type 0 where
   pub name : List ℕ
   pub named : slice_get names slot ≡ Some name
-  pub opening : new.opening ≡ Some (opening_of name false)
+  pub opening : new.opening ≡ Some (opening_of name write)
   pub before : map (λ s. s.name) slots ≡ take slot names
   pub last : new.last ≡ range_in slot 0 0
   pub faults : Rose old.faults new.faults
@@ -39,8 +39,8 @@ pub record OpeningFailed (names : Words) (slots : List Slot) (old new : Account)
   pub shut : new.shut ≡ next_count old.shut
 
 -- what opening the named images did to the account
-abbrev pub OpeningCause : Words → Seen → Seen → Result Unit OpeningFault → Type 0
-OpeningCause names old new (Ok _) = NoneFailed old.account new.account
-OpeningCause names old new (Err (TooMany count)) = NoneFailed old.account new.account
-OpeningCause names old new (Err (Failed slot)) = OpeningFailed names new.slots old.account new.account slot
-OpeningCause names old new (Err memory_fault) = NoneFailed old.account new.account
+abbrev pub OpeningCause : Bool → Words → Seen → Seen → Result Unit OpeningFault → Type 0
+OpeningCause write names old new (Ok _) = NoneFailed old.account new.account
+OpeningCause write names old new (Err (TooMany count)) = NoneFailed old.account new.account
+OpeningCause write names old new (Err (Failed slot)) = OpeningFailed write names new.slots old.account new.account slot
+OpeningCause write names old new (Err memory_fault) = NoneFailed old.account new.account

@@ -7,11 +7,11 @@ use Rattle.btr_tool.specs.Numbers.{IsNumber, number_of}
 use Rattle.btr_tool.specs.declared.plan.Command.{Command}
 use Rattle.btr_tool.specs.Restores.{AreFree, OneOption, no_options, options_words, plan_by, with_dry, with_options, with_root, with_snapshots, with_verbose, words_in}
 use Rattle.btr_tool.specs.declared.options.Options.{Options}
-use Rattle.btr_tool.specs.declared.plan.Command.TheVariants.{Super, Dump, Roots, Check as checking, Restore as restoring}
+use Rattle.btr_tool.specs.declared.plan.Command.TheVariants.{Super, Dump, Roots, Check as checking, Scrub as scrubbing, Restore as restoring}
 use Rattle.btr_tool.specs.declared.plan.DumpChoice.TheVariants.{All as all_trees, Block, Tree, RootLines}
 use Rattle.btr_tool.specs.declared.plan.Plan.{Plan}
 use Rattle.btr_tool.specs.declared.progress.Progress.{Progress}
-use Rattle.btr_tool.specs.declared.progress.Progress.TheVariants.{Start, Inspect, DumpTree, Address, TreeId, Check, Restore, RootId, FirstImage, Images}
+use Rattle.btr_tool.specs.declared.progress.Progress.TheVariants.{Start, Inspect, DumpTree, Address, TreeId, Check, Scrub, ScrubStart, Restore, RootId, FirstImage, Images}
 
 abbrev pub Words : Type 0
 Words = List (List ℕ)
@@ -27,6 +27,10 @@ IsName word = IsTrue (is_name word)
 -- the words that ask for a dump, with an option
 abbrev pub dump_words : Words → Words
 dump_words option = codes "inspect-internal" ∷ codes "dump-tree" ∷ option
+
+-- the words that ask for a scrub, with an option
+abbrev pub scrub_words : Words → Words
+scrub_words option = codes "scrub" ∷ codes "start" ∷ option
 
 -- the words ask to restore, with some options, into a destination
 pub record AsksRestore (dest : ℕ) (plan : RestorePlan) (words : Words) : Type 0 where
@@ -47,6 +51,8 @@ Asks (Dump (Tree id)) words = (word : List ℕ) × IsNumber id word × (words �
 Asks (Dump RootLines) words = words ≡ dump_words (codes "-r" ∷ [])
 Asks (checking false) words = words ≡ codes "check" ∷ []
 Asks (checking true) words = words ≡ codes "check" ∷ codes "--check-data-csum" ∷ []
+Asks (scrubbing true) words = words ≡ scrub_words []
+Asks (scrubbing false) words = words ≡ scrub_words (codes "-r" ∷ [])
 Asks Roots words = words ≡ codes "restore" ∷ codes "-l" ∷ []
 Asks (restoring dest plan) words = AsksRestore dest plan words
 
@@ -103,6 +109,7 @@ next_of Start word =
     if bytes_eq word (codes "super") then Some (behind_all Super 1)
     else if bytes_eq word (codes "inspect-internal") then Some Inspect
     else if bytes_eq word (codes "check") then Some Check
+    else if bytes_eq word (codes "scrub") then Some Scrub
     else if bytes_eq word (codes "restore") then Some (Restore no_options)
     else None
 next_of Inspect word = if bytes_eq word (codes "dump-tree") then Some DumpTree else None
@@ -117,6 +124,11 @@ next_of TreeId word = option_map (λ id. behind_all (Dump (Tree id)) 4) (number_
 next_of Check word =
     if bytes_eq word (codes "--check-data-csum") then Some (behind_all (checking true) 2)
     else if is_name word then Some (Images (plan_for (checking false) 1))
+    else None
+next_of Scrub word = if bytes_eq word (codes "start") then Some ScrubStart else None
+next_of ScrubStart word =
+    if bytes_eq word (codes "-r") then Some (behind_all (scrubbing false) 3)
+    else if is_name word then Some (Images (plan_for (scrubbing true) 2))
     else None
 next_of (Restore given) word =
     if bytes_eq word (codes "-l") then roots_place given
@@ -137,6 +149,8 @@ plan_of DumpTree = None
 plan_of Address = None
 plan_of TreeId = None
 plan_of Check = None
+plan_of Scrub = None
+plan_of ScrubStart = None
 plan_of (Restore given) = None
 plan_of (RootId given) = None
 plan_of (FirstImage plan) = None

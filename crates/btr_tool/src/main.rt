@@ -17,6 +17,7 @@ mod progress;
 mod refusal;
 mod restoring;
 mod run;
+mod scrubbing;
 mod standard;
 #[cfg(test)]
 mod tests;

@@ -1,7 +1,7 @@
 // Opening the images that the words name.
 ghost use Rattle.std.specs.Prelude.{◌≡◌, ◌<◌, [], true, ℕ, map, length, IfErr, OnOk};
 ghost use Rattle.std.specs.String.{string_bytes};
-ghost use Rattle.btr_tool.specs.Images.{AreUnchanged, IsMissing, most_images};
+ghost use Rattle.btr_tool.specs.Images.{AreOpenedAs, IsMissing, most_images};
 ghost use Rattle.btr_tool.specs.Opening.{HasTooMany, OpeningCause, OpensAll};
 
 use crate::answer::Answer;
@@ -36,22 +36,26 @@ impl From<OpeningFault> for Answer {
     }
 }
 
-/// Opens the named images in order, each in the next slot, only to be read: the first step of each command.
+/// Opens the named images in order, each in the next slot, to be written or only to be read: the first step of each command.
 ///
 /// `TooMany` comes before any call on the rack, exactly where more than 64 images are named. `Failed` names the
 /// first image that can't be opened; `Memory` comes for want of it.
-pub(crate) fn open_images<R: Rack>(names: &[String], rack: &mut R) -> Result<(), OpeningFault>
+pub(crate) fn open_images<R: Rack>(
+    names: &[String],
+    write: bool,
+    rack: &mut R,
+) -> Result<(), OpeningFault>
     requires empty { (R.seen rack.old).slots ≡ [] }
     requires some { 0 < length names.now }
     ensures images { OpensAll (map string_bytes names.now) (R.seen rack.old).shelf (R.seen rack.new).held result }
     ensures limit { HasTooMany (map string_bytes names.now) result }
     ensures early { most_images < length names.now → rack.new ≡ rack.old }
-    ensures cause { OpeningCause (map string_bytes names.now) (R.seen rack.old) (R.seen rack.new) result }
+    ensures cause { OpeningCause write (map string_bytes names.now) (R.seen rack.old) (R.seen rack.new) result }
 
     // A sure rack fails to open only what isn't on the shelf.
     ensures sure { IfErr result (λ fault. (slot : ℕ) → fault ≡ OpeningFault.Failed slot
         → (R.seen rack.old).sure ≡ true → IsMissing (map string_bytes names.now) (R.seen rack.old).shelf slot) }
-    ensures unchanged { AreUnchanged (R.seen rack.old).shelf (R.seen rack.new).slots (R.seen rack.new).held }
+    ensures opened { AreOpenedAs write (R.seen rack.old).shelf (R.seen rack.new).slots (R.seen rack.new).held }
     ensures kept { OnOk result ((R.seen rack.new).sure ≡ (R.seen rack.old).sure) }
     ensures count { OnOk result (length (R.seen rack.new).slots ≡ length names.now) }
 {
@@ -59,7 +63,7 @@ pub(crate) fn open_images<R: Rack>(names: &[String], rack: &mut R) -> Result<(),
         return Err(OpeningFault::TooMany(names.len() as u64));
     }
     for (slot, name) in names.iter().enumerate() {
-        match rack.open(name.as_str(), false) {
+        match rack.open(name.as_str(), write) {
             Ok(_) => {}
             Err(RackError::Failed) => return Err(OpeningFault::Failed(slot)),
             Err(RackError::Memory) => return Err(OpeningFault::Memory),

@@ -1,6 +1,7 @@
 // The words of the command line, as a plan.
-ghost use Rattle.std.specs.Prelude.{IfOk, IfErr, map};
+ghost use Rattle.std.specs.Prelude.{◌≡◌, IfOk, IfErr, map};
 ghost use Rattle.std.specs.String.{string_bytes};
+ghost use Rattle.btr_tool.specs.Commands.{opens_to_write};
 ghost use Rattle.btr_tool.specs.Words.{IsSentence, IsUsageAt};
 
 use crate::progress::Progress;
@@ -17,8 +18,26 @@ pub enum Command {
     Roots,
     /// `check`: print what is wrong with the filesystem; with `read_data`, the sectors that have a checksum are read too.
     Check { read_data: bool },
+    /// `scrub start`: read each copy of each checked block, and with `write` write the bad ones anew; without it, `-r`, images are only read.
+    Scrub { write: bool },
     /// `restore`: write the directories and files of a subvolume into the destination that the word of this number names.
     Restore { dest: usize, plan: RestorePlan },
+}
+
+impl Command {
+    /// Whether it writes into the images, which are opened for it then.
+    pub fn writes(&self) -> bool
+        ensures { result ≡ opens_to_write self.now }
+    {
+        match self {
+            Command::Super => false,
+            Command::Dump(_) => false,
+            Command::Roots => false,
+            Command::Check { .. } => false,
+            Command::Scrub { write } => *write,
+            Command::Restore { .. } => false,
+        }
+    }
 }
 
 /// What `inspect-internal dump-tree` prints.

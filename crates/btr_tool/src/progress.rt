@@ -21,6 +21,10 @@ pub(crate) enum Progress {
     TreeId,
     /// Behind `check`: the option or the first image is next.
     Check,
+    /// Behind `scrub`.
+    Scrub,
+    /// Behind `scrub start`: the option or the first image is next.
+    ScrubStart,
     /// Behind `restore` and these options: `-l`, another option or the destination is next.
     Restore(Options),
     /// Behind `-r`: the id of a subvolume is next.
@@ -43,6 +47,8 @@ impl Progress {
             Progress::Address => address(word),
             Progress::TreeId => tree_id(word),
             Progress::Check => check_option(word),
+            Progress::Scrub => scrub_start(word),
+            Progress::ScrubStart => scrub_option(word),
             Progress::Restore(given) => restore_option(given, word),
             Progress::RootId(given) => root_id(given, word),
             Progress::FirstImage(plan) => image(plan, word),
@@ -62,6 +68,8 @@ impl Progress {
             Progress::Address => None,
             Progress::TreeId => None,
             Progress::Check => None,
+            Progress::Scrub => None,
+            Progress::ScrubStart => None,
             Progress::Restore(_) => None,
             Progress::RootId(_) => None,
             Progress::FirstImage(_) => None,
@@ -76,6 +84,7 @@ fn command(word: &str) -> Option<Progress>
         "super" => Some(behind_words(Command::Super, 1)),
         "inspect-internal" => Some(Progress::Inspect),
         "check" => Some(Progress::Check),
+        "scrub" => Some(Progress::Scrub),
         "restore" => Some(Progress::Restore(Options::new())),
         _ => None,
     }
@@ -130,6 +139,30 @@ fn check_option(word: &str) -> Option<Progress>
             Plan {
                 command: Command::Check { read_data: false },
                 images: 1,
+            },
+            word,
+        ),
+    }
+}
+
+fn scrub_start(word: &str) -> Option<Progress>
+    ensures { result ≡ next_of Progress.Scrub word.now }
+{
+    match word {
+        "start" => Some(Progress::ScrubStart),
+        _ => None,
+    }
+}
+
+fn scrub_option(word: &str) -> Option<Progress>
+    ensures { result ≡ next_of Progress.ScrubStart word.now }
+{
+    match word {
+        "-r" => Some(behind_words(Command::Scrub { write: false }, 3)),
+        _ => image(
+            Plan {
+                command: Command::Scrub { write: true },
+                images: 2,
             },
             word,
         ),

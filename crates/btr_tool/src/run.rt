@@ -13,6 +13,7 @@ ghost use Rattle.btr_tool.specs.Images.{AreUnchanged};
 ghost use Rattle.btr_tool.specs.Promise.{KeepsHeadline, KeepsOutcome};
 ghost use Rattle.btr_tool.specs.Order.{FollowsOrder, KeepsCommittedOrder, KeepsOrder};
 ghost use Rattle.btr_tool.specs.Outcomes.{CallFailed, Comes, IsPut, OrBare, OrMemory};
+ghost use Rattle.btr_tool.specs.Repaired.{AreLeft, AsksToWrite, KeepsRepair};
 
 use crate::answer::Answer;
 use crate::commands::perform;
@@ -104,8 +105,17 @@ pub fn run<R: Rack, T: TreeSink, O: Out>(
     ensures sure { (slot : ℕ) → result ≡ Answer.ImageFault slot → (R.seen rack.old).sure ≡ true
         → IsMissingImage (map string_bytes words.now) (R.seen rack.old).shelf slot }
 
-    // The images were opened only to be read, and hold what the shelf held, where the rack tells it.
-    ensures unchanged { AreUnchanged (R.seen rack.old).shelf (R.seen rack.new).slots (R.seen rack.new).held }
+    // But for a scrub that writes, the images were opened only to be read, and hold what the shelf held, where the rack tells it.
+    ensures unchanged { (AsksToWrite (map string_bytes words.now) → ⊥) → AreUnchanged (R.seen rack.old).shelf (R.seen rack.new).slots (R.seen rack.new).held }
+
+    // Of a scrub that writes they hold the writes that mend their filesystem, where no call failed and memory sufficed; and whatever failed, those up to one of
+    // them, where the copies agree. All answers that tell that nothing was written, as of a device that isn't given, leave each byte.
+    ensures repaired { IfSteady (R.seen rack.old).shelf (R.seen rack.old).account (R.seen rack.new).account (λ shelf.
+        Steady (O.account out.old).faults (O.account out.new).faults → result ≢ Answer.Memory
+        → KeepsRepair (map string_bytes words.now) shelf (R.seen rack.new).held) }
+    ensures left { AsksToWrite (map string_bytes words.now)
+        → AreLeft (Steady (R.seen rack.old).account.faults (R.seen rack.new).account.faults)
+        (R.seen rack.old).shelf (R.seen rack.new).slots (R.seen rack.new).held result }
 
     // What stands in the sink and in the output after each answer.
     ensures told { IsTold (map string_bytes words.now)
@@ -149,13 +159,18 @@ fn carry_out<R: Rack, T: TreeSink, O: Out>(
         → (rack.new ≡ rack.old) × (tree.new ≡ tree.old) × (answer_of result ≡ answer) }
     ensures stated { FollowsWords (map string_bytes words.now) (answer_of result) }
     ensures cause { IsBehindWords (map string_bytes words.now) (R.seen rack.old) (R.seen rack.new) (answer_of result) }
-    ensures unchanged { AreUnchanged (R.seen rack.old).shelf (R.seen rack.new).slots (R.seen rack.new).held }
+    ensures unchanged { (AsksToWrite (map string_bytes words.now) → ⊥) → AreUnchanged (R.seen rack.old).shelf (R.seen rack.new).slots (R.seen rack.new).held }
+    ensures repaired { IfSteady (R.seen rack.old).shelf (R.seen rack.old).account (R.seen rack.new).account (λ shelf.
+        answer_of result ≢ Answer.Memory → KeepsRepair (map string_bytes words.now) shelf (R.seen rack.new).held) }
+    ensures left { AsksToWrite (map string_bytes words.now)
+        → AreLeft (Steady (R.seen rack.old).account.faults (R.seen rack.new).account.faults)
+        (R.seen rack.old).shelf (R.seen rack.new).slots (R.seen rack.new).held (answer_of result) }
 {
     let plan = match Plan::parse(words) {
         Ok(plan) => plan,
         Err(at) => return Err(Answer::Usage(at)),
     };
-    open_images(&words[plan.images..], rack)?;
+    open_images(&words[plan.images..], plan.command.writes(), rack)?;
     perform(alloc, plan.command, words, rack, tree, out)
 }
 

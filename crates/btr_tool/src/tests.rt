@@ -8,6 +8,7 @@ mod hostile;
 mod kinds;
 mod opening;
 mod restoring;
+mod scrubbing;
 mod sinking;
 mod wanting;
 

@@ -1,16 +1,16 @@
-use Rattle.std.proofs.Common.{◌≡◌, ◌∙◌, inr, length, map, Some, refl, sym, subst}
+use Rattle.std.proofs.Common.{◌≡◌, ◌∙◌, inr, length, map, Some, refl, sym, ap, subst}
 use Rattle.std.specs.String.{string_bytes}
 use Rattle.btr_restore.specs.Running.{outside}
 use Rattle.btr_tool.specs.Answers.{answer_of}
 use Rattle.btr_tool.specs.Behind.{IfSteady}
-use Rattle.btr_tool.specs.Commands.{HasWords, command_outcome, MayCome, MayWant}
+use Rattle.btr_tool.specs.Commands.{HasWords, IsBehindCommand, command_outcome, MayCome, MayWant, opens_to_write}
 use Rattle.btr_tool.specs.Outcomes.{Comes, OrBare, OrMemory}
 use Rattle.btr_tool.specs.Restored.{IsRestored}
-use Rattle.btr_tool.specs.declared.plan.Command.TheVariants.{Super, Dump, Roots, Check, Restore}
+use Rattle.btr_tool.specs.declared.plan.Command.TheVariants.{Super, Dump, Roots, Check, Scrub, Restore}
 use Rattle.btr_tool.proofs.Causing.{name_at}
 use Rattle.btr_tool.proofs.Coming.{comes_also}
 use Rattle.btr_tool.proofs.Ending.{when_told}
-use Rattle.btr_tool.proofs.Performing.{restored_order, shown_checked, shown_effect, shown_told, writing_comes}
+use Rattle.btr_tool.proofs.Performing.{only_reads, restored_order, scrub_writes, shown_checked, shown_effect, shown_told, writing_comes}
 use Rattle.btr_tool.proofs.commands.perform.Goals as goal
 
 pub returns-in-Super-clause-effect : goal.returns-in-Super-clause-effect
@@ -77,6 +77,22 @@ returns-in-Check-clause-told g c =
     subst (λ command. Comes (MayWant command x.out_calls) (OrBare (MayCome command)) x y (answer_of c.show_findings.result)) (sym c.in-Check.is)
     (shown_told (Check c.in-Check.read_data) x y refl refl (answer_of c.show_findings.result) (MayCome (Check c.in-Check.read_data)) c.show_findings.ensures.told)
 
+pub returns-in-Scrub-clause-effect : goal.returns-in-Scrub-clause-effect
+returns-in-Scrub-clause-effect g c =
+    let old = g.R.Rack.seen c.args.rack.now in
+    let new = g.R.Rack.seen c.scrub_images.new.rack in
+    let x = outside (g.T.TreeSink.sink c.args.tree.now) (g.T.TreeSink.account c.args.tree.now) (g.O.Out.text c.args.out.now) (g.O.Out.account c.args.out.now) in
+    let y = outside (g.T.TreeSink.sink c.args.tree.now) (g.T.TreeSink.account c.args.tree.now) (g.O.Out.text c.scrub_images.new.out) (g.O.Out.account c.scrub_images.new.out) in
+    subst (λ command. IfSteady old.held old.account new.account (λ images. Comes (MayWant command x.out_calls) (OrMemory (λ outcome. command_outcome command (map string_bytes c.args.words.now) images ≡ Some outcome)) x y (answer_of c.scrub_images.result)))
+    (sym c.in-Scrub.is) (shown_effect (Scrub c.in-Scrub.write) x y refl refl (answer_of c.scrub_images.result) (λ images outcome. command_outcome (Scrub c.in-Scrub.write) (map string_bytes c.args.words.now) images ≡ Some outcome) old.held old.account new.account c.scrub_images.ensures.effect)
+
+pub returns-in-Scrub-clause-told : goal.returns-in-Scrub-clause-told
+returns-in-Scrub-clause-told g c =
+    let x = outside (g.T.TreeSink.sink c.args.tree.now) (g.T.TreeSink.account c.args.tree.now) (g.O.Out.text c.args.out.now) (g.O.Out.account c.args.out.now) in
+    let y = outside (g.T.TreeSink.sink c.args.tree.now) (g.T.TreeSink.account c.args.tree.now) (g.O.Out.text c.scrub_images.new.out) (g.O.Out.account c.scrub_images.new.out) in
+    subst (λ command. Comes (MayWant command x.out_calls) (OrBare (MayCome command)) x y (answer_of c.scrub_images.result)) (sym c.in-Scrub.is)
+    (shown_told (Scrub c.in-Scrub.write) x y refl refl (answer_of c.scrub_images.result) (MayCome (Scrub c.in-Scrub.write)) c.scrub_images.ensures.told)
+
 pub returns-in-Restore-clause-effect : goal.returns-in-Restore-clause-effect
 returns-in-Restore-clause-effect g c =
     let old = g.R.Rack.seen c.args.rack.now in
@@ -131,3 +147,77 @@ returns-in-Check-clause-checked g c = λ read_data is.
     (outside (g.T.TreeSink.sink c.args.tree.now) (g.T.TreeSink.account c.args.tree.now) (g.O.Out.text c.args.out.now) (g.O.Out.account c.args.out.now))
     (outside (g.T.TreeSink.sink c.args.tree.now) (g.T.TreeSink.account c.args.tree.now) (g.O.Out.text c.show_findings.new.out) (g.O.Out.account c.show_findings.new.out)) refl refl (answer_of c.show_findings.result)
     c.in-Check.read_data read_data (sym c.in-Check.is ∙ is) (g.R.Rack.seen c.args.rack.now).held c.show_findings.ensures.agreed
+
+pub returns-in-Scrub-clause-order : goal.returns-in-Scrub-clause-order
+returns-in-Scrub-clause-order g c = λ number plan is. absurd (cc (sym c.in-Scrub.is ∙ is))
+
+pub returns-in-Scrub-clause-checked : goal.returns-in-Scrub-clause-checked
+returns-in-Scrub-clause-checked g c = λ read_data is. absurd (cc (sym c.in-Scrub.is ∙ is))
+
+pub returns-in-Super-clause-cause : goal.returns-in-Super-clause-cause
+returns-in-Super-clause-cause g c =
+    subst (λ command. IsBehindCommand command (g.R.Rack.seen c.args.rack.now) (g.R.Rack.seen c.show_newest.new.rack) (answer_of c.show_newest.result)) (sym c.in-Super.is)
+    (only_reads Super (g.R.Rack.seen c.args.rack.now) (g.R.Rack.seen c.show_newest.new.rack) (answer_of c.show_newest.result) c.show_newest.ensures.cause)
+
+pub returns-in-Super-clause-repaired : goal.returns-in-Super-clause-repaired
+returns-in-Super-clause-repaired g c = λ is. absurd (cc (sym c.in-Super.is ∙ is))
+
+pub returns-in-Super-clause-left : goal.returns-in-Super-clause-left
+returns-in-Super-clause-left g c = λ is. absurd (cc (sym c.in-Super.is ∙ is))
+
+pub returns-in-Dump-clause-cause : goal.returns-in-Dump-clause-cause
+returns-in-Dump-clause-cause g c =
+    subst (λ command. IsBehindCommand command (g.R.Rack.seen c.args.rack.now) (g.R.Rack.seen c.show_trees.new.rack) (answer_of c.show_trees.result)) (sym c.in-Dump.is)
+    (only_reads (Dump c.in-Dump.choice) (g.R.Rack.seen c.args.rack.now) (g.R.Rack.seen c.show_trees.new.rack) (answer_of c.show_trees.result) c.show_trees.ensures.cause)
+
+pub returns-in-Dump-clause-repaired : goal.returns-in-Dump-clause-repaired
+returns-in-Dump-clause-repaired g c = λ is. absurd (cc (sym c.in-Dump.is ∙ is))
+
+pub returns-in-Dump-clause-left : goal.returns-in-Dump-clause-left
+returns-in-Dump-clause-left g c = λ is. absurd (cc (sym c.in-Dump.is ∙ is))
+
+pub returns-in-Roots-clause-cause : goal.returns-in-Roots-clause-cause
+returns-in-Roots-clause-cause g c =
+    subst (λ command. IsBehindCommand command (g.R.Rack.seen c.args.rack.now) (g.R.Rack.seen c.show_trees-in-Roots.new.rack) (answer_of c.show_trees-in-Roots.result)) (sym c.in-Roots.is)
+    (only_reads Roots (g.R.Rack.seen c.args.rack.now) (g.R.Rack.seen c.show_trees-in-Roots.new.rack) (answer_of c.show_trees-in-Roots.result) c.show_trees-in-Roots.ensures.cause)
+
+pub returns-in-Roots-clause-repaired : goal.returns-in-Roots-clause-repaired
+returns-in-Roots-clause-repaired g c = λ is. absurd (cc (sym c.in-Roots.is ∙ is))
+
+pub returns-in-Roots-clause-left : goal.returns-in-Roots-clause-left
+returns-in-Roots-clause-left g c = λ is. absurd (cc (sym c.in-Roots.is ∙ is))
+
+pub returns-in-Check-clause-cause : goal.returns-in-Check-clause-cause
+returns-in-Check-clause-cause g c =
+    subst (λ command. IsBehindCommand command (g.R.Rack.seen c.args.rack.now) (g.R.Rack.seen c.show_findings.new.rack) (answer_of c.show_findings.result)) (sym c.in-Check.is)
+    (only_reads (Check c.in-Check.read_data) (g.R.Rack.seen c.args.rack.now) (g.R.Rack.seen c.show_findings.new.rack) (answer_of c.show_findings.result) c.show_findings.ensures.cause)
+
+pub returns-in-Check-clause-repaired : goal.returns-in-Check-clause-repaired
+returns-in-Check-clause-repaired g c = λ is. absurd (cc (sym c.in-Check.is ∙ is))
+
+pub returns-in-Check-clause-left : goal.returns-in-Check-clause-left
+returns-in-Check-clause-left g c = λ is. absurd (cc (sym c.in-Check.is ∙ is))
+
+pub returns-in-Restore-clause-cause : goal.returns-in-Restore-clause-cause
+returns-in-Restore-clause-cause g c =
+    subst (λ command. IsBehindCommand command (g.R.Rack.seen c.args.rack.now) (g.R.Rack.seen c.restore_files.new.rack) (answer_of c.restore_files.result)) (sym c.in-Restore.is)
+    (only_reads (Restore c.in-Restore.dest c.in-Restore.plan) (g.R.Rack.seen c.args.rack.now) (g.R.Rack.seen c.restore_files.new.rack) (answer_of c.restore_files.result) c.restore_files.ensures.cause)
+
+pub returns-in-Restore-clause-repaired : goal.returns-in-Restore-clause-repaired
+returns-in-Restore-clause-repaired g c = λ is. absurd (cc (sym c.in-Restore.is ∙ is))
+
+pub returns-in-Restore-clause-left : goal.returns-in-Restore-clause-left
+returns-in-Restore-clause-left g c = λ is. absurd (cc (sym c.in-Restore.is ∙ is))
+
+pub scrub_images-requires-clause-writable : goal.scrub_images-requires-clause-writable
+scrub_images-requires-clause-writable g c = λ is. c.requires.writable (ap opens_to_write c.in-Scrub.is ∙ is)
+
+pub returns-in-Scrub-clause-cause : goal.returns-in-Scrub-clause-cause
+returns-in-Scrub-clause-cause g c =
+    subst (λ command. IsBehindCommand command (g.R.Rack.seen c.args.rack.now) (g.R.Rack.seen c.scrub_images.new.rack) (answer_of c.scrub_images.result)) (sym c.in-Scrub.is) c.scrub_images.ensures.cause
+
+pub returns-in-Scrub-clause-repaired : goal.returns-in-Scrub-clause-repaired
+returns-in-Scrub-clause-repaired g c = λ is. c.scrub_images.ensures.repaired (scrub_writes c.in-Scrub.write (sym c.in-Scrub.is ∙ is))
+
+pub returns-in-Scrub-clause-left : goal.returns-in-Scrub-clause-left
+returns-in-Scrub-clause-left g c = λ is. c.scrub_images.ensures.left (scrub_writes c.in-Scrub.write (sym c.in-Scrub.is ∙ is))

@@ -1,4 +1,4 @@
-use Rattle.std.proofs.Common.{◌≡◌, false, length, map, take}
+use Rattle.std.proofs.Common.{◌≡◌, length, map, take}
 use Rattle.std.specs.List.{All}
 use Rattle.std.specs.String.{string_bytes}
 use Rattle.btr_rack.specs.Rack.{NoneFailed}
@@ -11,6 +11,6 @@ invariant-loop-slot g l = record {
   before : map (λ s. s.name) (g.R.Rack.seen l.rack).slots ≡ take l.slot (map string_bytes l.names);
   sure : (g.R.Rack.seen l.rack).sure ≡ (g.R.Rack.seen l.fn.rack).sure;
   account : NoneFailed (g.R.Rack.seen l.fn.rack).account (g.R.Rack.seen l.rack).account;
-  closed : All (λ s. s.write ≡ false) (g.R.Rack.seen l.rack).slots;
+  closed : All (λ s. s.write ≡ l.fn.write) (g.R.Rack.seen l.rack).slots;
   images : OpenSoFar (map (λ s. s.name) (g.R.Rack.seen l.rack).slots) (g.R.Rack.seen l.fn.rack).shelf (g.R.Rack.seen l.rack).shelf (g.R.Rack.seen l.rack).held;
 }

@@ -5,7 +5,9 @@ use Rattle.btr_tool.specs.Answers.{answer_of}
 use Rattle.btr_tool.specs.Causes.{opened_with}
 use Rattle.btr_tool.specs.Effects.{MayFollow}
 use Rattle.btr_tool.specs.Outcomes.{OrBare}
-use Rattle.btr_tool.proofs.Ending.{when_told, has_effect, has_part, keeps_check, decided, stated, image, shut, out_failed, sink_failed, tree, hidden, sure, is_told}
+use Rattle.btr_tool.specs.Repaired.{KeepsRepair}
+use Rattle.btr_rack.specs.Rack.{Steady}
+use Rattle.btr_tool.proofs.Ending.{when_told, has_effect, has_part, keeps_check, decided, stated, image, shut, out_failed, sink_failed, tree, hidden, left, repaired, sure, is_told}
 use Rattle.btr_tool.proofs.Orders.{keeps_committed, keeps_order}
 use Rattle.btr_tool.proofs.Promises.{keeps_outcome, keeps_headline}
 use Rattle.btr_tool.proofs.run.run.Goals as goal
@@ -146,3 +148,20 @@ returns-clause-checked g c =
     (outside (g.T.TreeSink.sink c.carry_out-done.new.tree) (g.T.TreeSink.account c.carry_out-done.new.tree) (g.O.Out.text c.carry_out-done.new.out) (g.O.Out.account c.carry_out-done.new.out)) (g.O.Out.text c.finish.new.out) (g.O.Out.account c.finish.new.out)
     (answer_of c.carry_out-done.result) c.finish.result c.finish.ensures shelf follows)
     c.carry_out-done.ensures.checked
+
+pub returns-clause-repaired : goal.returns-clause-repaired
+returns-clause-repaired g c =
+    when_told (g.R.Rack.seen c.args.rack.now).shelf _ _
+    (λ shelf keeps still steady enough.
+    repaired (map string_bytes c.args.words.now) (outside (g.T.TreeSink.sink c.args.tree.now) (g.T.TreeSink.account c.args.tree.now) (g.O.Out.text c.args.out.now) (g.O.Out.account c.args.out.now))
+    (outside (g.T.TreeSink.sink c.carry_out-done.new.tree) (g.T.TreeSink.account c.carry_out-done.new.tree) (g.O.Out.text c.carry_out-done.new.out) (g.O.Out.account c.carry_out-done.new.out)) (g.O.Out.text c.finish.new.out) (g.O.Out.account c.finish.new.out)
+    (answer_of c.carry_out-done.result) c.finish.result c.finish.ensures
+    (KeepsRepair (map string_bytes c.args.words.now) shelf (g.R.Rack.seen c.carry_out-done.new.rack).held) (OrBare (MayFollow (map string_bytes c.args.words.now))) c.carry_out-done.ensures.told (keeps still) steady enough)
+    c.carry_out-done.ensures.repaired
+
+pub returns-clause-left : goal.returns-clause-left
+returns-clause-left g c = λ asks.
+    left (map string_bytes c.args.words.now) (outside (g.T.TreeSink.sink c.args.tree.now) (g.T.TreeSink.account c.args.tree.now) (g.O.Out.text c.args.out.now) (g.O.Out.account c.args.out.now))
+    (outside (g.T.TreeSink.sink c.carry_out-done.new.tree) (g.T.TreeSink.account c.carry_out-done.new.tree) (g.O.Out.text c.carry_out-done.new.out) (g.O.Out.account c.carry_out-done.new.out)) (g.O.Out.text c.finish.new.out) (g.O.Out.account c.finish.new.out)
+    (answer_of c.carry_out-done.result) c.finish.result c.finish.ensures
+    (Steady (g.R.Rack.seen c.args.rack.now).account.faults (g.R.Rack.seen c.carry_out-done.new.rack).account.faults) (g.R.Rack.seen c.args.rack.now).shelf (g.R.Rack.seen c.carry_out-done.new.rack).slots (g.R.Rack.seen c.carry_out-done.new.rack).held (c.carry_out-done.ensures.left asks)
