@@ -45,7 +45,7 @@ pub record CauseTold (words : Words) (old new : Seen) (fault : TreeFault) : Type
   pub sentence : IsSentence plan words
   pub cause : TellsCause plan.command fault → (layout : Layout) × FaultCause layout (opened_with old.account new) new fault
 
--- a fault of a tree is answered only by a command that tells its cause
+-- a fault of a tree has its cause, where the command that the words ask for tells it
 abbrev pub TreeCause : Words → Seen → Seen → Answer → Type 0
 TreeCause words old new answer = (fault : TreeFault) → answer ≡ tree_answer fault → CauseTold words old new fault
 

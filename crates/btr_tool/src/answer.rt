@@ -65,7 +65,7 @@ pub enum Answer {
 }
 
 impl Answer {
-    /// The exit status: 0 where all was done, 1 where something was left out or a block is damaged, 2 for words that are
+    /// The exit status: 0 where all was done, 1 where something was left out or found or a block is damaged, 2 for words that are
     /// no sentence, 3 for images that can't be read here, 4 where the outside failed, 5 for want of memory.
     pub fn code(&self) -> u8
         ensures { result ≡ code_of self.now }
