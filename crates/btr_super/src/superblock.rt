@@ -2,7 +2,7 @@ use crate::SuperFault;
 use btr_base::{SumKind, array_at, is_summed, u16_at, u32_at, u64_at};
 
 /// The fields of a superblock. Addresses and sizes are in bytes.
-#[derive(Clone, Copy)]
+#[derive(Clone, Copy, Debug, PartialEq, Eq)]
 pub struct Super {
     /// The id of the filesystem.
     pub fsid: [u8; 16],
