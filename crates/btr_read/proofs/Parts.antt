@@ -1,17 +1,20 @@
 -- The parts that a candidate by parities reads, and their ranges.
-use Rattle.std.proofs.Common.{◌≡◌, ℕ, suc, ◌<◌, Bool, true, false, cond, List, [], ◌∷◌, Option, Some, None, IsSome, is_some, refl, sym, ap, ◌∙◌, subst, inl, inr, arith}
+use Rattle.std.proofs.Common.{◌≡◌, ℕ, suc, ◌<◌, Bool, true, false, cond, List, [], ◌∷◌, Option, Some, None, IsSome, is_some, Err, refl, sym, ap, ◌∙◌, subst, inl, inr, arith}
 use Rattle.std.proofs.lemmas.Bool.{false≢true}
 use Rattle.std.specs.List.{filter, filter_map, cons_option, list_all, range_with_len, Any}
 use Rattle.btr_rack.specs.declared.place.Place.{Place as Range}
 use Rattle.btr_chunk.specs.declared.place.Part.{Part}
-use Rattle.btr_chunk.specs.declared.place.Part.TheVariants.{Slice}
+use Rattle.btr_chunk.specs.declared.place.Part.TheVariants.{Mirror, Slice, P, Q}
 use Rattle.btr_read.specs.declared.candidate.Candidate.{Candidate}
 use Rattle.btr_read.specs.declared.candidate.Candidate.TheVariants.{Stands, ByP, ByQ, ByBoth}
 use Rattle.btr_read.specs.declared.parity.Parity.{Parity}
 use Rattle.btr_read.specs.declared.parity.Parity.TheVariants as parity
 use Rattle.btr_read.specs.Candidates.{Target, slice_count, range_of, ranges_of, reads_slice, parts_read, stands}
 use Rattle.btr_read.specs.Sought.{Uses}
-use Rattle.btr_read.specs.Gathering.{part_of}
+use Rattle.btr_read.specs.Gathering.{part_of, IsOfRow, AccountsPart, AccountsRow}
+use Rattle.btr_rack.specs.Rack.{Seen, NoneFailed}
+use Rattle.btr_read.specs.declared.attempt.Unread.{Unread}
+use Rattle.btr_read.proofs.Keeping.{one_after}
 use Rattle.btr_read.specs.Cause.{LiesIn}
 use Rattle.btr_read.proofs.Ones.{In, below_in, in_map}
 use Rattle.btr_read.proofs.Standing.{left_of, right_of}
@@ -52,6 +55,17 @@ all_in f (q ∷ ps) part h (inr i) = all_in f ps part (right_of (f q) (list_all 
 -- where a candidate stands, its parts do
 pub part_stands : (t : Target) (c : Candidate) (part : Part) → stands t c ≡ true → In part (parts_read (slice_count t) t.at.index c) → IsSome (range_of t part)
 part_stands t c part h i = all_in (λ part. is_some (range_of t part)) (parts_read (slice_count t) t.at.index c) part h i
+
+-- P, Q and the slices that a candidate by both parities reads are the parts that it reads
+pub row_in : (t : Target) (j : ℕ) (part : Part) → IsOfRow t (ByBoth j) part → In part (parts_read (slice_count t) t.at.index (ByBoth j))
+row_in t j (Mirror i) h = absurd h
+row_in t j (Slice s) h = slice_in (slice_count t) t.at.index (ByBoth j) s h.0 h.1
+row_in t j P h = inl refl
+row_in t j Q h = inr (inl refl)
+
+-- a read of one of them failed, after others that didn't
+pub row_missed : (t : Target) (c : Candidate) (part : Part) (u : Unread) (a b n : Seen) → b.sure ≡ a.sure → NoneFailed a.account b.account → AccountsPart t part b n (Err u) → IsOfRow t c part → AccountsRow t c a n (Err u)
+row_missed t c part u a b n sure calm e h = (e.0, one_after e.0 a b n sure calm e.1, e.2, ap (range_of t) e.4 ∙ e.3, subst (IsOfRow t c) (sym e.4) h)
 
 lies_self : (m : Range) → LiesIn m m
 lies_self m = record { slot = refl; from = omega arith; to = omega arith }

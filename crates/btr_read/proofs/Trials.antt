@@ -15,7 +15,8 @@ use Rattle.btr_read.specs.Fate.{passing}
 use Rattle.btr_read.specs.declared.attempt.Outcome.{Outcome}
 use Rattle.btr_read.specs.declared.attempt.Outcome.TheVariants as outcome
 use Rattle.btr_read.specs.Attempt.{FitsOutcome}
-use Rattle.btr_read.specs.Cause.{IsOf, IsMissed, Passes, IsUnread}
+use Rattle.btr_read.specs.Cause.{IsOf, IsMissed, ReadFailed, Passes, IsUnread}
+use Rattle.btr_read.specs.Trial.{passing_of, CauseSoFar, TriedSoFar}
 use Rattle.btr_read.proofs.Keeping.{none_failed, none_more}
 
 -- a fact for the images that are told
@@ -42,11 +43,7 @@ all_last P xs y all h j d lt = elim (cases_lt j (length xs)) [
 ]
 
 module _ (images : List (List ℕ)) (t : Target) where
-  -- those of some candidates that stand and pass
-  abbrev pub passing_of : List Candidate → List (List ℕ)
-  passing_of cs = filter (passes t.setting t.want) (filter_map (reading images t) cs)
-
-  pub passing-append : (cs ds : List Candidate) → passing_of (cs ++ ds) ≡ passing_of cs ++ passing_of ds
+  pub passing-append : (cs ds : List Candidate) → passing_of images t (cs ++ ds) ≡ passing_of images t cs ++ passing_of images t ds
   passing-append cs ds = ap (filter (passes t.setting t.want)) (filter_map-append (reading images t) cs ds) ∙ filter-append (passes t.setting t.want) (filter_map (reading images t) cs) (filter_map (reading images t) ds)
 
   pub reading_stands : (c : Candidate) → stands t c ≡ true → reading images t c ≡ Some (value_of images t c)
@@ -59,17 +56,17 @@ module _ (images : List (List ℕ)) (t : Target) where
   one_before : (o : Option (List ℕ)) (cs : List Candidate) → List (List ℕ)
   one_before o cs = filter (passes t.setting t.want) (cons_option o (filter_map (reading images t) cs))
 
-  pub passes_first : (c : Candidate) (cs : List Candidate) (bytes : List ℕ) → reading images t c ≡ Some bytes → passes t.setting t.want bytes ≡ true → passing_of (c ∷ cs) ≡ bytes ∷ passing_of cs
+  pub passes_first : (c : Candidate) (cs : List Candidate) (bytes : List ℕ) → reading images t c ≡ Some bytes → passes t.setting t.want bytes ≡ true → passing_of images t (c ∷ cs) ≡ bytes ∷ passing_of images t cs
   passes_first c cs bytes e test =
       ap (λ o. filter (passes t.setting t.want) (cons_option o (filter_map (reading images t) cs))) e
-      ∙ ap (λ b. cond b (bytes ∷ passing_of cs) (passing_of cs)) test
+      ∙ ap (λ b. cond b (bytes ∷ passing_of images t cs) (passing_of images t cs)) test
 
-  pub differs_alone : (c : Candidate) (bytes : List ℕ) → reading images t c ≡ Some bytes → passes t.setting t.want bytes ≡ false → passing_of (c ∷ []) ≡ []
+  pub differs_alone : (c : Candidate) (bytes : List ℕ) → reading images t c ≡ Some bytes → passes t.setting t.want bytes ≡ false → passing_of images t (c ∷ []) ≡ []
   differs_alone c bytes e test =
       ap (λ o. filter (passes t.setting t.want) (cons_option o [])) e
       ∙ ap (λ (b : Bool). cond b (bytes ∷ []) []) test
 
-  pub absent_alone : (c : Candidate) → reading images t c ≡ None → passing_of (c ∷ []) ≡ []
+  pub absent_alone : (c : Candidate) → reading images t c ≡ None → passing_of images t (c ∷ []) ≡ []
   absent_alone c e = ap (λ o. filter (passes t.setting t.want) (cons_option o [])) e
 
   at_most_one_if : (b : Bool) (bytes : List ℕ) → length (cond b (bytes ∷ []) []) ≤ 1
@@ -80,22 +77,22 @@ module _ (images : List (List ℕ)) (t : Target) where
   at_most_one_of None = omega arith
   at_most_one_of (Some bytes) = at_most_one_if (passes t.setting t.want bytes) bytes
 
-  pub at_most_one : (c : Candidate) → length (passing_of (c ∷ [])) ≤ 1
+  pub at_most_one : (c : Candidate) → length (passing_of images t (c ∷ [])) ≤ 1
   at_most_one c = at_most_one_of (reading images t c)
 
   -- no more pass than there are
-  pub at_most_all : (cs : List Candidate) → length (passing_of cs) ≤ length cs
+  pub at_most_all : (cs : List Candidate) → length (passing_of images t cs) ≤ length cs
   at_most_all [] = omega arith
   at_most_all (c ∷ cs) =
       let all = passing-append (c ∷ []) cs in
       let len = ap length all in
-      let parts = length-append (passing_of (c ∷ [])) (passing_of cs) in
+      let parts = length-append (passing_of images t (c ∷ [])) (passing_of images t cs) in
       let one = at_most_one c in
       let rest = at_most_all cs in
       omega (arith, len, parts, one, rest)
 
   -- a candidate that doesn't pass
-  pub differs_not : (c : Candidate) → passing_of (c ∷ []) ≡ [] → Passes images t c → ⊥
+  pub differs_not : (c : Candidate) → passing_of images t (c ∷ []) ≡ [] → Passes images t c → ⊥
   differs_not c none h = passes_not (reading images t c) none h
     where
       passes_not : (o : Option (List ℕ)) → filter (passes t.setting t.want) (cons_option o []) ≡ [] → IsSomeAnd o (λ bytes. passes t.setting t.want bytes ≡ true) → ⊥
@@ -103,21 +100,6 @@ module _ (images : List (List ℕ)) (t : Target) where
       passes_not (Some bytes) e h =
           let first : bytes ∷ [] ≡ [] = sym (ap (λ b. cond b (bytes ∷ []) []) h) ∙ e in
           cc
-
--- what stands of the cause, after some candidates: no call failed, or the last one that did was of a candidate
-abbrev pub CauseSoFar : Target → Seen → Seen → Option ℕ → Type 0
-CauseSoFar t before now None = NoneFailed before.account now.account
-CauseSoFar t before now (Some s) =
-    (before.sure ≡ false) × Rose before.account.faults now.account.faults × (now.account.last.slot ≡ s)
-    × Any (λ c. (stands t c ≡ true) × IsOf t now.account.last c) (candidates t) × (1 ≤ now.account.fresh) × (now.account.opening ≡ None)
-
--- after the first k candidates, of which none that could be read passes
-pub record TriedSoFar (t : Target) (before now : Seen) (failed : Option ℕ) (k : ℕ) : Type 0 where
-  pub later : before.account.faults ≤ now.account.faults
-  pub cause : CauseSoFar t before now failed
-  pub only : All (λ missed. Any (IsOf t missed) (candidates t)) now.account.missed
-  pub enough : (images : List (List ℕ)) → before.held ≡ Some images → length (passing_of images t (take k (candidates t))) ≤ now.account.fresh
-  pub each : (images : List (List ℕ)) → before.held ≡ Some images → (j : ℕ) (d : Candidate) → j < k → Passes images t (get_or (candidates t) j d) → Any (λ missed. IsOf t missed (get_or (candidates t) j d)) now.account.missed
 
 pub tried_none : (t : Target) (rack : Seen) → rack.account.missed ≡ [] → TriedSoFar t rack rack None 0
 tried_none t rack missed = record {
@@ -198,6 +180,30 @@ tried_failed t before now after failed k s c h is lt short sure standing fault =
         | inl earlier ↦ any_before (λ missed. IsOf t missed (get_or (candidates t) j d)) now.account.missed (m ∷ []) (h.each images e j d earlier p)
         | inr there ↦ any_last (λ missed. IsOf t missed (get_or (candidates t) j d)) now.account.missed m (subst (IsOf t m) (sym (at_place (candidates t) j k c d is there below)) here)
       ]);
+    }
+
+-- a read failed that isn't of the next candidate
+pub tried_missed : (t : Target) (before now after : Seen) (failed : Option ℕ) (k s : ℕ) (m : Range) → TriedSoFar t before now failed k → k < 2 ^ 64 → now.sure ≡ before.sure → Any (λ c. (stands t c ≡ true) × IsOf t m c) (candidates t) → ReadFailed m now after → m.slot ≡ s → TriedSoFar t before after (Some s) k
+tried_missed t before now after failed k s m h short sure of fault slot =
+    let one : OneFailed m now.account after.account = fault.one in
+    let some : Any (IsOf t m) (candidates t) = (of.0, of.1, of.2, of.3, of.4.1) in
+    record {
+      later = omega (arith, h.later, one.faults.0);
+      cause = (
+        sym sure ∙ fault.unsure,
+        (omega (arith, h.later, one.faults.0), omega (arith, h.later, one.faults.1)),
+        ap (λ r. r.slot) one.last ∙ slot,
+        subst (λ r. Any (λ c. (stands t c ≡ true) × IsOf t r c) (candidates t)) (sym one.last) of,
+        omega (arith, one.fresh),
+        fault.read,
+      );
+      only = subst (All (λ missed. Any (IsOf t missed) (candidates t))) (sym one.missed) (all_last (λ missed. Any (IsOf t missed) (candidates t)) now.account.missed m h.only some);
+      enough = λ images e.
+          let all = at_most_all images t (take k (candidates t)) in
+          let taken = length-take k (candidates t) in
+          let so_far = h.enough images e in
+          omega (arith, all, taken, so_far, one.fresh, short);
+      each = λ images e j d below p. subst (Any (λ missed. IsOf t missed (get_or (candidates t) j d))) (sym one.missed) (any_before (λ missed. IsOf t missed (get_or (candidates t) j d)) now.account.missed (m ∷ []) (h.each images e j d below p));
     }
 
 -- all were tried

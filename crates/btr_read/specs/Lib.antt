@@ -14,3 +14,4 @@ pub mod Finding
 pub mod Fetch
 pub mod Mirror
 pub mod Gathering
+pub mod Trial

@@ -1,4 +1,5 @@
 use crate::ReadFault;
+use btr_chunk::Part;
 
 /// What came of one candidate.
 #[derive(Clone, Copy, Debug, PartialEq, Eq)]
@@ -11,6 +12,24 @@ pub(crate) enum Attempt {
     Absent,
     /// The read of this slot failed.
     Failed(usize),
+}
+
+/// A part whose read failed.
+#[derive(Clone, Copy, Debug, PartialEq, Eq)]
+pub(crate) struct Unread {
+    /// The part.
+    pub(crate) part: Part,
+    /// The slot of the rack whose read failed.
+    pub(crate) slot: usize,
+}
+
+/// How far the candidates by parities were tried.
+#[derive(Clone, Copy, Debug, PartialEq, Eq)]
+pub(crate) enum Trial {
+    /// To the end, or to one that passes.
+    Ended(Outcome),
+    /// So many of all candidates, in their order, then a read failed.
+    Stopped(u32, Unread),
 }
 
 /// What came of all candidates.
