@@ -6,7 +6,7 @@ use Rattle.std.proofs.lemmas.List.Elements.{filter-append, filter_map-append}
 use Rattle.std.proofs.Math.Seq.{get_or-append_seam}
 use Rattle.std.proofs.lemmas.Option.{get_or_from_slice_get}
 use Rattle.std.specs.List.{filter, filter_map, cons_option, Any, All, Contains}
-use Rattle.btr_rack.specs.Rack.{Seen, NoneFailed, OneFailed, Rose}
+use Rattle.btr_rack.specs.Rack.{Seen, NoneFailed, OneFailed, OnlyReads, Rose}
 use Rattle.btr_rack.specs.declared.place.Place.{Place as Range}
 use Rattle.btr_read.specs.declared.candidate.Candidate.{Candidate}
 use Rattle.btr_read.specs.Want.{passes}
@@ -16,8 +16,9 @@ use Rattle.btr_read.specs.declared.attempt.Outcome.{Outcome}
 use Rattle.btr_read.specs.declared.attempt.Outcome.TheVariants as outcome
 use Rattle.btr_read.specs.Attempt.{FitsOutcome}
 use Rattle.btr_read.specs.Cause.{IsOf, IsMissed, ReadFailed, Passes, IsUnread}
-use Rattle.btr_read.specs.Trial.{passing_of, CauseSoFar, TriedSoFar}
+use Rattle.btr_read.specs.Trial.{passing_of, passed_outcome, ended_outcome, CauseSoFar, TriedSoFar, BeganAt}
 use Rattle.btr_read.proofs.Keeping.{none_failed, none_more}
+use Rattle.btr_read.proofs.ReadsOn.{same_held, same_sure}
 
 -- a fact for the images that are told
 pub told : {X : Type 0} (o : Option X) (P : X → Type 0) → ((x : X) → o ≡ Some x → P x) → IfSome o P
@@ -235,6 +236,24 @@ all_unread t before now k s le h = record {
   each = told before.held (λ images. All (λ candidate. Passes images t candidate → Any (λ missed. IsOf t missed candidate) now.account.missed) (candidates t)) (λ images e j d lt p. h.each images e j d (omega (arith, lt, le)) p);
 }
 
+pub all_ended : (t : Target) (before now : Seen) (failed : Option ℕ) (k : ℕ) (slot : List ℕ) → before.account.fresh ≡ 0 → length (candidates t) ≤ k → TriedSoFar t before now failed k → FitsOutcome t before now slot (ended_outcome failed)
+all_ended t before now None k slot fresh le h = all_lost t before now k fresh le h
+all_ended t before now (Some s) k slot fresh le h = all_unread t before now k s le h
+
+-- no more reads failed
+pub tried_still : (t : Target) (before now after : Seen) (failed : Option ℕ) (k : ℕ) → TriedSoFar t before now failed k → NoneFailed now.account after.account → TriedSoFar t before after failed k
+tried_still t before now after failed k h calm = record {
+  later = omega (arith, h.later, calm.faults);
+  cause = cause_calm t before now after failed h.cause calm;
+  only = subst (All (λ missed. Any (IsOf t missed) (candidates t))) (sym calm.missed) h.only;
+  enough = λ images e. omega (arith, h.enough images e, calm.fresh);
+  each = λ images e j d below p. subst (Any (λ missed. IsOf t missed (get_or (candidates t) j d))) (sym calm.missed) (h.each images e j d below p);
+}
+
+-- a trial that began goes on
+pub began_on : {before a b : Seen} → OnlyReads a b → BeganAt before a → BeganAt before b
+began_on reads is = record { fresh = is.fresh; held = same_held reads ∙ is.held; sure = same_sure reads ∙ is.sure }
+
 split_at : (images : List (List ℕ)) (t : Target) (k : ℕ) (c : Candidate) (bytes : List ℕ) → slice_get (candidates t) k ≡ Some c → k < length (candidates t) → reading images t c ≡ Some bytes → passes t.setting t.want bytes ≡ true → passing images t ≡ passing_of images t (take k (candidates t)) ++ bytes ∷ passing_of images t (drop (k + 1) (candidates t))
 split_at images t k c bytes is lt reads test =
     let cs = candidates t in
@@ -247,11 +266,24 @@ first_of : (xs : List (List ℕ)) (bytes : List ℕ) (ys : List (List ℕ)) → 
 first_of [] bytes ys e = refl
 first_of (x ∷ xs) bytes ys e = absurd (omega (arith, e))
 
--- what it is that one passes
-abbrev pub outcome_of : Option ℕ → Outcome
-outcome_of failed = cond (is_none failed) outcome.First outcome.Later
+-- a candidate at any place passes after a read that failed
+pub later_passes : (t : Target) (before now after : Seen) (s k m : ℕ) (c : Candidate) (slot : List ℕ) → TriedSoFar t before now (Some s) k → slice_get (candidates t) m ≡ Some c → m < length (candidates t) → NoneFailed now.account after.account → stands t c ≡ true → passes t.setting t.want (take (size_of t) slot) ≡ true → ((images : List (List ℕ)) → before.held ≡ Some images → value_of images t c ≡ take (size_of t) slot) → FitsOutcome t before after slot outcome.Later
+later_passes t before now after s k m c slot h is lt calm standing test value =
+    let bytes : List ℕ = take (size_of t) slot in
+    let cause = cause_calm t before now after (Some s) h.cause calm in
+    record {
+      rose = cause.1;
+      read = cause.5;
+      of_candidate = cause.3;
+      pass = test;
+      stand = told before.held (λ images. Contains (passing images t) bytes) (λ images e.
+          let before_it = passing_of images t (take m (candidates t)) in
+          let behind = passing_of images t (drop (m + 1) (candidates t)) in
+          let split = split_at images t m c bytes is lt (reading_stands images t c standing ∙ ap Some (value images e)) test in
+          subst (λ xs. Contains xs bytes) (sym split) (length before_it, omega (arith, length-append before_it (bytes ∷ behind)), get_or-append_seam before_it bytes behind bytes));
+    }
 
-pub one_passes : (t : Target) (before now after : Seen) (failed : Option ℕ) (k : ℕ) (c : Candidate) (slot : List ℕ) → before.account.fresh ≡ 0 → TriedSoFar t before now failed k → slice_get (candidates t) k ≡ Some c → k < length (candidates t) → NoneFailed now.account after.account → stands t c ≡ true → passes t.setting t.want (take (size_of t) slot) ≡ true → ((images : List (List ℕ)) → before.held ≡ Some images → value_of images t c ≡ take (size_of t) slot) → FitsOutcome t before after slot (outcome_of failed)
+pub one_passes : (t : Target) (before now after : Seen) (failed : Option ℕ) (k : ℕ) (c : Candidate) (slot : List ℕ) → before.account.fresh ≡ 0 → TriedSoFar t before now failed k → slice_get (candidates t) k ≡ Some c → k < length (candidates t) → NoneFailed now.account after.account → stands t c ≡ true → passes t.setting t.want (take (size_of t) slot) ≡ true → ((images : List (List ℕ)) → before.held ≡ Some images → value_of images t c ≡ take (size_of t) slot) → FitsOutcome t before after slot (passed_outcome failed)
 one_passes t before now after None k c slot fresh h is lt calm standing test value =
     let bytes : List ℕ = take (size_of t) slot in
     record {
@@ -262,17 +294,4 @@ one_passes t before now after None k c slot fresh h is lt calm standing test val
           let so_far = h.enough images e in
           subst (λ xs. slice_get xs 0 ≡ Some bytes) (sym split) (first_of (passing_of images t (take k (candidates t))) bytes (passing_of images t (drop (k + 1) (candidates t))) (omega (arith, so_far, h.cause.fresh, fresh))));
     }
-one_passes t before now after (Some s) k c slot fresh h is lt calm standing test value =
-    let bytes : List ℕ = take (size_of t) slot in
-    let cause = cause_calm t before now after (Some s) h.cause calm in
-    record {
-      rose = cause.1;
-      read = cause.5;
-      of_candidate = cause.3;
-      pass = test;
-      stand = told before.held (λ images. Contains (passing images t) bytes) (λ images e.
-          let before_it = passing_of images t (take k (candidates t)) in
-          let behind = passing_of images t (drop (k + 1) (candidates t)) in
-          let split = split_at images t k c bytes is lt (reading_stands images t c standing ∙ ap Some (value images e)) test in
-          subst (λ xs. Contains xs bytes) (sym split) (length before_it, omega (arith, length-append before_it (bytes ∷ behind)), get_or-append_seam before_it bytes behind bytes));
-    }
+one_passes t before now after (Some s) k c slot fresh h is lt calm standing test value = later_passes t before now after s k k c slot h is lt calm standing test value

@@ -49,6 +49,13 @@ IsRebuilt t ByP = IsNone (mirror_count t.chunk.profile (length t.chunk.stripes))
 IsRebuilt t ByQ = t.chunk.profile ≡ Raid6
 IsRebuilt t (ByBoth j) = (t.chunk.profile ≡ Raid6) × (j < slice_count t) × (j ≢ t.at.index)
 
+-- a candidate by parities, of whatever parts
+abbrev pub IsByParities : Candidate → Type 0
+IsByParities (Stands part) = ⊥
+IsByParities ByP = Unit {0}
+IsByParities ByQ = Unit {0}
+IsByParities (ByBoth j) = Unit {0}
+
 -- the parities that a candidate reads
 abbrev pub parities_read : Candidate → List Part
 parities_read (Stands part) = []

@@ -49,7 +49,7 @@ ended_outcome (Some slot) = outcome.Unread slot
 
 -- bytes that were rebuilt are the candidate's, and were tested
 abbrev pub FitsSyndromes : Target → Candidate → Seen → List ℕ → Result Bool Unread → Type 0
-FitsSyndromes t c old slot (Ok yes) = (passes t.setting t.want (take (size_of t) slot) ≡ yes) × IfSome old.held (λ images. value_of images t c ≡ take (size_of t) slot)
+FitsSyndromes t c old slot (Ok test) = (passes t.setting t.want (take (size_of t) slot) ≡ test) × IfSome old.held (λ images. value_of images t c ≡ take (size_of t) slot)
 FitsSyndromes t c old slot (Err unread) = Unit {0}
 
 -- a trial from its beginning on

@@ -1,3 +1,6 @@
+ghost use Rattle.std.specs.Prelude.{◌≡◌};
+ghost use Rattle.btr_read.specs.Trial.{passed_outcome, ended_outcome};
+
 use crate::ReadFault;
 use btr_chunk::Part;
 
@@ -66,5 +69,25 @@ impl Missed {
             Missed::Lost => ReadFault::Lost(addr),
             Missed::Unread(image) => ReadFault::Unread(addr, image),
         }
+    }
+}
+
+// What it is that one passes, after the reads that failed.
+pub(crate) fn passed_after(failed: Option<usize>) -> Outcome
+    ensures { result ≡ passed_outcome failed }
+{
+    match failed {
+        None => Outcome::First,
+        Some(_) => Outcome::Later,
+    }
+}
+
+// What it is that none passes, after the reads that failed.
+pub(crate) fn ended_after(failed: Option<usize>) -> Outcome
+    ensures { result ≡ ended_outcome failed }
+{
+    match failed {
+        None => Outcome::Lost,
+        Some(slot) => Outcome::Unread(slot),
     }
 }

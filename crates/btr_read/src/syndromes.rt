@@ -75,8 +75,11 @@ fn try_syndromes<R: Rack>(
     for k in 1..search.candidate_count() {
         let candidate = search.candidate(k);
         match try_by_syndromes(search, candidate, rack, pool, loan, p, q, spare) {
-            Ok(true) => return Trial::Ended(passed_after(failed)),
-            Ok(false) => {}
+            Ok(passes) => {
+                if passes {
+                    return Trial::Ended(passed_after(failed));
+                }
+            }
             Err(unread) => return Trial::Stopped(k, unread),
         }
     }
@@ -108,18 +111,50 @@ fn try_by_syndromes<R: Rack>(
     ensures syndromes { OnOk result (IfSome (R.seen rack.old).held (λ images. AreSyndromes images search.now (take (size_of search.now) (bytes_at pool.new p.now)) (take (size_of search.now) (bytes_at pool.new q.now)))) }
     ensures account { AccountsRow search.now Candidate.ByP (R.seen rack.old) (R.seen rack.new) result }
 {
+    rebuild_by_syndromes(search, candidate, rack, pool, loan, p, q, spare)?;
+    Ok(search.passes(&pool.bytes(loan)[..search.size()]))
+}
+
+// Rebuilds a slice by a candidate from the syndromes, which stand behind it as before.
+fn rebuild_by_syndromes<R: Rack>(
+    search: &Search<'_>,
+    candidate: Candidate,
+    rack: &mut R,
+    pool: &mut Pool,
+    loan: &Loan,
+    p: &Loan,
+    q: &Loan,
+    spare: &Loan,
+) -> Result<(), Unread>
+    requires rebuilt { IsRebuilt search.now candidate }
+    requires stands { RowStands search.now Candidate.ByP }
+    requires open { AreOpen (R.seen rack.old).slots search.now.devices }
+    requires loans { AreFour pool.old loan.now p.now q.now spare.now }
+    requires fits { size_of search.now ≤ pool.old.size }
+    requires sought { search.now.at.index < slice_count search.now }
+    requires few { slice_count search.now ≤ 63 }
+    requires syndromes { IfSome (R.seen rack.old).held (λ images. AreSyndromes images search.now (take (size_of search.now) (bytes_at pool.old p.now)) (take (size_of search.now) (bytes_at pool.old q.now))) }
+    ensures reads { OnlyReads (R.seen rack.old) (R.seen rack.new) }
+    ensures pool { OnlyWritesIn (q.now ∷ spare.now ∷ loan.now ∷ []) pool.old pool.new }
+    ensures value { OnOk result (IfSome (R.seen rack.old).held (λ images. value_of images search.now candidate ≡ take (size_of search.now) (bytes_at pool.new loan.now))) }
+    ensures syndromes { OnOk result (IfSome (R.seen rack.old).held (λ images. AreSyndromes images search.now (take (size_of search.now) (bytes_at pool.new p.now)) (take (size_of search.now) (bytes_at pool.new q.now)))) }
+    ensures account { AccountsRow search.now Candidate.ByP (R.seen rack.old) (R.seen rack.new) result }
+{
+    let len = search.size();
+    let index = search.index() as u8;
     match candidate {
         Candidate::Stands(_) => unreachable!(),
-        Candidate::ByP => copy_slot(pool, loan, p, search.size()),
+        Candidate::ByP => {
+            copy_slot(pool, loan, p, len);
+            Ok(())
+        }
         Candidate::ByQ => {
-            copy_slot(pool, loan, q, search.size());
-            divide(pool, loan, search.size(), search.index() as u8);
+            copy_slot(pool, loan, q, len);
+            divide(pool, loan, len, index);
+            Ok(())
         }
-        Candidate::ByBoth(other) => {
-            solve_pair(search, other, rack, pool, loan, p, q, spare)?;
-        }
+        Candidate::ByBoth(other) => solve_pair(search, other, rack, pool, loan, p, q, spare),
     }
-    Ok(search.passes(&pool.bytes(loan)[..search.size()]))
 }
 
 // Reads a slice once more, and solves for the slice that is sought without it.
@@ -148,7 +183,8 @@ fn solve_pair<R: Rack>(
     ensures account { AccountsRow search.now Candidate.ByP (R.seen rack.old) (R.seen rack.new) result }
 {
     read_part(search, Part::Slice(other), rack, pool, spare)?;
+    let len = search.size();
     let index = search.index() as u8;
-    solve_with(pool, loan, p, q, spare, search.size(), index, other as u8);
+    solve_with(pool, loan, p, q, spare, len, index, other as u8);
     Ok(())
 }

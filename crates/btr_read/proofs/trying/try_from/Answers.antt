@@ -8,9 +8,9 @@ use Rattle.btr_rack.proofs.Reading.{reads_none, reads_more}
 use Rattle.btr_read.proofs.ReadsOn.{same_held, same_sure, open_still}
 use Rattle.btr_read.proofs.Slots.{only_writes_none, only_writes_more, live_written}
 use Rattle.btr_read.proofs.Serving.{still_none, still_more, still_forgets}
-use Rattle.btr_read.proofs.Trials.{TriedSoFar, telling, tried_none, tried_calm, tried_failed, differs_alone, absent_alone, reading_stands, reading_absent, all_lost, all_unread, one_passes}
-use Rattle.btr_read.proofs.trying.try_all.Goals as goal
-use Rattle.btr_read.proofs.trying.try_all.Goals.{in-Differs, in-Absent, in-Failed}
+use Rattle.btr_read.proofs.Trials.{telling, tried_calm, tried_failed, differs_alone, absent_alone, reading_stands, reading_absent, all_ended, one_passes}
+use Rattle.btr_read.proofs.trying.try_from.Goals as goal
+use Rattle.btr_read.proofs.trying.try_from.Goals.{in-Differs, in-Absent, in-Failed}
 
 pub try_candidate-requires-clause-open : goal.try_candidate-requires-clause-open
 try_candidate-requires-clause-open g c = open_still c.args.search.now.devices c.loop-k.invariant.reads c.requires.open
@@ -29,7 +29,7 @@ loop-k-init g c = record {
   reads = reads_none (g.R.Rack.seen c.args.rack.now);
   writes = only_writes_none c.args.pool.now c.args.loan.now;
   still = still_none c.args.kept.now.wants c.args.pool.now;
-  tried = tried_none c.args.search.now (g.R.Rack.seen c.args.rack.now) c.requires.missed;
+  tried = λ before is h. h;
 }
 
 pub returns-in-Passed-clause-pool : goal.returns-in-Passed-clause-pool
@@ -42,23 +42,22 @@ pub returns-in-Passed-clause-kept : goal.returns-in-Passed-clause-kept
 returns-in-Passed-clause-kept g c = still_more c.args.kept.now.wants c.loop-k.kept.wants c.try_candidate.new.kept.wants c.args.pool.now c.loop-k.pool c.try_candidate.new.pool c.loop-k.invariant.still c.in-Passed.ensures.kept
 
 pub returns-in-Passed-clause-outcome : goal.returns-in-Passed-clause-outcome
-returns-in-Passed-clause-outcome g c =
+returns-in-Passed-clause-outcome g c = λ before is h.
     let t = c.args.search.now in
-    let before = g.R.Rack.seen c.args.rack.now in
+    let now = g.R.Rack.seen c.loop-k.rack in
     let after = g.R.Rack.seen c.try_candidate.new.rack in
     let e = c.in-Passed.ensures in
     let lt : c.loop-k.k < length (candidates t) = omega (arith, c.loop-k-test.true, c.candidate_count-k-end.ensures) in
     let slot = bytes_at c.try_candidate.new.pool c.args.loan.now in
     let bytes : List ℕ = take (size_of t) slot in
     subst (FitsOutcome t before after slot) (sym c.passed_after.ensures)
-    (one_passes t before (g.R.Rack.seen c.loop-k.rack) after c.loop-k.failed c.loop-k.k c.candidate.result slot c.requires.fresh c.loop-k.invariant.tried c.candidate.ensures.value lt e.account e.attempt.0 e.attempt.1
-    (λ images is. telling (g.R.Rack.seen c.loop-k.rack).held (λ images. value_of images t c.candidate.result ≡ bytes) e.attempt.2 images (same_held c.loop-k.invariant.reads ∙ is)))
+    (one_passes t before now after c.loop-k.failed c.loop-k.k c.candidate.result slot is.fresh (c.loop-k.invariant.tried before is h) c.candidate.ensures.value lt e.account e.attempt.0 e.attempt.1
+    (λ images im. telling now.held (λ images. value_of images t c.candidate.result ≡ bytes) e.attempt.2 images (same_held c.loop-k.invariant.reads ∙ is.held ∙ im)))
 
 pub loop-k-preserved : goal.loop-k-preserved
 loop-k-preserved g c =
     let t = c.args.search.now in
     let cand = c.candidate.result in
-    let before = g.R.Rack.seen c.args.rack.now in
     let now = g.R.Rack.seen c.loop-k.rack in
     let after = g.R.Rack.seen c.try_candidate.new.rack in
     let inv = c.loop-k.invariant in
@@ -70,7 +69,7 @@ loop-k-preserved g c =
             reads = reads_more inv.reads e.reads;
             writes = only_writes_more c.args.pool.now c.loop-k.pool c.try_candidate.new.pool c.args.loan.now inv.writes e.pool;
             still = still_more c.args.kept.now.wants c.loop-k.kept.wants c.try_candidate.new.kept.wants c.args.pool.now c.loop-k.pool c.try_candidate.new.pool inv.still e.kept;
-            tried = rw w.failed-is (tried_calm t before now after c.loop-k.failed c.loop-k.k cand inv.tried c.candidate.ensures.value lt e.account (λ images is. differs_alone images t cand (value_of images t cand) (reading_stands images t cand e.attempt.0) (telling now.held (λ images. passes t.setting t.want (value_of images t cand) ≡ false) e.attempt.1 images (same_held inv.reads ∙ is))));
+            tried = λ before is h. rw w.failed-is (tried_calm t before now after c.loop-k.failed c.loop-k.k cand (inv.tried before is h) c.candidate.ensures.value lt e.account (λ images im. differs_alone images t cand (value_of images t cand) (reading_stands images t cand e.attempt.0) (telling now.held (λ images. passes t.setting t.want (value_of images t cand) ≡ false) e.attempt.1 images (same_held inv.reads ∙ is.held ∙ im))));
           }
       | in-Absent w ↦
           let e = w.in-Absent.ensures in
@@ -78,7 +77,7 @@ loop-k-preserved g c =
             reads = reads_more inv.reads e.reads;
             writes = only_writes_more c.args.pool.now c.loop-k.pool c.try_candidate.new.pool c.args.loan.now inv.writes e.pool;
             still = still_more c.args.kept.now.wants c.loop-k.kept.wants c.try_candidate.new.kept.wants c.args.pool.now c.loop-k.pool c.try_candidate.new.pool inv.still e.kept;
-            tried = rw w.failed-is (tried_calm t before now after c.loop-k.failed c.loop-k.k cand inv.tried c.candidate.ensures.value lt e.account (λ images is. absent_alone images t cand (reading_absent images t cand e.attempt)));
+            tried = λ before is h. rw w.failed-is (tried_calm t before now after c.loop-k.failed c.loop-k.k cand (inv.tried before is h) c.candidate.ensures.value lt e.account (λ images im. absent_alone images t cand (reading_absent images t cand e.attempt)));
           }
       | in-Failed w ↦
           let e = w.in-Failed.ensures in
@@ -86,22 +85,14 @@ loop-k-preserved g c =
             reads = reads_more inv.reads e.reads;
             writes = only_writes_more c.args.pool.now c.loop-k.pool c.try_candidate.new.pool c.args.loan.now inv.writes e.pool;
             still = still_more c.args.kept.now.wants c.loop-k.kept.wants c.try_candidate.new.kept.wants c.args.pool.now c.loop-k.pool c.try_candidate.new.pool inv.still e.kept;
-            tried = rw w.failed-is (tried_failed t before now after c.loop-k.failed c.loop-k.k _ cand inv.tried c.candidate.ensures.value lt (omega (arith, c.loop-k-test.true, c.candidate_count-k-end.type_inv)) (same_sure inv.reads) e.attempt e.account);
+            tried = λ before is h. rw w.failed-is (tried_failed t before now after c.loop-k.failed c.loop-k.k _ cand (inv.tried before is h) c.candidate.ensures.value lt (omega (arith, c.loop-k-test.true, c.candidate_count-k-end.type_inv)) (same_sure inv.reads ∙ is.sure) e.attempt e.account);
           }
     ]
 
-pub returns-in-None-clause-outcome : goal.returns-in-None-clause-outcome
-returns-in-None-clause-outcome g c =
+pub returns-clause-outcome : goal.returns-clause-outcome
+returns-clause-outcome g c = λ before is h.
     let t = c.args.search.now in
-    let before = g.R.Rack.seen c.args.rack.now in
     let now = g.R.Rack.seen c.loop-k.rack in
+    let slot = bytes_at c.loop-k.pool c.args.loan.now in
     let le : length (candidates t) ≤ c.loop-k.k = omega (arith, c.loop-k-test.false, c.candidate_count-k-end.ensures) in
-    all_lost t before now c.loop-k.k c.requires.fresh le (subst (λ f. TriedSoFar t before now f c.loop-k.k) c.in-None.is c.loop-k.invariant.tried)
-
-pub returns-in-Some-clause-outcome : goal.returns-in-Some-clause-outcome
-returns-in-Some-clause-outcome g c =
-    let t = c.args.search.now in
-    let before = g.R.Rack.seen c.args.rack.now in
-    let now = g.R.Rack.seen c.loop-k.rack in
-    let le : length (candidates t) ≤ c.loop-k.k = omega (arith, c.loop-k-test.false, c.candidate_count-k-end.ensures) in
-    all_unread t before now c.loop-k.k c.in-Some.slot le (subst (λ f. TriedSoFar t before now f c.loop-k.k) c.in-Some.is c.loop-k.invariant.tried)
+    subst (FitsOutcome t before now slot) (sym c.ended_after.ensures) (all_ended t before now c.loop-k.failed c.loop-k.k slot is.fresh le (c.loop-k.invariant.tried before is h))
