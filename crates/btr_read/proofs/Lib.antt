@@ -18,3 +18,4 @@ pub mod Standing
 pub mod Sums
 pub mod Parts
 pub mod Rebuilt
+pub mod Rows

@@ -207,16 +207,13 @@ fn try_around<R: Rack>(
     ensures outcome { (before : Seen) → BeganAt before (R.seen rack.old) → TriedSoFar search.now before (R.seen rack.old) (Some unread.slot) tried → FitsOutcome search.now before (R.seen rack.new) (bytes_at pool.new loan.now) result }
 {
     let other = search.candidate(search.without(unread.part));
-    match try_candidate(search, other, rack, pool, kept, loan) {
-        Attempt::Passed => Outcome::Later,
-        Attempt::Differs => {
-            try_from(search, tried, Some(unread.slot), rack, pool, kept, loan)
-        }
-        Attempt::Absent => {
-            try_from(search, tried, Some(unread.slot), rack, pool, kept, loan)
-        }
-        Attempt::Failed(slot) => try_from(search, tried, Some(slot), rack, pool, kept, loan),
-    }
+    let last = match try_candidate(search, other, rack, pool, kept, loan) {
+        Attempt::Passed => return Outcome::Later,
+        Attempt::Differs => unread.slot,
+        Attempt::Absent => unread.slot,
+        Attempt::Failed(slot) => slot,
+    };
+    try_from(search, tried, Some(last), rack, pool, kept, loan)
 }
 
 // Tries the candidates behind the slice itself, in a row with P and Q.
@@ -276,10 +273,11 @@ pub(crate) fn try_all<R: Rack>(
     if !search.has_two_parities() {
         return try_from(search, 0, None, rack, pool, kept, loan);
     }
-    match try_candidate(search, search.candidate(0), rack, pool, kept, loan) {
-        Attempt::Passed => Outcome::First,
-        Attempt::Differs => try_behind(search, None, rack, pool, kept, loan),
-        Attempt::Absent => try_behind(search, None, rack, pool, kept, loan),
-        Attempt::Failed(slot) => try_behind(search, Some(slot), rack, pool, kept, loan),
-    }
+    let failed = match try_candidate(search, search.candidate(0), rack, pool, kept, loan) {
+        Attempt::Passed => return Outcome::First,
+        Attempt::Differs => None,
+        Attempt::Absent => None,
+        Attempt::Failed(slot) => Some(slot),
+    };
+    try_behind(search, failed, rack, pool, kept, loan)
 }

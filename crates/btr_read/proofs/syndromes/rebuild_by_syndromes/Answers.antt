@@ -23,9 +23,9 @@ returns-in-ByP-clause-value g c =
     let P : List ℕ = take n (bytes_at old c.args.p.now) in
     let X : List ℕ = take n (bytes_at c.copy_slot.new.pool c.args.loan.now) in
     let copied : X ≡ P = subst (λ m. take m (bytes_at c.copy_slot.new.pool c.args.loan.now) ≡ take m (bytes_at old c.args.p.now)) c.size-len.ensures.value c.copy_slot.ensures.copy in
-    told held (λ images. value_of images t ByP ≡ X) (λ images is.
+    subst (λ d. IfSome held (λ images. value_of images t d ≡ X)) (sym c.in-ByP.is) (told held (λ images. value_of images t ByP ≡ X) (λ images is.
     let syn = telling held (λ images. AreSyndromes images t P (take n (bytes_at old c.args.q.now))) c.requires.syndromes images is in
-    by_p images t P c.requires.sought syn.of_p ∙ sym copied)
+    by_p images t P c.requires.sought syn.of_p ∙ sym copied))
 
 pub returns-in-ByP-clause-syndromes : goal.returns-in-ByP-clause-syndromes
 returns-in-ByP-clause-syndromes g c =
@@ -55,10 +55,10 @@ returns-in-ByQ-clause-value g c =
     let copied : S ≡ Q = subst (λ m. take m (bytes_at mid loan) ≡ take m (bytes_at old c.args.q.now)) c.size-len.ensures.value c.copy_slot-in-ByQ.ensures.copy in
     let sized : IsTheOne n (Weighs c.index-index.result S) X = subst (λ m. IsTheOne m (Weighs c.index-index.result (take m (bytes_at mid loan))) (take m (bytes_at c.divide.new.pool loan))) c.size-len.ensures.value c.divide.ensures.one in
     let weighs : IsTheOne n (Weighs t.at.index S) X = subst (λ i. IsTheOne n (Weighs i S) X) c.index-index.ensures sized in
-    told held (λ images. value_of images t ByQ ≡ X) (λ images is.
+    subst (λ d. IfSome held (λ images. value_of images t d ≡ X)) (sym c.in-ByQ.is) (told held (λ images. value_of images t ByQ ≡ X) (λ images is.
     let syn = telling held (λ images. AreSyndromes images t (take n (bytes_at old c.args.p.now)) Q) c.requires.syndromes images is in
     let of_q : IsGathered images t ByQ parity.Q Q = record { slices = syn.of_q.slices; whole = syn.of_q.whole; sum = syn.of_q.sum } in
-    by_q images t S X c.requires.sought (subst (IsGathered images t ByQ parity.Q) (sym copied) of_q) weighs)
+    by_q images t S X c.requires.sought (subst (IsGathered images t ByQ parity.Q) (sym copied) of_q) weighs))
 
 pub returns-in-ByQ-clause-syndromes : goal.returns-in-ByQ-clause-syndromes
 returns-in-ByQ-clause-syndromes g c =

@@ -1,5 +1,6 @@
 use Rattle.std.proofs.Common.{◌≡◌, ◌≢◌, ℕ, [], ◌∷◌, set, None, subst, sym, ap, ◌∙◌}
-use Rattle.btr_pool.specs.Slots.{Slots, IsFree, IsLive, with_lent, with_free}
+use Rattle.btr_pool.specs.Slots.{Slots, IsFree, IsLive, bytes_at, with_lent, with_free}
+use Rattle.btr_read.specs.Trial.{FitsTrial}
 use Rattle.btr_pool.proofs.Loans.{live_after_give}
 use Rattle.btr_read.specs.Writing.{AreFour, OnlyWrites, OnlyWritesIn, StillKept}
 use Rattle.btr_read.proofs.Several.{four_taken, four_still, three_back, three_forgotten}
@@ -12,7 +13,6 @@ try_row-trial-requires-clause-loans g c =
     let p = c.take_least-p.result in
     let q = c.take_least-q.result in
     let s = c.take_least-spare.result in
-    let p4 = c.try_row-trial.new.pool in
     let free_p = c.take_least-p.ensures.free in
     let free_q = subst (λ x. IsFree x q) c.take_least-p.ensures.lent c.take_least-q.ensures.free in
     let two = c.take_least-q.ensures.lent ∙ ap (λ x. with_lent x q) c.take_least-p.ensures.lent in
@@ -103,3 +103,12 @@ returns-clause-kept g c =
     let given = c.give-3.ensures ∙ ap (λ x. with_free x p) (c.give-2.ensures ∙ ap (λ x. with_free x q) c.give.ensures) in
     let wants = c.take_least-spare.ensures.forgotten ∙ ap (λ w. set w s None) (c.take_least-q.ensures.forgotten ∙ ap (λ w. set w q None) c.take_least-p.ensures.forgotten) in
     subst (StillKept c.args.kept.now.wants c.take_least-spare.new.kept.wants p0) (sym given) (three_forgotten p0 k p q s c.requires.live free_p free_q free_s p4 writes c.args.kept.now.wants c.take_least-spare.new.kept.wants c.requires.forgotten wants)
+
+pub returns-clause-trial : goal.returns-clause-trial
+returns-clause-trial g c =
+    let k = c.args.loan.now in
+    let p = c.take_least-p.result in
+    let q = c.take_least-q.result in
+    let s = c.take_least-spare.result in
+    let given = c.give-3.ensures ∙ ap (λ x. with_free x p) (c.give-2.ensures ∙ ap (λ x. with_free x q) c.give.ensures) in
+    λ before is h. subst (λ x. FitsTrial c.args.search.now before (g.R.Rack.seen c.try_row-trial.new.rack) (bytes_at x k) c.try_row-trial.result) (sym given) (c.try_row-trial.ensures.trial before is h)
