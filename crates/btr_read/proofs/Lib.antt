@@ -19,3 +19,4 @@ pub mod Sums
 pub mod Parts
 pub mod Rebuilt
 pub mod Values
+pub mod Rows

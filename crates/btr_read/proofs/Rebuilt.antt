@@ -1,25 +1,30 @@
 -- What is left of a parity is the one solution of its equations.
-use Rattle.std.proofs.Common.{◌≡◌, ◌≢◌, ℕ, ◌<◌, Bool, true, false, not, ◌&&◌, List, [], length, get_or, set, eqb, refl, sym, ap, ◌∙◌, subst, inl, inr, arith}
+use Rattle.std.proofs.Common.{◌≡◌, ◌≢◌, ℕ, ◌<◌, Bool, true, false, not, cond, ◌&&◌, List, [], length, get_or, set, eqb, bit_xor, zero-add, refl, sym, ap, ◌∙◌, subst, inl, inr, arith}
 use Rattle.std.proofs.lemmas.Bool.{cases_eq, eq-eqb}
 use Rattle.std.proofs.lemmas.Bool.{eqb-true}
 use Rattle.std.proofs.lemmas.List.{same_lists, length-set, set-get_or, get_or-set_same, get_or-set_other}
 use Rattle.std.proofs.lemmas.List.FromFn.{length-map-range_with_len, get_or-map-range_with_len}
+use Rattle.std.proofs.lemmas.List.Elements.{All-set}
+use Rattle.std.proofs.lemmas.Simd.{length-zip2}
 use Rattle.std.proofs.lemmas.Slice.Eq.{bytes_eq-Decides}
 use Rattle.std.specs.Str.{bytes_eq}
-use Rattle.std.specs.List.{list_any}
+use Rattle.std.specs.List.{All, list_any}
 use Rattle.btr_chunk.specs.declared.place.Part.TheVariants.{Slice, P, Q}
-use Rattle.btr_parity.specs.Slices.{IsSlice, zeros, plus, parity_p, parity_q}
+use Rattle.btr_parity.specs.Field.{power}
+use Rattle.btr_parity.specs.Slices.{IsSlice, zeros, plus, scaled, weighted, parity_p, parity_q}
 use Rattle.btr_parity.specs.Solutions.{IsTheOne, Weighs, WeighsWith, FitsP, FitsQ, FitsBoth}
-use Rattle.btr_parity.proofs.Lost.{lost_by_p, lost_by_q, lost_by_both}
+use Rattle.btr_parity.proofs.Lost.{lost_by_p, lost_by_q, lost_by_both, parity_p-set, weighted-set, plus_comm, plus_assoc, plus_twice, zeros_slice}
 use Rattle.btr_read.specs.declared.candidate.Candidate.{Candidate}
 use Rattle.btr_read.specs.declared.candidate.Candidate.TheVariants.{ByP, ByQ, ByBoth}
+use Rattle.btr_read.specs.declared.parity.Parity.{Parity}
 use Rattle.btr_read.specs.declared.parity.Parity.TheVariants as parity
 use Rattle.btr_read.specs.Candidates.{Target, size_of, slice_count, reads_slice, element, slices, fits_p, fits_q, fits_both, value_of}
-use Rattle.btr_read.specs.Gathering.{read_slices, IsGathered}
+use Rattle.btr_read.specs.Gathering.{read_slices, part_of, weighed, parity_of, IsGathered}
 use Rattle.btr_read.proofs.Ones.{the_one_is, some_slice, slice_there}
 use Rattle.btr_read.proofs.Standing.{both, left_of, right_of}
 use Rattle.btr_read.specs.Solution.{byte_lists}
-use Rattle.btr_read.proofs.Sums.{read_slice, is_read, isnt_read}
+use Rattle.btr_read.proofs.Pieces.{length-weighed}
+use Rattle.btr_read.proofs.Sums.{read_slice, is_read, isnt_read, parity_long}
 
 not_itself : (i : ℕ) → not (eqb i i) ≡ false
 not_itself i = ap not (eq-eqb i i refl)
@@ -157,6 +162,77 @@ module _ (images : List (List ℕ)) (t : Target) (j : ℕ) where
               ∙ sym (get_or-set_other (slices images t) j s Y d ne_j ∙ at_element images t (ByBoth j) s d within)
         ] ∙ sym (get_or-set_other theirs i s X d ne)
       ])
+
+-- what a parity leaves is as long as a slice
+pub gathered_long : (images : List (List ℕ)) (t : Target) (c : Candidate) (p : Parity) (bytes : List ℕ) → IsGathered images t c p bytes → length bytes ≡ size_of t
+gathered_long images t c p bytes h =
+    let E = element images t (part_of p) in
+    let B = parity_of p (size_of t) (read_slices images t c) in
+    let B_long : length B ≡ size_of t = parity_long p (size_of t) (read_slices images t c) h.slices in
+    ap length h.sum ∙ length-zip2 bit_xor E B (h.whole.long ∙ sym B_long) ∙ h.whole.long
+
+-- the parity of slices of which one is another
+of_set : (p : Parity) (size j : ℕ) (ds : List (List ℕ)) (X : List ℕ) → All (IsSlice size) ds → j < length ds → parity_of p size (set ds j X) ≡ plus (weighed p j X) (parity_of p size (set ds j (zeros size)))
+of_set parity.P size j ds X h lt = parity_p-set size j ds X h lt
+of_set parity.Q size j ds X h lt = weighted-set size 0 j ds X h lt ∙ ap (λ n. plus (scaled (power n) X) (weighted size 0 (set ds j (zeros size)))) (zero-add j)
+
+and_true : (a : Bool) → (a && true) ≡ a
+and_true true = refl
+and_true false = refl
+
+module _ (images : List (List ℕ)) (t : Target) (j : ℕ) (lt_j : j < slice_count t) (ne : j ≢ t.at.index) where
+  -- all slices but the one that is sought
+  abbrev all_rs : List (List ℕ)
+  all_rs = read_slices images t ByP
+
+  abbrev other : List ℕ
+  other = element images t (Slice j)
+
+  there : get_or all_rs j [] ≡ other
+  there = at_slice images t ByP j [] lt_j ∙ is_read images t ByP j (not_other j t.at.index ne)
+
+  same_read : (s : ℕ) → s ≢ j → read_slice images t ByP s ≡ read_slice images t (ByBoth j) s
+  same_read s ne_s = ap (λ b. cond b (element images t (Slice s)) (zeros (size_of t))) (sym (ap (λ b. not (eqb s t.at.index) && b) (not_other s j ne_s) ∙ and_true (not (eqb s t.at.index))))
+
+  -- without slice j they are those that the candidate by both parities reads
+  left_out : set all_rs j (zeros (size_of t)) ≡ read_slices images t (ByBoth j)
+  left_out =
+      let skips_j : reads_slice t.at.index (ByBoth j) j ≡ false = ap (λ b. not (eqb j t.at.index) && b) (not_itself j) ∙ and_false (not (eqb j t.at.index)) in
+      let len : length (set all_rs j (zeros (size_of t))) ≡ slice_count t = length-set all_rs j (zeros (size_of t)) ∙ length-rs images t ByP in
+      same_lists (set all_rs j (zeros (size_of t))) (read_slices images t (ByBoth j)) (len ∙ sym (length-rs images t (ByBoth j))) (λ s d below.
+      let within : s < slice_count t = omega (arith, below, len) in
+      elim (cases_eq s j) [
+        | inl e ↦
+            ap (λ n. get_or (set all_rs j (zeros (size_of t))) n d) e
+            ∙ get_or-set_same all_rs j (zeros (size_of t)) d (omega (arith, lt_j, length-rs images t ByP))
+            ∙ sym (ap (λ n. get_or (read_slices images t (ByBoth j)) n d) e ∙ at_slice images t (ByBoth j) j d lt_j ∙ isnt_read images t (ByBoth j) j skips_j)
+        | inr ne_s ↦
+            get_or-set_other all_rs j s (zeros (size_of t)) d ne_s
+            ∙ at_slice images t ByP s d within
+            ∙ same_read s ne_s
+            ∙ sym (at_slice images t (ByBoth j) s d within)
+      ])
+
+  -- a syndrome to which slice j is added once more is what the parity leaves of both slices
+  pub without_other : (p : Parity) (S : List ℕ) → IsGathered images t ByP p S → IsSlice (size_of t) other → IsGathered images t (ByBoth j) p (plus S (weighed p j other))
+  without_other p S h slice =
+      let n = size_of t in
+      let E = element images t (part_of p) in
+      let W = weighed p j other in
+      let slices : All (IsSlice n) (read_slices images t (ByBoth j)) = subst (All (IsSlice n)) left_out (All-set (IsSlice n) all_rs j (zeros n) (zeros_slice n) h.slices) in
+      let B = parity_of p n (read_slices images t (ByBoth j)) in
+      let whole : set all_rs j other ≡ all_rs = ap (set all_rs j) (sym there) ∙ set-get_or all_rs j [] in
+      let parts : parity_of p n all_rs ≡ plus W B = ap (parity_of p n) (sym whole) ∙ of_set p n j all_rs other h.slices (omega (arith, lt_j, length-rs images t ByP)) ∙ ap (λ ds. plus W (parity_of p n ds)) left_out in
+      let W_long : length W ≡ n = length-weighed p j other ∙ slice.long in
+      let B_long : length B ≡ n = parity_long p n (read_slices images t (ByBoth j)) slices in
+      let EB_long : length (plus E B) ≡ n = length-zip2 bit_xor E B (h.whole.long ∙ sym B_long) ∙ h.whole.long in
+      record {
+        slices = slices;
+        whole = h.whole;
+        sum =
+            ap (λ s. plus s W) (h.sum ∙ ap (plus E) (parts ∙ plus_comm W B) ∙ sym (plus_assoc E B W))
+            ∙ plus_twice (plus E B) W (EB_long ∙ sym W_long);
+      }
 
 -- the first of the two slices that P and Q leave is the one that fits both with some other
 pub one_by_both : (images : List (List ℕ)) (t : Target) (j : ℕ) (sum weighted X : List ℕ) → t.at.index < slice_count t → j < slice_count t → t.at.index ≢ j → IsGathered images t (ByBoth j) parity.P sum → IsGathered images t (ByBoth j) parity.Q weighted → IsTheOne (size_of t) (WeighsWith sum weighted t.at.index j) X → IsTheOne (size_of t) (λ X. (Y : List ℕ) × IsSlice (size_of t) Y × (fits_both images t j X Y ≡ true)) X

@@ -15,3 +15,4 @@ pub mod Fetch
 pub mod Mirror
 pub mod Gathering
 pub mod Values
+pub mod Trial

@@ -47,6 +47,13 @@ abbrev pub CanTry : Target → Candidate → Type 0
 CanTry t (Stands part) = HasPart t.chunk.profile (length t.chunk.stripes) part
 CanTry t candidate = IsRebuilt t candidate
 
+-- a candidate by parities, of whatever parts
+abbrev pub IsByParities : Candidate → Type 0
+IsByParities (Stands part) = ⊥
+IsByParities ByP = Unit {0}
+IsByParities ByQ = Unit {0}
+IsByParities (ByBoth j) = Unit {0}
+
 -- the parities that a candidate reads
 abbrev pub parities_read : Candidate → List Part
 parities_read (Stands part) = []

@@ -57,7 +57,7 @@ fn find<R: Rack>(
     kept: &mut Kept,
 ) -> Result<Slot, Missed>
     requires open { AreOpen (R.seen rack.old).slots search.now.devices }
-    requires room { 3 ≤ free_slots pool.old }
+    requires room { 4 ≤ free_slots pool.old }
     requires count { length pool.old.bytes ≡ 24 }
     requires whole { length pool.old.bytes ≡ length pool.old.lent }
     requires fits { size_of search.now ≤ pool.old.size }

@@ -28,6 +28,7 @@ mod search;
 mod setting;
 mod solving;
 mod store;
+mod syndromes;
 #[cfg(test)]
 mod tests;
 mod trying;
