@@ -1,11 +1,10 @@
 -- What a fetch answers.
-use Rattle.std.proofs.Common.{◌≡◌, ℕ, ◌≤◌, true, false, List, [], ◌∷◌, length, slice_get, Option, Some, None, IfSome, IsSomeAnd, Result, Ok, Err, IfOk, IsOk, refl, sym, ap, ◌∙◌, subst, arith, inl, inr}
+use Rattle.std.proofs.Common.{◌≡◌, ℕ, ◌≤◌, true, List, [], ◌∷◌, length, slice_get, Option, Some, None, IfSome, IsSomeAnd, Result, Ok, Err, IfOk, refl, sym, ap, ◌∙◌, subst, arith, inl, inr}
 use Rattle.std.specs.List.{All, Any as AnyOf, Contains}
 use Rattle.std.specs.Result.{is_ok}
-use Rattle.btr_prog.specs.Prog.{BlockMap}
 use Rattle.btr_prog.specs.Calls.{Sure, First, Any, Calls}
 use Rattle.btr_prog.specs.Calls as calls
-use Rattle.btr_rack.specs.Rack.{Account, Seen, NoneFailed, Steady, OnlyReads, forgotten}
+use Rattle.btr_rack.specs.Rack.{Seen, Steady, OnlyReads, forgotten}
 use Rattle.btr_read.specs.declared.fault.ReadFault.{ReadFault}
 use Rattle.btr_read.specs.declared.fault.ReadFault.TheVariants as fault
 use Rattle.btr_read.specs.declared.want.Want.{Want}
@@ -18,7 +17,7 @@ use Rattle.btr_read.specs.Cause.{IsOf, LastOf, Passes, IsUnread}
 use Rattle.btr_read.specs.Attempt.{IsFirst, IsLater}
 use Rattle.btr_read.specs.Reading.{AgreedOn, OnMap, shown}
 use Rattle.btr_read.specs.Serves.{IsKept}
-use Rattle.btr_read.specs.Store.{Blocks, Kept, Lent, block_of}
+use Rattle.btr_read.specs.Store.{Blocks, Lent, block_of}
 use Rattle.btr_read.specs.Fetch.{IsFetched, IsUnreadFor, FitsFetch, AnswersOf, CallsFetch}
 use Rattle.btr_read.proofs.Fates.{sought_of}
 use Rattle.btr_read.proofs.ReadsOn.{same_held}

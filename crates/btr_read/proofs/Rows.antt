@@ -1,5 +1,5 @@
 -- The parts of a row with P and Q, and the candidates that read them.
-use Rattle.std.proofs.Common.{◌≡◌, ℕ, true, length, Some, refl, ap, inl, arith}
+use Rattle.std.proofs.Common.{◌≡◌, true, length, Some, refl, ap, inl, arith}
 use Rattle.std.specs.List.{Any}
 use Rattle.btr_rack.specs.declared.place.Place.{Place as Range}
 use Rattle.btr_chunk.specs.declared.place.Part.{Part}

@@ -1,9 +1,9 @@
 -- Several slots that are written.
-use Rattle.std.proofs.Common.{◌≡◌, ◌≢◌, ℕ, zero, suc, Bool, true, false, List, [], ◌∷◌, get_or, set, Option, Some, None, refl, sym, ap, ◌∙◌, subst, arith, inl, inr, length}
-use Rattle.std.proofs.lemmas.List.{length-set, get_or-set_same, get_or-set_other, set-get_or, set-set, get_or_default}
-use Rattle.std.proofs.lemmas.Bool.{false≢true, cases_eq, cases_lt}
+use Rattle.std.proofs.Common.{◌≡◌, ◌≢◌, ℕ, zero, suc, Bool, true, false, List, [], ◌∷◌, get_or, set, Option, Some, None, refl, sym, ap, ◌∙◌, subst, arith, length}
+use Rattle.std.proofs.lemmas.List.{length-set, get_or-set_other, set-get_or, set-set, get_or_default}
+use Rattle.std.proofs.lemmas.Bool.{false≢true}
 use Rattle.btr_pool.specs.Slots.{Slots, IsLive, IsFree, bytes_at, with_bytes, with_lent, with_free}
-use Rattle.btr_pool.proofs.Loans.{free_below, live_below, apart, live_after_take, live_when_lent}
+use Rattle.btr_pool.proofs.Loans.{free_below, apart, live_after_take, live_when_lent}
 use Rattle.btr_read.specs.declared.want.Want.{Want}
 use Rattle.btr_read.specs.Writing.{OnlyWrites, OnlyWritesIn, AreApart, AreFour, StillKept, IsNoneOf}
 

@@ -2,7 +2,6 @@
 use Rattle.std.proofs.Common.{◌≡◌, ◌≢◌, ℕ, ◌-◌, ◌<◌, ◌≤◌, Bool, true, false, cond, ◌&&◌, List, [], ◌∷◌, length, get_or, set, Option, Some, None, refl, sym, ap, ◌∙◌, subst, inl, inr, arith}
 use Rattle.std.proofs.lemmas.Bool.{cases_eq}
 use Rattle.std.proofs.lemmas.List.{same_lists, length-set, get_or-set_same, get_or-set_other}
-use Rattle.std.proofs.lemmas.List.Elements.{All-set}
 use Rattle.std.specs.List.{All, Contains, filter_map, cons_option, list_any}
 use Rattle.std.specs.Option.{option_map_or}
 use Rattle.std.specs.Str.{bytes_eq}
@@ -13,19 +12,18 @@ use Rattle.btr_chunk.specs.declared.place.Part.{Part}
 use Rattle.btr_chunk.specs.declared.place.Part.TheVariants.{Slice, P, Q}
 use Rattle.btr_chunk.specs.declared.profile.Profile.TheVariants.{Raid6}
 use Rattle.btr_parity.specs.Slices.{IsSlice, zeros, plus, parity_p, parity_q}
-use Rattle.btr_parity.specs.Solutions.{IsTheOne, Weighs, WeighsWith}
+use Rattle.btr_parity.specs.Solutions.{IsTheOne}
 use Rattle.btr_parity.proofs.Folding.{quotient_is_one, pair_is_one}
 use Rattle.btr_parity.proofs.Lost.{plus_slice, zeros_slice, parity_p_slice, weighted_slice}
 use Rattle.btr_read.specs.declared.candidate.Candidate.{Candidate}
 use Rattle.btr_read.specs.declared.candidate.Candidate.TheVariants.{Stands, ByP, ByQ, ByBoth}
 use Rattle.btr_read.specs.declared.parity.Parity.{Parity}
 use Rattle.btr_read.specs.declared.parity.Parity.TheVariants as parity
-use Rattle.btr_read.specs.Candidates.{Target, size_of, slice_count, range_of, ranges_of, reads_slice, parts_read, element, slices, value_of}
+use Rattle.btr_read.specs.Candidates.{Target, size_of, slice_count, range_of, ranges_of, reads_slice, parts_read, element, slices}
 use Rattle.btr_read.specs.Gathering.{part_of, parity_of, read_slices, IsGathered}
 use Rattle.btr_read.specs.Solution.{byte_lists, the_one}
-use Rattle.btr_read.specs.Sought.{IsTarget, IsRebuilt, Uses}
+use Rattle.btr_read.specs.Sought.{IsTarget, Uses}
 use Rattle.btr_read.specs.Values.{Solves, AreWhole, ValueIsTheOne, ValueByRanges}
-use Rattle.btr_read.proofs.InOrder.{is_slice}
 use Rattle.btr_read.proofs.Ones.{In, at_in}
 use Rattle.btr_read.proofs.Parts.{slice_in, parity_in}
 use Rattle.btr_read.proofs.Rebuilt.{at_slice, at_element, length-rs, length-slices, not_other, one_by_p, one_by_q, one_by_both, by_p, by_q, by_both}

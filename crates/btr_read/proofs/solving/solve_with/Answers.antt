@@ -1,12 +1,6 @@
-use Rattle.std.proofs.Common.{◌≡◌, ◌≢◌, ℕ, List, [], ◌∷◌, take, refl, sym, ap, ap₂, ◌∙◌, subst}
-use Rattle.btr_parity.specs.Slices.{plus}
-use Rattle.btr_parity.specs.Solutions.{IsTheOne, WeighsWith}
+use Rattle.std.proofs.Common.{◌≡◌, ◌≢◌, ℕ, List, sym, ap, ◌∙◌, subst}
 use Rattle.btr_pool.specs.Slots.{Slots, IsLive, bytes_at, with_bytes}
 use Rattle.btr_pool.proofs.Loans.{bytes_at-with_bytes_other, live_after_write}
-use Rattle.btr_read.specs.Gathering.{weighed}
-use Rattle.btr_read.specs.Writing.{OnlyWritesIn}
-use Rattle.btr_read.specs.declared.parity.Parity.TheVariants as parity
-use Rattle.btr_read.proofs.Several.{writes_one, writes_more}
 use Rattle.btr_read.proofs.solving.solve_with.Goals as goal
 
 -- a slot that wasn't written

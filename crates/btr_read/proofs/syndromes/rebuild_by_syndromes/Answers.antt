@@ -1,4 +1,4 @@
-use Rattle.std.proofs.Common.{◌≡◌, ◌≢◌, ℕ, List, [], ◌∷◌, take, IfSome, subst, sym, ap, ◌∙◌}
+use Rattle.std.proofs.Common.{◌≡◌, ◌≢◌, ℕ, List, take, IfSome, subst, sym, ap, ◌∙◌}
 use Rattle.btr_parity.specs.Solutions.{IsTheOne, Weighs}
 use Rattle.btr_pool.specs.Slots.{Slots, bytes_at, with_bytes}
 use Rattle.btr_pool.proofs.Loans.{bytes_at-with_bytes_other}

@@ -1,10 +1,9 @@
-use Rattle.std.proofs.Common.{◌≡◌, ◌≢◌, ℕ, List, [], ◌∷◌, length, take, subst, sym, ap, ◌∙◌, refl}
+use Rattle.std.proofs.Common.{◌≡◌, ℕ, List, length, take, subst, sym, ap, ◌∙◌}
 use Rattle.btr_chunk.specs.declared.place.Part.TheVariants.{Slice}
 use Rattle.btr_parity.specs.Slices.{IsSlice, plus}
 use Rattle.btr_parity.specs.Solutions.{IsTheOne, WeighsWith}
-use Rattle.btr_pool.specs.Slots.{Slots, bytes_at}
+use Rattle.btr_pool.specs.Slots.{bytes_at}
 use Rattle.btr_pool.proofs.Loans.{bytes_at-with_bytes_other}
-use Rattle.btr_read.specs.declared.candidate.Candidate.{Candidate}
 use Rattle.btr_read.specs.declared.candidate.Candidate.TheVariants.{ByP, ByBoth}
 use Rattle.btr_read.specs.declared.parity.Parity.TheVariants as parity
 use Rattle.btr_read.specs.Candidates.{Target, size_of, element, value_of}

@@ -1,4 +1,4 @@
-use Rattle.std.proofs.Common.{ℕ, List, [], ◌∷◌, take, IfSome}
+use Rattle.std.proofs.Common.{[], ◌∷◌, take, IfSome}
 use Rattle.btr_rack.specs.Rack.{OnlyReads, Seen}
 use Rattle.btr_pool.specs.Slots.{bytes_at}
 use Rattle.btr_read.specs.Candidates.{size_of}

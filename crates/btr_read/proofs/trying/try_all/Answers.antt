@@ -1,4 +1,4 @@
-use Rattle.std.proofs.Common.{◌≡◌, ℕ, ◌<◌, false, List, [], ◌∷◌, length, slice_get, Some, None, refl, sym, subst, arith}
+use Rattle.std.proofs.Common.{◌≡◌, ◌<◌, false, List, [], ◌∷◌, length, slice_get, Some, None, refl, sym, subst, arith}
 use Rattle.btr_read.specs.Want.{passes}
 use Rattle.btr_read.specs.Candidates.{Target, candidates, value_of}
 use Rattle.btr_read.specs.Trial.{BeganAt, TriedSoFar}

@@ -1,5 +1,5 @@
-use Rattle.std.proofs.Common.{◌≡◌, ◌≢◌, ℕ, [], ◌∷◌, set, None, subst, sym, ap, ◌∙◌}
-use Rattle.btr_pool.specs.Slots.{Slots, IsFree, IsLive, bytes_at, with_lent, with_free}
+use Rattle.std.proofs.Common.{[], ◌∷◌, set, None, subst, sym, ap, ◌∙◌}
+use Rattle.btr_pool.specs.Slots.{IsFree, IsLive, bytes_at, with_lent, with_free}
 use Rattle.btr_read.specs.Trial.{FitsTrial}
 use Rattle.btr_pool.proofs.Loans.{live_after_give}
 use Rattle.btr_read.specs.Writing.{AreFour, OnlyWrites, OnlyWritesIn, StillKept}

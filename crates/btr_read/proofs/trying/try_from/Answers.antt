@@ -1,9 +1,8 @@
-use Rattle.std.proofs.Common.{◌≡◌, ℕ, ◌<◌, ◌≤◌, List, length, false, take, not, count_by, None, refl, subst, sym, ap, ◌∙◌, arith}
+use Rattle.std.proofs.Common.{◌≡◌, ℕ, ◌<◌, ◌≤◌, List, length, false, take, not, count_by, subst, sym, ap, ◌∙◌, arith}
 use Rattle.btr_pool.specs.Slots.{bytes_at}
-use Rattle.btr_rack.specs.Rack.{Seen}
 use Rattle.btr_read.specs.Want.{passes}
 use Rattle.btr_read.specs.Attempt.{FitsOutcome}
-use Rattle.btr_read.specs.Candidates.{Target, size_of, candidates, value_of}
+use Rattle.btr_read.specs.Candidates.{size_of, candidates, value_of}
 use Rattle.btr_rack.proofs.Reading.{reads_none, reads_more}
 use Rattle.btr_read.proofs.ReadsOn.{same_held, same_sure, open_still}
 use Rattle.btr_read.proofs.Slots.{only_writes_none, only_writes_more, live_written}

@@ -1,4 +1,3 @@
-use Rattle.std.proofs.Common.{◌≡◌}
 use Rattle.btr_rack.specs.Rack.{OnlyReads, Seen}
 use Rattle.btr_read.specs.Writing.{OnlyWrites, StillKept}
 use Rattle.btr_read.specs.Trial.{BeganAt, TriedSoFar}
