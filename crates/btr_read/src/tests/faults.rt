@@ -142,10 +142,25 @@ fn has_spare(shape: &Shape, letters: &[u8], slice: u64, lost: u32) -> bool {
     true
 }
 
-// Whether one failed read more can be borne: where a stripe is left without which the slice can be had, or where the
-// parts of a row with P and Q are read again after a failed read.
+// The stripes on which a slice itself stands.
+fn own_stripes(letters: &[u8], slice: u64) -> u32 {
+    let mut stripes = 0;
+    for (stripe, letter) in letters.iter().enumerate() {
+        if number(*letter) == slice {
+            stripes |= set_of(stripe as u64);
+        }
+    }
+    stripes
+}
+
+// Whether any one failed read can be borne: where a stripe is left without which the slice can be had. In a row with P and
+// Q only the slice itself isn't read again after a failed read.
 fn bears_one(shape: &Shape, letters: &[u8], slice: u64, damaged: u32) -> bool {
-    letters.contains(&b'Q') || has_spare(shape, letters, slice, damaged)
+    if !letters.contains(&b'Q') {
+        return has_spare(shape, letters, slice, damaged);
+    }
+    let own = own_stripes(letters, slice);
+    damaged & own != 0 || survives(letters, slice, damaged | own)
 }
 
 // Fetches a slice with its nth read failing, for each n, where the elements on some stripes are damaged. It is unread
@@ -243,7 +258,7 @@ fn each_slice_is_read_twice(rt: HostRuntime) -> Result<(), Fail> {
     damage(&mut rack, &RAID6_OF_TEN, 0b10000001)?;
     open(&mut rack, &RAID6_OF_TEN)?;
     let mut store = store_without(&rt, rt.alloc(), &rack, &RAID6_OF_TEN, 0)?;
-    for (slice, few) in [(0, 16), (7, 10)] {
+    for (slice, few) in [(0u64, 16u64), (7, 10)] {
         let enough = few.wrapping_add(1);
         assert!(rt; !is_had_by(&rt, &mut rack, &mut store, slice, few)?);
         assert!(rt; is_had_by(&rt, &mut rack, &mut store, slice, enough)?);
