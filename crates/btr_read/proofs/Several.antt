@@ -54,10 +54,6 @@ four_still a b ks w x y z h are = record {
   cd = are.cd;
 }
 
--- what the loops over candidates make of other slots
-pub writes_among : (a b : Slots) (ks ls : List ℕ) → ((j : ℕ) → IsNoneOf ls j → IsNoneOf ks j) → OnlyWritesIn ks a b → OnlyWritesIn ls a b
-writes_among a b ks ls among h = record { size = h.size; lent = h.lent; count = h.count; others = λ j none. h.others j (among j none) }
-
 -- a live loan, and two slots taken one after the other
 module _ (p0 : Slots) (k q s : ℕ) (live : IsLive p0 k) (free_q : IsFree p0 q) (free_s : IsFree (with_lent p0 q) s) where
   abbrev taken : Slots
