@@ -181,7 +181,7 @@ if_all : {X : Type 0} (o : Option X) (P : X → Type 0) → ((x : X) → P x) �
 if_all None P f = tt
 if_all (Some x) P f = f x
 
-known : (layout : Layout) (want : Want) (old new : Seen) (bytes : List ℕ) → IsTested want → IsFetched layout want old new bytes → (sure : Sure) → calls.Steady (AgreedOn layout) sure (shown old) (shown new) → IfSome old.held (λ images. fate images layout want ≡ Ok bytes)
+known : (layout : Layout) (want : Want) (old new : Seen) (bytes : List ℕ) → IsTested want → IsFetched layout want old new bytes → (sure : Sure) → calls.CanTell (AgreedOn layout) sure (shown old) (shown new) → IfSome old.held (λ images. fate images layout want ≡ Ok bytes)
 known layout want old new bytes tested f First s = f.first (omega (arith, s.0), s.1)
 known layout want old new bytes tested f Any s = both old.held s f.agreed
   where
@@ -197,11 +197,11 @@ calls_of layout want old new store result reads fits tested = record {
   content = content result fits;
 }
   where
-    bytes_came : (loan : Lent) (o : Option (List ℕ)) → block_of store loan ≡ o → IsSomeAnd o (IsFetched layout want old new) → (sure : Sure) → calls.Steady (AgreedOn layout) sure (shown old) (shown new) → OnMap layout (AnswersOf want store (Ok loan)) sure old.held
+    bytes_came : (loan : Lent) (o : Option (List ℕ)) → block_of store loan ≡ o → IsSomeAnd o (IsFetched layout want old new) → (sure : Sure) → calls.CanTell (AgreedOn layout) sure (shown old) (shown new) → OnMap layout (AnswersOf want store (Ok loan)) sure old.held
     bytes_came loan None e h sure s = absurd h
     bytes_came loan (Some block) e h sure s = map_some old.held (λ images. fate images layout want ≡ Ok block) (λ images. AnswersOf want store (Ok loan) (fate images layout)) (λ images is. subst (λ o. IsSomeAnd o (λ block. fate images layout want ≡ Ok block)) (sym e) is) (known layout want old new block tested h sure s)
 
-    content : (result : Result Lent ReadFault) → FitsFetch layout want old new store result → (sure : Sure) → calls.Steady (AgreedOn layout) sure (shown old) (shown new) → OnMap layout (AnswersOf want store result) sure old.held
+    content : (result : Result Lent ReadFault) → FitsFetch layout want old new store result → (sure : Sure) → calls.CanTell (AgreedOn layout) sure (shown old) (shown new) → OnMap layout (AnswersOf want store result) sure old.held
     content (Ok loan) f sure s = bytes_came loan (block_of store loan) refl f.1 sure s
     content (Err (fault.Lost a)) f sure s = map_some old.held (λ images. fate images layout want ≡ Err (Lost a)) (λ images. fate images layout want ≡ Err (Lost a)) (λ images e. e) f.2
     content (Err (fault.Unread a slot)) f sure s = if_all old.held (λ images. a ≡ addr_of want) (λ images. f.same_addr)
