@@ -9,7 +9,7 @@ use Rattle.std.specs.Map.{keys_of, values_of, lookup, remove_entry}
 use Rattle.std.specs.Ordering.{nat_cmp, is_eq}
 use Rattle.std.specs.BTreeMap.{BTreeMap, IsOrdered, values, is_at, insert_entry}
 use Rattle.btr_chunk.specs.declared.stripe.Stripe.{Stripe}
-use Rattle.btr_chunk.specs.declared.place.Place.{Place}
+use Rattle.btr_chunk.specs.declared.place.StripePlace.{StripePlace}
 use Rattle.btr_chunk.specs.declared.chunk.Chunk.{Chunk}
 use Rattle.btr_chunk.specs.Chunk.{IsChunk, stripe_length}
 use Rattle.btr_chunk.specs.Extents.{extent_of, AreFree, is_stripe_at, has_stripe_at}
@@ -71,7 +71,7 @@ meets-start a s b t is_a is_b device offset =
     meets_range-start (stripe_length a) s (record { devid = t.devid; offset = t.offset }) (stripe_length b) (stripe_length-some a is_a) (stripe_length-some b is_b) device offset
 
 -- none of the ranges begins where one of its stripes does
-pub AreFree-overlaps : (m : BTreeMap ℕ Chunk) (g : Place → Option ℕ) (chunk : Chunk) → AreChunks (start_of m) → AreStripes (start_of m) g → IsChunk chunk
+pub AreFree-overlaps : (m : BTreeMap ℕ Chunk) (g : StripePlace → Option ℕ) (chunk : Chunk) → AreChunks (start_of m) → AreStripes (start_of m) g → IsChunk chunk
     → overlaps (values m) chunk ≡ false → AreFree g chunk.stripes
 AreFree-overlaps m g chunk index stripes is apart = λ i s here.
     none_from (g (record { devid = s.devid; offset = s.offset })) (λ there.
@@ -134,9 +134,9 @@ AreChunks-gains f f' chunk gains index is spread apart = record {
   ];
 }
 
-pub AreStripes-gains : (f f' : ℕ → Option Chunk) (g g' : Place → Option ℕ) (chunk : Chunk) → Gains f f' chunk → AreChunks f → AreStripes f g → IsChunk chunk
+pub AreStripes-gains : (f f' : ℕ → Option Chunk) (g g' : StripePlace → Option ℕ) (chunk : Chunk) → Gains f f' chunk → AreChunks f → AreStripes f g → IsChunk chunk
     → ((k : ℕ) (c : Chunk) → f k ≡ Some c → chunks_meet chunk c ≡ false)
-    → ((q : Place) → g' q ≡ cond (has_stripe_at q chunk.stripes) (Some (stripe_length chunk)) (g q)) → AreStripes f' g'
+    → ((q : StripePlace) → g' q ≡ cond (has_stripe_at q chunk.stripes) (Some (stripe_length chunk)) (g q)) → AreStripes f' g'
 AreStripes-gains f f' g g' chunk gains index stripes is apart entered = record {
   listed = λ k c i s there at. elim (gained f f' chunk gains k c there) [
     | inl new ↦
@@ -155,7 +155,7 @@ AreStripes-gains f f' g g' chunk gains index stripes is apart entered = record {
   owned = λ q n at. owner q n at (has_stripe_at q chunk.stripes) refl;
 }
   where
-    owner : (q : Place) (n : ℕ) → g' q ≡ Some n → (b : Bool) → has_stripe_at q chunk.stripes ≡ b → IsStripe f' q n
+    owner : (q : StripePlace) (n : ℕ) → g' q ≡ Some n → (b : Bool) → has_stripe_at q chunk.stripes ≡ b → IsStripe f' q n
     owner q n at true has =
         let found = Passes-list_any (is_stripe_at q) chunk.stripes has in
         let t = found.element in
@@ -221,14 +221,14 @@ values-insert m c index ordered absent =
     values_of-insert_entry m.entries c (λ i k d there. index.keyed k d (btree_map_get_place nat_cmp_total m i k d ordered there)) absent
 
 -- ranges that are the same at each place are those of the same stripes
-pub AreStripes-same : (f : ℕ → Option Chunk) (g g' : Place → Option ℕ) → ((q : Place) → g' q ≡ g q) → AreStripes f g → AreStripes f g'
+pub AreStripes-same : (f : ℕ → Option Chunk) (g g' : StripePlace → Option ℕ) → ((q : StripePlace) → g' q ≡ g q) → AreStripes f g → AreStripes f g'
 AreStripes-same f g g' same stripes = record {
   listed = λ k c i s there at. same (record { devid = s.devid; offset = s.offset }) ∙ stripes.listed k c i s there at;
   owned = λ q n at. stripes.owned q n (sym (same q) ∙ at);
 }
 
 -- maps with equal entries keep the same
-pub IsIndexed-same : (m n : BTreeMap ℕ Chunk) (p q : BTreeMap Place ℕ) → n.entries ≡ m.entries → ((place : Place) → extent_of q place ≡ extent_of p place)
+pub IsIndexed-same : (m n : BTreeMap ℕ Chunk) (p q : BTreeMap StripePlace ℕ) → n.entries ≡ m.entries → ((place : StripePlace) → extent_of q place ≡ extent_of p place)
     → IsIndexed m p → IsIndexed n q
 IsIndexed-same m n p q entries same is =
     let look : start_of n ≡ start_of m = ap (λ es. λ k. lookup (is_at (nat_cmp k)) es) entries in

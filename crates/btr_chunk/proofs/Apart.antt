@@ -10,7 +10,7 @@ use Rattle.btr_chunk.specs.Apart.{LiesIn, StripesApart, IsOfPart, PartsApart, Is
 use Rattle.btr_chunk.specs.declared.chunk.Chunk.{Chunk}
 use Rattle.btr_chunk.specs.declared.place.Part.{Part}
 use Rattle.btr_chunk.specs.declared.place.Part.TheVariants.{Mirror, Slice, P, Q}
-use Rattle.btr_chunk.specs.declared.place.Place.{Place}
+use Rattle.btr_chunk.specs.declared.place.StripePlace.{StripePlace}
 use Rattle.btr_chunk.specs.declared.position.Elements.{Elements}
 use Rattle.btr_chunk.specs.declared.profile.Profile.{Profile}
 use Rattle.btr_chunk.specs.declared.profile.Profile.TheVariants.{Single, Dup, Raid0, Raid1, Raid1c3, Raid1c4, Raid10, Raid5, Raid6}
@@ -21,12 +21,12 @@ use Rattle.btr_chunk.proofs.Rows.{without_copies, stripe_of-same}
 use Rattle.btr_chunk.proofs.Rule.{facts}
 
 -- stripes that share a byte meet
-sharing : (place : Place) (len : ℕ) (s : Stripe) (other : ℕ) (u : Stripe) → IsInStripe len s place 1 → IsInStripe other u place 1 → stripes_meet len s other u ≡ true
+sharing : (place : StripePlace) (len : ℕ) (s : Stripe) (other : ℕ) (u : Stripe) → IsInStripe len s place 1 → IsInStripe other u place 1 → stripes_meet len s other u ≡ true
 sharing place len s other u one two =
     and_from (eqb s.devid u.devid) (ranges_meet s.offset len u.offset other) (eq-eqb s.devid u.devid (sym one.device ∙ two.device))
     (and_from (ltb s.offset (u.offset + other)) (ltb u.offset (s.offset + len)) (lt-ltb s.offset (u.offset + other) (omega (arith, one.begin, two.end))) (lt-ltb u.offset (s.offset + len) (omega (arith, two.begin, one.end))))
 
-module _ (chunks : List Chunk) (place : Place) (table : IsTable chunks) where
+module _ (chunks : List Chunk) (place : StripePlace) (table : IsTable chunks) where
   -- not in two chunks
   not_before : (i j k l : ℕ) → LiesIn chunks place i k → LiesIn chunks place j l → i < j → ⊥
   not_before i j k l a b lt =
@@ -88,17 +88,17 @@ abbrev in_row : ℕ → ℕ → Elements
 in_row row rest = record { row = row; index = 0; rest = rest }
 
 -- the stripe of a byte of a part, and where the byte lies on it
-record IsAt (chunks : List Chunk) (place : Place) (i row rest : ℕ) (part : Part) (c : IsOfPart chunks place i row rest part) : Type 0 where
+record IsAt (chunks : List Chunk) (place : StripePlace) (i row rest : ℕ) (part : Part) (c : IsOfPart chunks place i row rest part) : Type 0 where
   stripe : Stripe
   there : slice_get c.chunk.stripes (stripe_of c.chunk.profile (length c.chunk.stripes) part (in_row row rest)) ≡ Some stripe
   offset : place.offset ≡ stripe.offset + row * 65536 + rest
   lies : LiesIn chunks place i (stripe_of c.chunk.profile (length c.chunk.stripes) part (in_row row rest))
 
-is_at : (chunks : List Chunk) (place : Place) (i row rest : ℕ) (part : Part) → IsTable chunks → (c : IsOfPart chunks place i row rest part) → IsAt chunks place i row rest part c
+is_at : (chunks : List Chunk) (place : StripePlace) (i row rest : ℕ) (part : Part) → IsTable chunks → (c : IsOfPart chunks place i row rest part) → IsAt chunks place i row rest part c
 is_at chunks place i row rest part table c =
     let p = placed_part c.chunk part (in_row row rest) (table.sound i c.chunk c.there).0 c.has c.position in
     let at : place ≡ place_on p.stripe (in_row row rest) = sym c.at ∙ p.place in
-    let offset : place.offset ≡ p.stripe.offset + row * 65536 + rest = ap (λ (q : Place). q.offset) at in
+    let offset : place.offset ≡ p.stripe.offset + row * 65536 + rest = ap (λ (q : StripePlace). q.offset) at in
     record {
       stripe = p.stripe;
       there = p.there;
@@ -108,7 +108,7 @@ is_at chunks place i row rest part table c =
         there = c.there;
         stripe = p.stripe;
         stripe_there = p.there;
-        inside = record { device = ap (λ (q : Place). q.devid) at; begin = omega (arith, offset); end = omega (arith, offset, c.position.inside) };
+        inside = record { device = ap (λ (q : StripePlace). q.devid) at; begin = omega (arith, offset); end = omega (arith, offset, c.position.inside) };
       };
     }
 
@@ -170,7 +170,7 @@ some_less : (o : Option ℕ) (c : ℕ) → IsSomeAnd o (λ m. c < m) → IfSome 
 some_less None c h = tt
 some_less (Some m) c h = h
 
-lies : (chunks : List Chunk) (place : Place) (i copy addr : ℕ) → IsTable chunks → (c : IsOfCopy chunks place i copy addr) → LiesIn chunks place i (stripe_of c.chunk.profile (length c.chunk.stripes) (Mirror copy) (position_of c.chunk addr))
+lies : (chunks : List Chunk) (place : StripePlace) (i copy addr : ℕ) → IsTable chunks → (c : IsOfCopy chunks place i copy addr) → LiesIn chunks place i (stripe_of c.chunk.profile (length c.chunk.stripes) (Mirror copy) (position_of c.chunk addr))
 lies chunks place i copy addr table c =
     let is = (table.sound i c.chunk c.there).0 in
     let at = position_of c.chunk addr in

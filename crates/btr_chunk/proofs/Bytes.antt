@@ -5,7 +5,7 @@ use Rattle.std.proofs.lemmas.Nat.{div-add-mod', mod_below, same_from_place}
 use Rattle.btr_chunk.specs.declared.stripe.Stripe.{Stripe}
 use Rattle.btr_chunk.specs.declared.chunk.Chunk.{Chunk}
 use Rattle.btr_chunk.specs.declared.position.Elements.{Elements}
-use Rattle.btr_chunk.specs.declared.place.Place.{Place}
+use Rattle.btr_chunk.specs.declared.place.StripePlace.{StripePlace}
 use Rattle.btr_chunk.specs.declared.place.Part.{Part}
 use Rattle.btr_chunk.specs.declared.place.Part.TheVariants.{Mirror, Slice, P, Q}
 use Rattle.btr_chunk.specs.declared.profile.Profile.{Profile}
@@ -191,8 +191,8 @@ data_place-same chunk copy a b is spread some held too same =
     let pa = placed_part chunk (data_part chunk.profile copy (position chunk a)) (position chunk a) is (data_part-has chunk.profile n copy (position chunk a) some one.index) one in
     let pb = placed_part chunk (data_part chunk.profile copy (position chunk b)) (position chunk b) is (data_part-has chunk.profile n copy (position chunk b) some two.index) two in
     let places = sym pa.place ∙ same ∙ pb.place in
-    let device = ap (λ (p : Place). p.devid) places in
-    let offset = ap (λ (p : Place). p.offset) places in
+    let device = ap (λ (p : StripePlace). p.devid) places in
+    let offset = ap (λ (p : StripePlace). p.offset) places in
     let stripe = stripe-same (stripe_length chunk) chunk.stripes _ _ pa.stripe pb.stripe
     ((position chunk a).row * 65536 + (position chunk a).rest) ((position chunk b).row * 65536 + (position chunk b).rest)
     spread pa.there pb.there device one.inside two.inside (omega arith) in

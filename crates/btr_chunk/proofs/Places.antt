@@ -4,7 +4,7 @@ use Rattle.std.proofs.lemmas.Bool.{and_from, or_parts, lt-ltb, le-ltb, eq-eqb, n
 use Rattle.std.proofs.lemmas.Result.{on_err_weaker}
 use Rattle.std.specs.Ordering.{nat_cmp, is_eq, is_gt}
 use Rattle.std.specs.declared.cmp.Ordering.TheVariants.{Less, Equal, Greater}
-use Rattle.btr_chunk.specs.declared.place.Place.{Place}
+use Rattle.btr_chunk.specs.declared.place.StripePlace.{StripePlace}
 use Rattle.btr_chunk.specs.declared.stripe.Stripe.{Stripe}
 use Rattle.btr_chunk.specs.Extents.{place_cmp, ranges_meet, meets_range, AreFree}
 use Rattle.btr_chunk.specs.Table.{stripes_meet, some_meet}
@@ -29,7 +29,7 @@ not_greater a b h =
     ]
 
 -- places that compare as equal are one
-pub place_cmp-same : (a b : Place) → is_eq (place_cmp a b) ≡ true → (a.devid ≡ b.devid) × (a.offset ≡ b.offset)
+pub place_cmp-same : (a b : StripePlace) → is_eq (place_cmp a b) ≡ true → (a.devid ≡ b.devid) × (a.offset ≡ b.offset)
 place_cmp-same a b same =
     elim (cases_order a.devid b.devid) [
       | inl device ↦
@@ -43,7 +43,7 @@ place_cmp-same a b same =
     ]
 
 -- a place is its device and its offset
-pub place-equal : (a b : Place) → a.devid ≡ b.devid → a.offset ≡ b.offset → a ≡ b
+pub place-equal : (a b : StripePlace) → a.devid ≡ b.devid → a.offset ≡ b.offset → a ≡ b
 place-equal a b device offset =
     let first : a ≡ record { devid = b.devid; offset = a.offset } = ap (λ d. record { devid = d; offset = a.offset }) device in
     let second : record { devid = b.devid; offset = a.offset } ≡ b = ap (λ o. record { devid = b.devid; offset = o }) offset in
@@ -55,7 +55,7 @@ ranges_meet-start a len b other some filled same =
     and_from (nat_lt a (b + other)) (nat_lt b (a + len)) (lt-ltb a (b + other) (omega arith)) (lt-ltb b (a + len) (omega arith))
 
 -- a stripe meets a range that begins where it does
-pub meets_range-start : (len : ℕ) (s : Stripe) (place : Place) (taken : ℕ) → 0 < len → 0 < taken → s.devid ≡ place.devid → s.offset ≡ place.offset
+pub meets_range-start : (len : ℕ) (s : Stripe) (place : StripePlace) (taken : ℕ) → 0 < len → 0 < taken → s.devid ≡ place.devid → s.offset ≡ place.offset
     → meets_range len s place taken ≡ true
 meets_range-start len s place taken some filled device offset =
     and_from (eqb s.devid place.devid) (ranges_meet s.offset len place.offset taken) (eq-eqb s.devid place.devid device)
@@ -65,30 +65,30 @@ meets_range-start len s place taken some filled device offset =
 pub place_cmp-apart : (len : ℕ) (a : Stripe) (other : ℕ) (b : Stripe) → 0 < len → 0 < other → stripes_meet len a other b ≡ false
     → is_eq (place_cmp (record { devid = a.devid; offset = a.offset }) (record { devid = b.devid; offset = b.offset })) ≡ false
 place_cmp-apart len a other b some filled apart =
-    let p : Place = record { devid = a.devid; offset = a.offset } in
-    let q : Place = record { devid = b.devid; offset = b.offset } in
+    let p : StripePlace = record { devid = a.devid; offset = a.offset } in
+    let q : StripePlace = record { devid = b.devid; offset = b.offset } in
     false_from_ne_true (is_eq (place_cmp p q)) (λ same.
     let one = place_cmp-same p q same in
     true≢false (sym (meets_range-start len a q other some filled one.0 one.1) ∙ apart))
 
 -- once the first of stripes that don't meet is entered, the others are still free
-pub AreFree-others : (len : ℕ) (first : Stripe) (others : List Stripe) (f g : Place → Option ℕ) → 0 < len → some_meet len (first ∷ others) ≡ false
-    → AreFree f (first ∷ others) → ((q : Place) → g q ≡ cond (is_eq (place_cmp (record { devid = first.devid; offset = first.offset }) q)) (Some len) (f q))
+pub AreFree-others : (len : ℕ) (first : Stripe) (others : List Stripe) (f g : StripePlace → Option ℕ) → 0 < len → some_meet len (first ∷ others) ≡ false
+    → AreFree f (first ∷ others) → ((q : StripePlace) → g q ≡ cond (is_eq (place_cmp (record { devid = first.devid; offset = first.offset }) q)) (Some len) (f q))
     → AreFree g others
 AreFree-others len first others f g some spread free entered = λ i s there.
     let apart = fails-list_any (stripes_meet len first len) others (or_parts _ _ spread).0 i s there in
     entered _ ∙ cond-false _ (Some len) _ (place_cmp-apart len first len s some some apart) ∙ free (suc i) s there
 
 -- a range that is entered and taken out again leaves the ranges as they were
-pub undone : {T E : Type 0} (r : Result T E) (p : Place) (len : ℕ) (f g after h : Place → Option ℕ) → f p ≡ None
-    → ((q : Place) → g q ≡ cond (is_eq (place_cmp p q)) (Some len) (f q))
-    → OnErr r ((q : Place) → after q ≡ g q)
-    → ((q : Place) → h q ≡ cond (is_eq (place_cmp p q)) None (after q))
-    → OnErr r ((q : Place) → h q ≡ f q)
+pub undone : {T E : Type 0} (r : Result T E) (p : StripePlace) (len : ℕ) (f g after h : StripePlace → Option ℕ) → f p ≡ None
+    → ((q : StripePlace) → g q ≡ cond (is_eq (place_cmp p q)) (Some len) (f q))
+    → OnErr r ((q : StripePlace) → after q ≡ g q)
+    → ((q : StripePlace) → h q ≡ cond (is_eq (place_cmp p q)) None (after q))
+    → OnErr r ((q : StripePlace) → h q ≡ f q)
 undone r p len f g after h free entered failed taken =
     on_err_weaker r (λ same q. by_test q (same q) (is_eq (place_cmp p q)) refl) failed
   where
-    by_test : (q : Place) → after q ≡ g q → (b : Bool) → is_eq (place_cmp p q) ≡ b → h q ≡ f q
+    by_test : (q : StripePlace) → after q ≡ g q → (b : Bool) → is_eq (place_cmp p q) ≡ b → h q ≡ f q
     by_test q same true is =
         let one = place_cmp-same p q is in
         let here = place-equal p q one.0 one.1 in

@@ -3,17 +3,17 @@ use Rattle.std.proofs.Common.{◌≡◌, ℕ, ◌+◌, ◌<◌, ◌≤◌, true,
 use Rattle.std.proofs.lemmas.Bool.{and_parts, and_from, lt-ltb, ltb-true, eq-eqb, eqb-true, cases_order, cases_lt, false≢true, true≢false, false_from_ne_true}
 use Rattle.std.specs.Ordering.{is_lt}
 use Rattle.std.specs.declared.cmp.Ordering.TheVariants.{Less}
-use Rattle.btr_chunk.specs.declared.place.Place.{Place}
+use Rattle.btr_chunk.specs.declared.place.StripePlace.{StripePlace}
 use Rattle.btr_chunk.specs.declared.stripe.Stripe.{Stripe}
 use Rattle.btr_chunk.specs.Extents.{place_cmp, ranges_meet, meets_range, SomeMeets, NoneMeets, IsSpaced}
 use Rattle.btr_chunk.proofs.Places.{nat_cmp-less, nat_cmp-equal, nat_cmp-greater, place-equal}
 
 -- a place on the same device comes before another one by its offset
-pub place_cmp-less : (a b : Place) → a.devid ≡ b.devid → a.offset < b.offset → place_cmp a b ≡ Less
+pub place_cmp-less : (a b : StripePlace) → a.devid ≡ b.devid → a.offset < b.offset → place_cmp a b ≡ Less
 place_cmp-less a b device below = rw (nat_cmp-equal _ _ device, nat_cmp-less _ _ below) refl
 
 -- a place that comes before another one is on an earlier device, or before it on the same one
-pub before-place_cmp : (a b : Place) → place_cmp a b ≡ Less → (a.devid < b.devid) ⊎ ((a.devid ≡ b.devid) × (a.offset < b.offset))
+pub before-place_cmp : (a b : StripePlace) → place_cmp a b ≡ Less → (a.devid < b.devid) ⊎ ((a.devid ≡ b.devid) × (a.offset < b.offset))
 before-place_cmp a b less =
     elim (cases_order a.devid b.devid) [
       | inl device ↦
@@ -27,14 +27,14 @@ before-place_cmp a b less =
     ]
 
 -- what a stripe shares with a range that it meets
-pub meeting : (len : ℕ) (s : Stripe) (p : Place) (n : ℕ) → meets_range len s p n ≡ true → (s.devid ≡ p.devid) × (s.offset < p.offset + n) × (p.offset < s.offset + len)
+pub meeting : (len : ℕ) (s : Stripe) (p : StripePlace) (n : ℕ) → meets_range len s p n ≡ true → (s.devid ≡ p.devid) × (s.offset < p.offset + n) × (p.offset < s.offset + len)
 meeting len s p n meets =
     let parts = and_parts (eqb s.devid p.devid) (ranges_meet s.offset len p.offset n) meets in
     let both = and_parts (nat_lt s.offset (p.offset + n)) (nat_lt p.offset (s.offset + len)) parts.1 in
     (eqb-true s.devid p.devid parts.0, ltb-true s.offset (p.offset + n) both.0, ltb-true p.offset (s.offset + len) both.1)
 
 -- the last range before the stripe's end reaches into it
-pub SomeMeets-last : (f : Place → Option ℕ) (len : ℕ) (s : Stripe) (p : Place) (n : ℕ) → f p ≡ Some n
+pub SomeMeets-last : (f : StripePlace → Option ℕ) (len : ℕ) (s : Stripe) (p : StripePlace) (n : ℕ) → f p ≡ Some n
     → place_cmp p (record { devid = s.devid; offset = s.offset + len }) ≡ Less → p.devid ≡ s.devid → s.offset < p.offset + n → SomeMeets f len s
 SomeMeets-last f len s p n there less device reaches =
     let before : p.offset < s.offset + len =
@@ -48,9 +48,9 @@ SomeMeets-last f len s p n there less device reaches =
     }
 
 -- the last range before the stripe's end doesn't reach into it, and so no range does
-pub NoneMeets-last : (f : Place → Option ℕ) (len : ℕ) (s : Stripe) (p : Place) (n : ℕ) → IsSpaced f → f p ≡ Some n
+pub NoneMeets-last : (f : StripePlace → Option ℕ) (len : ℕ) (s : Stripe) (p : StripePlace) (n : ℕ) → IsSpaced f → f p ≡ Some n
     → place_cmp p (record { devid = s.devid; offset = s.offset + len }) ≡ Less
-    → ((q : Place) → place_cmp q (record { devid = s.devid; offset = s.offset + len }) ≡ Less → IsSome (f q) → is_lt (place_cmp p q) ≡ false)
+    → ((q : StripePlace) → place_cmp q (record { devid = s.devid; offset = s.offset + len }) ≡ Less → IsSome (f q) → is_lt (place_cmp p q) ≡ false)
     → (p.devid ≡ s.devid → p.offset + n ≤ s.offset) → NoneMeets f len s
 NoneMeets-last f len s p n spaced there less last ends = λ q m at.
     false_from_ne_true (meets_range len s q m) (λ meets.
@@ -75,5 +75,5 @@ NoneMeets-last f len s p n spaced there less last ends = λ q m at.
           omega arith
     ])
   where
-    earlier_device : (a b : Place) → a.devid < b.devid → place_cmp a b ≡ Less
+    earlier_device : (a b : StripePlace) → a.devid < b.devid → place_cmp a b ≡ Less
     earlier_device a b below = rw (nat_cmp-less _ _ below) refl

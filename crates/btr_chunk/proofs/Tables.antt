@@ -8,7 +8,7 @@ use Rattle.std.specs.Ordering.{nat_cmp}
 use Rattle.std.specs.Cmp.Lexicographic.{pointwise}
 use Rattle.std.specs.BTreeMap.{BTreeMap, IsOrdered, values}
 use Rattle.btr_chunk.specs.declared.stripe.Stripe.{Stripe}
-use Rattle.btr_chunk.specs.declared.place.Place.{Place}
+use Rattle.btr_chunk.specs.declared.place.StripePlace.{StripePlace}
 use Rattle.btr_chunk.specs.declared.chunk.Chunk.{Chunk}
 use Rattle.btr_chunk.specs.Chunk.{stripe_length}
 use Rattle.btr_chunk.specs.Mapping.{holds}
@@ -145,7 +145,7 @@ stripe-before len s other t apart device first =
     ]
 
 -- the stripes of a table are apart
-pub IsSpaced-stripes : (f : ℕ → Option Chunk) (g : Place → Option ℕ) → AreChunks f → AreStripes f g → IsSpaced g
+pub IsSpaced-stripes : (f : ℕ → Option Chunk) (g : StripePlace → Option ℕ) → AreChunks f → AreStripes f g → IsSpaced g
 IsSpaced-stripes f g index stripes = λ a b m n at bt device first.
     let one = stripes.owned a m at in
     let two = stripes.owned b n bt in
@@ -181,7 +181,7 @@ IsSpaced-stripes f g index stripes = λ a b m n at bt device first.
     omega (arith, one.long)
 
 -- where nothing is shared, the chunk overlaps no other
-pub overlaps-false : (m : BTreeMap ℕ Chunk) (g : Place → Option ℕ) (chunk : Chunk) → AreStripes (start_of m) g → IsOrdered nat_cmp m
+pub overlaps-false : (m : BTreeMap ℕ Chunk) (g : StripePlace → Option ℕ) (chunk : Chunk) → AreStripes (start_of m) g → IsOrdered nat_cmp m
     → some_meet (stripe_length chunk) chunk.stripes ≡ false → SharesNone (start_of m) chunk → SharesNoRange g chunk
     → overlaps (values m) chunk ≡ false
 overlaps-false m g chunk stripes ordered spread addresses ranges =
@@ -203,11 +203,11 @@ overlaps-address m chunk shares =
     (or_left (ranges_meet chunk.start chunk.length shares.other.start shares.other.length) _ shares.meets))
 
 -- a range that is met, at a place and of a length that are equal
-met : (len : ℕ) (s : Stripe) (p q : Place) (n m : ℕ) → p ≡ q → n ≡ m → meets_range len s p n ≡ true → meets_range len s q m ≡ true
+met : (len : ℕ) (s : Stripe) (p q : StripePlace) (n m : ℕ) → p ≡ q → n ≡ m → meets_range len s p n ≡ true → meets_range len s q m ≡ true
 met len s p q n m at long meets = ap (λ x. meets_range len s x m) (sym at) ∙ ap (λ x. meets_range len s p x) (sym long) ∙ meets
 
 -- and so does one that shares a byte
-pub overlaps-range : (m : BTreeMap ℕ Chunk) (g : Place → Option ℕ) (chunk : Chunk) → AreStripes (start_of m) g → SharesRange g chunk
+pub overlaps-range : (m : BTreeMap ℕ Chunk) (g : StripePlace → Option ℕ) (chunk : Chunk) → AreStripes (start_of m) g → SharesRange g chunk
     → overlaps (values m) chunk ≡ true
 overlaps-range m g chunk stripes shares =
     let owner = stripes.owned shares.range.place shares.range.taken shares.range.there in
@@ -218,7 +218,7 @@ overlaps-range m g chunk stripes shares =
     (chunks_meet-stripes chunk owner.chunk shares.number owner.number shares.stripe owner.stripe shares.there owner.stripe_there meets))
 
 -- where the own stripes and the addresses are apart, the ranges of devices decide
-pub overlaps-by_range : (m : BTreeMap ℕ Chunk) (g : Place → Option ℕ) (chunk : Chunk) → AreStripes (start_of m) g → IsOrdered nat_cmp m
+pub overlaps-by_range : (m : BTreeMap ℕ Chunk) (g : StripePlace → Option ℕ) (chunk : Chunk) → AreStripes (start_of m) g → IsOrdered nat_cmp m
     → some_meet (stripe_length chunk) chunk.stripes ≡ false → SharesNone (start_of m) chunk
     → (b : Bool) → MatchBool b (SharesRange g chunk) (SharesNoRange g chunk) → b ≡ overlaps (values m) chunk
 overlaps-by_range m g chunk stripes ordered spread addresses true shares = sym (overlaps-range m g chunk stripes shares)

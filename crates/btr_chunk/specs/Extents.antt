@@ -4,15 +4,15 @@ use Rattle.std.specs.Ordering.{nat_cmp, ordering_then}
 use Rattle.std.specs.List.{list_any}
 use Rattle.std.specs.BTreeMap.{BTreeMap, get}
 use Rattle.std.specs.declared.cmp.Ordering.{Ordering}
-use Rattle.btr_chunk.specs.declared.place.Place.{Place}
+use Rattle.btr_chunk.specs.declared.place.StripePlace.{StripePlace}
 use Rattle.btr_chunk.specs.declared.stripe.Stripe.{Stripe}
 
 -- the order of places: by device, then by offset
-abbrev pub place_cmp : Place → Place → Ordering
+abbrev pub place_cmp : StripePlace → StripePlace → Ordering
 place_cmp a b = ordering_then (nat_cmp a.devid b.devid) (nat_cmp a.offset b.offset)
 
 -- the length of the range that begins at a place
-abbrev pub extent_of : BTreeMap Place ℕ → Place → Option ℕ
+abbrev pub extent_of : BTreeMap StripePlace ℕ → StripePlace → Option ℕ
 extent_of extents place = get place_cmp extents place
 
 -- two ranges, given by their starts and lengths, have a number in common
@@ -20,32 +20,32 @@ abbrev pub ranges_meet : ℕ → ℕ → ℕ → ℕ → Bool
 ranges_meet a len b other = nat_lt a (b + other) && nat_lt b (a + len)
 
 -- a stripe of a length shares a byte of a device with a range
-abbrev pub meets_range : ℕ → Stripe → Place → ℕ → Bool
+abbrev pub meets_range : ℕ → Stripe → StripePlace → ℕ → Bool
 meets_range len stripe place taken = (stripe.devid == place.devid) && ranges_meet stripe.offset len place.offset taken
 
 -- a range that a stripe shares a byte with
-pub record SomeMeets (f : Place → Option ℕ) (len : ℕ) (stripe : Stripe) : Type 0 where
-  pub place : Place
+pub record SomeMeets (f : StripePlace → Option ℕ) (len : ℕ) (stripe : Stripe) : Type 0 where
+  pub place : StripePlace
   pub taken : ℕ
   pub there : f place ≡ Some taken
   pub meets : meets_range len stripe place taken ≡ true
 
 -- a stripe shares no byte with any range
-abbrev pub NoneMeets : (Place → Option ℕ) → ℕ → Stripe → Type 0
-NoneMeets f len stripe = (place : Place) (taken : ℕ) → f place ≡ Some taken → meets_range len stripe place taken ≡ false
+abbrev pub NoneMeets : (StripePlace → Option ℕ) → ℕ → Stripe → Type 0
+NoneMeets f len stripe = (place : StripePlace) (taken : ℕ) → f place ≡ Some taken → meets_range len stripe place taken ≡ false
 
 -- the ranges of a device have no byte in common
-abbrev pub IsSpaced : (Place → Option ℕ) → Type 0
-IsSpaced f = (a b : Place) (m n : ℕ) → f a ≡ Some m → f b ≡ Some n → a.devid ≡ b.devid → a.offset < b.offset → a.offset + m ≤ b.offset
+abbrev pub IsSpaced : (StripePlace → Option ℕ) → Type 0
+IsSpaced f = (a b : StripePlace) (m n : ℕ) → f a ≡ Some m → f b ≡ Some n → a.devid ≡ b.devid → a.offset < b.offset → a.offset + m ≤ b.offset
 
 -- whether a stripe begins at a place
-abbrev pub is_stripe_at : Place → Stripe → Bool
+abbrev pub is_stripe_at : StripePlace → Stripe → Bool
 is_stripe_at place stripe = (stripe.devid == place.devid) && (stripe.offset == place.offset)
 
 -- whether one of the stripes does
-abbrev pub has_stripe_at : Place → List Stripe → Bool
+abbrev pub has_stripe_at : StripePlace → List Stripe → Bool
 has_stripe_at place stripes = list_any (is_stripe_at place) stripes
 
 -- no range begins where one of the stripes does
-abbrev pub AreFree : (Place → Option ℕ) → List Stripe → Type 0
+abbrev pub AreFree : (StripePlace → Option ℕ) → List Stripe → Type 0
 AreFree f stripes = (i : ℕ) (s : Stripe) → slice_get stripes i ≡ Some s → f (record { devid = s.devid; offset = s.offset }) ≡ None

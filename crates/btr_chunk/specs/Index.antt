@@ -3,7 +3,7 @@ use Rattle.std.specs.Prelude.{◌≡◌, ◌≢◌, ℕ, ◌<◌, ◌≤◌, tru
 use Rattle.std.specs.Ordering.{nat_cmp}
 use Rattle.std.specs.BTreeMap.{BTreeMap, IsOrdered, get, btree_map_len}
 use Rattle.btr_chunk.specs.declared.stripe.Stripe.{Stripe}
-use Rattle.btr_chunk.specs.declared.place.Place.{Place}
+use Rattle.btr_chunk.specs.declared.place.StripePlace.{StripePlace}
 use Rattle.btr_chunk.specs.declared.chunk.Chunk.{Chunk}
 use Rattle.btr_chunk.specs.Chunk.{IsChunk, stripe_length}
 use Rattle.btr_chunk.specs.Table.{chunks_meet, some_meet}
@@ -14,7 +14,7 @@ abbrev pub start_of : BTreeMap ℕ Chunk → ℕ → Option Chunk
 start_of chunks start = get nat_cmp chunks start
 
 -- a range of a device is that of a stripe of a chunk
-pub record IsStripe (f : ℕ → Option Chunk) (place : Place) (taken : ℕ) : Type 0 where
+pub record IsStripe (f : ℕ → Option Chunk) (place : StripePlace) (taken : ℕ) : Type 0 where
   pub start : ℕ
   pub chunk : Chunk
   pub chunk_there : f start ≡ Some chunk
@@ -32,12 +32,12 @@ pub record AreChunks (f : ℕ → Option Chunk) : Type 0 where
   pub apart : (k l : ℕ) (c d : Chunk) → f k ≡ Some c → f l ≡ Some d → k ≢ l → chunks_meet c d ≡ false
 
 -- ranges of devices: those of the chunks' stripes, and no others
-pub record AreStripes (f : ℕ → Option Chunk) (g : Place → Option ℕ) : Type 0 where
+pub record AreStripes (f : ℕ → Option Chunk) (g : StripePlace → Option ℕ) : Type 0 where
   pub listed : (k : ℕ) (c : Chunk) (i : ℕ) (s : Stripe) → f k ≡ Some c → slice_get c.stripes i ≡ Some s → g (record { devid = s.devid; offset = s.offset }) ≡ Some (stripe_length c)
-  pub owned : (place : Place) (taken : ℕ) → g place ≡ Some taken → IsStripe f place taken
+  pub owned : (place : StripePlace) (taken : ℕ) → g place ≡ Some taken → IsStripe f place taken
 
 -- what the two maps of a table keep
-pub record IsIndexed (starts : BTreeMap ℕ Chunk) (extents : BTreeMap Place ℕ) : Type 0 where
+pub record IsIndexed (starts : BTreeMap ℕ Chunk) (extents : BTreeMap StripePlace ℕ) : Type 0 where
   pub chunks : AreChunks (start_of starts)
   pub stripes : AreStripes (start_of starts) (extent_of extents)
   pub ordered : IsOrdered nat_cmp starts
@@ -69,12 +69,12 @@ abbrev pub SharesNone : (ℕ → Option Chunk) → Chunk → Type 0
 SharesNone f chunk = (k : ℕ) (c : Chunk) → f k ≡ Some c → ranges_meet chunk.start chunk.length c.start c.length ≡ false
 
 -- a stripe of a chunk shares a byte with one of the ranges of devices
-pub record SharesRange (g : Place → Option ℕ) (chunk : Chunk) : Type 0 where
+pub record SharesRange (g : StripePlace → Option ℕ) (chunk : Chunk) : Type 0 where
   pub number : ℕ
   pub stripe : Stripe
   pub there : slice_get chunk.stripes number ≡ Some stripe
   pub range : SomeMeets g (stripe_length chunk) stripe
 
 -- none does
-abbrev pub SharesNoRange : (Place → Option ℕ) → Chunk → Type 0
+abbrev pub SharesNoRange : (StripePlace → Option ℕ) → Chunk → Type 0
 SharesNoRange g chunk = (i : ℕ) (s : Stripe) → slice_get chunk.stripes i ≡ Some s → NoneMeets g (stripe_length chunk) s

@@ -4,7 +4,7 @@ use Rattle.std.specs.Option.{option_map_or}
 use Rattle.btr_chunk.specs.declared.stripe.Stripe.{Stripe}
 use Rattle.btr_chunk.specs.declared.chunk.Chunk.{Chunk}
 use Rattle.btr_chunk.specs.declared.position.Elements.{Elements}
-use Rattle.btr_chunk.specs.declared.place.Place.{Place}
+use Rattle.btr_chunk.specs.declared.place.StripePlace.{StripePlace}
 use Rattle.btr_chunk.specs.declared.place.Part.{Part}
 use Rattle.btr_chunk.specs.declared.place.Part.TheVariants.{Mirror, Slice, P, Q}
 use Rattle.btr_chunk.specs.declared.mapping.MapFault.{MapFault}
@@ -73,16 +73,16 @@ pub record PartOn (profile : Profile) (n : ℕ) (at : Elements) (stripe : ℕ) :
   pub on : stripe_of profile n part at ≡ stripe
 
 -- the place of a position on a stripe
-abbrev pub place_on : Stripe → Elements → Place
+abbrev pub place_on : Stripe → Elements → StripePlace
 place_on stripe at = record { devid = stripe.devid; offset = stripe.offset + at.row * 65536 + at.rest }
 
 -- the place of a part of a position
-abbrev pub place_at : Chunk → Part → Elements → Place
+abbrev pub place_at : Chunk → Part → Elements → StripePlace
 place_at chunk part at =
     option_map_or (λ stripe. place_on stripe at) (slice_get chunk.stripes (stripe_of chunk.profile (length chunk.stripes) part at)) (record { devid = 0; offset = 0 })
 
 -- some bytes from a place on lie in a stripe of this length
-pub record IsInStripe (len : ℕ) (stripe : Stripe) (place : Place) (size : ℕ) : Type 0 where
+pub record IsInStripe (len : ℕ) (stripe : Stripe) (place : StripePlace) (size : ℕ) : Type 0 where
   pub device : place.devid ≡ stripe.devid
   pub begin : stripe.offset ≤ place.offset
   pub end : place.offset + size ≤ stripe.offset + len
@@ -94,5 +94,5 @@ data_part Raid6 copy at = Slice at.index
 data_part _ copy at = Mirror copy
 
 -- the place of a copy of an address
-abbrev pub data_place : Chunk → ℕ → ℕ → Place
+abbrev pub data_place : Chunk → ℕ → ℕ → StripePlace
 data_place chunk copy addr = place_at chunk (data_part chunk.profile copy (position chunk addr)) (position chunk addr)

@@ -9,7 +9,7 @@ ghost use Rattle.btr_chunk.specs.Extents.{extent_of, IsSpaced};
 ghost use Rattle.btr_chunk.specs.Index.{start_of, AreChunks, IsFirst, IsIndexed, IsLast, SharesAddress, SharesNone, SharesRange, SharesNoRange};
 
 use crate::extents::{enter, meets};
-use crate::{Chunk, Place};
+use crate::{Chunk, StripePlace};
 use std::alloc::AllocError;
 use std::collections::BTreeMap;
 
@@ -59,7 +59,7 @@ pub(crate) fn has_same(chunks: &BTreeMap<u64, Chunk>, chunk: &Chunk) -> bool
 // Whether the chunk shares an address or a byte with one of the table, or its own stripes share a byte.
 pub(crate) fn overlaps(
     chunks: &BTreeMap<u64, Chunk>,
-    extents: &BTreeMap<Place, u64>,
+    extents: &BTreeMap<StripePlace, u64>,
     chunk: &Chunk,
 ) -> bool
     requires index { IsIndexed chunks.now extents.now }
@@ -87,7 +87,7 @@ fn shares_address(chunks: &BTreeMap<u64, Chunk>, chunk: &Chunk) -> bool
     }
 }
 
-fn shares_range(extents: &BTreeMap<Place, u64>, chunk: &Chunk) -> bool
+fn shares_range(extents: &BTreeMap<StripePlace, u64>, chunk: &Chunk) -> bool
     requires spaced { IsSpaced (extent_of extents.now) }
     requires chunk { IsChunk chunk.now }
     ensures { MatchBool result (SharesRange (extent_of extents.now) chunk.now) (SharesNoRange (extent_of extents.now) chunk.now) }
@@ -104,7 +104,7 @@ fn shares_range(extents: &BTreeMap<Place, u64>, chunk: &Chunk) -> bool
 // Puts a chunk into both maps, or into none of them.
 pub(crate) fn put(
     chunks: &mut BTreeMap<u64, Chunk>,
-    extents: &mut BTreeMap<Place, u64>,
+    extents: &mut BTreeMap<StripePlace, u64>,
     chunk: Chunk,
 ) -> Result<(), AllocError>
     requires index { IsIndexed chunks.old extents.old }

@@ -34,7 +34,7 @@ pub use laws::{
     slices_divide, stripes_apart,
 };
 pub use mapping::{MapFault, elements, place_of};
-pub use place::{Part, Place};
+pub use place::{Part, StripePlace};
 pub use position::Elements;
 pub use profile::Profile;
 pub use stripe::Stripe;

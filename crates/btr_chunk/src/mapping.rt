@@ -4,7 +4,7 @@ ghost use Rattle.btr_chunk.specs.Chunk.{IsChunk};
 ghost use Rattle.btr_chunk.specs.Mapping.{elements_of, stripe_of, place_at, IsPosition, Reaches, HasPart};
 
 use crate::chunk::ELEMENT;
-use crate::{Chunk, Elements, Part, Place, Profile};
+use crate::{Chunk, Elements, Part, Profile, StripePlace};
 
 /// Why a range has no position in a chunk.
 #[derive(Clone, Copy, Debug, PartialEq, Eq)]
@@ -51,14 +51,14 @@ pub fn elements(chunk: &Chunk, addr: u64, len: u64) -> Result<Elements, MapFault
 }
 
 /// Where a part of a position lies.
-pub fn place_of(chunk: &Chunk, part: Part, at: &Elements) -> Place
+pub fn place_of(chunk: &Chunk, part: Part, at: &Elements) -> StripePlace
     requires chunk { IsChunk chunk.now }
     requires part { HasPart chunk.now.profile (length chunk.now.stripes) part }
     requires at { IsPosition chunk.now at.now }
     ensures { result ≡ place_at chunk.now part at.now }
 {
     let stripe = chunk.stripes.at(stripe_number(chunk, part, at));
-    Place {
+    StripePlace {
         devid: stripe.devid,
         offset: stripe.offset + at.row * ELEMENT + at.rest,
     }

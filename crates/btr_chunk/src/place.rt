@@ -13,7 +13,7 @@ pub enum Part {
 
 /// A byte of a device. Places are ordered by their devices, then by their offsets.
 #[derive(Clone, Copy, Debug, PartialEq, Eq, PartialOrd, Ord)]
-pub struct Place {
+pub struct StripePlace {
     /// The id of the device.
     pub devid: u64,
     /// The byte's offset on the device.

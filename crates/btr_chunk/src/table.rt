@@ -1,5 +1,5 @@
 use crate::index::{chunk_at, first_at, has_same, last_at, overlaps, put};
-use crate::{AddFault, Chunk, Place};
+use crate::{AddFault, Chunk, StripePlace};
 use std::alloc::Global;
 use std::collections::BTreeMap;
 use std::marker::Model;
@@ -13,7 +13,7 @@ pub struct ChunkTable {
     // By their starts.
     chunks: BTreeMap<u64, Chunk>,
     // The ranges of devices that their stripes take up: the length of each by its first byte.
-    extents: BTreeMap<Place, u64>,
+    extents: BTreeMap<StripePlace, u64>,
 }
 
 impl Model for ChunkTable {

@@ -136,7 +136,7 @@ module _ (layout : Layout) (old new : Seen) (kind : SumKind) (addr : ℕ) (reads
       came : (B : Map) → B (Block addr) ≡ Ok block → Told was now waited waits result B
       came B e = writes_came Is B (Block addr) block (λ b. held_block kind addr b (held_in b)) was now waited waits result e (written B)
 
-      content : (sure : Sure) → calls.Steady (BlockAgreed layout addr) sure (shown old) (shown new) → OnMap layout (Told was now waited waits result) sure old.held
+      content : (sure : Sure) → calls.CanTell (BlockAgreed layout addr) sure (shown old) (shown new) → OnMap layout (Told was now waited waits result) sure old.held
       content First s = map_some old.held _ _ (λ images e. came (fate_at images layout) e) (fetched.first (omega (arith, s), omega (arith, s)))
       content Any s = both_some old.held _ _ _ (λ images a f. came (fate_at images layout) (f a)) s fetched.agreed
 

@@ -90,7 +90,7 @@ module _ (layout : Layout) (w : Want) (old new : Seen) (reads : OnlyReads old ne
   abbrev Comes : Sure → Result Lent TreeFault → List (List ℕ) → Type 0
   Comes sure result images = SectorComes (unread_by layout old new) (λ n. maps_by sure images n layout) w store result
 
-  told : (result : Result Lent TreeFault) → ((sure : Sure) → calls.Steady (AgreedOn layout) sure (shown old) (shown new) → IfSome old.held (Comes sure result)) → TellsAll layout old new (λ Bs. SectorComes (unread_by layout old new) Bs w store result)
+  told : (result : Result Lent TreeFault) → ((sure : Sure) → calls.CanTell (AgreedOn layout) sure (shown old) (shown new) → IfSome old.held (Comes sure result)) → TellsAll layout old new (λ Bs. SectorComes (unread_by layout old new) Bs w store result)
   told result f = record { calls = record { same = ap (λ (s : Seen). s.held) reads.same; later = reads.later; content = f } }
 
   module _ (loan : Lent) (block : List ℕ) (is : block_of store loan ≡ Some block) where
@@ -115,7 +115,7 @@ module _ (layout : Layout) (w : Want) (old new : Seen) (reads : OnlyReads old ne
       let c = choice_in images addr block (sought layout (want.Plain addr)) (subst (λ (x : Want). Contains (passing_for images (sought layout x)) block) (sym e) there) in
       came loan block is Any images c.0 (subst (λ (x : Want). choices images c.0 layout x ≡ Ok block) e c.1)) f.stand
 
-  by_block : (loan : Lent) (o : Option (List ℕ)) → block_of store loan ≡ o → IsSectorWant w → IsSomeAnd o (IsFetched layout w old new) → (sure : Sure) → calls.Steady (AgreedOn layout) sure (shown old) (shown new) → IfSome old.held (Comes sure (Ok loan))
+  by_block : (loan : Lent) (o : Option (List ℕ)) → block_of store loan ≡ o → IsSectorWant w → IsSomeAnd o (IsFetched layout w old new) → (sure : Sure) → calls.CanTell (AgreedOn layout) sure (shown old) (shown new) → IfSome old.held (Comes sure (Ok loan))
   by_block loan None is h f sure s = absurd f
   by_block loan (Some block) is h f First s = map_some old.held (λ images. fate images layout w ≡ Ok block) (Comes First (Ok loan)) (λ images e. by_fate loan block is First images e) (f.first (omega (arith, s.0), s.1))
   by_block loan (Some block) is h f Any s = by_want loan block w refl is h f s

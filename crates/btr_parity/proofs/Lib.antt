@@ -8,3 +8,4 @@ pub mod Lost
 pub mod Folding
 pub mod Halves
 pub mod Choosing
+pub mod Ranges

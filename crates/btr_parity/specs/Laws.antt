@@ -1,5 +1,5 @@
 -- The laws of the field and of parity.
-use Rattle.std.specs.Prelude.{◌≡◌, ◌≢◌, ℕ, ◌+◌, ◌<◌, ◌≤◌, List, [], ◌∷◌, ◌++◌, All, length, slice_index_or, slice_set, take, bit_xor}
+use Rattle.std.specs.Prelude.{◌≡◌, ◌≢◌, ℕ, ◌+◌, ◌-◌, ◌<◌, ◌≤◌, List, [], ◌∷◌, ◌++◌, All, length, map, slice_range, slice_index_or, slice_set, take, bit_xor}
 use Rattle.btr_parity.specs.Field.{product, power, IsProduct}
 use Rattle.btr_parity.specs.Slices.{IsSlice, zeros, plus, scaled, parity_p, parity_q}
 use Rattle.btr_parity.specs.Solutions.{IsTheOne, Weighs, WeighsWith, FitsP, FitsQ, FitsBoth}
@@ -78,6 +78,17 @@ pub record FoldingOntoQ : Type 0 where
       → plus Q (parity_q size (take k ds)) ≡ plus Q (parity_q size (take (k + 1) ds))
   pub from_zeros : (size : ℕ) (ds : List (List ℕ)) → All (IsSlice size) ds
       → plus (zeros size) (parity_q size (take (length ds) ds)) ≡ parity_q size ds
+
+-- some bytes of each slice
+abbrev pub ranges_of : ℕ → ℕ → List (List ℕ) → List (List ℕ)
+ranges_of from to slices = map (λ (slice : List ℕ). slice_range slice from to) slices
+
+-- the parity of ranges is the range of the parity
+pub record ParityOfRanges : Type 0 where
+  pub of_p : (size from to : ℕ) (slices : List (List ℕ)) → from ≤ to → to ≤ size
+      → parity_p (to - from) (ranges_of from to slices) ≡ slice_range (parity_p size slices) from to
+  pub of_q : (size from to : ℕ) (slices : List (List ℕ)) → from ≤ to → to ≤ size
+      → parity_q (to - from) (ranges_of from to slices) ≡ slice_range (parity_q size slices) from to
 
 -- ---- lost slices; the others are the slices with zeros in each lost place
 

@@ -1,6 +1,6 @@
 // The laws of the field and of parity, for the proofs of the layers above. The functions do nothing.
 ghost use Rattle.btr_parity.specs.Laws.{ProductIsRemainder, ProductsKeepSums, PowersDiffer, QuotientIsOne, PairIsOne};
-ghost use Rattle.btr_parity.specs.Laws.{SumsOfSlices, ParityByFolding, FoldingOntoP, FoldingOntoQ, LostByP, LostByQ, LostByBoth};
+ghost use Rattle.btr_parity.specs.Laws.{SumsOfSlices, ParityByFolding, FoldingOntoP, FoldingOntoQ, ParityOfRanges, LostByP, LostByQ, LostByBoth};
 ghost use Rattle.btr_parity.specs.Ways.{SomeWayReadsNoneWrong, RightElementsGiveRightSlice, SomeWayGivesRightSlice};
 
 /// A product of the field is the product of the polynomials modulo the modulus, and nothing else is.
@@ -46,6 +46,11 @@ pub fn folding_onto_p()
 /// The steps of a loop that adds slices to Q by `fold_q`, or leaves some out.
 pub fn folding_onto_q()
     ensures { FoldingOntoQ }
+{}
+
+/// The parity of some bytes of each slice is those bytes of the parity.
+pub fn parity_of_ranges()
+    ensures { ParityOfRanges }
 {}
 
 /// A lost slice is what is left of P when the others are folded into it.

@@ -20,9 +20,9 @@ pub use field::{LAST_INDEX, times};
 pub use fold::{double_and_add, fold_p, fold_q};
 pub use laws::{
     folding_onto_p, folding_onto_q, lost_by_both, lost_by_p, lost_by_q, pair_is_one,
-    parity_by_folding, powers_differ, product_is_remainder, products_keep_sums, quotient_is_one,
-    right_elements_give_right_slice, some_way_gives_right_slice, some_way_reads_none_wrong,
-    sums_of_slices,
+    parity_by_folding, parity_of_ranges, powers_differ, product_is_remainder, products_keep_sums,
+    quotient_is_one, right_elements_give_right_slice, some_way_gives_right_slice,
+    some_way_reads_none_wrong, sums_of_slices,
 };
 pub use rebuild::{rebuild_pq, rebuild_q};
 

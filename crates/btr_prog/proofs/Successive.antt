@@ -1,16 +1,16 @@
 -- Calls one after another.
 use Rattle.std.proofs.Common.{◌≡◌, ◌≤◌, refl, sym, ◌∙◌, subst, arith}
-use Rattle.btr_prog.specs.Calls.{Seen, Sure, First, Any, Steady, Calls}
+use Rattle.btr_prog.specs.Calls.{Seen, Sure, First, Any, CanTell, Calls}
 
 module _ {H : Type 0} (Agreed : H → Type 0) where
-  -- steady calls are steady up to any of them, and from there
-  steady_first : (sure : Sure) (a b c : Seen H) → a.faults ≤ b.faults → b.faults ≤ c.faults → Steady Agreed sure a c → Steady Agreed sure a b
-  steady_first First a b c h g e = (omega (arith, h, g, e), omega (arith, g, e))
-  steady_first Any a b c h g e = e
+  -- what calls in a row read can be told up to any of them, and from there
+  tells_first : (sure : Sure) (a b c : Seen H) → a.faults ≤ b.faults → b.faults ≤ c.faults → CanTell Agreed sure a c → CanTell Agreed sure a b
+  tells_first First a b c h g e = (omega (arith, h, g, e), omega (arith, g, e))
+  tells_first Any a b c h g e = e
 
-  steady_last : (sure : Sure) (a b c : Seen H) → b.held ≡ a.held → a.faults ≤ b.faults → b.faults ≤ c.faults → Steady Agreed sure a c → Steady Agreed sure b c
-  steady_last First a b c same h g e = (omega (arith, h, g, e), e.1)
-  steady_last Any a b c same h g e = subst Agreed (sym same) e
+  tells_last : (sure : Sure) (a b c : Seen H) → b.held ≡ a.held → a.faults ≤ b.faults → b.faults ≤ c.faults → CanTell Agreed sure a c → CanTell Agreed sure b c
+  tells_last First a b c same h g e = (omega (arith, h, g, e), e.1)
+  tells_last Any a b c same h g e = subst Agreed (sym same) e
 
 module _ {H : Type 0} {Agreed : H → Type 0} where
   -- no call yet
@@ -26,7 +26,7 @@ module _ {H : Type 0} {Agreed : H → Type 0} where
   calls_then {Q = Q} {a = a} {b = b} {c = c} f one two = record {
     same = two.same ∙ one.same;
     later = omega (arith, one.later, two.later);
-    content = λ sure s. f sure a.held (one.content sure (steady_first Agreed sure a b c one.later two.later s)) (subst (Q sure) one.same (two.content sure (steady_last Agreed sure a b c one.same one.later two.later s)));
+    content = λ sure s. f sure a.held (one.content sure (tells_first Agreed sure a b c one.later two.later s)) (subst (Q sure) one.same (two.content sure (tells_last Agreed sure a b c one.same one.later two.later s)));
   }
 
   -- the first of two calls says that the other may count on more than was agreed of what is held
@@ -37,14 +37,14 @@ module _ {H : Type 0} {Agreed : H → Type 0} where
     content = told;
   }
     where
-      told : (sure : Sure) → Steady Agreed sure a c → R sure a.held
-      told First s = f First a.held (one.content First (steady_first Agreed First a b c one.later two.later s)) (subst (Q First) one.same (two.content First (steady_last Agreed First a b c one.same one.later two.later s)))
+      told : (sure : Sure) → CanTell Agreed sure a c → R sure a.held
+      told First s = f First a.held (one.content First (tells_first Agreed First a b c one.later two.later s)) (subst (Q First) one.same (two.content First (tells_last Agreed First a b c one.same one.later two.later s)))
       told Any s = f Any a.held (one.content Any s) (subst (Q Any) one.same (two.content Any (subst Other (sym one.same) (agreed a.held s (one.content Any s)))))
 
 -- a call whose copies agree where less is known to agree
 pub calls_under : {H : Type 0} {Agreed Other : H → Type 0} {P : Sure → H → Type 0} {a b : Seen H} → ((h : H) → Other h → Agreed h) → Calls Agreed a b P → Calls Other a b P
 calls_under {H} {Agreed = Agreed} {Other = Other} {P = P} {a = a} {b = b} agreed one = record { same = one.same; later = one.later; content = told }
   where
-    told : (sure : Sure) → Steady Other sure a b → P sure a.held
+    told : (sure : Sure) → CanTell Other sure a b → P sure a.held
     told First s = one.content First s
     told Any s = one.content Any (agreed a.held s)

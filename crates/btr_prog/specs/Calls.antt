@@ -17,13 +17,13 @@ pub data Sure : Type 0 where
 
 -- What was read can be told: as the first copies where no read failed, and as any where all that pass agree.
 -- `Agreed` says that they do wherever there is a test.
-abbrev pub Steady : {H : Type 0} → (H → Type 0) → Sure → Seen H → Seen H → Type 0
-Steady Agreed First before now = IsCalm before.faults now.faults
-Steady Agreed Any before now = Agreed before.held
+abbrev pub CanTell : {H : Type 0} → (H → Type 0) → Sure → Seen H → Seen H → Type 0
+CanTell Agreed First before now = IsCalm before.faults now.faults
+CanTell Agreed Any before now = Agreed before.held
 
--- A call, or several in a row: what is held stays, the count never falls, and so far as the calls were steady
--- P holds of what is held.
+-- A call, or several in a row: what is held stays, the count never falls, and so far as what they read
+-- can be told P holds of what is held.
 pub record Calls {H : Type 0} (Agreed : H → Type 0) (before now : Seen H) (P : Sure → H → Type 0) : Type 0 where
   pub same : now.held ≡ before.held
   pub later : before.faults ≤ now.faults
-  pub content : (sure : Sure) → Steady Agreed sure before now → P sure before.held
+  pub content : (sure : Sure) → CanTell Agreed sure before now → P sure before.held

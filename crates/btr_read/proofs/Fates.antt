@@ -1,6 +1,5 @@
 -- What a fetch answers and leaves.
-use Rattle.std.proofs.Common.{◌≡◌, ℕ, ◌≤◌, true, List, [], ◌∷◌, take, get_or, slice_get, Option, Some, None, IfSome, IsSomeAnd, IsSome, Result, Ok, Err, IfOk, refl, sym, ap, ◌∙◌, subst, arith}
-use Rattle.std.specs.List.{Contains}
+use Rattle.std.proofs.Common.{◌≡◌, ℕ, ◌≤◌, List, take, get_or, Option, Some, None, IsSomeAnd, IsSome, Result, Ok, Err, IfOk, refl, sym, ap, subst, arith}
 use Rattle.std.specs.Option.{is_some}
 use Rattle.btr_chunk.specs.declared.chunk.Chunk.{Chunk}
 use Rattle.btr_chunk.specs.declared.position.Elements.{Elements}
@@ -13,19 +12,18 @@ use Rattle.btr_read.specs.declared.device.Member.{Member}
 use Rattle.btr_read.specs.declared.setting.Setting.{Setting}
 use Rattle.btr_read.specs.declared.want.Want.{Want}
 use Rattle.btr_read.specs.declared.want.Want.TheVariants.{Tree, Block, Sector, Plain}
-use Rattle.btr_read.specs.Want.{addr_of, len_of, passes}
+use Rattle.btr_read.specs.Want.{addr_of, len_of}
 use Rattle.btr_read.specs.Layout.{Layout}
 use Rattle.btr_read.specs.declared.attempt.Attempt.TheVariants as attempt
 use Rattle.btr_read.specs.declared.candidate.Candidate.{Candidate}
 use Rattle.btr_read.specs.declared.mirror.Tried.TheVariants as tried
 use Rattle.btr_read.specs.Candidates.{Target, size_of}
-use Rattle.btr_read.specs.Fate.{Fault, sought, sought_in, sought_at, passing, passing_for, or_lost, fate_of, fate, Agree}
+use Rattle.btr_read.specs.Fate.{Fault, sought, sought_in, sought_at}
 use Rattle.btr_read.specs.Store.{Blocks, Kept, Lent, IsStore, IsLentBy, block_of}
 use Rattle.btr_read.specs.Attempt.{FitsAttempt}
 use Rattle.btr_read.specs.Mirror.{IsTried, FitsTried}
 use Rattle.btr_read.specs.Writing.{OnlyWrites}
 use Rattle.btr_read.proofs.Loans.{blocks, loan_taken, loans_taken, no_loan, length-loans, one_fewer}
-use Rattle.btr_read.proofs.Trials.{told, telling}
 
 -- what is sought has the want, and the setting and the devices of the layout
 pub record IsOf (layout : Layout) (want : Want) (t : Target) : Type 0 where

@@ -1,11 +1,10 @@
 -- What a fetch answers.
-use Rattle.std.proofs.Common.{◌≡◌, ℕ, ◌≤◌, true, false, List, [], ◌∷◌, length, slice_get, Option, Some, None, IfSome, IsSomeAnd, Result, Ok, Err, IfOk, IsOk, refl, sym, ap, ◌∙◌, subst, arith, inl, inr}
+use Rattle.std.proofs.Common.{◌≡◌, ℕ, ◌≤◌, true, List, [], ◌∷◌, length, slice_get, Option, Some, None, IfSome, IsSomeAnd, Result, Ok, Err, IfOk, refl, sym, ap, ◌∙◌, subst, arith, inl, inr}
 use Rattle.std.specs.List.{All, Any as AnyOf, Contains}
 use Rattle.std.specs.Result.{is_ok}
-use Rattle.btr_prog.specs.Prog.{BlockMap}
 use Rattle.btr_prog.specs.Calls.{Sure, First, Any, Calls}
 use Rattle.btr_prog.specs.Calls as calls
-use Rattle.btr_rack.specs.Rack.{Account, Seen, NoneFailed, Steady, OnlyReads, forgotten}
+use Rattle.btr_rack.specs.Rack.{Seen, Steady, OnlyReads, forgotten}
 use Rattle.btr_read.specs.declared.fault.ReadFault.{ReadFault}
 use Rattle.btr_read.specs.declared.fault.ReadFault.TheVariants as fault
 use Rattle.btr_read.specs.declared.want.Want.{Want}
@@ -18,7 +17,7 @@ use Rattle.btr_read.specs.Cause.{IsOf, LastOf, Passes, IsUnread}
 use Rattle.btr_read.specs.Attempt.{IsFirst, IsLater}
 use Rattle.btr_read.specs.Reading.{AgreedOn, OnMap, shown}
 use Rattle.btr_read.specs.Serves.{IsKept}
-use Rattle.btr_read.specs.Store.{Blocks, Kept, Lent, block_of}
+use Rattle.btr_read.specs.Store.{Blocks, Lent, block_of}
 use Rattle.btr_read.specs.Fetch.{IsFetched, IsUnreadFor, FitsFetch, AnswersOf, CallsFetch}
 use Rattle.btr_read.proofs.Fates.{sought_of}
 use Rattle.btr_read.proofs.ReadsOn.{same_held}
@@ -182,7 +181,7 @@ if_all : {X : Type 0} (o : Option X) (P : X → Type 0) → ((x : X) → P x) �
 if_all None P f = tt
 if_all (Some x) P f = f x
 
-known : (layout : Layout) (want : Want) (old new : Seen) (bytes : List ℕ) → IsTested want → IsFetched layout want old new bytes → (sure : Sure) → calls.Steady (AgreedOn layout) sure (shown old) (shown new) → IfSome old.held (λ images. fate images layout want ≡ Ok bytes)
+known : (layout : Layout) (want : Want) (old new : Seen) (bytes : List ℕ) → IsTested want → IsFetched layout want old new bytes → (sure : Sure) → calls.CanTell (AgreedOn layout) sure (shown old) (shown new) → IfSome old.held (λ images. fate images layout want ≡ Ok bytes)
 known layout want old new bytes tested f First s = f.first (omega (arith, s.0), s.1)
 known layout want old new bytes tested f Any s = both old.held s f.agreed
   where
@@ -198,11 +197,11 @@ calls_of layout want old new store result reads fits tested = record {
   content = content result fits;
 }
   where
-    bytes_came : (loan : Lent) (o : Option (List ℕ)) → block_of store loan ≡ o → IsSomeAnd o (IsFetched layout want old new) → (sure : Sure) → calls.Steady (AgreedOn layout) sure (shown old) (shown new) → OnMap layout (AnswersOf want store (Ok loan)) sure old.held
+    bytes_came : (loan : Lent) (o : Option (List ℕ)) → block_of store loan ≡ o → IsSomeAnd o (IsFetched layout want old new) → (sure : Sure) → calls.CanTell (AgreedOn layout) sure (shown old) (shown new) → OnMap layout (AnswersOf want store (Ok loan)) sure old.held
     bytes_came loan None e h sure s = absurd h
     bytes_came loan (Some block) e h sure s = map_some old.held (λ images. fate images layout want ≡ Ok block) (λ images. AnswersOf want store (Ok loan) (fate images layout)) (λ images is. subst (λ o. IsSomeAnd o (λ block. fate images layout want ≡ Ok block)) (sym e) is) (known layout want old new block tested h sure s)
 
-    content : (result : Result Lent ReadFault) → FitsFetch layout want old new store result → (sure : Sure) → calls.Steady (AgreedOn layout) sure (shown old) (shown new) → OnMap layout (AnswersOf want store result) sure old.held
+    content : (result : Result Lent ReadFault) → FitsFetch layout want old new store result → (sure : Sure) → calls.CanTell (AgreedOn layout) sure (shown old) (shown new) → OnMap layout (AnswersOf want store result) sure old.held
     content (Ok loan) f sure s = bytes_came loan (block_of store loan) refl f.1 sure s
     content (Err (fault.Lost a)) f sure s = map_some old.held (λ images. fate images layout want ≡ Err (Lost a)) (λ images. fate images layout want ≡ Err (Lost a)) (λ images e. e) f.2
     content (Err (fault.Unread a slot)) f sure s = if_all old.held (λ images. a ≡ addr_of want) (λ images. f.same_addr)

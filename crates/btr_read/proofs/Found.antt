@@ -1,11 +1,11 @@
 -- What a fetch answers and leaves where it had to read.
-use Rattle.std.proofs.Common.{◌≡◌, ◌≢◌, ℕ, ◌<◌, ◌⊎◌, Bool, true, false, cond, List, length, take, get_or, set, Option, Some, None, IsSome, IsSomeAnd, IfOk, Result, Ok, Err, refl, sym, ap, ◌∙◌, subst, arith, inl, inr}
+use Rattle.std.proofs.Common.{◌≡◌, ◌≢◌, ℕ, ◌<◌, Bool, true, false, cond, List, length, take, get_or, set, Option, Some, None, IsSome, IsSomeAnd, IfOk, Result, Ok, Err, refl, sym, ap, ◌∙◌, subst, arith, inl, inr}
 use Rattle.std.proofs.lemmas.Bool.{false≢true}
 use Rattle.std.proofs.lemmas.List.{get_or-set_same, get_or_default}
 use Rattle.std.specs.Option.{option_map}
 use Rattle.std.specs.Result.{is_ok}
 use Rattle.btr_chunk.specs.declared.chunk.Chunk.{Chunk}
-use Rattle.btr_pool.specs.Slots.{Slots, IsFree, loan_at, loans_of, bytes_at, with_lent}
+use Rattle.btr_pool.specs.Slots.{Slots, IsFree, loans_of, bytes_at}
 use Rattle.btr_rack.specs.Rack.{Account, Seen, NoneFailed, OnlyReads}
 use Rattle.btr_read.specs.declared.attempt.Missed.{Missed}
 use Rattle.btr_read.specs.declared.attempt.Missed.TheVariants.{Lost, Unread}
@@ -14,16 +14,14 @@ use Rattle.btr_read.specs.declared.setting.Setting.{Setting}
 use Rattle.btr_read.specs.declared.want.Want.{Want}
 use Rattle.btr_read.specs.declared.want.Want.TheVariants.{Tree, Block, Sector, Plain}
 use Rattle.btr_read.specs.Want.{addr_of, len_of}
-use Rattle.btr_read.specs.Layout.{Layout}
 use Rattle.btr_read.specs.Candidates.{Target, size_of}
 use Rattle.btr_read.specs.Fate.{sought}
 use Rattle.btr_read.specs.Cause.{LastOf}
-use Rattle.btr_read.specs.Attempt.{IsFirst, IsLater}
-use Rattle.btr_read.specs.Store.{Blocks, Lent, IsStore, block_in, kept_in, kept_want, KeepsIn, KeepsFree}
+use Rattle.btr_read.specs.Store.{Blocks, Lent, IsStore, block_in, kept_in, kept_want, KeepsFree}
 use Rattle.btr_read.specs.Serves.{IsKept, Serves}
 use Rattle.btr_read.specs.Fetch.{IsFetched, FitsFetch, AccountsFetch, KeepsLent}
-use Rattle.btr_read.specs.Finding.{fault_of, TakesFound, KeepsOneMore, FitsFinding}
-use Rattle.btr_read.specs.Writing.{OnlyWrites, StillKept}
+use Rattle.btr_read.specs.Finding.{fault_of, TakesFound, FitsFinding}
+use Rattle.btr_read.specs.Writing.{StillKept}
 use Rattle.btr_read.proofs.Loans.{blocks, loan_taken, loan_there, length-loans}
 use Rattle.btr_read.proofs.Fates.{sought_of}
 use Rattle.btr_read.proofs.ReadsOn.{same_slots, same_held}

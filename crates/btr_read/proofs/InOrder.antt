@@ -74,6 +74,13 @@ can_try_two t ByP h e is = subst (λ p. IsNone (mirror_count p (length t.chunk.s
 can_try_two t ByQ h e is = e
 can_try_two t (ByBoth j) h e is = (e, subst (λ p. j < data_count p (length t.chunk.stripes)) (sym e) is.0, is.1)
 
+-- the candidates by P and by Q are the second and the third
+pub second_is_p : (t : Target) → t.chunk.profile ≡ Raid6 → (d : Candidate) → get_or (candidates t) 1 d ≡ ByP
+second_is_p t e d = ap (λ cs. get_or cs 1 d) (with_p_and_q t e)
+
+pub third_is_q : (t : Target) → t.chunk.profile ≡ Raid6 → (d : Candidate) → get_or (candidates t) 2 d ≡ ByQ
+third_is_q t e d = ap (λ cs. get_or cs 2 d) (with_p_and_q t e)
+
 -- how many there are
 pub length-with_p_and_q : (k i : ℕ) → i < k → length (rebuilt Raid6 k i) ≡ k + 2
 length-with_p_and_q k i lt =

@@ -1,5 +1,5 @@
 -- Accounts of calls one after another.
-use Rattle.std.proofs.Common.{◌≡◌, ◌∷◌, [], ◌++◌, refl, ap, sym, ◌∙◌, subst, arith}
+use Rattle.std.proofs.Common.{◌≡◌, ◌∷◌, [], ◌++◌, refl, ap, sym, ◌∙◌, arith}
 use Rattle.btr_rack.specs.Rack.{Account, Seen, NoneFailed, next_count}
 use Rattle.btr_rack.specs.declared.place.Place.{Place as Range}
 use Rattle.btr_read.specs.Cause.{ReadFailed}

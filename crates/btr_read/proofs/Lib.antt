@@ -18,3 +18,5 @@ pub mod Standing
 pub mod Sums
 pub mod Parts
 pub mod Rebuilt
+pub mod Values
+pub mod Rows

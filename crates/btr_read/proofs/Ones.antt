@@ -41,7 +41,7 @@ in_at [] i d lt = absurd (omega (arith, lt))
 in_at (x ∷ xs) zero d lt = inl refl
 in_at (x ∷ xs) (suc i) d lt = inr (in_at xs i d (omega (arith, lt)))
 
-at_in : {X : Type 0} (x : X) (xs : List X) → In x xs → (i : ℕ) × (i < length xs) × (get_or xs i x ≡ x)
+pub at_in : {X : Type 0} (x : X) (xs : List X) → In x xs → (i : ℕ) × (i < length xs) × (get_or xs i x ≡ x)
 at_in x [] h = absurd h
 at_in x (y ∷ ys) (inl e) = (0, omega arith, e)
 at_in x (y ∷ ys) (inr h) = let r = at_in x ys h in (suc r.0, omega (arith, r.1), r.2)

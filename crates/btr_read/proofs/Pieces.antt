@@ -158,3 +158,20 @@ module _ (p : Parity) (i k j done end : ℕ) (old now after : Slots) (live : IsL
   -- the piece behind them too
   pub added_more : after ≡ with_bytes now k (pasted (bytes_at now k) done piece) → AddedSoFar p i k j end old after
   added_more e = written_more MeetsNow k done old now live h MeetsNext end piece after piece_long e meets_next
+
+-- ---- a copy
+
+-- the first bytes of slot j were put into slot k
+abbrev pub CopiedSoFar : ℕ → ℕ → ℕ → Slots → Slots → Type 0
+CopiedSoFar k j done old now = WrittenSoFar (λ written. written ≡ take done (bytes_at old j)) k done old now
+
+-- the piece behind them too
+pub copied_more : (k j done end : ℕ) (old now after : Slots) → IsLive old k → k ≢ j → done < end → CopiedSoFar k j done old now → length (slice_range (bytes_at now j) done end) ≡ end - done
+    → after ≡ with_bytes now k (pasted (bytes_at now k) done (slice_range (bytes_at now j) done end)) → CopiedSoFar k j end old after
+copied_more k j done end old now after live apart lt h long e =
+    let Now : List ℕ → Type 0 = λ written. written ≡ take done (bytes_at old j) in
+    let Next : List ℕ → Type 0 = λ written. written ≡ take end (bytes_at old j) in
+    let piece = slice_range (bytes_at now j) done end in
+    let same : bytes_at now j ≡ bytes_at old j = other_now Now k done old now live h j (λ e. apart (sym e)) in
+    let meets : h.written ++ piece ≡ take end (bytes_at old j) = ap₂ (λ a b. a ++ slice_range b done end) h.meets same ∙ sym (take_on (bytes_at old j) done end (omega (arith, lt))) in
+    written_more Now k done old now live h Next end piece after (omega (arith, lt, long)) e meets

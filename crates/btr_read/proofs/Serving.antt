@@ -1,19 +1,15 @@
 -- That a rack goes on serving a store.
-use Rattle.std.proofs.Common.{◌≡◌, ◌≢◌, ℕ, zero, suc, ◌<◌, ◌⊎◌, true, List, [], ◌∷◌, length, take, drop, get_or, set, slice_get, Option, Some, None, IsSome, IfSome, IsSomeAnd, Result, Ok, Err, IsOk, refl, sym, ap, ◌∙◌, subst, arith, inl, inr, replicate}
+use Rattle.std.proofs.Common.{◌≡◌, ◌≢◌, ℕ, zero, suc, ◌⊎◌, List, [], ◌∷◌, drop, get_or, set, Option, Some, None, IfSome, IsSomeAnd, refl, sym, ap, ◌∙◌, subst, inl, inr, replicate}
 use Rattle.std.specs.Option.{option_map}
-use Rattle.std.specs.Result.{is_ok}
-use Rattle.std.proofs.lemmas.List.{get_or-set_other, get_or-set_same}
+use Rattle.std.proofs.lemmas.List.{get_or-set_other}
 use Rattle.btr_chunk.specs.declared.chunk.Chunk.{Chunk}
 use Rattle.btr_pool.specs.Slots.{Slots, loans_of, bytes_at, with_bytes, with_lent}
 use Rattle.btr_read.specs.declared.device.Member.{Member}
 use Rattle.btr_read.specs.declared.setting.Setting.{Setting}
 use Rattle.btr_read.specs.declared.want.Want.{Want}
 use Rattle.btr_read.specs.declared.want.Want.TheVariants.{Tree, Block, Sector, Plain}
-use Rattle.btr_rack.specs.Rack.{Seen, Steady}
-use Rattle.btr_read.specs.Want.{addr_of, passes, len_of}
+use Rattle.btr_rack.specs.Rack.{Seen}
 use Rattle.btr_read.specs.Layout.{Layout, AreOpen, HaveOwnSlots}
-use Rattle.btr_read.specs.Candidates.{Target, size_of}
-use Rattle.btr_read.specs.Fate.{Fault, passing, passing_for, or_lost, fate_of, fate, sought, Agree}
 use Rattle.btr_read.specs.Store.{Blocks, Kept, block_in, kept_in, kept_at, kept_want, none_kept, with_loan}
 use Rattle.btr_read.specs.Serves.{IsKept, IsServed, Serves}
 use Rattle.btr_read.specs.Writing.{StillKept}

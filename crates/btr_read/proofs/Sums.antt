@@ -18,7 +18,7 @@ all_one : {X : Type 0} (P : X → Type 0) (x : X) → P x → All P (x ∷ [])
 all_one P x h zero d lt = h
 all_one P x h (suc k) d lt = absurd (omega (arith, lt))
 
-parity_long : (p : Parity) (size : ℕ) (ds : List (List ℕ)) → All (IsSlice size) ds → length (parity_of p size ds) ≡ size
+pub parity_long : (p : Parity) (size : ℕ) (ds : List (List ℕ)) → All (IsSlice size) ds → length (parity_of p size ds) ≡ size
 parity_long parity.P size ds h = let s = parity_p_slice size ds h in s.long
 parity_long parity.Q size ds h = let s = weighted_slice size 0 ds h in s.long
 

@@ -1,22 +1,23 @@
 -- What a loop over the candidates keeps.
-use Rattle.std.proofs.Common.{◌≡◌, ℕ, ◌+◌, ◌^◌, ◌<◌, ◌≤◌, Bool, true, false, cond, List, [], ◌∷◌, ◌++◌, length, take, drop, get_or, slice_get, Option, Some, None, IfSome, IsSomeAnd, is_none, refl, sym, ap, ◌∙◌, subst, arith, inl, inr, length-take, length-append}
+use Rattle.std.proofs.Common.{◌≡◌, ℕ, ◌+◌, ◌^◌, ◌<◌, ◌≤◌, Bool, true, false, cond, List, [], ◌∷◌, ◌++◌, length, take, drop, get_or, slice_get, Option, Some, None, IfSome, IsSomeAnd, refl, sym, ap, ◌∙◌, subst, arith, inl, inr, length-take, length-append}
 use Rattle.std.proofs.lemmas.Bool.{cases_lt}
 use Rattle.std.proofs.lemmas.List.{take_more, take_all, take-append-drop, drop_more, get_or_append_left}
 use Rattle.std.proofs.lemmas.List.Elements.{filter-append, filter_map-append}
 use Rattle.std.proofs.Math.Seq.{get_or-append_seam}
 use Rattle.std.proofs.lemmas.Option.{get_or_from_slice_get}
 use Rattle.std.specs.List.{filter, filter_map, cons_option, Any, All, Contains}
-use Rattle.btr_rack.specs.Rack.{Seen, NoneFailed, OneFailed, Rose}
+use Rattle.btr_rack.specs.Rack.{Seen, NoneFailed, OneFailed, OnlyReads}
 use Rattle.btr_rack.specs.declared.place.Place.{Place as Range}
 use Rattle.btr_read.specs.declared.candidate.Candidate.{Candidate}
 use Rattle.btr_read.specs.Want.{passes}
 use Rattle.btr_read.specs.Candidates.{Target, size_of, candidates, stands, value_of, reading}
 use Rattle.btr_read.specs.Fate.{passing}
-use Rattle.btr_read.specs.declared.attempt.Outcome.{Outcome}
 use Rattle.btr_read.specs.declared.attempt.Outcome.TheVariants as outcome
 use Rattle.btr_read.specs.Attempt.{FitsOutcome}
-use Rattle.btr_read.specs.Cause.{IsOf, IsMissed, Passes, IsUnread}
+use Rattle.btr_read.specs.Cause.{IsOf, IsMissed, ReadFailed, Passes, IsUnread}
+use Rattle.btr_read.specs.Trial.{passing_of, passed_outcome, ended_outcome, CauseSoFar, TriedSoFar, BeganAt}
 use Rattle.btr_read.proofs.Keeping.{none_failed, none_more}
+use Rattle.btr_read.proofs.ReadsOn.{same_held, same_sure}
 
 -- a fact for the images that are told
 pub told : {X : Type 0} (o : Option X) (P : X → Type 0) → ((x : X) → o ≡ Some x → P x) → IfSome o P
@@ -42,11 +43,7 @@ all_last P xs y all h j d lt = elim (cases_lt j (length xs)) [
 ]
 
 module _ (images : List (List ℕ)) (t : Target) where
-  -- those of some candidates that stand and pass
-  abbrev pub passing_of : List Candidate → List (List ℕ)
-  passing_of cs = filter (passes t.setting t.want) (filter_map (reading images t) cs)
-
-  pub passing-append : (cs ds : List Candidate) → passing_of (cs ++ ds) ≡ passing_of cs ++ passing_of ds
+  pub passing-append : (cs ds : List Candidate) → passing_of images t (cs ++ ds) ≡ passing_of images t cs ++ passing_of images t ds
   passing-append cs ds = ap (filter (passes t.setting t.want)) (filter_map-append (reading images t) cs ds) ∙ filter-append (passes t.setting t.want) (filter_map (reading images t) cs) (filter_map (reading images t) ds)
 
   pub reading_stands : (c : Candidate) → stands t c ≡ true → reading images t c ≡ Some (value_of images t c)
@@ -59,17 +56,17 @@ module _ (images : List (List ℕ)) (t : Target) where
   one_before : (o : Option (List ℕ)) (cs : List Candidate) → List (List ℕ)
   one_before o cs = filter (passes t.setting t.want) (cons_option o (filter_map (reading images t) cs))
 
-  pub passes_first : (c : Candidate) (cs : List Candidate) (bytes : List ℕ) → reading images t c ≡ Some bytes → passes t.setting t.want bytes ≡ true → passing_of (c ∷ cs) ≡ bytes ∷ passing_of cs
+  pub passes_first : (c : Candidate) (cs : List Candidate) (bytes : List ℕ) → reading images t c ≡ Some bytes → passes t.setting t.want bytes ≡ true → passing_of images t (c ∷ cs) ≡ bytes ∷ passing_of images t cs
   passes_first c cs bytes e test =
       ap (λ o. filter (passes t.setting t.want) (cons_option o (filter_map (reading images t) cs))) e
-      ∙ ap (λ b. cond b (bytes ∷ passing_of cs) (passing_of cs)) test
+      ∙ ap (λ b. cond b (bytes ∷ passing_of images t cs) (passing_of images t cs)) test
 
-  pub differs_alone : (c : Candidate) (bytes : List ℕ) → reading images t c ≡ Some bytes → passes t.setting t.want bytes ≡ false → passing_of (c ∷ []) ≡ []
+  pub differs_alone : (c : Candidate) (bytes : List ℕ) → reading images t c ≡ Some bytes → passes t.setting t.want bytes ≡ false → passing_of images t (c ∷ []) ≡ []
   differs_alone c bytes e test =
       ap (λ o. filter (passes t.setting t.want) (cons_option o [])) e
       ∙ ap (λ (b : Bool). cond b (bytes ∷ []) []) test
 
-  pub absent_alone : (c : Candidate) → reading images t c ≡ None → passing_of (c ∷ []) ≡ []
+  pub absent_alone : (c : Candidate) → reading images t c ≡ None → passing_of images t (c ∷ []) ≡ []
   absent_alone c e = ap (λ o. filter (passes t.setting t.want) (cons_option o [])) e
 
   at_most_one_if : (b : Bool) (bytes : List ℕ) → length (cond b (bytes ∷ []) []) ≤ 1
@@ -80,22 +77,22 @@ module _ (images : List (List ℕ)) (t : Target) where
   at_most_one_of None = omega arith
   at_most_one_of (Some bytes) = at_most_one_if (passes t.setting t.want bytes) bytes
 
-  pub at_most_one : (c : Candidate) → length (passing_of (c ∷ [])) ≤ 1
+  pub at_most_one : (c : Candidate) → length (passing_of images t (c ∷ [])) ≤ 1
   at_most_one c = at_most_one_of (reading images t c)
 
   -- no more pass than there are
-  pub at_most_all : (cs : List Candidate) → length (passing_of cs) ≤ length cs
+  pub at_most_all : (cs : List Candidate) → length (passing_of images t cs) ≤ length cs
   at_most_all [] = omega arith
   at_most_all (c ∷ cs) =
       let all = passing-append (c ∷ []) cs in
       let len = ap length all in
-      let parts = length-append (passing_of (c ∷ [])) (passing_of cs) in
+      let parts = length-append (passing_of images t (c ∷ [])) (passing_of images t cs) in
       let one = at_most_one c in
       let rest = at_most_all cs in
       omega (arith, len, parts, one, rest)
 
   -- a candidate that doesn't pass
-  pub differs_not : (c : Candidate) → passing_of (c ∷ []) ≡ [] → Passes images t c → ⊥
+  pub differs_not : (c : Candidate) → passing_of images t (c ∷ []) ≡ [] → Passes images t c → ⊥
   differs_not c none h = passes_not (reading images t c) none h
     where
       passes_not : (o : Option (List ℕ)) → filter (passes t.setting t.want) (cons_option o []) ≡ [] → IsSomeAnd o (λ bytes. passes t.setting t.want bytes ≡ true) → ⊥
@@ -103,21 +100,6 @@ module _ (images : List (List ℕ)) (t : Target) where
       passes_not (Some bytes) e h =
           let first : bytes ∷ [] ≡ [] = sym (ap (λ b. cond b (bytes ∷ []) []) h) ∙ e in
           cc
-
--- what stands of the cause, after some candidates: no call failed, or the last one that did was of a candidate
-abbrev pub CauseSoFar : Target → Seen → Seen → Option ℕ → Type 0
-CauseSoFar t before now None = NoneFailed before.account now.account
-CauseSoFar t before now (Some s) =
-    (before.sure ≡ false) × Rose before.account.faults now.account.faults × (now.account.last.slot ≡ s)
-    × Any (λ c. (stands t c ≡ true) × IsOf t now.account.last c) (candidates t) × (1 ≤ now.account.fresh) × (now.account.opening ≡ None)
-
--- after the first k candidates, of which none that could be read passes
-pub record TriedSoFar (t : Target) (before now : Seen) (failed : Option ℕ) (k : ℕ) : Type 0 where
-  pub later : before.account.faults ≤ now.account.faults
-  pub cause : CauseSoFar t before now failed
-  pub only : All (λ missed. Any (IsOf t missed) (candidates t)) now.account.missed
-  pub enough : (images : List (List ℕ)) → before.held ≡ Some images → length (passing_of images t (take k (candidates t))) ≤ now.account.fresh
-  pub each : (images : List (List ℕ)) → before.held ≡ Some images → (j : ℕ) (d : Candidate) → j < k → Passes images t (get_or (candidates t) j d) → Any (λ missed. IsOf t missed (get_or (candidates t) j d)) now.account.missed
 
 pub tried_none : (t : Target) (rack : Seen) → rack.account.missed ≡ [] → TriedSoFar t rack rack None 0
 tried_none t rack missed = record {
@@ -200,6 +182,30 @@ tried_failed t before now after failed k s c h is lt short sure standing fault =
       ]);
     }
 
+-- a read failed that isn't of the next candidate
+pub tried_missed : (t : Target) (before now after : Seen) (failed : Option ℕ) (k s : ℕ) (m : Range) → TriedSoFar t before now failed k → k < 2 ^ 64 → now.sure ≡ before.sure → Any (λ c. (stands t c ≡ true) × IsOf t m c) (candidates t) → ReadFailed m now after → m.slot ≡ s → TriedSoFar t before after (Some s) k
+tried_missed t before now after failed k s m h short sure of fault slot =
+    let one : OneFailed m now.account after.account = fault.one in
+    let some : Any (IsOf t m) (candidates t) = (of.0, of.1, of.2, of.3, of.4.1) in
+    record {
+      later = omega (arith, h.later, one.faults.0);
+      cause = (
+        sym sure ∙ fault.unsure,
+        (omega (arith, h.later, one.faults.0), omega (arith, h.later, one.faults.1)),
+        ap (λ r. r.slot) one.last ∙ slot,
+        subst (λ r. Any (λ c. (stands t c ≡ true) × IsOf t r c) (candidates t)) (sym one.last) of,
+        omega (arith, one.fresh),
+        fault.read,
+      );
+      only = subst (All (λ missed. Any (IsOf t missed) (candidates t))) (sym one.missed) (all_last (λ missed. Any (IsOf t missed) (candidates t)) now.account.missed m h.only some);
+      enough = λ images e.
+          let all = at_most_all images t (take k (candidates t)) in
+          let taken = length-take k (candidates t) in
+          let so_far = h.enough images e in
+          omega (arith, all, taken, so_far, one.fresh, short);
+      each = λ images e j d below p. subst (Any (λ missed. IsOf t missed (get_or (candidates t) j d))) (sym one.missed) (any_before (λ missed. IsOf t missed (get_or (candidates t) j d)) now.account.missed (m ∷ []) (h.each images e j d below p));
+    }
+
 -- all were tried
 pub all_lost : (t : Target) (before now : Seen) (k : ℕ) → before.account.fresh ≡ 0 → length (candidates t) ≤ k → TriedSoFar t before now None k → NoneFailed before.account now.account × IfSome before.held (λ images. slice_get (passing images t) 0 ≡ None)
 all_lost t before now k fresh le h = (
@@ -229,6 +235,24 @@ all_unread t before now k s le h = record {
   each = told before.held (λ images. All (λ candidate. Passes images t candidate → Any (λ missed. IsOf t missed candidate) now.account.missed) (candidates t)) (λ images e j d lt p. h.each images e j d (omega (arith, lt, le)) p);
 }
 
+pub all_ended : (t : Target) (before now : Seen) (failed : Option ℕ) (k : ℕ) (slot : List ℕ) → before.account.fresh ≡ 0 → length (candidates t) ≤ k → TriedSoFar t before now failed k → FitsOutcome t before now slot (ended_outcome failed)
+all_ended t before now None k slot fresh le h = all_lost t before now k fresh le h
+all_ended t before now (Some s) k slot fresh le h = all_unread t before now k s le h
+
+-- no more reads failed
+pub tried_still : (t : Target) (before now after : Seen) (failed : Option ℕ) (k : ℕ) → TriedSoFar t before now failed k → NoneFailed now.account after.account → TriedSoFar t before after failed k
+tried_still t before now after failed k h calm = record {
+  later = omega (arith, h.later, calm.faults);
+  cause = cause_calm t before now after failed h.cause calm;
+  only = subst (All (λ missed. Any (IsOf t missed) (candidates t))) (sym calm.missed) h.only;
+  enough = λ images e. omega (arith, h.enough images e, calm.fresh);
+  each = λ images e j d below p. subst (Any (λ missed. IsOf t missed (get_or (candidates t) j d))) (sym calm.missed) (h.each images e j d below p);
+}
+
+-- a trial that began goes on
+pub began_on : {before a b : Seen} → OnlyReads a b → BeganAt before a → BeganAt before b
+began_on reads is = record { fresh = is.fresh; held = same_held reads ∙ is.held; sure = same_sure reads ∙ is.sure }
+
 split_at : (images : List (List ℕ)) (t : Target) (k : ℕ) (c : Candidate) (bytes : List ℕ) → slice_get (candidates t) k ≡ Some c → k < length (candidates t) → reading images t c ≡ Some bytes → passes t.setting t.want bytes ≡ true → passing images t ≡ passing_of images t (take k (candidates t)) ++ bytes ∷ passing_of images t (drop (k + 1) (candidates t))
 split_at images t k c bytes is lt reads test =
     let cs = candidates t in
@@ -241,11 +265,24 @@ first_of : (xs : List (List ℕ)) (bytes : List ℕ) (ys : List (List ℕ)) → 
 first_of [] bytes ys e = refl
 first_of (x ∷ xs) bytes ys e = absurd (omega (arith, e))
 
--- what it is that one passes
-abbrev pub outcome_of : Option ℕ → Outcome
-outcome_of failed = cond (is_none failed) outcome.First outcome.Later
+-- a candidate at any place passes after a read that failed
+pub later_passes : (t : Target) (before now after : Seen) (s k m : ℕ) (c : Candidate) (slot : List ℕ) → TriedSoFar t before now (Some s) k → slice_get (candidates t) m ≡ Some c → m < length (candidates t) → NoneFailed now.account after.account → stands t c ≡ true → passes t.setting t.want (take (size_of t) slot) ≡ true → ((images : List (List ℕ)) → before.held ≡ Some images → value_of images t c ≡ take (size_of t) slot) → FitsOutcome t before after slot outcome.Later
+later_passes t before now after s k m c slot h is lt calm standing test value =
+    let bytes : List ℕ = take (size_of t) slot in
+    let cause = cause_calm t before now after (Some s) h.cause calm in
+    record {
+      rose = cause.1;
+      read = cause.5;
+      of_candidate = cause.3;
+      pass = test;
+      stand = told before.held (λ images. Contains (passing images t) bytes) (λ images e.
+          let before_it = passing_of images t (take m (candidates t)) in
+          let behind = passing_of images t (drop (m + 1) (candidates t)) in
+          let split = split_at images t m c bytes is lt (reading_stands images t c standing ∙ ap Some (value images e)) test in
+          subst (λ xs. Contains xs bytes) (sym split) (length before_it, omega (arith, length-append before_it (bytes ∷ behind)), get_or-append_seam before_it bytes behind bytes));
+    }
 
-pub one_passes : (t : Target) (before now after : Seen) (failed : Option ℕ) (k : ℕ) (c : Candidate) (slot : List ℕ) → before.account.fresh ≡ 0 → TriedSoFar t before now failed k → slice_get (candidates t) k ≡ Some c → k < length (candidates t) → NoneFailed now.account after.account → stands t c ≡ true → passes t.setting t.want (take (size_of t) slot) ≡ true → ((images : List (List ℕ)) → before.held ≡ Some images → value_of images t c ≡ take (size_of t) slot) → FitsOutcome t before after slot (outcome_of failed)
+pub one_passes : (t : Target) (before now after : Seen) (failed : Option ℕ) (k : ℕ) (c : Candidate) (slot : List ℕ) → before.account.fresh ≡ 0 → TriedSoFar t before now failed k → slice_get (candidates t) k ≡ Some c → k < length (candidates t) → NoneFailed now.account after.account → stands t c ≡ true → passes t.setting t.want (take (size_of t) slot) ≡ true → ((images : List (List ℕ)) → before.held ≡ Some images → value_of images t c ≡ take (size_of t) slot) → FitsOutcome t before after slot (passed_outcome failed)
 one_passes t before now after None k c slot fresh h is lt calm standing test value =
     let bytes : List ℕ = take (size_of t) slot in
     record {
@@ -256,17 +293,4 @@ one_passes t before now after None k c slot fresh h is lt calm standing test val
           let so_far = h.enough images e in
           subst (λ xs. slice_get xs 0 ≡ Some bytes) (sym split) (first_of (passing_of images t (take k (candidates t))) bytes (passing_of images t (drop (k + 1) (candidates t))) (omega (arith, so_far, h.cause.fresh, fresh))));
     }
-one_passes t before now after (Some s) k c slot fresh h is lt calm standing test value =
-    let bytes : List ℕ = take (size_of t) slot in
-    let cause = cause_calm t before now after (Some s) h.cause calm in
-    record {
-      rose = cause.1;
-      read = cause.5;
-      of_candidate = cause.3;
-      pass = test;
-      stand = told before.held (λ images. Contains (passing images t) bytes) (λ images e.
-          let before_it = passing_of images t (take k (candidates t)) in
-          let behind = passing_of images t (drop (k + 1) (candidates t)) in
-          let split = split_at images t k c bytes is lt (reading_stands images t c standing ∙ ap Some (value images e)) test in
-          subst (λ xs. Contains xs bytes) (sym split) (length before_it, omega (arith, length-append before_it (bytes ∷ behind)), get_or-append_seam before_it bytes behind bytes));
-    }
+one_passes t before now after (Some s) k c slot fresh h is lt calm standing test value = later_passes t before now after s k k c slot h is lt calm standing test value

@@ -1,5 +1,5 @@
 -- When a block may be called unread.
-use Rattle.std.specs.Prelude.{◌≡◌, ◌⊎◌, ℕ, ◌+◌, ◌≤◌, true, false, List, length, Option, None, IfSome, IsSomeAnd}
+use Rattle.std.specs.Prelude.{◌≡◌, ◌⊎◌, ℕ, ◌+◌, ◌≤◌, true, false, List, length, None, IfSome, IsSomeAnd}
 use Rattle.std.specs.List.{All, Any}
 use Rattle.btr_rack.specs.Rack.{Account, Seen, Rose, OneFailed}
 use Rattle.btr_rack.specs.declared.place.Place.{Place as Range}

@@ -1,5 +1,5 @@
 -- What reading into a slot comes to, and which blocks are kept then.
-use Rattle.std.specs.Prelude.{◌≡◌, ◌⊎◌, ℕ, ◌<◌, List, length, take, Option, None, IfSome, slice_get, slice_set, Result, Ok, Err, Some}
+use Rattle.std.specs.Prelude.{◌≡◌, ◌⊎◌, ℕ, ◌<◌, List, length, take, Option, None, IfSome, slice_get, slice_set, Result, Ok, Err}
 use Rattle.btr_pool.specs.Slots.{Slots, IsFree, bytes_at, with_lent}
 use Rattle.btr_rack.specs.Rack.{Seen, NoneFailed}
 use Rattle.btr_read.specs.declared.attempt.Missed.{Missed}

@@ -1,13 +1,15 @@
 -- What the parities leave of lost slices.
-use Rattle.std.specs.Prelude.{◌≡◌, ℕ, List, map, take, if◌then◌else◌, Some, Result, Ok, Err}
+use Rattle.std.specs.Prelude.{◌≡◌, ℕ, ◌<◌, true, List, map, take, if◌then◌else◌, Some, IsSome, Result, Ok, Err}
 use Rattle.std.specs.List.{range_with_len, All}
 use Rattle.btr_chunk.specs.declared.place.Part.{Part}
-use Rattle.btr_chunk.specs.declared.place.Part.TheVariants.{Slice, P, Q}
+use Rattle.btr_chunk.specs.declared.place.Part.TheVariants.{Mirror, Slice, P, Q}
 use Rattle.btr_parity.specs.Field.{power}
 use Rattle.btr_parity.specs.Slices.{IsSlice, zeros, plus, scaled, parity_p, parity_q}
 use Rattle.btr_rack.specs.Rack.{Seen, NoneFailed}
 use Rattle.btr_rack.specs.declared.place.Place.{Place as Range}
+use Rattle.btr_read.specs.declared.attempt.Unread.{Unread}
 use Rattle.btr_read.specs.declared.candidate.Candidate.{Candidate}
+use Rattle.btr_read.specs.declared.candidate.Candidate.TheVariants.{ByP}
 use Rattle.btr_read.specs.declared.parity.Parity.{Parity}
 use Rattle.btr_read.specs.declared.parity.Parity.TheVariants as parity
 use Rattle.btr_read.specs.Candidates.{Target, size_of, slice_count, range_of, reads_slice, element}
@@ -38,17 +40,38 @@ pub record IsGathered (images : List (List ℕ)) (t : Target) (c : Candidate) (p
   pub whole : IsSlice (size_of t) (element images t (part_of p))
   pub sum : bytes ≡ plus (element images t (part_of p)) (parity_of p (size_of t) (read_slices images t c))
 
+-- what P and Q leave of the slice that is sought: each less all other slices
+pub record AreSyndromes (images : List (List ℕ)) (t : Target) (p q : List ℕ) : Type 0 where
+  pub of_p : IsGathered images t ByP parity.P p
+  pub of_q : IsGathered images t ByP parity.Q q
+
 -- a slice was added to what a slot has of a parity
 pub record IsAdded (images : List (List ℕ)) (t : Target) (s : ℕ) (p : Parity) (old new : List ℕ) : Type 0 where
   pub slice : IsSlice (size_of t) (element images t (Slice s))
   pub sum : take (size_of t) new ≡ plus (take (size_of t) old) (weighed p s (element images t (Slice s)))
 
 -- reading a part fails by one call, which reads the part's range
-abbrev pub AccountsPart : Target → Part → Seen → Seen → Result (Unit {0}) ℕ → Type 0
+abbrev pub AccountsPart : Target → Part → Seen → Seen → Result (Unit {0}) Unread → Type 0
 AccountsPart t part old new (Ok _) = NoneFailed old.account new.account
-AccountsPart t part old new (Err s) = (m : Range) × ReadFailed m old new × (m.slot ≡ s) × (range_of t part ≡ Some m)
+AccountsPart t part old new (Err u) = (m : Range) × ReadFailed m old new × (m.slot ≡ u.slot) × (range_of t part ≡ Some m) × (u.part ≡ part)
 
 -- reading for a candidate fails by one read, in a range that the candidate reads
-abbrev pub AccountsGather : Target → Candidate → Seen → Seen → Result (Unit {0}) ℕ → Type 0
+abbrev pub AccountsGather : Target → Candidate → Seen → Seen → Result (Unit {0}) Unread → Type 0
 AccountsGather t c old new (Ok _) = NoneFailed old.account new.account
-AccountsGather t c old new (Err s) = IsMissed t c s old new
+AccountsGather t c old new (Err u) = IsMissed t c u.slot old new
+
+-- P, Q or a slice that a candidate reads
+abbrev pub IsOfRow : Target → Candidate → Part → Type 0
+IsOfRow t c (Mirror i) = ⊥
+IsOfRow t c (Slice s) = (s < slice_count t) × (reads_slice t.at.index c s ≡ true)
+IsOfRow t c P = Unit {0}
+IsOfRow t c Q = Unit {0}
+
+-- P, Q and the slices that a candidate reads stand
+abbrev pub RowStands : Target → Candidate → Type 0
+RowStands t c = (part : Part) → IsOfRow t c part → IsSome (range_of t part)
+
+-- reading P, Q and the slices that a candidate reads fails by one call, which reads the range of one of them
+abbrev pub AccountsRow : {T : Type 0} → Target → Candidate → Seen → Seen → Result T Unread → Type 0
+AccountsRow t c old new (Ok _) = NoneFailed old.account new.account
+AccountsRow t c old new (Err u) = (m : Range) × ReadFailed m old new × (m.slot ≡ u.slot) × (range_of t u.part ≡ Some m) × IsOfRow t c u.part

@@ -14,3 +14,5 @@ pub mod Finding
 pub mod Fetch
 pub mod Mirror
 pub mod Gathering
+pub mod Values
+pub mod Trial

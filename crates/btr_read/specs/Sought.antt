@@ -21,13 +21,6 @@ pub record IsTarget (setting : Setting) (chunk : Chunk) (at : Elements) : Type 0
   pub node : 101 ≤ setting.nodesize
   pub small : setting.nodesize ≤ 65536
 
--- the parts that a candidate reads are there
-abbrev pub CanTry : Target → Candidate → Type 0
-CanTry t (Stands part) = HasPart t.chunk.profile (length t.chunk.stripes) part
-CanTry t ByP = IsNone (mirror_count t.chunk.profile (length t.chunk.stripes))
-CanTry t ByQ = t.chunk.profile ≡ Raid6
-CanTry t (ByBoth j) = (t.chunk.profile ≡ Raid6) × (j < slice_count t) × (j ≢ t.at.index)
-
 -- a candidate for slice i of a row with P
 abbrev pub IsOneParity : ℕ → Candidate → Type 0
 IsOneParity i (Stands part) = part ≡ Slice i
@@ -48,6 +41,18 @@ IsRebuilt t (Stands part) = ⊥
 IsRebuilt t ByP = IsNone (mirror_count t.chunk.profile (length t.chunk.stripes))
 IsRebuilt t ByQ = t.chunk.profile ≡ Raid6
 IsRebuilt t (ByBoth j) = (t.chunk.profile ≡ Raid6) × (j < slice_count t) × (j ≢ t.at.index)
+
+-- the parts that a candidate reads are there
+abbrev pub CanTry : Target → Candidate → Type 0
+CanTry t (Stands part) = HasPart t.chunk.profile (length t.chunk.stripes) part
+CanTry t candidate = IsRebuilt t candidate
+
+-- a candidate by parities, of whatever parts
+abbrev pub IsByParities : Candidate → Type 0
+IsByParities (Stands part) = ⊥
+IsByParities ByP = Unit {0}
+IsByParities ByQ = Unit {0}
+IsByParities (ByBoth j) = Unit {0}
 
 -- the parities that a candidate reads
 abbrev pub parities_read : Candidate → List Part

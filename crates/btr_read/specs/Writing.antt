@@ -31,6 +31,14 @@ pub record AreApart (pool : Slots) (a b c : ℕ) : Type 0 where
   pub ac : a ≢ c
   pub bc : b ≢ c
 
+-- four loans of a pool are live, each of a slot of its own
+pub record AreFour (pool : Slots) (a b c d : ℕ) : Type 0 where
+  pub first : AreApart pool a b c
+  pub d_live : IsLive pool d
+  pub ad : a ≢ d
+  pub bd : b ≢ d
+  pub cd : c ≢ d
+
 -- what is still known to stand in the slots was known before, and its bytes stand
 abbrev pub StillKept : List (Option Want) → List (Option Want) → Slots → Slots → Type 0
 StillKept old_wants new_wants old new = (j : ℕ) (want : Want) → slice_index_or new_wants j None ≡ Some want → (slice_index_or old_wants j None ≡ Some want) × (bytes_at new j ≡ bytes_at old j)

@@ -1,4 +1,8 @@
+ghost use Rattle.std.specs.Prelude.{◌≡◌};
+ghost use Rattle.btr_read.specs.Trial.{passed_outcome, ended_outcome};
+
 use crate::ReadFault;
+use btr_chunk::Part;
 
 /// What came of one candidate.
 #[derive(Clone, Copy, Debug, PartialEq, Eq)]
@@ -11,6 +15,24 @@ pub(crate) enum Attempt {
     Absent,
     /// The read of this slot failed.
     Failed(usize),
+}
+
+/// A part whose read failed.
+#[derive(Clone, Copy, Debug, PartialEq, Eq)]
+pub(crate) struct Unread {
+    /// The part.
+    pub(crate) part: Part,
+    /// The slot of the rack whose read failed.
+    pub(crate) slot: usize,
+}
+
+/// How far the candidates by parities were tried.
+#[derive(Clone, Copy, Debug, PartialEq, Eq)]
+pub(crate) enum Trial {
+    /// To the end, or to one that passes.
+    Ended(Outcome),
+    /// So many of all candidates, in their order, then a read failed.
+    Stopped(u32, Unread),
 }
 
 /// What came of all candidates.
@@ -47,5 +69,25 @@ impl Missed {
             Missed::Lost => ReadFault::Lost(addr),
             Missed::Unread(image) => ReadFault::Unread(addr, image),
         }
+    }
+}
+
+// What it is that one passes, after the reads that failed.
+pub(crate) fn passed_after(failed: Option<usize>) -> Outcome
+    ensures { result ≡ passed_outcome failed }
+{
+    match failed {
+        None => Outcome::First,
+        Some(_) => Outcome::Later,
+    }
+}
+
+// What it is that none passes, after the reads that failed.
+pub(crate) fn ended_after(failed: Option<usize>) -> Outcome
+    ensures { result ≡ ended_outcome failed }
+{
+    match failed {
+        None => Outcome::Lost,
+        Some(slot) => Outcome::Unread(slot),
     }
 }

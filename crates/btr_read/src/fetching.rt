@@ -57,7 +57,7 @@ fn find<R: Rack>(
     kept: &mut Kept,
 ) -> Result<Slot, Missed>
     requires open { AreOpen (R.seen rack.old).slots search.now.devices }
-    requires room { 3 ≤ free_slots pool.old }
+    requires room { 4 ≤ free_slots pool.old }
     requires count { length pool.old.bytes ≡ 24 }
     requires whole { length pool.old.bytes ≡ length pool.old.lent }
     requires fits { size_of search.now ≤ pool.old.size }
@@ -90,6 +90,9 @@ fn find<R: Rack>(
 /// Fetches a block: lends a slot with the bytes of a candidate that stands and passes; of the first one, where no read
 /// failed. A tree block that came by no failed read is kept while its slot isn't taken for another: until then it is
 /// lent again without a read. It takes no memory. After a refusal the loans are as before.
+///
+/// After a failed read the candidates that need what couldn't be read come last. A lost block of a row of k slices with P
+/// and Q takes at most 2k + 1 reads where all others stand and none fails.
 ///
 /// Each device's slot is open in the rack, with the device's length, what the store keeps is what the images hold, and
 /// four slots are free. The rack is told to forget the calls that failed before; after each answer but `Unread` it

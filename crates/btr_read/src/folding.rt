@@ -45,6 +45,45 @@ pub(crate) fn add_slot(
     }
 }
 
+// Copies the front of a slot to that of another, piece by piece.
+pub(crate) fn copy_slot(pool: &mut Pool, to: &Loan, from: &Loan, len: usize)
+    requires live { IsLive pool.old to.now }
+    requires other_live { IsLive pool.old from.now }
+    requires apart { to.now ≢ from.now }
+    requires fits { len ≤ pool.old.size }
+    ensures kept { (w : List ℕ) × (pool.new ≡ with_bytes pool.old to.now w) }
+    ensures copy { take len (bytes_at pool.new to.now) ≡ take len (bytes_at pool.old from.now) }
+{
+    let mut buffer = [0; PIECE];
+    let mut done = 0;
+    while done < len {
+        let end = done + PIECE.min(len - done);
+        copy_piece(pool, to, from, done, &mut buffer[..end - done]);
+        done = end;
+    }
+}
+
+// Copies the piece of a slot from a place on, as long as the buffer that it goes through.
+fn copy_piece(pool: &mut Pool, to: &Loan, from: &Loan, start: usize, piece: &mut [u8])
+    requires live { IsLive pool.old to.now }
+    requires other_live { IsLive pool.old from.now }
+    requires fits { start + length piece.old ≤ pool.old.size }
+    ensures copied { pool.new ≡ with_bytes pool.old to.now (pasted (bytes_at pool.old to.now) start (slice_range (bytes_at pool.old from.now) start (start + length piece.old))) }
+    ensures long { length (bytes_at pool.old to.now) ≡ pool.old.size }
+    ensures whole { length (slice_range (bytes_at pool.old from.now) start (start + length piece.old)) ≡ length piece.old }
+{
+    pool.copy_out(from, start, piece);
+    put_range(pool.bytes_mut(to), start, piece);
+}
+
+// Puts a piece into a buffer from a place on.
+fn put_range(buffer: &mut [u8], start: usize, piece: &[u8])
+    requires { start + length piece.now ≤ length buffer.old }
+    ensures { buffer.new ≡ pasted buffer.old start piece.now }
+{
+    buffer[start..start + piece.len()].copy_from_slice(piece);
+}
+
 // Adds the piece of a slice from a place on, as long as the buffer that it goes through.
 fn add_piece(
     parity: Parity,

@@ -9,27 +9,28 @@ ghost use Rattle.btr_read.specs.declared.candidate.Candidate.{Candidate};
 ghost use Rattle.btr_read.specs.declared.parity.Parity.{Parity};
 ghost use Rattle.btr_read.specs.Candidates.{size_of, slice_count, range_of, element, stands};
 ghost use Rattle.btr_read.specs.Sought.{IsRebuilt, Uses};
-ghost use Rattle.btr_read.specs.Writing.{OnlyWritesIn};
-ghost use Rattle.btr_read.specs.Gathering.{IsAdded, IsGathered, AccountsPart, AccountsGather};
+ghost use Rattle.btr_read.specs.Writing.{AreApart, OnlyWritesIn};
+ghost use Rattle.btr_read.specs.Gathering.{IsAdded, IsGathered, RowStands, AccountsPart, AccountsGather, AccountsRow};
 ghost use Rattle.btr_rack.specs.Rack.{OnlyReads};
 
+use crate::attempt::Unread;
 use crate::candidate::Candidate;
 use crate::folding::add_slot;
 use crate::parity::Parity;
 use crate::reading::read_into;
 use crate::search::Search;
-use btr_chunk::Part;
+use btr_chunk::{Part, Profile};
 use btr_pool::{Loan, Pool};
 use btr_rack::Rack;
 
-// Reads a part that stands into a slot. The error is the slot of the rack whose read failed.
-fn read_part<R: Rack>(
+// Reads a part that stands into a slot. The error is the part whose read failed.
+pub(crate) fn read_part<R: Rack>(
     search: &Search<'_>,
     part: Part,
     rack: &mut R,
     pool: &mut Pool,
     loan: &Loan,
-) -> Result<(), usize>
+) -> Result<(), Unread>
     requires part { HasPart search.now.chunk.profile (length search.now.chunk.stripes) part }
     requires stands { IsSome (range_of search.now part) }
     requires open { AreOpen (R.seen rack.old).slots search.now.devices }
@@ -46,12 +47,15 @@ fn read_part<R: Rack>(
     };
     match read_into(rack, range, pool, loan) {
         Ok(()) => Ok(()),
-        Err(_) => Err(range.slot),
+        Err(_) => Err(Unread {
+            part,
+            slot: range.slot,
+        }),
     }
 }
 
-// Reads a slice that stands into a spare slot, and adds it to what another has of a parity. The error is the slot of
-// the rack whose read failed.
+// Reads a slice that stands into a spare slot, and adds it to what another has of a parity. The error is the part
+// whose read failed.
 fn add_slice<R: Rack>(
     search: &Search<'_>,
     parity: Parity,
@@ -60,7 +64,7 @@ fn add_slice<R: Rack>(
     pool: &mut Pool,
     sum: &Loan,
     spare: &Loan,
-) -> Result<(), usize>
+) -> Result<(), Unread>
     requires part { HasPart search.now.chunk.profile (length search.now.chunk.stripes) (Part.Slice slice) }
     requires stands { IsSome (range_of search.now (Part.Slice slice)) }
     requires few { slice ≤ 62 }
@@ -79,8 +83,8 @@ fn add_slice<R: Rack>(
     Ok(())
 }
 
-// Reads a slice that stands into a spare slot, and adds it to what two others have of P and of Q. The error is the slot
-// of the rack whose read failed.
+// Reads a slice that stands into a spare slot, and adds it to what two others have of P and of Q. The error is the part
+// whose read failed.
 fn add_slice_to_both<R: Rack>(
     search: &Search<'_>,
     slice: u32,
@@ -89,7 +93,7 @@ fn add_slice_to_both<R: Rack>(
     p: &Loan,
     q: &Loan,
     spare: &Loan,
-) -> Result<(), usize>
+) -> Result<(), Unread>
     requires part { HasPart search.now.chunk.profile (length search.now.chunk.stripes) (Part.Slice slice) }
     requires stands { IsSome (range_of search.now (Part.Slice slice)) }
     requires few { slice ≤ 62 }
@@ -113,8 +117,8 @@ fn add_slice_to_both<R: Rack>(
     Ok(())
 }
 
-// Reads a parity less the slices that a candidate reads, each by way of a spare slot. The error is the slot of the rack
-// whose read failed.
+// Reads a parity less the slices that a candidate reads, each by way of a spare slot. The error is the part whose read
+// failed.
 pub(crate) fn gather<R: Rack>(
     search: &Search<'_>,
     candidate: Candidate,
@@ -123,7 +127,7 @@ pub(crate) fn gather<R: Rack>(
     pool: &mut Pool,
     sum: &Loan,
     spare: &Loan,
-) -> Result<(), usize>
+) -> Result<(), Unread>
     requires rebuilt { IsRebuilt search.now candidate }
     requires stands { stands search.now candidate ≡ true }
     requires uses { Uses parity candidate }
@@ -147,38 +151,33 @@ pub(crate) fn gather<R: Rack>(
     Ok(())
 }
 
-// Reads P and Q less the slices that a candidate by both reads, each of which is read once, by way of a spare slot. The
-// error is the slot of the rack whose read failed.
+// Reads P and Q less the slices that a candidate reads, each of which is read once, by way of a spare slot. The error is
+// the part whose read failed.
 pub(crate) fn gather_both<R: Rack>(
     search: &Search<'_>,
-    other: u32,
+    candidate: Candidate,
     rack: &mut R,
     pool: &mut Pool,
     p: &Loan,
     q: &Loan,
     spare: &Loan,
-) -> Result<(), usize>
-    requires rebuilt { IsRebuilt search.now (Candidate.ByBoth other) }
-    requires stands { stands search.now (Candidate.ByBoth other) ≡ true }
+) -> Result<(), Unread>
+    requires profile { search.now.chunk.profile ≡ Profile.Raid6 }
+    requires stands { RowStands search.now candidate }
     requires open { AreOpen (R.seen rack.old).slots search.now.devices }
-    requires p_live { IsLive pool.old p.now }
-    requires q_live { IsLive pool.old q.now }
-    requires spare_live { IsLive pool.old spare.now }
-    requires sums_apart { p.now ≢ q.now }
-    requires p_apart { p.now ≢ spare.now }
-    requires q_apart { q.now ≢ spare.now }
+    requires loans { AreApart pool.old p.now q.now spare.now }
     requires fits { size_of search.now ≤ pool.old.size }
     ensures reads { OnlyReads (R.seen rack.old) (R.seen rack.new) }
     ensures pool { OnlyWritesIn (q.now ∷ spare.now ∷ p.now ∷ []) pool.old pool.new }
-    ensures of_p { OnOk result (IfSome (R.seen rack.old).held (λ images. IsGathered images search.now (Candidate.ByBoth other) Parity.P (take (size_of search.now) (bytes_at pool.new p.now)))) }
-    ensures of_q { OnOk result (IfSome (R.seen rack.old).held (λ images. IsGathered images search.now (Candidate.ByBoth other) Parity.Q (take (size_of search.now) (bytes_at pool.new q.now)))) }
-    ensures account { AccountsGather search.now (Candidate.ByBoth other) (R.seen rack.old) (R.seen rack.new) result }
+    ensures of_p { OnOk result (IfSome (R.seen rack.old).held (λ images. IsGathered images search.now candidate Parity.P (take (size_of search.now) (bytes_at pool.new p.now)))) }
+    ensures of_q { OnOk result (IfSome (R.seen rack.old).held (λ images. IsGathered images search.now candidate Parity.Q (take (size_of search.now) (bytes_at pool.new q.now)))) }
+    ensures account { AccountsRow search.now candidate (R.seen rack.old) (R.seen rack.new) result }
     ensures sought { OnOk result ((search.now.at.index < slice_count search.now) × (slice_count search.now ≤ 63)) }
 {
     read_part(search, Part::P, rack, pool, p)?;
     read_part(search, Part::Q, rack, pool, q)?;
     for slice in 0..search.slice_count() {
-        if search.reads(Candidate::ByBoth(other), slice) {
+        if search.reads(candidate, slice) {
             add_slice_to_both(search, slice, rack, pool, p, q, spare)?;
         }
     }

@@ -10,7 +10,7 @@ ghost use Rattle.btr_read.specs.Writing.{AreApart, OnlyWritesIn};
 ghost use Rattle.btr_read.specs.declared.candidate.Candidate.{Candidate};
 ghost use Rattle.btr_rack.specs.Rack.{OnlyReads};
 
-use crate::attempt::Attempt;
+use crate::attempt::{Attempt, Unread};
 use crate::candidate::Candidate;
 use crate::gathering::{gather, gather_both};
 use crate::parity::Parity;
@@ -49,12 +49,11 @@ pub(crate) fn try_rebuilt<R: Rack>(
                 Attempt::Differs
             }
         }
-        Err(image) => Attempt::Failed(image),
+        Err(unread) => Attempt::Failed(unread.slot),
     }
 }
 
-// Rebuilds a slice by a candidate that stands, by way of two other slots. The error is the slot of the rack whose read
-// failed.
+// Rebuilds a slice by a candidate that stands, by way of two other slots. The error is the part whose read failed.
 fn rebuild<R: Rack>(
     search: &Search<'_>,
     candidate: Candidate,
@@ -63,7 +62,7 @@ fn rebuild<R: Rack>(
     loan: &Loan,
     q: &Loan,
     spare: &Loan,
-) -> Result<(), usize>
+) -> Result<(), Unread>
     requires rebuilt { IsRebuilt search.now candidate }
     requires stands { stands search.now candidate ≡ true }
     requires open { AreOpen (R.seen rack.old).slots search.now.devices }
@@ -88,7 +87,7 @@ fn rebuild_by_p<R: Rack>(
     pool: &mut Pool,
     loan: &Loan,
     spare: &Loan,
-) -> Result<(), usize>
+) -> Result<(), Unread>
     requires rebuilt { IsRebuilt search.now Candidate.ByP }
     requires stands { stands search.now Candidate.ByP ≡ true }
     requires open { AreOpen (R.seen rack.old).slots search.now.devices }
@@ -110,7 +109,7 @@ fn rebuild_by_q<R: Rack>(
     pool: &mut Pool,
     loan: &Loan,
     spare: &Loan,
-) -> Result<(), usize>
+) -> Result<(), Unread>
     requires rebuilt { IsRebuilt search.now Candidate.ByQ }
     requires stands { stands search.now Candidate.ByQ ≡ true }
     requires open { AreOpen (R.seen rack.old).slots search.now.devices }
@@ -137,23 +136,18 @@ fn rebuild_by_both<R: Rack>(
     p: &Loan,
     q: &Loan,
     spare: &Loan,
-) -> Result<(), usize>
+) -> Result<(), Unread>
     requires rebuilt { IsRebuilt search.now (Candidate.ByBoth other) }
     requires stands { stands search.now (Candidate.ByBoth other) ≡ true }
     requires open { AreOpen (R.seen rack.old).slots search.now.devices }
-    requires p_live { IsLive pool.old p.now }
-    requires q_live { IsLive pool.old q.now }
-    requires spare_live { IsLive pool.old spare.now }
-    requires sums_apart { p.now ≢ q.now }
-    requires p_apart { p.now ≢ spare.now }
-    requires q_apart { q.now ≢ spare.now }
+    requires loans { AreApart pool.old p.now q.now spare.now }
     requires fits { size_of search.now ≤ pool.old.size }
     ensures reads { OnlyReads (R.seen rack.old) (R.seen rack.new) }
     ensures pool { OnlyWritesIn (q.now ∷ spare.now ∷ p.now ∷ []) pool.old pool.new }
     ensures value { OnOk result (IfSome (R.seen rack.old).held (λ images. value_of images search.now (Candidate.ByBoth other) ≡ take (size_of search.now) (bytes_at pool.new p.now))) }
     ensures account { AccountsGather search.now (Candidate.ByBoth other) (R.seen rack.old) (R.seen rack.new) result }
 {
-    gather_both(search, other, rack, pool, p, q, spare)?;
+    gather_both(search, Candidate::ByBoth(other), rack, pool, p, q, spare)?;
     solve(pool, p, q, search.size(), search.index() as u8, other as u8);
     Ok(())
 }

@@ -1,6 +1,6 @@
 ghost use Rattle.std.specs.Prelude.{◌≡◌, ℕ, ◌+◌, ◌<◌, slice_get, Some};
 ghost use Rattle.btr_read.specs.Candidates.{rebuilt};
-ghost use Rattle.btr_read.specs.Sought.{IsOneParity, IsTwoParities};
+ghost use Rattle.btr_read.specs.Sought.{IsByParities, IsOneParity, IsTwoParities};
 
 use crate::Want;
 use crate::candidate::Candidate;
@@ -32,14 +32,15 @@ impl<'a> Model for Search<'a> {
 }
 
 impl Search<'_> {
-    ghost use Rattle.std.specs.Prelude.{◌≡◌, ◌<◌, ◌≤◌, ◌&&◌, not, length, slice_get, Some, IsNone, is_some};
+    ghost use Rattle.std.specs.Prelude.{◌≡◌, ◌<◌, ◌≤◌, ◌&&◌, ◌↔◌, IsTrue, true, not, length, slice_get, Some, IsNone, is_some};
     ghost use Rattle.btr_chunk.specs.Mapping.{HasPart};
     ghost use Rattle.btr_read.specs.Want.{passes};
     ghost use Rattle.btr_chunk.specs.declared.place.Part.{Part};
     ghost use Rattle.std.specs.List.{list_all};
     ghost use Rattle.btr_chunk.specs.Chunk.{mirror_count};
     ghost use Rattle.btr_read.specs.Candidates.{size_of, range_of, candidates, slice_count, slices_read, reads_slice, stands};
-    ghost use Rattle.btr_read.specs.Sought.{CanTry, IsRebuilt, parities_read};
+    ghost use Rattle.btr_read.specs.Sought.{CanTry, IsByParities, IsRebuilt, parities_read};
+    ghost use Rattle.btr_read.specs.Gathering.{IsOfRow, RowStands};
 
     // How many bytes are sought.
     pub(crate) fn size(&self) -> usize
@@ -158,11 +159,47 @@ impl Search<'_> {
         }
     }
 
+    // Whether the chunk has P and Q.
+    pub(crate) fn has_two_parities(&self) -> bool
+        ensures { IsTrue result ↔ (self.now.chunk.profile ≡ Profile.Raid6) }
+    {
+        matches!(self.chunk.profile, Profile::Raid6)
+    }
+
+    // Whether P, Q and all slices but the one that is sought stand.
+    pub(crate) fn row_stands(&self) -> bool
+        requires { self.now.chunk.profile ≡ Profile.Raid6 }
+        ensures { result ≡ true → RowStands self.now Candidate.ByP }
+    {
+        self.stands(Candidate::ByP) && self.stands(Candidate::ByQ)
+    }
+
+    // The place of the candidate that doesn't read a part.
+    pub(crate) fn without(&self, part: Part) -> u32
+        requires profile { self.now.chunk.profile ≡ Profile.Raid6 }
+        requires part { IsOfRow self.now Candidate.ByP part }
+        ensures { result < length (candidates self.now) }
+    {
+        match part {
+            Part::Mirror(_) => unreachable!(),
+            Part::P => 2,
+            Part::Q => 1,
+            Part::Slice(slice) => {
+                if slice < self.at.index {
+                    slice + 3
+                } else {
+                    slice + 2
+                }
+            }
+        }
+    }
+
     // The candidate at a place in their order.
     pub(crate) fn candidate(&self, k: u32) -> Candidate
         requires { k < length (candidates self.now) }
         ensures value { slice_get (candidates self.now) k ≡ Some result }
         ensures parts { CanTry self.now result }
+        ensures behind { self.now.chunk.profile ≡ Profile.Raid6 → 0 < k → IsByParities result }
     {
         match self.chunk.profile {
             Profile::Raid5 => by_one_parity(self.at.index, k),
@@ -189,6 +226,7 @@ fn by_one_parity(index: u32, k: u32) -> Candidate
 fn by_two_parities(index: u32, k: u32) -> Candidate
     ensures value { (slices : ℕ) → index < slices → k < slices + 2 → slice_get (rebuilt Profile.Raid6 slices index) k ≡ Some result }
     ensures parts { (slices : ℕ) → index < slices → k < slices + 2 → IsTwoParities slices index result }
+    ensures behind { 0 < k → IsByParities result }
 {
     match k {
         0 => Candidate::Stands(Part::Slice(index)),

@@ -1,10 +1,15 @@
 // Lost slices, from what the parities leave of them in slots.
-ghost use Rattle.std.specs.Prelude.{◌≡◌, ◌≢◌, ℕ, ◌+◌, ◌≤◌, List, length, take, slice_range};
+ghost use Rattle.std.specs.Prelude.{◌≡◌, ◌≢◌, ℕ, ◌+◌, ◌≤◌, List, [], ◌∷◌, length, take, slice_range};
+ghost use Rattle.btr_parity.specs.Slices.{plus};
+ghost use Rattle.btr_read.specs.declared.parity.Parity.{Parity};
+ghost use Rattle.btr_read.specs.Gathering.{weighed};
+ghost use Rattle.btr_read.specs.Writing.{AreFour, OnlyWritesIn};
 ghost use Rattle.btr_parity.specs.Solutions.{IsTheOne, Weighs, WeighsWith};
 ghost use Rattle.btr_pool.specs.Slots.{IsLive, bytes_at, with_bytes};
 ghost use Rattle.btr_rack.specs.Rack.{pasted};
 
-use crate::folding::PIECE;
+use crate::folding::{PIECE, add_slot, copy_slot};
+use crate::parity::Parity;
 use btr_parity::{rebuild_pq, rebuild_q};
 use btr_pool::{Loan, Pool};
 
@@ -47,6 +52,34 @@ pub(crate) fn solve(pool: &mut Pool, p: &Loan, q: &Loan, len: usize, index: u8, 
         solve_piece(pool, p, q, done, &mut buffer[..end - done], index, other);
         done = end;
     }
+}
+
+// Makes the first of two slices in a slot of its own, of what P and Q leave of it in two others and of the second slice as
+// it was read in a fourth; what P and Q leave of it stands behind this as before.
+pub(crate) fn solve_with(
+    pool: &mut Pool,
+    loan: &Loan,
+    p: &Loan,
+    q: &Loan,
+    slice: &Loan,
+    len: usize,
+    index: u8,
+    other: u8,
+)
+    requires loans { AreFour pool.old loan.now p.now q.now slice.now }
+    requires fits { len ≤ pool.old.size }
+    requires is_index { index ≤ 62 }
+    requires is_other_index { other ≤ 62 }
+    requires differ { index ≢ other }
+    ensures writes { OnlyWritesIn (q.now ∷ loan.now ∷ []) pool.old pool.new }
+    ensures one { IsTheOne len (WeighsWith (plus (take len (bytes_at pool.old p.now)) (take len (bytes_at pool.old slice.now))) (plus (take len (bytes_at pool.old q.now)) (weighed Parity.Q other (take len (bytes_at pool.old slice.now)))) index other) (take len (bytes_at pool.new loan.now)) }
+    ensures twice { take len (bytes_at pool.new q.now) ≡ plus (plus (take len (bytes_at pool.old q.now)) (weighed Parity.Q other (take len (bytes_at pool.old slice.now)))) (weighed Parity.Q other (take len (bytes_at pool.old slice.now))) }
+{
+    copy_slot(pool, loan, p, len);
+    add_slot(Parity::P, pool, loan, slice, len, other);
+    add_slot(Parity::Q, pool, q, slice, len, other);
+    solve(pool, loan, q, len, index, other);
+    add_slot(Parity::Q, pool, q, slice, len, other);
 }
 
 // Solves for the piece from a place on, as long as the buffer that Q's goes through.

@@ -1,5 +1,5 @@
 // The candidates of a search, tried in their order.
-ghost use Rattle.std.specs.Prelude.{◌≡◌, ℕ, ◌<◌, ◌≤◌, [], List, length, slice_index_or, None, is_none, if◌then◌else◌};
+ghost use Rattle.std.specs.Prelude.{◌≡◌, ℕ, ◌<◌, ◌≤◌, [], List, length, slice_index_or, Some, None};
 ghost use Rattle.btr_chunk.specs.Mapping.{HasPart};
 ghost use Rattle.btr_pool.specs.Slots.{IsLive, bytes_at, with_bytes, free_count};
 ghost use Rattle.btr_read.specs.Layout.{AreOpen};
@@ -8,16 +8,18 @@ ghost use Rattle.btr_read.specs.Sought.{CanTry, IsRebuilt};
 ghost use Rattle.btr_read.specs.Attempt.{FitsAttempt, AccountsAttempt, FitsOutcome};
 ghost use Rattle.btr_read.specs.declared.candidate.Candidate.{Candidate};
 ghost use Rattle.btr_read.specs.Writing.{OnlyWrites, StillKept};
-ghost use Rattle.btr_read.specs.declared.attempt.Outcome.TheVariants as outcome;
-ghost use Rattle.btr_rack.specs.Rack.{OnlyReads};
+ghost use Rattle.btr_read.specs.Gathering.{IsOfRow, RowStands};
+ghost use Rattle.btr_read.specs.Trial.{BeganAt, TriedSoFar, FitsTrial, IfStopped};
+ghost use Rattle.btr_rack.specs.Rack.{OnlyReads, Seen};
 
-use crate::attempt::{Attempt, Outcome};
+use crate::attempt::{Attempt, Outcome, Trial, Unread, ended_after, passed_after};
 use crate::candidate::Candidate;
 use crate::kept::{Kept, take_least};
 use crate::reading::read_into;
 use crate::rebuilding::try_rebuilt;
 use crate::search::Search;
-use btr_chunk::Part;
+use crate::syndromes::try_row;
+use btr_chunk::{Part, Profile};
 use btr_pool::{Loan, Pool};
 use btr_rack::Rack;
 
@@ -115,9 +117,12 @@ fn try_with_spares<R: Rack>(
     attempt
 }
 
-// Tries the candidates in their order, up to the first that passes. A read that fails ends its candidate alone.
-pub(crate) fn try_all<R: Rack>(
+// Tries the candidates from a place in their order on, up to the first that passes. A read that fails ends its candidate
+// alone.
+fn try_from<R: Rack>(
     search: &Search<'_>,
+    from: u32,
+    mut failed: Option<usize>,
     rack: &mut R,
     pool: &mut Pool,
     kept: &mut Kept,
@@ -129,15 +134,12 @@ pub(crate) fn try_all<R: Rack>(
     requires count { length pool.old.bytes ≡ 24 }
     requires fits { size_of search.now ≤ pool.old.size }
     requires forgotten { slice_index_or kept.old.wants loan.now None ≡ None }
-    requires fresh { (R.seen rack.old).account.fresh ≡ 0 }
-    requires missed { (R.seen rack.old).account.missed ≡ [] }
     ensures reads { OnlyReads (R.seen rack.old) (R.seen rack.new) }
     ensures pool { OnlyWrites loan.now pool.old pool.new }
     ensures kept { StillKept kept.old.wants kept.new.wants pool.old pool.new }
-    ensures outcome { FitsOutcome search.now (R.seen rack.old) (R.seen rack.new) (bytes_at pool.new loan.now) result }
+    ensures outcome { (before : Seen) → BeganAt before (R.seen rack.old) → TriedSoFar search.now before (R.seen rack.old) failed from → FitsOutcome search.now before (R.seen rack.new) (bytes_at pool.new loan.now) result }
 {
-    let mut failed = None;
-    for k in 0..search.candidate_count() {
+    for k in from..search.candidate_count() {
         match try_candidate(search, search.candidate(k), rack, pool, kept, loan) {
             Attempt::Passed => return passed_after(failed),
             Attempt::Differs => {}
@@ -145,18 +147,137 @@ pub(crate) fn try_all<R: Rack>(
             Attempt::Failed(slot) => failed = Some(slot),
         }
     }
-    match failed {
-        None => Outcome::Lost,
-        Some(slot) => Outcome::Unread(slot),
+    ended_after(failed)
+}
+
+// Tries the candidates by parities of a row that stands, by way of three slots that are given back.
+fn try_by_parities<R: Rack>(
+    search: &Search<'_>,
+    failed: Option<usize>,
+    rack: &mut R,
+    pool: &mut Pool,
+    kept: &mut Kept,
+    loan: &Loan,
+) -> Trial
+    requires profile { search.now.chunk.profile ≡ Profile.Raid6 }
+    requires stands { RowStands search.now Candidate.ByP }
+    requires open { AreOpen (R.seen rack.old).slots search.now.devices }
+    requires live { IsLive pool.old loan.now }
+    requires room { 3 ≤ free_count pool.old }
+    requires count { length pool.old.bytes ≡ 24 }
+    requires fits { size_of search.now ≤ pool.old.size }
+    requires forgotten { slice_index_or kept.old.wants loan.now None ≡ None }
+    ensures reads { OnlyReads (R.seen rack.old) (R.seen rack.new) }
+    ensures pool { OnlyWrites loan.now pool.old pool.new }
+    ensures kept { StillKept kept.old.wants kept.new.wants pool.old pool.new }
+    ensures trial { (before : Seen) → BeganAt before (R.seen rack.old) → TriedSoFar search.now before (R.seen rack.old) failed 1 → FitsTrial search.now before (R.seen rack.new) (bytes_at pool.new loan.now) result }
+    ensures part { IfStopped (IsOfRow search.now Candidate.ByP) result }
+{
+    let p = take_least(pool, kept);
+    let q = take_least(pool, kept);
+    let spare = take_least(pool, kept);
+    let trial = try_row(search, failed, rack, pool, loan, &p, &q, &spare);
+    pool.give(spare);
+    pool.give(q);
+    pool.give(p);
+    trial
+}
+
+// Goes on where the read of a part failed: with the candidate that doesn't need it, and then from a place in their order on.
+fn try_around<R: Rack>(
+    search: &Search<'_>,
+    tried: u32,
+    unread: Unread,
+    rack: &mut R,
+    pool: &mut Pool,
+    kept: &mut Kept,
+    loan: &Loan,
+) -> Outcome
+    requires profile { search.now.chunk.profile ≡ Profile.Raid6 }
+    requires part { IsOfRow search.now Candidate.ByP unread.part }
+    requires open { AreOpen (R.seen rack.old).slots search.now.devices }
+    requires live { IsLive pool.old loan.now }
+    requires room { 2 ≤ free_count pool.old }
+    requires count { length pool.old.bytes ≡ 24 }
+    requires fits { size_of search.now ≤ pool.old.size }
+    requires forgotten { slice_index_or kept.old.wants loan.now None ≡ None }
+    ensures reads { OnlyReads (R.seen rack.old) (R.seen rack.new) }
+    ensures pool { OnlyWrites loan.now pool.old pool.new }
+    ensures kept { StillKept kept.old.wants kept.new.wants pool.old pool.new }
+    ensures outcome { (before : Seen) → BeganAt before (R.seen rack.old) → TriedSoFar search.now before (R.seen rack.old) (Some unread.slot) tried → FitsOutcome search.now before (R.seen rack.new) (bytes_at pool.new loan.now) result }
+{
+    let other = search.candidate(search.without(unread.part));
+    let last = match try_candidate(search, other, rack, pool, kept, loan) {
+        Attempt::Passed => return Outcome::Later,
+        Attempt::Differs => unread.slot,
+        Attempt::Absent => unread.slot,
+        Attempt::Failed(slot) => slot,
+    };
+    try_from(search, tried, Some(last), rack, pool, kept, loan)
+}
+
+// Tries the candidates behind the slice itself, in a row with P and Q.
+fn try_behind<R: Rack>(
+    search: &Search<'_>,
+    failed: Option<usize>,
+    rack: &mut R,
+    pool: &mut Pool,
+    kept: &mut Kept,
+    loan: &Loan,
+) -> Outcome
+    requires profile { search.now.chunk.profile ≡ Profile.Raid6 }
+    requires open { AreOpen (R.seen rack.old).slots search.now.devices }
+    requires live { IsLive pool.old loan.now }
+    requires room { 3 ≤ free_count pool.old }
+    requires count { length pool.old.bytes ≡ 24 }
+    requires fits { size_of search.now ≤ pool.old.size }
+    requires forgotten { slice_index_or kept.old.wants loan.now None ≡ None }
+    ensures reads { OnlyReads (R.seen rack.old) (R.seen rack.new) }
+    ensures pool { OnlyWrites loan.now pool.old pool.new }
+    ensures kept { StillKept kept.old.wants kept.new.wants pool.old pool.new }
+    ensures outcome { (before : Seen) → BeganAt before (R.seen rack.old) → TriedSoFar search.now before (R.seen rack.old) failed 1 → FitsOutcome search.now before (R.seen rack.new) (bytes_at pool.new loan.now) result }
+{
+    if !search.row_stands() {
+        return try_from(search, 1, failed, rack, pool, kept, loan);
+    }
+    match try_by_parities(search, failed, rack, pool, kept, loan) {
+        Trial::Ended(outcome) => outcome,
+        Trial::Stopped(tried, unread) => {
+            try_around(search, tried, unread, rack, pool, kept, loan)
+        }
     }
 }
 
-// What it is that one passes, after the reads that failed.
-fn passed_after(failed: Option<usize>) -> Outcome
-    ensures { result ≡ (if is_none failed then outcome.First else outcome.Later) }
+// Tries the candidates up to the first that passes: in their order, but that after a failed read those that need what
+// couldn't be read come last. A read that fails ends its candidate alone.
+pub(crate) fn try_all<R: Rack>(
+    search: &Search<'_>,
+    rack: &mut R,
+    pool: &mut Pool,
+    kept: &mut Kept,
+    loan: &Loan,
+) -> Outcome
+    requires open { AreOpen (R.seen rack.old).slots search.now.devices }
+    requires live { IsLive pool.old loan.now }
+    requires room { 3 ≤ free_count pool.old }
+    requires count { length pool.old.bytes ≡ 24 }
+    requires fits { size_of search.now ≤ pool.old.size }
+    requires forgotten { slice_index_or kept.old.wants loan.now None ≡ None }
+    requires fresh { (R.seen rack.old).account.fresh ≡ 0 }
+    requires missed { (R.seen rack.old).account.missed ≡ [] }
+    ensures reads { OnlyReads (R.seen rack.old) (R.seen rack.new) }
+    ensures pool { OnlyWrites loan.now pool.old pool.new }
+    ensures kept { StillKept kept.old.wants kept.new.wants pool.old pool.new }
+    ensures outcome { FitsOutcome search.now (R.seen rack.old) (R.seen rack.new) (bytes_at pool.new loan.now) result }
 {
-    match failed {
-        None => Outcome::First,
-        Some(_) => Outcome::Later,
+    if !search.has_two_parities() {
+        return try_from(search, 0, None, rack, pool, kept, loan);
     }
+    let failed = match try_candidate(search, search.candidate(0), rack, pool, kept, loan) {
+        Attempt::Passed => return Outcome::First,
+        Attempt::Differs => None,
+        Attempt::Absent => None,
+        Attempt::Failed(slot) => Some(slot),
+    };
+    try_behind(search, failed, rack, pool, kept, loan)
 }

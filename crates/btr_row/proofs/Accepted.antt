@@ -20,7 +20,8 @@ use Rattle.btr_read.specs.declared.candidate.Candidate.{Candidate}
 use Rattle.btr_read.specs.declared.candidate.Candidate.TheVariants.{Stands, ByP, ByQ, ByBoth}
 use Rattle.btr_read.proofs.InOrder.{length-with_p_and_q, with_p, with_p_and_q}
 use Rattle.btr_read.proofs.Standing.{all_read, both}
-use Rattle.btr_read.proofs.Trials.{differs_alone, passes_first, passing-append, passing_of, reading_stands}
+use Rattle.btr_read.specs.Trial.{passing_of}
+use Rattle.btr_read.proofs.Trials.{differs_alone, passes_first, passing-append, reading_stands}
 use Rattle.btr_mend.specs.Blocks.{is_good}
 use Rattle.btr_mend.specs.Writes.{Images}
 use Rattle.btr_row.specs.Memory.{Accepts, IsHeld, ReadsQ}

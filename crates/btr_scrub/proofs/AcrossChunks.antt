@@ -11,7 +11,7 @@ use Rattle.btr_chunk.specs.Table.{IsTable}
 use Rattle.btr_chunk.specs.declared.chunk.Chunk.{Chunk}
 use Rattle.btr_chunk.specs.declared.place.Part.{Part}
 use Rattle.btr_chunk.specs.declared.place.Part.TheVariants.{Mirror}
-use Rattle.btr_chunk.specs.declared.place.Place.{Place}
+use Rattle.btr_chunk.specs.declared.place.StripePlace.{StripePlace}
 use Rattle.btr_chunk.specs.declared.position.Elements.{Elements}
 use Rattle.btr_chunk.proofs.Apart.{stripes_apart}
 use Rattle.btr_chunk.proofs.Bytes.{placed_part}
@@ -150,8 +150,8 @@ module _ (layout : Layout) (table : IsTable layout.chunks) (own : HaveOwnSlots l
       let k = stripe_of chunk.profile (length chunk.stripes) q at0 in
       let stripe : is_missing layout.devices (stripe_length chunk) p.stripe ≡ false = none_passes (is_missing layout.devices (stripe_length chunk)) chunk.stripes k p.stripe chunk_none p.there in
       let stands = stands_on p.stripe.offset (stripe_length chunk) (device_in layout.devices p.stripe.devid) (some_if (range_on p.stripe.offset (stripe_length chunk) (device_in layout.devices p.stripe.devid)) stripe) in
-      let offset : place.offset ≡ p.stripe.offset + r * 65536 + 0 = ap (λ (x : Place). x.offset) p.place in
-      let given : device_in layout.devices place.devid ≡ Some stands.device = ap (λ (x : Place). device_in layout.devices x.devid) p.place ∙ stands.there in
+      let offset : place.offset ≡ p.stripe.offset + r * 65536 + 0 = ap (λ (x : StripePlace). x.offset) p.place in
+      let given : device_in layout.devices place.devid ≡ Some stands.device = ap (λ (x : StripePlace). device_in layout.devices x.devid) p.place ∙ stands.there in
       ap is_some (range_stands place.offset 65536 (device_in layout.devices place.devid) stands.device given (omega (arith, stands.within, offset, inside)))
     where
       some_if : (o : Option Range) → is_none o ≡ false → IsSome o

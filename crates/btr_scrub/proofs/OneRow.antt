@@ -9,7 +9,7 @@ use Rattle.btr_chunk.specs.declared.mapping.MapFault.{MapFault}
 use Rattle.btr_chunk.specs.declared.mapping.MapFault.TheVariants as map_fault
 use Rattle.btr_chunk.specs.Table.{IsTable, chunk_at}
 use Rattle.btr_chunk.specs.declared.chunk.Chunk.{Chunk}
-use Rattle.btr_chunk.specs.declared.place.Place.{Place}
+use Rattle.btr_chunk.specs.declared.place.StripePlace.{StripePlace}
 use Rattle.btr_chunk.specs.declared.position.Elements.{Elements}
 use Rattle.btr_chunk.specs.declared.stripe.Stripe.{Stripe}
 use Rattle.btr_chunk.proofs.Bytes.{placed_part}
@@ -65,8 +65,8 @@ row_in_stripe layout start number row range table is of = by (range_in_element l
         let place = place_at row.chunk of.part at0 in
         let s = stands_on place.offset 65536 (device_in layout.devices place.devid) (ap is_some e) in
         let same : outer ≡ range_in s.device.slot place.offset 65536 = same_Some outer (range_in s.device.slot place.offset 65536) (sym e ∙ range_stands place.offset 65536 (device_in layout.devices place.devid) s.device s.there s.within) in
-        let offset : place.offset ≡ p.stripe.offset + row.number * 65536 + 0 = ap (λ (x : Place). x.offset) p.place in
-        let given : device_in layout.devices p.stripe.devid ≡ Some s.device = ap (λ (x : Place). device_in layout.devices x.devid) (sym p.place) ∙ s.there in
+        let offset : place.offset ≡ p.stripe.offset + row.number * 65536 + 0 = ap (λ (x : StripePlace). x.offset) p.place in
+        let given : device_in layout.devices p.stripe.devid ≡ Some s.device = ap (λ (x : StripePlace). device_in layout.devices x.devid) (sym p.place) ∙ s.there in
         let slot : outer.slot ≡ s.device.slot = ap (λ (r : Range). r.slot) same in
         let off : outer.off ≡ place.offset = ap (λ (r : Range). r.off) same in
         let len : outer.len ≡ 65536 = ap (λ (r : Range). r.len) same in

@@ -6,7 +6,7 @@ use Rattle.btr_chunk.specs.Chunk.{IsChunk}
 use Rattle.btr_chunk.specs.Mapping.{HasPart, IsPosition, place_at, stripe_of}
 use Rattle.btr_chunk.specs.Table.{IsTable}
 use Rattle.btr_chunk.specs.declared.place.Part.{Part}
-use Rattle.btr_chunk.specs.declared.place.Place.{Place}
+use Rattle.btr_chunk.specs.declared.place.StripePlace.{StripePlace}
 use Rattle.btr_chunk.specs.declared.position.Elements.{Elements}
 use Rattle.btr_chunk.specs.declared.stripe.Stripe.{Stripe}
 use Rattle.btr_chunk.proofs.Bytes.{placed_part}
@@ -55,8 +55,8 @@ is_at layout row part slot off table e =
     let s = stands_on place.offset 65536 (device_in layout.devices place.devid) stands in
     let is = range_stands place.offset 65536 (device_in layout.devices place.devid) s.device s.there s.within in
     let c = covering slot off (range_in s.device.slot place.offset 65536) (subst (λ o. IsSomeAnd o (λ range. covers slot off range ≡ true)) is e.covers) in
-    let offset : place.offset ≡ p.stripe.offset + row.number * 65536 + 0 = ap (λ (q : Place). q.offset) p.place in
-    let devid : place.devid ≡ p.stripe.devid = ap (λ (q : Place). q.devid) p.place in
+    let offset : place.offset ≡ p.stripe.offset + row.number * 65536 + 0 = ap (λ (q : StripePlace). q.offset) p.place in
+    let devid : place.devid ≡ p.stripe.devid = ap (λ (q : StripePlace). q.devid) p.place in
     let from : p.stripe.offset + row.number * 65536 ≤ off = omega (arith, offset, c.1) in
     let to : off < p.stripe.offset + row.number * 65536 + 65536 = omega (arith, offset, c.2) in
     record {

@@ -11,7 +11,7 @@ use Rattle.btr_chunk.specs.declared.chunk.Chunk.{Chunk}
 use Rattle.btr_chunk.specs.declared.mapping.MapFault.TheVariants as map_fault
 use Rattle.btr_chunk.specs.declared.place.Part.{Part}
 use Rattle.btr_chunk.specs.declared.place.Part.TheVariants.{Mirror}
-use Rattle.btr_chunk.specs.declared.place.Place.{Place}
+use Rattle.btr_chunk.specs.declared.place.StripePlace.{StripePlace}
 use Rattle.btr_chunk.specs.declared.position.Elements.{Elements}
 use Rattle.btr_chunk.specs.declared.profile.Profile.{Profile}
 use Rattle.btr_chunk.specs.declared.profile.Profile.TheVariants.{Single, Dup, Raid0, Raid1, Raid1c3, Raid1c4, Raid10, Raid5, Raid6}
@@ -179,8 +179,8 @@ is_of_copy layout t slot off table is b =
     let stripe : at_two.stripe ≡ at_one.stripe = same_Some at_two.stripe at_one.stripe (sym at_two.there ∙ ap (slice_get t.chunk.stripes) (copy_stripe t.chunk.profile (length t.chunk.stripes) b.copy two one same.index) ∙ at_one.there) in
     let place_one : place_at t.chunk (Mirror b.copy) t.at ≡ place_on at_one.stripe one = ap (place_at t.chunk (Mirror b.copy)) is.at ∙ at_one.place in
     let place_two : place_at t.chunk (Mirror b.copy) two ≡ place_on at_one.stripe two = at_two.place ∙ ap (λ s. place_on s two) stripe in
-    let devid : (place_at t.chunk (Mirror b.copy) t.at).devid ≡ at_one.stripe.devid = ap (λ (p : Place). p.devid) place_one in
-    let offset : (place_at t.chunk (Mirror b.copy) t.at).offset ≡ at_one.stripe.offset + one.row * 65536 + one.rest = ap (λ (p : Place). p.offset) place_one in
+    let devid : (place_at t.chunk (Mirror b.copy) t.at).devid ≡ at_one.stripe.devid = ap (λ (p : StripePlace). p.devid) place_one in
+    let offset : (place_at t.chunk (Mirror b.copy) t.at).offset ≡ at_one.stripe.offset + one.row * 65536 + one.rest = ap (λ (p : StripePlace). p.offset) place_one in
     record {
       chunk = t.chunk;
       there = is.there;
@@ -190,7 +190,7 @@ is_of_copy layout t slot off table is b =
           ∙ same_place at_one.stripe.devid (place_at t.chunk (Mirror b.copy) t.at).devid (at_one.stripe.offset + two.row * 65536 + two.rest) off (sym devid) (omega (arith, offset, same.row, same.rest, b.offset));
     }
   where
-    same_place : (d e a b : ℕ) → d ≡ e → a ≡ b → ◌≡◌ {A = Place} (record { devid = d; offset = a }) (record { devid = e; offset = b })
+    same_place : (d e a b : ℕ) → d ≡ e → a ≡ b → ◌≡◌ {A = StripePlace} (record { devid = d; offset = a }) (record { devid = e; offset = b })
     same_place d e a b x y = ap (λ z. record { devid = z; offset = a }) x ∙ ap (λ z. record { devid = e; offset = z }) y
 
     own_copy : (p : Profile) (n copy : ℕ) (at : Elements) → IsSomeAnd (mirror_count p n) (λ m. copy < m) → data_part p copy at ≡ Mirror copy
@@ -256,13 +256,13 @@ on_stripe layout t part table is has =
     let one = position t.chunk addr in
     let at = placed_part t.chunk part one sound has (IsPosition-position t.chunk addr sound is.held) in
     let place : place_at t.chunk part t.at ≡ place_on at.stripe one = ap (place_at t.chunk part) is.at ∙ at.place in
-    let offset : (place_at t.chunk part t.at).offset ≡ at.stripe.offset + one.row * 65536 + one.rest = ap (λ (p : Place). p.offset) place in
+    let offset : (place_at t.chunk part t.at).offset ≡ at.stripe.offset + one.row * 65536 + one.rest = ap (λ (p : StripePlace). p.offset) place in
     let inside = reaches t.chunk addr (size_of t) sound is.held is.uncrossed in
     record {
       number = stripe_of t.chunk.profile (length t.chunk.stripes) part one;
       stripe = at.stripe;
       there = at.there;
-      devid = ap (λ (p : Place). p.devid) place;
+      devid = ap (λ (p : StripePlace). p.devid) place;
       begin = omega (arith, offset);
       end = omega (arith, offset, inside);
     }

@@ -10,7 +10,7 @@ use Rattle.btr_chunk.specs.Mapping.{HasPart, IsPosition, place_at, place_on}
 use Rattle.btr_chunk.specs.Table.{IsTable}
 use Rattle.btr_chunk.specs.declared.place.Part.{Part}
 use Rattle.btr_chunk.specs.declared.place.Part.TheVariants as part
-use Rattle.btr_chunk.specs.declared.place.Place.{Place}
+use Rattle.btr_chunk.specs.declared.place.StripePlace.{StripePlace}
 use Rattle.btr_chunk.specs.declared.position.Elements.{Elements}
 use Rattle.btr_chunk.proofs.Bytes.{IsPosition-position, placed_part}
 use Rattle.btr_chunk.proofs.Rows.{without_copies}
@@ -105,9 +105,9 @@ module _ (layout : Layout) (row : Row) (table : IsTable layout.chunks) (is_row :
       let r = placed_part row.chunk q at1 sound has position in
       let same : p.stripe ≡ r.stripe = same_Some p.stripe r.stripe (sym p.there ∙ ap (slice_get row.chunk.stripes) (stripe-row row.chunk.profile (length row.chunk.stripes) q at0 at1 is_row.parity refl) ∙ r.there) in
       let one : place_at row.chunk q at1 ≡ place_on p.stripe at1 = r.place ∙ ap (λ s. place_on s at1) (sym same) in
-      let offset : (place_at row.chunk q at1).offset ≡ p.stripe.offset + row.number * 65536 + rest = ap (λ (x : Place). x.offset) one in
-      let start : (place_at row.chunk q at0).offset ≡ p.stripe.offset + row.number * 65536 + 0 = ap (λ (x : Place). x.offset) p.place in
-      record { devid = ap (λ (x : Place). x.devid) one ∙ sym (ap (λ (x : Place). x.devid) p.place); offset = omega (arith, offset, start) }
+      let offset : (place_at row.chunk q at1).offset ≡ p.stripe.offset + row.number * 65536 + rest = ap (λ (x : StripePlace). x.offset) one in
+      let start : (place_at row.chunk q at0).offset ≡ p.stripe.offset + row.number * 65536 + 0 = ap (λ (x : StripePlace). x.offset) p.place in
+      record { devid = ap (λ (x : StripePlace). x.devid) one ∙ sym (ap (λ (x : StripePlace). x.devid) p.place); offset = omega (arith, offset, start) }
 
   -- a byte of a range in an element is of the element
   in_element : (q : Part) (index rest len slot off : ℕ) (range : Range) → HasPart row.chunk.profile (length row.chunk.stripes) q → IsPosition row.chunk (record { row = row.number; index = index; rest = rest }) → rest + len ≤ 65536

@@ -9,7 +9,7 @@ use Rattle.btr_chunk.specs.Mapping.{HasPart, place_at, place_on}
 use Rattle.btr_chunk.specs.Table.{IsTable}
 use Rattle.btr_chunk.specs.declared.place.Part.{Part}
 use Rattle.btr_chunk.specs.declared.place.Part.TheVariants as part
-use Rattle.btr_chunk.specs.declared.place.Place.{Place}
+use Rattle.btr_chunk.specs.declared.place.StripePlace.{StripePlace}
 use Rattle.btr_chunk.specs.declared.position.Elements.{Elements}
 use Rattle.btr_chunk.specs.declared.profile.Profile.{Profile}
 use Rattle.btr_chunk.specs.declared.profile.Profile.TheVariants.{Raid5, Raid6}
@@ -145,9 +145,9 @@ module _ (images : Images) (layout : Layout) (C : Committed) (blocks : List Targ
       let place = place_at row.chunk q at0 in
       let behind = place_at row.chunk q at1 in
       let same : p.stripe ≡ r.stripe = same_Some p.stripe r.stripe (sym p.there ∙ ap (slice_get row.chunk.stripes) (stripe-row row.chunk.profile (length row.chunk.stripes) q at0 at1 is_row.parity refl) ∙ r.there) in
-      let devid : behind.devid ≡ place.devid = ap (λ (x : Place). x.devid) (r.place ∙ ap (λ s. place_on s at1) (sym same)) ∙ sym (ap (λ (x : Place). x.devid) p.place) in
-      let offset : behind.offset ≡ p.stripe.offset + row.number * 65536 + column * 4096 = ap (λ (x : Place). x.offset) (r.place ∙ ap (λ s. place_on s at1) (sym same)) in
-      let start : place.offset ≡ p.stripe.offset + row.number * 65536 + 0 = ap (λ (x : Place). x.offset) p.place in
+      let devid : behind.devid ≡ place.devid = ap (λ (x : StripePlace). x.devid) (r.place ∙ ap (λ s. place_on s at1) (sym same)) ∙ sym (ap (λ (x : StripePlace). x.devid) p.place) in
+      let offset : behind.offset ≡ p.stripe.offset + row.number * 65536 + column * 4096 = ap (λ (x : StripePlace). x.offset) (r.place ∙ ap (λ s. place_on s at1) (sym same)) in
+      let start : place.offset ≡ p.stripe.offset + row.number * 65536 + 0 = ap (λ (x : StripePlace). x.offset) p.place in
       let s = stands_on place.offset 65536 (device_in layout.devices place.devid) (sound.stand q has) in
       let whole = range_stands place.offset 65536 (device_in layout.devices place.devid) s.device s.there s.within in
       let part_there : device_in layout.devices behind.devid ≡ Some s.device = ap (device_in layout.devices) devid ∙ s.there in

@@ -6,7 +6,7 @@ use Rattle.std.specs.List.{list_any}
 use Rattle.std.specs.Ordering.{is_eq, nat_cmp, ordering_then}
 use Rattle.std.specs.declared.cmp.Ordering.{Ordering}
 use Rattle.std.specs.declared.cmp.Ordering.TheVariants.{Less, Equal, Greater}
-use Rattle.btr_chunk.specs.declared.place.Place.{Place}
+use Rattle.btr_chunk.specs.declared.place.StripePlace.{StripePlace}
 use Rattle.btr_space.specs.Orders.{KeysOf, range_cmp, span_cmp, place_cmp, extent_cmp, group_span, span_range, group_range, extent_place}
 use Rattle.btr_space.specs.declared.device_extent.DeviceExtent.{DeviceExtent}
 use Rattle.btr_space.specs.declared.group.Group.{Group}
@@ -41,7 +41,7 @@ same_span a b =
     (number_then a.len b.len (nat_cmp a.flags b.flags) (eqb a.flags b.flags) (same_number a.flags b.flags))
     ∙ and_regroups (eqb a.start b.start) (eqb a.len b.len) (eqb a.flags b.flags)
 
-same_place : (a b : Place) → is_eq (place_cmp a b) ≡ (eqb a.devid b.devid && eqb a.offset b.offset)
+same_place : (a b : StripePlace) → is_eq (place_cmp a b) ≡ (eqb a.devid b.devid && eqb a.offset b.offset)
 same_place a b = number_then a.devid b.devid (nat_cmp a.offset b.offset) (eqb a.offset b.offset) (same_number a.offset b.offset)
 
 and_regroups_twice : (a b c d : Bool) → (a && (b && (c && d))) ≡ (((a && b) && c) && d)
@@ -72,7 +72,7 @@ pub extent_found : (extents : List DeviceExtent) (set : BTreeSet DeviceExtent) (
     → contains extent_cmp set range ≡ list_any (λ (extent : DeviceExtent). ((eqb extent.devid range.devid && eqb extent.offset range.offset) && eqb extent.chunk range.chunk) && eqb extent.len range.len) extents
 extent_found extents set range keys = keys range ∙ any_same _ _ extents (λ extent. same_extent extent range)
 
-pub place_found : (ranges : List DeviceExtent) (set : BTreeSet Place) (extent : DeviceExtent) → KeysOf place_cmp extent_place ranges set
+pub place_found : (ranges : List DeviceExtent) (set : BTreeSet StripePlace) (extent : DeviceExtent) → KeysOf place_cmp extent_place ranges set
     → contains place_cmp set (extent_place extent) ≡ list_any (λ (range : DeviceExtent). eqb range.devid extent.devid && eqb range.offset extent.offset) ranges
 place_found ranges set extent keys = keys (extent_place extent) ∙ any_same _ _ ranges (λ range. same_place (extent_place range) (extent_place extent))
 

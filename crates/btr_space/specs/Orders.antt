@@ -5,7 +5,7 @@ use Rattle.std.specs.List.{list_any}
 use Rattle.std.specs.Ordering.{is_eq, nat_cmp, ordering_then}
 use Rattle.std.specs.declared.cmp.Ordering.{Ordering}
 use Rattle.btr_chunk.specs.declared.chunk.Chunk.{Chunk}
-use Rattle.btr_chunk.specs.declared.place.Place.{Place}
+use Rattle.btr_chunk.specs.declared.place.StripePlace.{StripePlace}
 use Rattle.btr_space.specs.declared.cover.Stretch.{Stretch}
 use Rattle.btr_space.specs.declared.device_extent.DeviceExtent.{DeviceExtent}
 use Rattle.btr_space.specs.declared.group.Group.{Group}
@@ -20,7 +20,7 @@ abbrev pub span_cmp : Span → Span → Ordering
 span_cmp a b = ordering_then (nat_cmp a.start b.start) (ordering_then (nat_cmp a.len b.len) (nat_cmp a.flags b.flags))
 
 -- places on devices, and ranges of devices, by the device, the place, the chunk and the length
-abbrev pub place_cmp : Place → Place → Ordering
+abbrev pub place_cmp : StripePlace → StripePlace → Ordering
 place_cmp a b = ordering_then (nat_cmp a.devid b.devid) (nat_cmp a.offset b.offset)
 
 abbrev pub extent_cmp : DeviceExtent → DeviceExtent → Ordering
@@ -46,5 +46,5 @@ group_stretch group = record { start = group.start; end = group.start + group.le
 abbrev pub group_range : Group → Range
 group_range group = record { start = group.start; len = group.len }
 
-abbrev pub extent_place : DeviceExtent → Place
+abbrev pub extent_place : DeviceExtent → StripePlace
 extent_place extent = record { devid = extent.devid; offset = extent.offset }

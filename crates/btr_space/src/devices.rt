@@ -14,7 +14,7 @@ use crate::keys::{extent_places, extent_set};
 use crate::rows::{row, shown};
 use crate::{DeviceExtent, StatedDevice};
 use btr_base::Memory;
-use btr_chunk::{ChunkTable, Place};
+use btr_chunk::{ChunkTable, StripePlace};
 use btr_refs::{Finding, put_unless};
 use std::alloc::Global;
 use std::collections::{BTreeMap, BTreeSet};
@@ -51,7 +51,7 @@ fn put_device_chunks(
 {
     let places = extent_places(alloc, ranges)?;
     for extent in extents {
-        let place = Place {
+        let place = StripePlace {
             devid: extent.devid,
             offset: extent.offset,
         };

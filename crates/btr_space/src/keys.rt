@@ -7,7 +7,7 @@ use crate::growing::put_key;
 use crate::span::{Range, Span};
 use crate::{DeviceExtent, Group};
 use btr_base::Memory;
-use btr_chunk::Place;
+use btr_chunk::StripePlace;
 use std::alloc::Global;
 use std::collections::BTreeSet;
 
@@ -60,12 +60,12 @@ pub(crate) fn extent_set(
 pub(crate) fn extent_places(
     alloc: Global,
     ranges: &[DeviceExtent],
-) -> Result<BTreeSet<Place>, Memory>
+) -> Result<BTreeSet<StripePlace>, Memory>
     ensures { IfOk result (KeysOf place_cmp extent_place ranges.now) }
 {
     let mut set = BTreeSet::new(alloc);
     for range in ranges {
-        let place = Place {
+        let place = StripePlace {
             devid: range.devid,
             offset: range.offset,
         };

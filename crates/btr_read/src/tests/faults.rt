@@ -1,8 +1,8 @@
 // Reads that fail, and images that end too early.
 use super::profiles::fetch_row;
 use super::shape::{
-    COPIES, DUP, PARITIES, RAID1, RAID1C3, RAID5, RAID6, RAID6_ON_FOUR, RAID6_ON_THREE, RAID10,
-    Shape, contains, number, place_of, set_of, survives,
+    COPIES, DUP, PARITIES, RAID1, RAID1C3, RAID5, RAID6, RAID6_OF_TEN, RAID6_ON_FOUR,
+    RAID6_ON_THREE, RAID10, Shape, contains, number, place_of, set_of, survives,
 };
 use super::volume::{damage, fetches, images, name_of, open, store_without, stripes_in};
 use crate::{ReadFault, Store, Want};
@@ -142,8 +142,29 @@ fn has_spare(shape: &Shape, letters: &[u8], slice: u64, lost: u32) -> bool {
     true
 }
 
+// The stripes on which a slice itself stands.
+fn own_stripes(letters: &[u8], slice: u64) -> u32 {
+    let mut stripes = 0;
+    for (stripe, letter) in letters.iter().enumerate() {
+        if number(*letter) == slice {
+            stripes |= set_of(stripe as u64);
+        }
+    }
+    stripes
+}
+
+// Whether any one failed read can be borne: where a stripe is left without which the slice can be had. In a row with P and
+// Q only the slice itself isn't read again after a failed read.
+fn bears_one(shape: &Shape, letters: &[u8], slice: u64, damaged: u32) -> bool {
+    if !letters.contains(&b'Q') {
+        return has_spare(shape, letters, slice, damaged);
+    }
+    let own = own_stripes(letters, slice);
+    damaged & own != 0 || survives(letters, slice, damaged | own)
+}
+
 // Fetches a slice with its nth read failing, for each n, where the elements on some stripes are damaged. It is unread
-// for some n exactly where there is a stripe without which it can't be had, and then the failed read is of such a one.
+// for some n exactly where that can't be borne, and then the failed read is of a stripe without which it can't be had.
 fn fetch_interrupted(
     rt: &impl Abort,
     rack: &mut MemRack,
@@ -172,7 +193,7 @@ fn fetch_interrupted(
     assert!(rt; unread < READS);
     assert_eq!(rt;
         unread == 0,
-        has_spare(shape, letters, slice, damaged),
+        bears_one(shape, letters, slice, damaged),
         "{:x}, slice {slice} of row {row}, damaged {damaged:b}",
         shape.kind
     );
@@ -209,6 +230,38 @@ fn each_read_fails(rt: HostRuntime) -> Result<(), Fail> {
             }
             damage(&mut rack, shape, damaged)?;
         }
+    }
+    Ok(())
+}
+
+// Whether a slice of a row of 8 slices with P and Q is had by so many reads: each read behind them fails.
+fn is_had_by(
+    rt: &impl Abort,
+    rack: &mut MemRack,
+    store: &mut Store,
+    slice: u64,
+    reads: u64,
+) -> Result<bool, Fail> {
+    let (want, bytes) = wanted(&RAID6_OF_TEN, 0, slice);
+    open(rack, &RAID6_OF_TEN)?;
+    for n in 1..=READS {
+        rack.fail_call(RAID6_OF_TEN.devices.wrapping_add(reads).wrapping_add(n))?;
+    }
+    Ok(fetches(rt, &want, rack, store, &bytes) == Ok(true))
+}
+
+// Two slices are damaged. A lost one is read itself, then P, Q and the others, and then the others once more up to the
+// other damaged one.
+#[test]
+fn each_slice_is_read_twice(rt: HostRuntime) -> Result<(), Fail> {
+    let mut rack = images(rt.alloc(), &RAID6_OF_TEN)?;
+    damage(&mut rack, &RAID6_OF_TEN, 0b10000001)?;
+    open(&mut rack, &RAID6_OF_TEN)?;
+    let mut store = store_without(&rt, rt.alloc(), &rack, &RAID6_OF_TEN, 0)?;
+    for (slice, few) in [(0u64, 16u64), (7, 10)] {
+        let enough = few.wrapping_add(1);
+        assert!(rt; !is_had_by(&rt, &mut rack, &mut store, slice, few)?);
+        assert!(rt; is_had_by(&rt, &mut rack, &mut store, slice, enough)?);
     }
     Ok(())
 }

@@ -130,6 +130,14 @@ pub(super) const RAID6: Shape = Shape {
     rows: &[b"012PQ", b"Q012P", b"PQ012", b"2PQ01", b"12PQ0"],
 };
 
+pub(super) const RAID6_OF_TEN: Shape = Shape {
+    kind: 0x101,
+    devices: 5,
+    stripes: 10,
+    slices: 8,
+    rows: &[b"01234567PQ"],
+};
+
 pub(super) const COPIES: [Shape; 9] = [
     SINGLE,
     DUP,

@@ -22,7 +22,7 @@ fn a_store_is_filled(rt: HostRuntime) -> Result<(), Fail> {
     add_device(&rt, &mut store, &rack, devid_of(0), 0)?;
     let device = Device {
         slot: 0,
-        len: 8388608,
+        len: 12582912,
     };
     assert_eq!(rt; store.device(devid_of(0)), Some(device));
     assert_eq!(rt; store.device(devid_of(1)), None);

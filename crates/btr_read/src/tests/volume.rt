@@ -63,7 +63,7 @@ pub(super) fn table(alloc: Global, shape: &Shape) -> Result<ChunkTable, Fail> {
 pub(super) fn images(alloc: Global, shape: &Shape) -> Result<MemRack, Fail> {
     let mut rack = MemRack::new(alloc);
     for device in 0..shape.devices {
-        rack.add(name_of(device), 8 * MIB)?;
+        rack.add(name_of(device), 12 * MIB)?;
     }
     for (row, letters) in shape.rows.iter().enumerate() {
         for (stripe, letter) in letters.iter().enumerate() {

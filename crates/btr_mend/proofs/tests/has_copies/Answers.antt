@@ -3,7 +3,7 @@ use Rattle.std.proofs.lemmas.Bool.{cases_lt}
 use Rattle.btr_chunk.specs.Table.{chunk_at}
 use Rattle.btr_chunk.specs.Mapping.{elements_of}
 use Rattle.btr_chunk.specs.declared.place.Part.TheVariants.{Mirror}
-use Rattle.btr_chunk.specs.declared.place.Place.{Place}
+use Rattle.btr_chunk.specs.declared.place.StripePlace.{StripePlace}
 use Rattle.btr_read.specs.Candidates.{range_of, range_on, size_of}
 use Rattle.btr_read.specs.Fate.{sought_at, sought_in, target}
 use Rattle.btr_read.specs.Layout.{device_in}
@@ -18,7 +18,7 @@ loop-mirror-preserved c k below =
     let m = c.loop-mirror.mirror in
     let place = c.place_of-place.result in
     let device = c.in-Some-device.device in
-    let P : Place → Type 0 = λ p. IsSome (range_on p.offset (size_of t) (device_in layout.devices p.devid)) in
+    let P : StripePlace → Type 0 = λ p. IsSome (range_on p.offset (size_of t) (device_in layout.devices p.devid)) in
     let le : place.offset + size_of t ≤ device.len = omega (arith, c.requires, c.if-place-device.false, c.if-len-device.false) in
     let here = subst P c.place_of-place.ensures (stands_on place.offset (size_of t) (device_in layout.devices place.devid) device (sym c.device.ensures ∙ c.in-Some-device.is) le) in
     elim (cases_lt k m) [

@@ -1,9 +1,8 @@
-use Rattle.std.proofs.Common.{◌≡◌, ℕ, List, take, get_or, set, count_by, None, Some, IsSomeAnd, Ok, Err, refl, subst, sym, ap, ◌∙◌, inl, inr, arith}
+use Rattle.std.proofs.Common.{◌≡◌, take, get_or, count_by, None, Some, IsSomeAnd, Ok, Err, refl, subst, sym, ap, ◌∙◌, arith}
 use Rattle.std.specs.Option.{option_map, is_none}
-use Rattle.std.specs.Result.{is_ok}
-use Rattle.btr_pool.specs.Slots.{IsFree, loans_of, bytes_at, free_count, with_lent}
+use Rattle.btr_pool.specs.Slots.{loans_of, bytes_at, free_count, with_lent}
 use Rattle.btr_pool.proofs.Loans.{count_by-loans_of}
-use Rattle.btr_read.specs.Want.{addr_of, len_of}
+use Rattle.btr_read.specs.Want.{len_of}
 use Rattle.btr_read.specs.Layout.{AreOpen}
 use Rattle.btr_read.specs.Store.{kept_in}
 use Rattle.btr_read.specs.Finding.{fault_of}

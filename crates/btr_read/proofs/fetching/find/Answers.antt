@@ -1,6 +1,5 @@
-use Rattle.std.proofs.Common.{◌≡◌, ℕ, List, Option, length, get_or, set, None, refl, sym, ap, ◌∙◌, subst, inl, inr, arith}
-use Rattle.std.proofs.lemmas.List.{length-set}
-use Rattle.btr_pool.specs.Slots.{loans_of, with_lent}
+use Rattle.std.proofs.Common.{set, refl, ap, ◌∙◌, subst, inl, inr, arith}
+use Rattle.btr_pool.specs.Slots.{loans_of}
 use Rattle.btr_read.specs.Candidates.{Target}
 use Rattle.btr_read.specs.Store.{kept_want}
 use Rattle.btr_read.specs.Writing.{OnlyWrites}

@@ -1,4 +1,4 @@
-use Rattle.std.proofs.Common.{sym, ap, ◌∙◌}
+use Rattle.std.proofs.Common.{ap, ◌∙◌}
 use Rattle.btr_pool.specs.Slots.{with_free}
 use Rattle.btr_pool.proofs.Loans.{with_free-with_lent}
 use Rattle.btr_read.proofs.kept.free_slot.Goals as goal

@@ -1,4 +1,4 @@
-use Rattle.std.proofs.Common.{List, ℕ, take, get_or, count_by, Some, None, refl, sym, ap, ◌∙◌, subst, arith}
+use Rattle.std.proofs.Common.{take, get_or, count_by, Some, None, refl, sym, ap, ◌∙◌, subst, arith}
 use Rattle.std.specs.Option.{option_map, is_none}
 use Rattle.btr_pool.specs.Slots.{loans_of, bytes_at}
 use Rattle.btr_pool.proofs.Loans.{count_by-loans_of}

@@ -7,6 +7,8 @@ use Rattle.btr_read.specs.declared.parity.Parity.TheVariants as parity
 use Rattle.btr_read.specs.Candidates.{size_of, value_of}
 use Rattle.btr_read.specs.Gathering.{IsGathered}
 use Rattle.btr_read.proofs.Trials.{told, telling}
+use Rattle.std.proofs.lemmas.Result.{err_from_is_err_and}
+use Rattle.btr_read.proofs.Parts.{row_in, part_stands, range_in_candidate}
 use Rattle.btr_read.proofs.Rebuilt.{by_both}
 use Rattle.btr_read.proofs.rebuilding.rebuild_by_both.Goals as goal
 
@@ -25,3 +27,13 @@ returns-clause-value g c =
     let differ : t.at.index ≢ c.args.other = λ e. c.requires.rebuilt.2 (sym e) in
     told held (λ images. value_of images t both ≡ take n slice) (λ images is.
     by_both images t c.args.other sum weighted (take n slice) e.sought.0 c.requires.rebuilt.1 differ (telling held (λ images. IsGathered images t both parity.P sum) e.of_p images is) (telling held (λ images. IsGathered images t both parity.Q weighted) e.of_q images is) solves)
+
+pub gather_both-requires-clause-stands : goal.gather_both-requires-clause-stands
+gather_both-requires-clause-stands g c = λ part h. part_stands c.args.search.now (ByBoth c.args.other) part c.requires.stands (row_in c.args.search.now c.args.other part h)
+
+pub returns-in_err-gather_both-clause-account : goal.returns-in_err-gather_both-clause-account
+returns-in_err-gather_both-clause-account g c =
+    let t = c.args.search.now in
+    let e = c.in_err-gather_both.ensures.account in
+    let p = err_from_is_err_and c.from_residual.result c.from_residual.ensures.1 in
+    rw (p.1, p.2) (e.0, e.1, e.2, range_in_candidate t (ByBoth c.args.other) _ e.0 (row_in t c.args.other _ e.4) e.3)

@@ -1,5 +1,6 @@
 use Rattle.std.proofs.Common.{◌≡◌, ℕ, List, take, Result, Ok, Err, OnOk}
 use Rattle.btr_pool.specs.Slots.{bytes_at}
+use Rattle.btr_read.specs.declared.attempt.Unread.{Unread}
 use Rattle.btr_read.specs.declared.candidate.Candidate.TheVariants.{ByP}
 use Rattle.btr_read.specs.declared.parity.Parity.TheVariants as parity
 use Rattle.btr_read.specs.Candidates.{size_of, value_of}
@@ -9,7 +10,7 @@ use Rattle.btr_read.proofs.Rebuilt.{by_p}
 use Rattle.btr_read.proofs.rebuilding.rebuild_by_p.Goals as goal
 
 -- two facts of what was answered give a third
-on_both : {A B C : Type 0} (r : Result (Unit {0}) ℕ) → (A → B → C) → OnOk r A → OnOk r B → OnOk r C
+on_both : {A B C : Type 0} (r : Result (Unit {0}) Unread) → (A → B → C) → OnOk r A → OnOk r B → OnOk r C
 on_both (Ok done) f a b = f a b
 on_both (Err slot) f a b = tt
 

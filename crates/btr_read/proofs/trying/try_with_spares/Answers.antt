@@ -1,5 +1,5 @@
-use Rattle.std.proofs.Common.{◌≡◌, ◌≢◌, ℕ, [], ◌∷◌, set, None, subst, sym, ap, ◌∙◌}
-use Rattle.btr_pool.specs.Slots.{Slots, IsFree, IsLive, with_lent, with_free}
+use Rattle.std.proofs.Common.{[], ◌∷◌, set, None, subst, sym, ap, ◌∙◌}
+use Rattle.btr_pool.specs.Slots.{IsFree, IsLive, with_lent, with_free}
 use Rattle.btr_pool.proofs.Loans.{live_after_give}
 use Rattle.btr_read.specs.Writing.{AreApart, OnlyWrites, OnlyWritesIn, StillKept}
 use Rattle.btr_read.proofs.Several.{taken_apart, live_still, both_back, both_forgotten}

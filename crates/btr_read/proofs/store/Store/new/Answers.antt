@@ -1,4 +1,4 @@
-use Rattle.std.proofs.Common.{◌≡◌, ℕ, List, Option, None, replicate, ap₂, ap, ◌∙◌}
+use Rattle.std.proofs.Common.{ℕ, List, Option, None, replicate, ap₂, ap, ◌∙◌}
 use Rattle.btr_pool.specs.Slots.{loans_of}
 use Rattle.btr_read.specs.declared.setting.Setting.{Setting}
 use Rattle.btr_read.specs.Store.{Kept, none_kept}

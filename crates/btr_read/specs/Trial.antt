@@ -1,0 +1,63 @@
+-- How far the candidates of a search were tried.
+use Rattle.std.specs.Prelude.{◌≡◌, ℕ, ◌<◌, ◌≤◌, Bool, true, false, List, length, take, slice_index_or, Option, Some, None, IfSome, Result, Ok, Err, is_none, if◌then◌else◌}
+use Rattle.std.specs.List.{All, Any, filter, filter_map}
+use Rattle.btr_rack.specs.Rack.{Seen, NoneFailed, Rose}
+use Rattle.btr_chunk.specs.declared.place.Part.{Part}
+use Rattle.btr_read.specs.declared.attempt.Outcome.{Outcome}
+use Rattle.btr_read.specs.declared.attempt.Outcome.TheVariants as outcome
+use Rattle.btr_read.specs.declared.attempt.Trial.{Trial}
+use Rattle.btr_read.specs.declared.attempt.Trial.TheVariants.{Ended, Stopped}
+use Rattle.btr_read.specs.declared.attempt.Unread.{Unread}
+use Rattle.btr_read.specs.declared.candidate.Candidate.{Candidate}
+use Rattle.btr_read.specs.Want.{passes}
+use Rattle.btr_read.specs.Candidates.{Target, size_of, candidates, reading, stands, value_of}
+use Rattle.btr_read.specs.Cause.{IsOf, Passes}
+use Rattle.btr_read.specs.Attempt.{FitsOutcome}
+
+-- of some candidates those that stand and pass
+abbrev pub passing_of : List (List ℕ) → Target → List Candidate → List (List ℕ)
+passing_of images t cs = filter (passes t.setting t.want) (filter_map (reading images t) cs)
+
+-- what stands of the cause, after some candidates: no call failed, or the last one that did was of a candidate
+abbrev pub CauseSoFar : Target → Seen → Seen → Option ℕ → Type 0
+CauseSoFar t before now None = NoneFailed before.account now.account
+CauseSoFar t before now (Some s) =
+    (before.sure ≡ false) × Rose before.account.faults now.account.faults × (now.account.last.slot ≡ s)
+    × Any (λ c. (stands t c ≡ true) × IsOf t now.account.last c) (candidates t) × (1 ≤ now.account.fresh) × (now.account.opening ≡ None)
+
+-- after the first k candidates, of which none that could be read passes
+pub record TriedSoFar (t : Target) (before now : Seen) (failed : Option ℕ) (k : ℕ) : Type 0 where
+  pub later : before.account.faults ≤ now.account.faults
+  pub cause : CauseSoFar t before now failed
+  pub only : All (λ missed. Any (IsOf t missed) (candidates t)) now.account.missed
+  pub enough : (images : List (List ℕ)) → before.held ≡ Some images → length (passing_of images t (take k (candidates t))) ≤ now.account.fresh
+  pub each : (images : List (List ℕ)) → before.held ≡ Some images → (j : ℕ) (d : Candidate) → j < k → Passes images t (slice_index_or (candidates t) j d) → Any (λ missed. IsOf t missed (slice_index_or (candidates t) j d)) now.account.missed
+
+-- a trial began when no fresh call had failed, with the same images
+pub record BeganAt (before now : Seen) : Type 0 where
+  pub fresh : before.account.fresh ≡ 0
+  pub held : now.held ≡ before.held
+  pub sure : now.sure ≡ before.sure
+
+-- what it is that one passes, or that none does, after the reads that failed
+abbrev pub passed_outcome : Option ℕ → Outcome
+passed_outcome failed = if is_none failed then outcome.First else outcome.Later
+
+abbrev pub ended_outcome : Option ℕ → Outcome
+ended_outcome None = outcome.Lost
+ended_outcome (Some slot) = outcome.Unread slot
+
+-- bytes that were rebuilt are the candidate's, and were tested
+abbrev pub FitsSyndromes : Target → Candidate → Seen → List ℕ → Result Bool Unread → Type 0
+FitsSyndromes t c old slot (Ok test) = (passes t.setting t.want (take (size_of t) slot) ≡ test) × IfSome old.held (λ images. value_of images t c ≡ take (size_of t) slot)
+FitsSyndromes t c old slot (Err unread) = Unit {0}
+
+-- a trial from its beginning on
+abbrev pub FitsTrial : Target → Seen → Seen → List ℕ → Trial → Type 0
+FitsTrial t before now slot (Ended outcome) = FitsOutcome t before now slot outcome
+FitsTrial t before now slot (Stopped tried unread) = TriedSoFar t before now (Some unread.slot) tried
+
+-- the part whose read stopped it
+abbrev pub IfStopped : (Part → Type 0) → Trial → Type 0
+IfStopped P (Ended outcome) = Unit {0}
+IfStopped P (Stopped tried unread) = P unread.part

@@ -1,0 +1,190 @@
+// The candidates by parities of a row with P and Q, from what these leave of the slice that is sought: each less all other
+// slices. So all of them take two reads of each other slice at most.
+ghost use Rattle.std.specs.Prelude.{◌≡◌, ℕ, ◌<◌, ◌≤◌, [], ◌∷◌, List, take, Option, OnOk, IfOk, IfSome};
+ghost use Rattle.btr_pool.specs.Slots.{bytes_at};
+ghost use Rattle.btr_rack.specs.Rack.{OnlyReads, Seen};
+ghost use Rattle.btr_read.specs.Layout.{AreOpen};
+ghost use Rattle.btr_read.specs.Candidates.{size_of, slice_count, value_of};
+ghost use Rattle.btr_read.specs.Sought.{IsRebuilt};
+ghost use Rattle.btr_read.specs.Gathering.{AreSyndromes, RowStands, AccountsRow, IsOfRow};
+ghost use Rattle.btr_read.specs.Trial.{BeganAt, TriedSoFar, FitsSyndromes, FitsTrial, IfStopped};
+ghost use Rattle.btr_read.specs.Writing.{AreFour, OnlyWritesIn};
+ghost use Rattle.btr_read.specs.declared.candidate.Candidate.{Candidate};
+
+use crate::attempt::{Trial, Unread, ended_after, passed_after};
+use crate::candidate::Candidate;
+use crate::folding::copy_slot;
+use crate::gathering::{gather_both, read_part};
+use crate::search::Search;
+use crate::solving::{divide, solve_with};
+use btr_chunk::{Part, Profile};
+use btr_pool::{Loan, Pool};
+use btr_rack::Rack;
+
+// Tries all candidates by parities of a row of which P, Q and all other slices stand, by way of three other slots.
+pub(crate) fn try_row<R: Rack>(
+    search: &Search<'_>,
+    failed: Option<usize>,
+    rack: &mut R,
+    pool: &mut Pool,
+    loan: &Loan,
+    p: &Loan,
+    q: &Loan,
+    spare: &Loan,
+) -> Trial
+    requires profile { search.now.chunk.profile ≡ Profile.Raid6 }
+    requires stands { RowStands search.now Candidate.ByP }
+    requires open { AreOpen (R.seen rack.old).slots search.now.devices }
+    requires loans { AreFour pool.old loan.now p.now q.now spare.now }
+    requires fits { size_of search.now ≤ pool.old.size }
+    ensures reads { OnlyReads (R.seen rack.old) (R.seen rack.new) }
+    ensures pool { OnlyWritesIn (q.now ∷ spare.now ∷ p.now ∷ loan.now ∷ []) pool.old pool.new }
+    ensures trial { (before : Seen) → BeganAt before (R.seen rack.old) → TriedSoFar search.now before (R.seen rack.old) failed 1 → FitsTrial search.now before (R.seen rack.new) (bytes_at pool.new loan.now) result }
+    ensures part { IfStopped (IsOfRow search.now Candidate.ByP) result }
+{
+    match gather_both(search, Candidate::ByP, rack, pool, p, q, spare) {
+        Ok(()) => try_syndromes(search, failed, rack, pool, loan, p, q, spare),
+        Err(unread) => Trial::Stopped(1, unread),
+    }
+}
+
+// Tries all candidates by parities, where two slots have the syndromes.
+fn try_syndromes<R: Rack>(
+    search: &Search<'_>,
+    failed: Option<usize>,
+    rack: &mut R,
+    pool: &mut Pool,
+    loan: &Loan,
+    p: &Loan,
+    q: &Loan,
+    spare: &Loan,
+) -> Trial
+    requires profile { search.now.chunk.profile ≡ Profile.Raid6 }
+    requires stands { RowStands search.now Candidate.ByP }
+    requires open { AreOpen (R.seen rack.old).slots search.now.devices }
+    requires loans { AreFour pool.old loan.now p.now q.now spare.now }
+    requires fits { size_of search.now ≤ pool.old.size }
+    requires sought { search.now.at.index < slice_count search.now }
+    requires few { slice_count search.now ≤ 63 }
+    requires syndromes { IfSome (R.seen rack.old).held (λ images. AreSyndromes images search.now (take (size_of search.now) (bytes_at pool.old p.now)) (take (size_of search.now) (bytes_at pool.old q.now))) }
+    ensures reads { OnlyReads (R.seen rack.old) (R.seen rack.new) }
+    ensures pool { OnlyWritesIn (q.now ∷ spare.now ∷ loan.now ∷ []) pool.old pool.new }
+    ensures trial { (before : Seen) → BeganAt before (R.seen rack.old) → TriedSoFar search.now before (R.seen rack.old) failed 1 → FitsTrial search.now before (R.seen rack.new) (bytes_at pool.new loan.now) result }
+    ensures part { IfStopped (IsOfRow search.now Candidate.ByP) result }
+{
+    for k in 1..search.candidate_count() {
+        let candidate = search.candidate(k);
+        match try_by_syndromes(search, candidate, rack, pool, loan, p, q, spare) {
+            Ok(passes) => {
+                if passes {
+                    return Trial::Ended(passed_after(failed));
+                }
+            }
+            Err(unread) => return Trial::Stopped(k, unread),
+        }
+    }
+    Trial::Ended(ended_after(failed))
+}
+
+// Rebuilds a slice by a candidate from the syndromes, which stand behind it as before, and tests it.
+fn try_by_syndromes<R: Rack>(
+    search: &Search<'_>,
+    candidate: Candidate,
+    rack: &mut R,
+    pool: &mut Pool,
+    loan: &Loan,
+    p: &Loan,
+    q: &Loan,
+    spare: &Loan,
+) -> Result<bool, Unread>
+    requires rebuilt { IsRebuilt search.now candidate }
+    requires stands { RowStands search.now Candidate.ByP }
+    requires open { AreOpen (R.seen rack.old).slots search.now.devices }
+    requires loans { AreFour pool.old loan.now p.now q.now spare.now }
+    requires fits { size_of search.now ≤ pool.old.size }
+    requires sought { search.now.at.index < slice_count search.now }
+    requires few { slice_count search.now ≤ 63 }
+    requires syndromes { IfSome (R.seen rack.old).held (λ images. AreSyndromes images search.now (take (size_of search.now) (bytes_at pool.old p.now)) (take (size_of search.now) (bytes_at pool.old q.now))) }
+    ensures reads { OnlyReads (R.seen rack.old) (R.seen rack.new) }
+    ensures pool { OnlyWritesIn (q.now ∷ spare.now ∷ loan.now ∷ []) pool.old pool.new }
+    ensures value { FitsSyndromes search.now candidate (R.seen rack.old) (bytes_at pool.new loan.now) result }
+    ensures syndromes { OnOk result (IfSome (R.seen rack.old).held (λ images. AreSyndromes images search.now (take (size_of search.now) (bytes_at pool.new p.now)) (take (size_of search.now) (bytes_at pool.new q.now)))) }
+    ensures account { AccountsRow search.now Candidate.ByP (R.seen rack.old) (R.seen rack.new) result }
+{
+    rebuild_by_syndromes(search, candidate, rack, pool, loan, p, q, spare)?;
+    Ok(search.passes(&pool.bytes(loan)[..search.size()]))
+}
+
+// Rebuilds a slice by a candidate from the syndromes, which stand behind it as before.
+fn rebuild_by_syndromes<R: Rack>(
+    search: &Search<'_>,
+    candidate: Candidate,
+    rack: &mut R,
+    pool: &mut Pool,
+    loan: &Loan,
+    p: &Loan,
+    q: &Loan,
+    spare: &Loan,
+) -> Result<(), Unread>
+    requires rebuilt { IsRebuilt search.now candidate }
+    requires stands { RowStands search.now Candidate.ByP }
+    requires open { AreOpen (R.seen rack.old).slots search.now.devices }
+    requires loans { AreFour pool.old loan.now p.now q.now spare.now }
+    requires fits { size_of search.now ≤ pool.old.size }
+    requires sought { search.now.at.index < slice_count search.now }
+    requires few { slice_count search.now ≤ 63 }
+    requires syndromes { IfSome (R.seen rack.old).held (λ images. AreSyndromes images search.now (take (size_of search.now) (bytes_at pool.old p.now)) (take (size_of search.now) (bytes_at pool.old q.now))) }
+    ensures reads { OnlyReads (R.seen rack.old) (R.seen rack.new) }
+    ensures pool { OnlyWritesIn (q.now ∷ spare.now ∷ loan.now ∷ []) pool.old pool.new }
+    ensures value { OnOk result (IfSome (R.seen rack.old).held (λ images. value_of images search.now candidate ≡ take (size_of search.now) (bytes_at pool.new loan.now))) }
+    ensures syndromes { OnOk result (IfSome (R.seen rack.old).held (λ images. AreSyndromes images search.now (take (size_of search.now) (bytes_at pool.new p.now)) (take (size_of search.now) (bytes_at pool.new q.now)))) }
+    ensures account { AccountsRow search.now Candidate.ByP (R.seen rack.old) (R.seen rack.new) result }
+{
+    let len = search.size();
+    let index = search.index() as u8;
+    match candidate {
+        Candidate::Stands(_) => unreachable!(),
+        Candidate::ByP => {
+            copy_slot(pool, loan, p, len);
+            Ok(())
+        }
+        Candidate::ByQ => {
+            copy_slot(pool, loan, q, len);
+            divide(pool, loan, len, index);
+            Ok(())
+        }
+        Candidate::ByBoth(other) => solve_pair(search, other, rack, pool, loan, p, q, spare),
+    }
+}
+
+// Reads a slice once more, and solves for the slice that is sought without it.
+fn solve_pair<R: Rack>(
+    search: &Search<'_>,
+    other: u32,
+    rack: &mut R,
+    pool: &mut Pool,
+    loan: &Loan,
+    p: &Loan,
+    q: &Loan,
+    spare: &Loan,
+) -> Result<(), Unread>
+    requires rebuilt { IsRebuilt search.now (Candidate.ByBoth other) }
+    requires stands { RowStands search.now Candidate.ByP }
+    requires open { AreOpen (R.seen rack.old).slots search.now.devices }
+    requires loans { AreFour pool.old loan.now p.now q.now spare.now }
+    requires fits { size_of search.now ≤ pool.old.size }
+    requires sought { search.now.at.index < slice_count search.now }
+    requires few { slice_count search.now ≤ 63 }
+    requires syndromes { IfSome (R.seen rack.old).held (λ images. AreSyndromes images search.now (take (size_of search.now) (bytes_at pool.old p.now)) (take (size_of search.now) (bytes_at pool.old q.now))) }
+    ensures reads { OnlyReads (R.seen rack.old) (R.seen rack.new) }
+    ensures pool { OnlyWritesIn (q.now ∷ spare.now ∷ loan.now ∷ []) pool.old pool.new }
+    ensures value { OnOk result (IfSome (R.seen rack.old).held (λ images. value_of images search.now (Candidate.ByBoth other) ≡ take (size_of search.now) (bytes_at pool.new loan.now))) }
+    ensures syndromes { OnOk result (IfSome (R.seen rack.old).held (λ images. AreSyndromes images search.now (take (size_of search.now) (bytes_at pool.new p.now)) (take (size_of search.now) (bytes_at pool.new q.now)))) }
+    ensures account { AccountsRow search.now Candidate.ByP (R.seen rack.old) (R.seen rack.new) result }
+{
+    read_part(search, Part::Slice(other), rack, pool, spare)?;
+    let len = search.size();
+    let index = search.index() as u8;
+    solve_with(pool, loan, p, q, spare, len, index, other as u8);
+    Ok(())
+}
