@@ -28,7 +28,14 @@ fn seek(store: &mut Store, scan: &mut Scan, rack: &mut MemRack, to: u64, is_paus
     store.forget_kept();
 }
 
-// The number of the item at or behind one, and then the numbers from another one on to the end or to a fault.
+// What a scan met from a key on, to its end or to a fault.
+#[derive(Drop)]
+struct Sought {
+    numbers: Vec<u64>,
+    fault: Option<TreeFault>,
+}
+
+// The items from one number on, by a scan that met the item of another number first.
 fn sought(
     alloc: Global,
     tree: &Tree,
@@ -36,49 +43,64 @@ fn sought(
     from: u64,
     to: u64,
     is_pausing: bool,
-) -> Result<(Option<u64>, Vec<u64>, Option<TreeFault>), Fail> {
+) -> Result<Sought, Fail> {
     let mut rack = rack_of(alloc, tree, Harm::of_call(call))?;
     let mut store = store_over(alloc, &rack)?;
     let mut numbers = Vec::new(alloc);
     let mut scan = Scan::new(&root(tree), key(from), key(99));
-    let begun = step(&mut store, &mut scan, &mut rack);
+    let first = step(&mut store, &mut scan, &mut rack);
     seek(&mut store, &mut scan, &mut rack, to, is_pausing);
     let ended = collect(&mut store, &mut scan, &mut rack, false, &mut numbers);
     scan.finish(&mut store);
-    Ok((begun?, numbers, ended?))
+    let _ = first?;
+    Ok(Sought {
+        numbers,
+        fault: ended?,
+    })
 }
 
 // Of the tree of 28 items a leaf has three, from 0, 6, 12 and so on; three leaves are below a node of level 1, three of these nodes
-// below one of level 2, and the last leaf has a node at each level of its own.
+// below one of level 2, and the last leaf has a node at each of these levels to itself.
 #[test]
-fn seeking_forward(rt: HostRuntime) -> Result<(), Fail> {
+fn seeking(rt: HostRuntime) -> Result<(), Fail> {
     let tree = tree(rt.alloc(), 28)?;
-    // Where the scan was, where it goes on, and how many blocks it reads for its next item, with its leaf in hand and without.
-    for (from, to, in_hand, paused) in [
-        // In the leaf.
-        (0, 0, 0, 2),
-        (0, 3, 0, 2),
-        (0, 4, 0, 2),
+    // Where the scan was, where it goes on, whether it gave its leaf back, and how many blocks it reads for its next item.
+    for (from, to, is_pausing, reads) in [
+        // In the leaf, which is kept, and in the last one, behind its items.
+        (0, 3, false, 0),
+        (12, 15, false, 0),
+        (54, 60, false, 0),
         // A leaf of the same node.
-        (0, 6, 2, 2),
-        (0, 17, 2, 2),
-        // A leaf of another node of level 1; no frame is left of the one where the last leaf is.
-        (0, 18, 3, 3),
-        (12, 15, 0, 3),
-        (12, 23, 3, 3),
+        (0, 6, false, 2),
+        (0, 11, false, 3),
+        // A leaf of another node.
+        (0, 18, false, 3),
+        (12, 22, false, 3),
         // Below the root, and behind the last item.
-        (0, 54, 4, 4),
-        (36, 54, 4, 4),
-        (0, 60, 4, 4),
-        // In the last leaf, and before the leaf.
-        (54, 54, 0, 4),
-        (24, 20, 0, 2),
+        (0, 54, false, 4),
+        (36, 54, false, 4),
+        (0, 60, false, 4),
+        // The same after a pause: no frame is left of a node of which the last leaf was read.
+        (0, 0, true, 2),
+        (0, 3, true, 2),
+        (0, 8, true, 2),
+        (0, 18, true, 3),
+        (12, 15, true, 3),
+        (54, 54, true, 4),
+        (36, 54, true, 4),
+        // Backward, below the same node and below the one above it.
+        (24, 20, true, 2),
+        (24, 10, true, 3),
     ] {
-        for (is_pausing, reads) in [(false, in_hand), (true, paused)] {
-            let (begun, numbers, fault) = sought(rt.alloc(), &tree, u64::MAX, from, to, is_pausing)?;
-            assert_eq!(rt; begun, Some(from));
-            assert_eq!(rt; fault, None);
-            assert!(rt; is_even_run(numbers.as_slice(), 28, to, 99));
+        let whole = sought(rt.alloc(), &tree, u64::MAX, from, to, is_pausing)?;
+        assert_eq!(rt; whole.fault, None);
+        assert!(rt; is_even_run(whole.numbers.as_slice(), 28, to, 99));
+        // The tree was opened by one call, and the scan came to its first item by four.
+        let enough = sought(rt.alloc(), &tree, 6 + reads, from, to, is_pausing)?;
+        assert_eq!(rt; enough.numbers.first(), whole.numbers.first());
+        if reads > 0 {
+            let short = sought(rt.alloc(), &tree, 5 + reads, from, to, is_pausing)?;
+            assert!(rt; short.fault.is_some() && short.numbers.is_empty());
         }
     }
     Ok(())

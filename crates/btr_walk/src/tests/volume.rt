@@ -123,8 +123,8 @@ pub(super) fn store_over(alloc: Global, rack: &MemRack) -> Result<Store, Fail>
     store_by(alloc, rack, item(alloc)?.as_slice())
 }
 
-/// The store that reads the chunk of this item from the first image.
-pub(super) fn store_by(alloc: Global, rack: &MemRack, item: &[u8]) -> Result<Store, Fail>
+// The store that reads the chunk of this item from the first image.
+fn store_by(alloc: Global, rack: &MemRack, item: &[u8]) -> Result<Store, Fail>
     requires { 0 < length (slots_of rack.now) }
     ensures serves { IfOk result (Serves (seen_of rack.now)) }
     ensures free { IfOk result (λ store. free_count store ≡ 24) }
@@ -136,8 +136,8 @@ pub(super) fn store_by(alloc: Global, rack: &MemRack, item: &[u8]) -> Result<Sto
     Ok(store)
 }
 
-// The number of the next item.
-fn step(store: &mut Store, scan: &mut Scan, rack: &mut MemRack) -> Result<Option<u64>, TreeFault>
+/// The number of the next item.
+pub(super) fn step(store: &mut Store, scan: &mut Scan, rack: &mut MemRack) -> Result<Option<u64>, TreeFault>
     requires ready { IsReady (seen_of rack.old) store.old scan.old }
     requires free { free_count (without_leaf store.old scan.old) ≡ 24 }
     ensures ready { IsReady (seen_of rack.new) store.new scan.new }
@@ -150,8 +150,8 @@ fn step(store: &mut Store, scan: &mut Scan, rack: &mut MemRack) -> Result<Option
     }
 }
 
-// The numbers of the next items, to the end or to a fault, with a pause before each where it is asked for.
-fn collect(
+/// The numbers of the next items, to the end or to a fault, with a pause before each where it is asked for.
+pub(super) fn collect(
     store: &mut Store,
     scan: &mut Scan,
     rack: &mut MemRack,
@@ -176,8 +176,8 @@ fn collect(
     Ok(None)
 }
 
-/// The numbers of a tree's items in a range, and the fault that ended the scan, if one did; with a pause before each.
-pub(super) fn scanned(
+// The numbers of a tree's items in a range, and the fault that ended the scan, if one did; with a pause before each.
+fn scanned(
     alloc: Global,
     store: &mut Store,
     rack: &mut MemRack,
@@ -218,8 +218,8 @@ fn number_le(
     }
 }
 
-/// The number of the greatest item at or below one.
-pub(super) fn floor(
+// The number of the greatest item at or below one.
+fn floor(
     store: &mut Store,
     rack: &mut MemRack,
     root: &RootPlace,
