@@ -105,7 +105,7 @@ struct Folded {
 }
 
 // The folds of the items from `lo` to `hi` in the tree of ten items, where one call fails.
-fn folded(alloc: Global, call: u64, lo: u64, hi: u64) -> Result<Folded, Fail> {
+fn fold_both(alloc: Global, call: u64, lo: u64, hi: u64) -> Result<Folded, Fail> {
     let tree = tree(alloc, 10)?;
     let place = root(&tree);
     let mut rack = rack_of(alloc, &tree, Harm::of_call(call))?;
@@ -124,7 +124,7 @@ fn folds_of_a_tree(rt: HostRuntime) -> Result<(), Fail> {
         (19, 99, None, &[]),
     ];
     for (lo, hi, first, numbers) in cases {
-        let found = folded(rt.alloc(), u64::MAX, lo, hi)?;
+        let found = fold_both(rt.alloc(), u64::MAX, lo, hi)?;
         let (Ok(number), Ok(all)) = (found.first, found.all) else {
             panic!(rt; "the tree is whole");
         };
@@ -137,7 +137,7 @@ fn folds_of_a_tree(rt: HostRuntime) -> Result<(), Fail> {
 #[test]
 fn folds_that_fail(rt: HostRuntime) -> Result<(), Fail> {
     for n in 2..12 {
-        match folded(rt.alloc(), n, 0, 99)?.all {
+        match fold_both(rt.alloc(), n, 0, 99)?.all {
             Ok(all) => assert_eq!(rt; all.numbers.len(), 10),
             Err(FoldFault::Tree(TreeFault::Unread(addr, slot))) => {
                 assert!(rt; addr >= START && slot == 0)

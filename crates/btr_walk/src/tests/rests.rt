@@ -66,7 +66,11 @@ fn items_without_a_loan(rt: HostRuntime) -> Result<(), Fail> {
     let mut rest = Rest::new(&root(&tree), key(3), key(16));
     for wanted in [4, 6, 8, 10, 12, 14, 16, 18] {
         let met = step(&mut store, &mut rest, &mut rack);
-        let numbers = if wanted < 18 { Some((wanted, wanted)) } else { None };
+        let numbers = if wanted < 18 {
+            Some((wanted, wanted))
+        } else {
+            None
+        };
         assert_eq!(rt; met, Ok(numbers));
     }
     Ok(())

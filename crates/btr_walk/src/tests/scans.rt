@@ -1,7 +1,7 @@
 // Scans and lookups of trees of one to four levels.
 use super::volume::{FORM, Harm, START, read_tree, tree};
-use btr_base::sum;
 use crate::TreeFault;
+use btr_base::sum;
 use std::test::Fail;
 
 /// The even numbers from one to another, of those below twice a count.

@@ -14,7 +14,19 @@ use std::alloc::Global;
 use std::test::Fail;
 
 // Goes on at a number, as if no block had been kept.
-fn seek(store: &mut Store, scan: &mut Scan, rack: &mut MemRack, to: u64, is_pausing: bool)
+fn seek(store: &mut Store, scan: &mut Scan, rack: &mut MemRack, to: u64)
+    requires ready { IsReady (seen_of rack.old) store.old scan.old }
+    requires free { free_count (without_leaf store.old scan.old) ≡ 24 }
+    ensures rack { rack.new ≡ rack.old }
+    ensures ready { IsReady (seen_of rack.new) store.new scan.new }
+    ensures free { free_count (without_leaf store.new scan.new) ≡ 24 }
+{
+    scan.seek(key(to), store);
+    store.forget_kept();
+}
+
+// The same, where the scan may give its leaf back before.
+fn go_to(store: &mut Store, scan: &mut Scan, rack: &mut MemRack, to: u64, is_pausing: bool)
     requires ready { IsReady (seen_of rack.old) store.old scan.old }
     requires free { free_count (without_leaf store.old scan.old) ≡ 24 }
     ensures rack { rack.new ≡ rack.old }
@@ -24,8 +36,7 @@ fn seek(store: &mut Store, scan: &mut Scan, rack: &mut MemRack, to: u64, is_paus
     if is_pausing {
         scan.pause(store);
     }
-    scan.seek(key(to), store);
-    store.forget_kept();
+    seek(store, scan, rack, to);
 }
 
 // What a scan met from a key on, to its end or to a fault.
@@ -36,7 +47,7 @@ struct Sought {
 }
 
 // The items from one number on, by a scan that met the item of another number first.
-fn sought(
+fn go_on(
     alloc: Global,
     tree: &Tree,
     call: u64,
@@ -49,7 +60,7 @@ fn sought(
     let mut numbers = Vec::new(alloc);
     let mut scan = Scan::new(&root(tree), key(from), key(99));
     let first = step(&mut store, &mut scan, &mut rack);
-    seek(&mut store, &mut scan, &mut rack, to, is_pausing);
+    go_to(&mut store, &mut scan, &mut rack, to, is_pausing);
     let ended = collect(&mut store, &mut scan, &mut rack, false, &mut numbers);
     scan.finish(&mut store);
     let _ = first?;
@@ -67,7 +78,7 @@ fn seeking(rt: HostRuntime) -> Result<(), Fail> {
     // Where the scan was, where it goes on, whether it gave its leaf back, and how many blocks it reads for its next item.
     for (from, to, is_pausing, reads) in [
         // In the leaf, which is kept, and in the last one, behind its items.
-        (0, 3, false, 0),
+        (0, 3, false, 0u64),
         (12, 15, false, 0),
         (54, 60, false, 0),
         // A leaf of the same node.
@@ -92,14 +103,28 @@ fn seeking(rt: HostRuntime) -> Result<(), Fail> {
         (24, 20, true, 2),
         (24, 10, true, 3),
     ] {
-        let whole = sought(rt.alloc(), &tree, u64::MAX, from, to, is_pausing)?;
+        let whole = go_on(rt.alloc(), &tree, u64::MAX, from, to, is_pausing)?;
         assert_eq!(rt; whole.fault, None);
         assert!(rt; is_even_run(whole.numbers.as_slice(), 28, to, 99));
         // The tree was opened by one call, and the scan came to its first item by four.
-        let enough = sought(rt.alloc(), &tree, 6 + reads, from, to, is_pausing)?;
+        let enough = go_on(
+            rt.alloc(),
+            &tree,
+            reads.wrapping_add(6),
+            from,
+            to,
+            is_pausing,
+        )?;
         assert_eq!(rt; enough.numbers.first(), whole.numbers.first());
         if reads > 0 {
-            let short = sought(rt.alloc(), &tree, 5 + reads, from, to, is_pausing)?;
+            let short = go_on(
+                rt.alloc(),
+                &tree,
+                reads.wrapping_add(5),
+                from,
+                to,
+                is_pausing,
+            )?;
             assert!(rt; short.fault.is_some() && short.numbers.is_empty());
         }
     }

@@ -89,15 +89,15 @@ pub(super) struct Harm<'a> {
 
 impl Harm<'static> {
     /// Nothing is wrong.
-    pub(super) const NONE: Harm<'static> = Harm::of_call(u64::MAX);
+    pub(super) const NONE: Harm<'static> = Harm {
+        bytes: &[],
+        addr: START,
+        call: u64::MAX,
+    };
 
     /// One call fails.
-    pub(super) const fn of_call(call: u64) -> Harm<'static> {
-        Harm {
-            bytes: &[],
-            addr: START,
-            call,
-        }
+    pub(super) fn of_call(call: u64) -> Harm<'static> {
+        Harm { call, ..Harm::NONE }
     }
 }
 
@@ -137,7 +137,11 @@ fn store_by(alloc: Global, rack: &MemRack, item: &[u8]) -> Result<Store, Fail>
 }
 
 /// The number of the next item.
-pub(super) fn step(store: &mut Store, scan: &mut Scan, rack: &mut MemRack) -> Result<Option<u64>, TreeFault>
+pub(super) fn step(
+    store: &mut Store,
+    scan: &mut Scan,
+    rack: &mut MemRack,
+) -> Result<Option<u64>, TreeFault>
     requires ready { IsReady (seen_of rack.old) store.old scan.old }
     requires free { free_count (without_leaf store.old scan.old) ≡ 24 }
     ensures ready { IsReady (seen_of rack.new) store.new scan.new }

@@ -83,7 +83,7 @@ struct Walks {
 }
 
 // Two walks over a tree, where one call fails.
-fn walks(alloc: Global, tree: &Tree, call: u64) -> Result<Walks, Fail> {
+fn walk_twice(alloc: Global, tree: &Tree, call: u64) -> Result<Walks, Fail> {
     let place = root(tree);
     let mut rack = rack_of(alloc, tree, Harm::of_call(call))?;
     let mut store = store_over(alloc, &rack)?;
@@ -105,7 +105,7 @@ fn blocks_in_preorder(rt: HostRuntime) -> Result<(), Fail> {
     for block in [6, 4, 0, 1, 2, 5, 3] {
         wanted.push(tree.blocks.get(block).ok_or("no such block")?.addr)?;
     }
-    let found = walks(rt.alloc(), &tree, u64::MAX)?;
+    let found = walk_twice(rt.alloc(), &tree, u64::MAX)?;
     assert_eq!(rt; found.fault, None);
     assert_eq!(rt; found.addrs.as_slice(), wanted.as_slice());
     Ok(())
@@ -116,7 +116,7 @@ fn walks_that_fail(rt: HostRuntime) -> Result<(), Fail> {
     let tree = tree(rt.alloc(), 28)?;
     let count = tree.blocks.len();
     for n in 2..22 {
-        let found = walks(rt.alloc(), &tree, n)?;
+        let found = walk_twice(rt.alloc(), &tree, n)?;
         match found.fault {
             None => assert_eq!(rt; found.addrs.len(), count),
             Some(TreeFault::Unread(addr, slot)) => {

@@ -1,4 +1,5 @@
 use Rattle.std.proofs.Common.{◌≡◌, Option, Some, None, IfSome, refl, sym, ap, ◌∙◌, subst}
+use Rattle.btr_rack.specs.Memory.{seen_of}
 use Rattle.btr_rack.specs.Rack.{Seen}
 use Rattle.btr_read.specs.Store.{Blocks, without_kept, free_count}
 use Rattle.btr_read.proofs.Serving.{serving, serves_anew}
@@ -22,3 +23,8 @@ ready_still : (now : Seen) (store : Blocks) (scan : Scan) → IsReady now store 
 ready_still now store scan r =
     let s = serving now store r.serves in
     record { serves = serves_anew now (without_kept store) s.are_open s.own_slots refl; hand = hand_still store scan.leaf r.hand; shaped = r.shaped; alone = r.alone }
+
+pub returns-clause-ready : goal.returns-clause-ready
+returns-clause-ready c =
+    let now = seen_of c.args.rack.now in
+    subst (λ s. IsReady now s c.seek.new.self) (sym c.forget_kept.ensures) (ready_still now c.seek.new.store c.seek.new.self (c.seek.ensures.ready now c.requires.ready))
