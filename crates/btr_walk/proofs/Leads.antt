@@ -31,43 +31,44 @@ steps_back : (ws : List Want) → steps_of (wants ws) ≡ []
 steps_back [] = refl
 steps_back (w ∷ ws) = steps_back ws
 
-wants-append : (xs ys : List Want) → wants (xs ++ ys) ≡ wants xs ++ wants ys
+pub wants-append : (xs ys : List Want) → wants (xs ++ ys) ≡ wants xs ++ wants ys
 wants-append [] ys = refl
 wants-append (w ∷ xs) ys = ap (λ x. Wants w ∷ x) (wants-append xs ys)
 
 module _ (lo hi : Key) (B : Map) where
   -- from whatever was seen before
   abbrev pub Leads : Where → Where → Type 0
-  Leads from to = (seen : List Want) → IsAlong lo hi B seen from → Comes lo hi B seen (place_prog lo hi B from) (place_prog lo hi B to) to
+  Leads from to = (seen : List Want) → IsAlong lo hi B seen from → Comes lo hi B seen from (place_prog lo hi B to) to
 
   pub leads_none : (place : Where) → Leads place place
-  leads_none place seen on = record { past = []; is = refl; on = subst (λ (x : List Want). IsAlong lo hi B x place) (sym (append-nil seen)) on }
+  leads_none place seen on = record { past = []; is = refl; on = subst (λ (x : List Want). IsAlong lo hi B x place) (sym (append-nil seen)) on; under = λ root u. u }
 
   -- one after another
-  abbrev comes_then : (seen : List Want) (a b c : RangeProg) (q r : Where) → (x : Comes lo hi B seen a b q) → Comes lo hi B (seen ++ x.past) b c r → Comes lo hi B seen a c r
-  comes_then seen a b c q r x y = record {
+  abbrev comes_then : (seen : List Want) (from at : Where) (c : RangeProg) (after : Where) → (x : Comes lo hi B seen from (place_prog lo hi B at) at) → Comes lo hi B (seen ++ x.past) at c after → Comes lo hi B seen from c after
+  comes_then seen from at c after x y = record {
     past = x.past ++ y.past;
     is = x.is ∙ ap (prepend (wants x.past)) y.is
         ∙ ap (λ ms. run ms (exec B c).ending) (sym (append_assoc (wants x.past) (wants y.past) (exec B c).marks) ∙ ap (λ ms. ms ++ (exec B c).marks) (sym (wants-append x.past y.past)));
-    on = subst (λ (z : List Want). IsAlong lo hi B z r) (append_assoc seen x.past y.past) y.on;
+    on = subst (λ (z : List Want). IsAlong lo hi B z after) (append_assoc seen x.past y.past) y.on;
+    under = λ root u. y.under root (x.under root u);
   }
 
   pub leads_between : (Is : UnreadBlock → Want → Type 0) (from at after : Where) (store : Blocks) → Leads from at → IsGone lo hi Is B at store (Ok (gone.Between after)) → Leads from after
   leads_between Is from at after store l g seen on =
       let x = l seen on in
-      comes_then seen (place_prog lo hi B from) (place_prog lo hi B at) (place_prog lo hi B after) at after x (g (seen ++ x.past) x.on)
+      comes_then seen from at (place_prog lo hi B after) after x (g (seen ++ x.past) x.on)
 
   pub leads_leaf : (Is : UnreadBlock → Want → Type 0) (from at after : Where) (store : Blocks) (l : LeafAt) → Leads from at → IsGone lo hi Is B at store (Ok (gone.Leaf l after)) → IsReached lo hi Is B from store (Ok (reached.Leaf l after))
   leads_leaf Is from at after store l lead g seen on =
       let x = lead seen on in
       both (block_of store l.loan) x (g (seen ++ x.past) x.on)
     where
-      both : (o : Option (List ℕ)) (x : Comes lo hi B seen (place_prog lo hi B from) (place_prog lo hi B at) at) → IsSomeAnd o (λ block. ComesTo lo hi B (seen ++ x.past) (place_prog lo hi B at) (emit_all (part_items l.spot.addr block l.next l.end) (place_prog lo hi B after)) after store l) → IsSomeAnd o (λ block. ComesTo lo hi B seen (place_prog lo hi B from) (emit_all (part_items l.spot.addr block l.next l.end) (place_prog lo hi B after)) after store l)
+      both : (o : Option (List ℕ)) (x : Comes lo hi B seen from (place_prog lo hi B at) at) → IsSomeAnd o (λ block. ComesTo lo hi B (seen ++ x.past) at (emit_all (part_items l.spot.addr block l.next l.end) (place_prog lo hi B after)) after store l) → IsSomeAnd o (λ block. ComesTo lo hi B seen from (emit_all (part_items l.spot.addr block l.next l.end) (place_prog lo hi B after)) after store l)
       both None x h = absurd h
       both (Some block) x h =
           let c = h.comes in
           record {
-            comes = comes_then seen (place_prog lo hi B from) (place_prog lo hi B at) (emit_all (part_items l.spot.addr block l.next l.end) (place_prog lo hi B after)) at after x c;
+            comes = comes_then seen from at (emit_all (part_items l.spot.addr block l.next l.end) (place_prog lo hi B after)) after x c;
             held = subst (λ (z : List Want). IsHeld B z store l) (append_assoc seen x.past c.past) h.held;
           }
 
@@ -77,24 +78,25 @@ module _ (lo hi : Key) (B : Map) where
       let x = lead seen on in
       empty (block_of store l.loan) x (g (seen ++ x.past) x.on)
     where
-      empty : (o : Option (List ℕ)) (x : Comes lo hi B seen (place_prog lo hi B from) (place_prog lo hi B at) at) → IsSomeAnd o (λ block. ComesTo lo hi B (seen ++ x.past) (place_prog lo hi B at) (emit_all (part_items l.spot.addr block l.next l.end) (place_prog lo hi B after)) after store l) → Comes lo hi B seen (place_prog lo hi B from) (place_prog lo hi B after) after
+      empty : (o : Option (List ℕ)) (x : Comes lo hi B seen from (place_prog lo hi B at) at) → IsSomeAnd o (λ block. ComesTo lo hi B (seen ++ x.past) at (emit_all (part_items l.spot.addr block l.next l.end) (place_prog lo hi B after)) after store l) → Comes lo hi B seen from (place_prog lo hi B after) after
       empty None x h = absurd h
       empty (Some block) x h =
-          comes_then seen (place_prog lo hi B from) (place_prog lo hi B at) (place_prog lo hi B after) at after x
-          (subst (λ (items : List TreeItem). Comes lo hi B (seen ++ x.past) (place_prog lo hi B at) (emit_all items (place_prog lo hi B after)) after) (part_none l.spot.addr block l.next l.end le) h.comes)
+          comes_then seen from at (place_prog lo hi B after) after x
+          (subst (λ (items : List TreeItem). Comes lo hi B (seen ++ x.past) at (emit_all items (place_prog lo hi B after)) after) (part_none l.spot.addr block l.next l.end le) h.comes)
 
   -- what is answered from here is answered from the beginning
-  follows_from : (Is : UnreadBlock → Want → Type 0) (seen : List Want) (a b : RangeProg) (q : Where) (ans : Result (Unit {0}) (Halt fate.Fault UnreadBlock)) → (x : Comes lo hi B seen a b q) → Follows Is no_part (seen ++ x.past) (exec B b) [] ans → Follows Is no_part seen (exec B a) [] ans
-  follows_from Is seen a b q ans x h =
+  follows_from : (Is : UnreadBlock → Want → Type 0) (seen : List Want) (from at : Where) (ans : Result (Unit {0}) (Halt fate.Fault UnreadBlock)) → (x : Comes lo hi B seen from (place_prog lo hi B at) at) → Follows Is no_part (seen ++ x.past) (exec B (place_prog lo hi B at)) [] ans → Follows Is no_part seen (exec B (place_prog lo hi B from)) [] ans
+  follows_from Is seen from at ans x h =
+      let b : RangeProg = place_prog lo hi B at in
       subst (λ r. Follows Is no_part seen r [] ans) (sym x.is)
       (subst (λ (done : List TreeItem). Follows Is no_part seen (prepend (wants x.past) (exec B b)) done ans) (append-nil (steps_of (wants x.past)) ∙ steps_back x.past)
       (follows_behind Is no_part seen (wants x.past) (exec B b) [] ans (subst (λ (ws : List Want). Follows Is no_part (seen ++ ws) (exec B b) [] ans) (sym (wants_back x.past)) h)))
 
   pub leads_end : (Is : UnreadBlock → Want → Type 0) (from at : Where) (store store' : Blocks) → Leads from at → IsGone lo hi Is B at store (Ok gone.End) → IsReached lo hi Is B from store' (Ok reached.End)
-  leads_end Is from at store store' lead g seen on = let x = lead seen on in follows_from Is seen (place_prog lo hi B from) (place_prog lo hi B at) at (Ok tt) x (g (seen ++ x.past) x.on)
+  leads_end Is from at store store' lead g seen on = let x = lead seen on in follows_from Is seen from at (Ok tt) x (g (seen ++ x.past) x.on)
 
   pub leads_err : (Is : UnreadBlock → Want → Type 0) (from at : Where) (store store' : Blocks) (f : TreeFault) → Leads from at → IsGone lo hi Is B at store (Err f) → IsReached lo hi Is B from store' (Err f)
-  leads_err Is from at store store' f lead g seen on = let x = lead seen on in follows_from Is seen (place_prog lo hi B from) (place_prog lo hi B at) at (Err (halt_of f)) x (g (seen ++ x.past) x.on)
+  leads_err Is from at store store' f lead g seen on = let x = lead seen on in follows_from Is seen from at (Err (halt_of f)) x (g (seen ++ x.past) x.on)
 
 pub gone_lent : (old new : Blocks) (x : _) (l : LeafAt) (after : Where) → x ≡ gone.Leaf l after → LendsGone old new (Ok x) → LendsLeafAt old new l
 gone_lent old new x l after e h = subst (λ y. LendsGone old new (Ok y)) e h

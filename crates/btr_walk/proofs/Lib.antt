@@ -10,7 +10,10 @@ pub mod Choosing
 pub mod Belows
 pub mod Entered
 pub mod Repeated
+pub mod Downs
+pub mod Nested
 pub mod Paths
+pub mod Joins
 pub mod Items
 pub mod Ranking
 pub mod Leads

@@ -20,17 +20,18 @@ use Rattle.btr_walk.specs.Spot.{is_below, judged}
 use Rattle.std.specs.List.{Contains}
 use Rattle.btr_base.specs.declared.key.Key.{Key}
 use Rattle.btr_walk.specs.declared.scan_place.ScanPlace.{ScanPlace}
-use Rattle.btr_walk.specs.Le.{TreeItem, tree_item, root_spot, want_of}
-use Rattle.btr_walk.specs.Range.{RangeProg, emit_all, range}
+use Rattle.btr_walk.specs.Le.{TreeItem, tree_item, want_of}
+use Rattle.btr_walk.specs.Range.{RangeProg, emit_all}
 use Rattle.btr_walk.specs.Reading.{UnreadBlock, Tells, unread_by, FaultCause, HasCause, halt_of}
 use Rattle.btr_walk.specs.Reading.{Map}
-use Rattle.btr_walk.specs.Scans.{wants, IsFrame, IsTodo, IsHeld, IsKept, items_in, kept_items}
+use Rattle.btr_walk.specs.Scans.{wants, IsHeld, IsKept, items_in, kept_items}
 use Rattle.btr_walk.specs.Showing.{item_of}
 use Rattle.btr_walk.specs.Lending.{base}
 use Rattle.btr_walk.specs.Advancing.{IsInHand, loan_of, hand_items, hand_prog, leaf_prog, left, HasItem, Meets, AdvancesBy, IsAdvanced}
 use Rattle.btr_walk.specs.Ranks.{IsShaped, rank, rank_leaf, rank_on, StepNears}
 use Rattle.btr_walk.specs.Going.{place_prog}
-use Rattle.btr_walk.specs.ScanEnds.{left_of, HoldsLeaf, WasMet, frame_of, Gives, IsNextOn, IsReady, Scanned, Paused, rank_of, from_key, IsFrom, sought_from, Sought}
+use Rattle.btr_walk.specs.Rejoining.{Rejoins}
+use Rattle.btr_walk.specs.ScanEnds.{left_of, HoldsLeaf, WasMet, frame_of, Gives, IsNextOn, IsReady, Scanned, Paused, rank_of, from_key, IsFrom, stays, joined_from, sought_from, Sought}
 use Rattle.btr_walk.proofs.Joined.{drawn, block_is}
 
 abbrev pub scan_at : Scan → ScanPlace → Option LeafAt → Scan
@@ -62,22 +63,22 @@ module _ (store new : Blocks) (scan : Scan) (taken : Option LeafAt) (is_taken : 
         (λ B h. f B (subst (λ l. IsAdvanced scan.lo scan.hi Is B scan.place l store new a) is_taken h)) c;
   }
 
-  of_err : (B : Map) (was : Type 0) (seen : List Want) (p : RangeProg) (f : TreeFault) (l : Option LeafAt) → AdvancesBy scan.lo scan.hi was Is B seen p new a.place l (Err f) → Follows Is no_part seen (exec B p) [] (Err (halt_of f))
+  of_err : (B : Map) (was : Type 0) (seen : List Want) (p : RangeProg) (f : TreeFault) (l : Option LeafAt) → AdvancesBy scan.lo scan.hi was Is B seen scan.place.rest p new a.place l (Err f) → Follows Is no_part seen (exec B p) [] (Err (halt_of f))
   of_err B was seen p f None h = h
   of_err B was seen p f (Some x) h = h
 
-  of_end : (B : Map) (was : Type 0) (seen : List Want) (p : RangeProg) (l : Option LeafAt) → AdvancesBy scan.lo scan.hi was Is B seen p new a.place l (Ok false) → Follows Is no_part seen (exec B p) [] (Ok tt)
+  of_end : (B : Map) (was : Type 0) (seen : List Want) (p : RangeProg) (l : Option LeafAt) → AdvancesBy scan.lo scan.hi was Is B seen scan.place.rest p new a.place l (Ok false) → Follows Is no_part seen (exec B p) [] (Ok tt)
   of_end B was seen p None h = h
   of_end B was seen p (Some x) h = h
 
   pub next_err : (f : TreeFault) → a.met ≡ Err f → leaf ≡ None → IsShaped scan.place.rest → SameLoans (base store (loan_of taken)) (base new (loan_of a.leaf)) → IfSome a.leaf (IsInHand new) → Tells store.layout before now (λ B. IsAdvanced scan.lo scan.hi Is B scan.place taken store new a) → Scanned store new scan (scan_at scan scan.place leaf) before now (Err f)
-  next_err f e free shaped others hand c = scanned scan.place (Err f) shaped (no_leaf scan leaf free) others hand (λ B h seen on. of_err B (HoldsLeaf B seen store scan) seen (left_of B store scan) f a.leaf (subst (λ m. AdvancesBy scan.lo scan.hi (HoldsLeaf B seen store scan) Is B seen (left_of B store scan) new a.place a.leaf m) e (h seen on))) c
+  next_err f e free shaped others hand c = scanned scan.place (Err f) shaped (no_leaf scan leaf free) others hand (λ B h seen on. of_err B (HoldsLeaf B seen store scan) seen (left_of B store scan) f a.leaf (subst (λ m. AdvancesBy scan.lo scan.hi (HoldsLeaf B seen store scan) Is B seen scan.place.rest (left_of B store scan) new a.place a.leaf m) e (h seen on))) c
 
   pub next_end : a.met ≡ Ok false → leaf ≡ None → IsShaped scan.place.rest → SameLoans (base store (loan_of taken)) (base new (loan_of a.leaf)) → IfSome a.leaf (IsInHand new) → Tells store.layout before now (λ B. IsAdvanced scan.lo scan.hi Is B scan.place taken store new a) → Scanned store new scan (scan_at scan scan.place leaf) before now (Ok None)
-  next_end e free shaped others hand c = scanned scan.place (Ok None) shaped (no_leaf scan leaf free) others hand (λ B h seen on. of_end B (HoldsLeaf B seen store scan) seen (left_of B store scan) a.leaf (subst (λ m. AdvancesBy scan.lo scan.hi (HoldsLeaf B seen store scan) Is B seen (left_of B store scan) new a.place a.leaf m) e (h seen on))) c
+  next_end e free shaped others hand c = scanned scan.place (Ok None) shaped (no_leaf scan leaf free) others hand (λ B h seen on. of_end B (HoldsLeaf B seen store scan) seen (left_of B store scan) a.leaf (subst (λ m. AdvancesBy scan.lo scan.hi (HoldsLeaf B seen store scan) Is B seen scan.place.rest (left_of B store scan) new a.place a.leaf m) e (h seen on))) c
 
   module _ (l : LeafAt) (there : leaf ≡ Some l) (found : Found) (block : List ℕ) (is : block_of new l.loan ≡ Some block) (at : (d : Item) → tree_item l.spot.addr (get_or (items block) (l.next - 1) d) ≡ item_of found) where
-    gives : (B : Map) (seen : List Want) → Meets scan.lo scan.hi (HoldsLeaf B seen store scan) B seen (left_of B store scan) new l a.place → Gives B seen store new scan (scan_at scan (in_hand a.place) leaf) found
+    gives : (B : Map) (seen : List Want) → Meets scan.lo scan.hi (HoldsLeaf B seen store scan) B seen scan.place.rest (left_of B store scan) new l a.place → Gives B seen store new scan (scan_at scan (in_hand a.place) leaf) found
     gives B seen m =
         let d : Item = record { key = scan.lo; offset = 0; size = 0; body = [] } in
         let here = block_is new l.loan block (λ b. (l.next ≤ length (items b)) × ((e : Item) → tree_item l.spot.addr (get_or (items b) (l.next - 1) e) ≡ m.item)) is m.at in
@@ -88,6 +89,7 @@ module _ (store new : Blocks) (scan : Scan) (taken : Option LeafAt) (is_taken : 
               ∙ ap (λ (i : TreeItem). prepend (wants m.past) (first (Does i) (exec B (left scan.lo scan.hi B new (Some l) (in_hand a.place))))) same
               ∙ ap (λ x. prepend (wants m.past) (first (Does (item_of found)) (exec B (left scan.lo scan.hi B new x (in_hand a.place))))) (sym there);
           on = record { rest = m.on; kept = tt };
+          under = m.under;
           held = λ w. subst (λ x. IfSome x (IsHeld B (seen ++ m.past) new)) (sym there) (m.held w);
           met = subst (λ x. IfSome x (WasMet new (item_of found))) (sym there) (subst (λ (i : TreeItem). WasMet new i l) same m.at);
         }
@@ -95,7 +97,7 @@ module _ (store new : Blocks) (scan : Scan) (taken : Option LeafAt) (is_taken : 
     pub next_item : a.met ≡ Ok true → IsShaped a.place → SameLoans (base store (loan_of taken)) (base new (loan_of a.leaf)) → IfSome a.leaf (IsInHand new) → Tells store.layout before now (λ B. IsAdvanced scan.lo scan.hi Is B scan.place taken store new a) → Scanned store new scan (scan_at scan (in_hand a.place) leaf) before now (Ok (Some found))
     next_item e shaped others hand c =
         scanned (in_hand a.place) (Ok (Some found)) shaped (free_leaf a.place leaf) others hand
-        (λ B h seen on. gives B seen (subst (λ x. AdvancesBy scan.lo scan.hi (HoldsLeaf B seen store scan) Is B seen (left_of B store scan) new a.place x (Ok true)) (sym is_leaf ∙ there) (subst (λ m. AdvancesBy scan.lo scan.hi (HoldsLeaf B seen store scan) Is B seen (left_of B store scan) new a.place a.leaf m) e (h seen on)))) c
+        (λ B h seen on. gives B seen (subst (λ x. AdvancesBy scan.lo scan.hi (HoldsLeaf B seen store scan) Is B seen scan.place.rest (left_of B store scan) new a.place x (Ok true)) (sym is_leaf ∙ there) (subst (λ m. AdvancesBy scan.lo scan.hi (HoldsLeaf B seen store scan) Is B seen scan.place.rest (left_of B store scan) new a.place a.leaf m) e (h seen on)))) c
 
 -- what is kept after a step
 pub keeps_end : (leaf leaf' : Option LeafAt) (met : Result Bool TreeFault) → leaf' ≡ leaf → met ≡ Ok false → HasItem leaf met → leaf' ≡ None
@@ -143,6 +145,7 @@ paused_none store scan leaf' e f = record {
   hi = refl;
   leaf = f;
   kept = subst (λ x. IfSome x (λ l. scan.place.leaf ≡ Some (frame_of l))) (sym e) tt;
+  rest = refl;
   rank = ap (λ l. rank_on scan.place l) (f ∙ sym e);
   program = λ B seen h. ap (λ l. left scan.lo scan.hi B store l scan.place) (f ∙ sym e);
   on = λ B seen h on. on;
@@ -174,6 +177,7 @@ module _ (store after : Blocks) (scan : Scan) (leaf' : Option LeafAt) (l : LeafA
     hi = refl;
     leaf = none;
     kept = subst (λ x. IfSome x (λ y. Some kept ≡ Some (frame_of y))) (sym is) refl;
+    rest = refl;
     rank = ap (λ x. 2 ^ 64 * rank scan.place.rest + rank_leaf x (Some kept)) none ∙ ap (λ x. 2 ^ 64 * rank scan.place.rest + rank_leaf x scan.place.leaf) (sym is);
     program = λ B seen h.
         let rest = place_prog scan.lo scan.hi B scan.place.rest in
@@ -197,13 +201,15 @@ module _ (store : Blocks) (scan : Scan) (key : Key) (l l' : LeafAt) (is : scan.l
       let rest = place_prog scan.lo scan.hi B scan.place.rest in
       ap (λ x. leaf_prog B store x scan.place.leaf rest) is_leaf
       ∙ ap (λ x. emit_all x rest) from.items
-      ∙ ap (λ b. cond b (emit_all (from_key key (hand_items (block_of store l.loan) l)) rest) (range key scan.hi scan.root)) (sym below)
+      ∙ ap (λ b. cond b (emit_all (from_key key (hand_items (block_of store l.loan) l)) rest) (joined_from B scan key)) (sym below)
 
   pub sought_in : Sought store store scan (scan_at scan scan.place leaf) key
   sought_in = record {
     root = refl;
     hi = refl;
     program = λ B. same_items B ∙ ap (sought_from B store scan key) (sym is);
+    anew = λ B u e. let no : true ≡ false = sym below ∙ (ap (λ x. stays x key) (sym is) ∙ e) in cc;
+    under = λ B u. u;
     on = λ B seen on. on;
     held = λ B seen h. subst (λ x. IfSome x (IsHeld B seen store)) (sym is_leaf) (held_from B seen (subst (λ x. IfSome x (IsHeld B seen store)) is h));
   }
@@ -233,39 +239,37 @@ module _ (store : Blocks) (scan : Scan) (key : Key) (l l' : LeafAt) (is : scan.l
 abbrev pub anew : Scan → Key → ScanPlace → Option LeafAt → Scan
 anew scan key place leaf = record { root = scan.root; lo = key; hi = scan.hi; place = place; leaf = leaf }
 
--- .. or begins anew
-pub sought_anew : (store new : Blocks) (scan : Scan) (key : Key) (place : ScanPlace) (leaf : Option LeafAt) → leaf ≡ None → place.leaf ≡ None → ((B : Map) → sought_from B store scan key scan.leaf ≡ range key scan.hi scan.root) → ((lo hi : Key) (B : Map) → place_prog lo hi B place.rest ≡ range lo hi scan.root) → ((k : ℕ) → get_or place.rest.path k None ≡ None) → place.rest.todo ≡ Some (record { level = scan.root.level; spot = root_spot scan.root }) → Sought store new scan (anew scan key place leaf) key
-sought_anew store new scan key place leaf none free is program clear todo = record {
+-- .. or below a node of its path, or at the root
+pub sought_anew : (store new : Blocks) (scan : Scan) (key : Key) (place : ScanPlace) (leaf : Option LeafAt) → leaf ≡ None → place.leaf ≡ None → ((B : Map) → sought_from B store scan key scan.leaf ≡ joined_from B scan key) → Rejoins scan.root key scan.place.rest place.rest → Sought store new scan (anew scan key place leaf) key
+sought_anew store new scan key place leaf none free is joins = record {
   root = refl;
   hi = refl;
-  program = λ B.
-      let rest = place_prog key scan.hi B place.rest in
-      ap (λ x. leaf_prog B new x place.leaf rest) none ∙ ap (λ x. leaf_prog B new None x rest) free ∙ program key scan.hi B ∙ sym (is B);
-  on = λ B seen on. record {
-    rest = record {
-      frames = λ k. subst (λ x. IfSome x (IsFrame key scan.hi B seen (k + 1))) (sym (clear k)) tt;
-      above = subst (λ t. IfSome t (λ t. (k : ℕ) → k < t.level → get_or place.rest.path k None ≡ None)) (sym todo) (λ k lt. clear k);
-      up = subst (IsTodo key scan.hi) (sym todo) refl;
-    };
-    kept = subst (λ x. IfSome x (IsKept B seen)) (sym free) tt;
-  };
+  program = λ B. program B ∙ sym (is B);
+  anew = λ B u e. let p = joins.past scan.hi B u in (p.0, p.1 ∙ ap (λ x. prepend (wants p.0) (exec B x)) (sym (program B)));
+  under = λ B u. joins.under scan.hi B u;
+  on = λ B seen on. record { rest = joins.along scan.lo scan.hi B seen on.rest; kept = subst (λ x. IfSome x (IsKept B seen)) (sym free) tt };
   held = λ B seen h. subst (λ x. IfSome x (IsHeld B seen new)) (sym none) tt;
 }
+  where
+    program : (B : Map) → left_of B new (anew scan key place leaf) ≡ joined_from B scan key
+    program B =
+        let rest = place_prog key scan.hi B place.rest in
+        ap (λ x. leaf_prog B new x place.leaf rest) none ∙ ap (λ x. leaf_prog B new None x rest) free ∙ joins.program scan.hi B
 
-pub anew_ready : (now : Seen) (store new : Blocks) (scan : Scan) (key : Key) (place : ScanPlace) (leaf : Option LeafAt) → leaf ≡ None → IsShaped place.rest → (Serves now store → Serves now new) → IsReady now store scan → IsReady now new (anew scan key place leaf)
-anew_ready now store new scan key place leaf none shaped serves r = record {
+pub anew_ready : (now : Seen) (store new : Blocks) (scan : Scan) (key : Key) (place : ScanPlace) (leaf : Option LeafAt) → leaf ≡ None → Rejoins scan.root key scan.place.rest place.rest → (Serves now store → Serves now new) → IsReady now store scan → IsReady now new (anew scan key place leaf)
+anew_ready now store new scan key place leaf none joins serves r = record {
   serves = serves r.serves;
   hand = subst (λ x. IfSome x (IsInHand new)) (sym none) tt;
-  shaped = shaped;
+  shaped = joins.shaped r.shaped;
   alone = subst (λ x. IfSome x (λ y. place.leaf ≡ None)) (sym none) tt;
 }
 
 -- the key isn't in the leaf in hand
-pub no_hand : (B : Map) (store : Blocks) (scan : Scan) (key : Key) (leaf : Option LeafAt) → leaf ≡ None → scan.leaf ≡ leaf → sought_from B store scan key scan.leaf ≡ range key scan.hi scan.root
+pub no_hand : (B : Map) (store : Blocks) (scan : Scan) (key : Key) (leaf : Option LeafAt) → leaf ≡ None → scan.leaf ≡ leaf → sought_from B store scan key scan.leaf ≡ joined_from B scan key
 no_hand B store scan key leaf none is = ap (sought_from B store scan key) (is ∙ none)
 
-pub past_hand : (B : Map) (store : Blocks) (scan : Scan) (key : Key) (l : LeafAt) → scan.leaf ≡ Some l → is_below l.spot.up key ≡ false → sought_from B store scan key scan.leaf ≡ range key scan.hi scan.root
+pub past_hand : (B : Map) (store : Blocks) (scan : Scan) (key : Key) (l : LeafAt) → scan.leaf ≡ Some l → is_below l.spot.up key ≡ false → sought_from B store scan key scan.leaf ≡ joined_from B scan key
 past_hand B store scan key l is past =
     let rest = place_prog scan.lo scan.hi B scan.place.rest in
     ap (sought_from B store scan key) is
-    ∙ ap (λ b. cond b (emit_all (from_key key (hand_items (block_of store l.loan) l)) rest) (range key scan.hi scan.root)) past
+    ∙ ap (λ b. cond b (emit_all (from_key key (hand_items (block_of store l.loan) l)) rest) (joined_from B scan key)) past

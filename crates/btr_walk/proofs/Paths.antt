@@ -27,7 +27,8 @@ use Rattle.btr_walk.specs.Scans.{part_items, todo_prog, frame_prog, frame_or_res
 use Rattle.btr_walk.specs.Entering.{IsEntered, HasLevel}
 use Rattle.btr_walk.specs.Again.{IsAgain}
 use Rattle.btr_walk.proofs.Halting.{need_halts, named}
-use Rattle.btr_walk.specs.Going.{path_prog, place_prog, IsAlong, Comes, ComesTo, IsGone}
+use Rattle.btr_walk.proofs.Nested.{bound_set, under_set}
+use Rattle.btr_walk.specs.Going.{LieBehind, LeadsTo, IsUnder, path_prog, place_prog, IsAlong, Comes, ComesTo, IsGone}
 
 module _ (lo hi : Key) (B : Map) where
   -- places of a path that have no frame
@@ -50,13 +51,13 @@ module _ (lo hi : Key) (B : Map) where
       ∙ ap (λ l. frame_or_rest lo hi B l o (path_prog lo hi B l (drop (suc i) fs))) e
 
   -- what comes behind the frame at a place
-  abbrev behind : ℕ → List (Option Frame) → RangeProg
+  abbrev pub behind : ℕ → List (Option Frame) → RangeProg
   behind i fs = path_prog lo hi B (i + 1) (drop (suc i) fs)
 
   path_set : (i : ℕ) (fs : List (Option Frame)) (o : Option Frame) → i < length fs → ((k : ℕ) → k < i → get_or fs k None ≡ None) → path_prog lo hi B 0 (set fs i o) ≡ frame_or_rest lo hi B (i + 1) o (behind i fs)
   path_set i fs o lt h = let e : 0 + i + 1 ≡ i + 1 = omega arith in path_set_at 0 i fs o lt h ∙ ap (λ l. frame_or_rest lo hi B l o (path_prog lo hi B l (drop (suc i) fs))) e
 
-  path_bare : (i : ℕ) (fs : List (Option Frame)) → i < length fs → ((k : ℕ) → k < suc i → get_or fs k None ≡ None) → path_prog lo hi B 0 fs ≡ behind i fs
+  pub path_bare : (i : ℕ) (fs : List (Option Frame)) → i < length fs → ((k : ℕ) → k < suc i → get_or fs k None ≡ None) → path_prog lo hi B 0 fs ≡ behind i fs
   path_bare i fs lt h = let e : 0 + suc i ≡ i + 1 = omega arith in path_clear 0 (suc i) fs (omega (arith, lt)) h ∙ ap (λ l. path_prog lo hi B l (drop (suc i) fs)) e
 
   pub path_none : (m : ℕ) (fs : List (Option Frame)) → ((k : ℕ) → get_or fs k None ≡ None) → path_prog lo hi B m fs ≡ Return tt
@@ -105,13 +106,14 @@ module _ (lo hi : Key) (B : Map) where
   pub gone_leaf : (Is : UnreadBlock → Want → Type 0) (path : List (Option Frame)) (todo : Todo) (store : Blocks) (l : LeafAt) → IsEntered lo hi Is B todo store (Ok (entered.Leaf l)) → IsGone lo hi Is B (record { path = path; todo = Some todo }) store (Ok (Leaf l (record { path = path; todo = None })))
   gone_leaf Is path todo store l h seen on = some_more (block_of store l.loan) h.0
     where
-      some_more : (o : Option (List ℕ)) → IsSomeAnd o (λ block. (rest : RangeProg) → exec B (range_at lo hi todo.level todo.spot rest) ≡ first (Wants (want_of todo.level todo.spot)) (exec B (emit_all (part_items l.spot.addr block l.next l.end) rest))) → IsSomeAnd o (λ block. ComesTo lo hi B seen (place_prog lo hi B (record { path = path; todo = Some todo })) (emit_all (part_items l.spot.addr block l.next l.end) (place_prog lo hi B (record { path = path; todo = None }))) (record { path = path; todo = None }) store l)
+      some_more : (o : Option (List ℕ)) → IsSomeAnd o (λ block. (rest : RangeProg) → exec B (range_at lo hi todo.level todo.spot rest) ≡ first (Wants (want_of todo.level todo.spot)) (exec B (emit_all (part_items l.spot.addr block l.next l.end) rest))) → IsSomeAnd o (λ block. ComesTo lo hi B seen (record { path = path; todo = Some todo }) (emit_all (part_items l.spot.addr block l.next l.end) (place_prog lo hi B (record { path = path; todo = None }))) (record { path = path; todo = None }) store l)
       some_more None g = absurd g
       some_more (Some block) g = record {
         comes = record {
           past = want_of todo.level todo.spot ∷ [];
           is = g (path_prog lo hi B 0 path);
-          on = record { frames = λ k. seen_if seen (want_of todo.level todo.spot ∷ []) (k + 1) (get_or path k None) (on.frames k); above = tt; up = tt };
+          on = record { frames = λ k. seen_if seen (want_of todo.level todo.spot ∷ []) (k + 1) (get_or path k None) (on.frames k); above = tt; up = record { todo = tt; below = tt; nodes = on.up.nodes } };
+          under = λ root u. record { todo = tt; nodes = u.nodes };
         };
         held = h.1 (seen ++ (want_of todo.level todo.spot ∷ [])) (last_read seen (want_of todo.level todo.spot));
       }
@@ -124,7 +126,7 @@ module _ (lo hi : Key) (B : Map) where
       let within : i < length path = omega (arith, long, some, few) in
       let level : i + 1 ≡ todo.level = omega (arith, some) in
       let clear : (k : ℕ) → k < i → get_or path k None ≡ None = λ k lt. on.above k (omega (arith, lt)) in
-      let e = h on.up in
+      let e = h on.up.todo in
       let new : path_prog lo hi B 0 path' ≡ frame_or_rest lo hi B todo.level b.frame (behind i path) =
       ap (path_prog lo hi B 0) set_is ∙ path_set i path b.frame within clear ∙ ap (λ x. frame_or_rest lo hi B x b.frame (behind i path)) level in
       let old : path_prog lo hi B 0 path ≡ behind i path = path_bare i path within (λ k lt. on.above k (omega (arith, lt, level))) in
@@ -134,8 +136,10 @@ module _ (lo hi : Key) (B : Map) where
         on = subst (λ x. IsAlong lo hi B (seen ++ (w ∷ [])) (record { path = x; todo = b.todo })) (sym set_is) (record {
           frames = frames_set seen (w ∷ []) path i b.frame within on.frames (subst (λ (x : ℕ). IfSome b.frame (IsFrame lo hi B (seen ++ (w ∷ [])) x)) (sym level) (e.1 (seen ++ (w ∷ [])) (last_read seen w)));
           above = above_set path i b.frame b.todo clear (lower b.todo todo.level i refl e.3);
-          up = e.2;
+          up = bound_set path i b.frame within clear hi B todo.level (sym level) todo.spot e.5 lo b.todo e.2 e.3 e.4 on.up.below on.up.nodes;
         });
+        under = λ root u. subst (λ x. IsUnder root hi B (record { path = x; todo = b.todo })) (sym set_is)
+            (under_set path i b.frame within clear hi B todo.level (sym level) todo.spot e.5 root b.todo e.3 e.4 u.todo u.nodes);
       }
 
   -- no block is to be read, and no node has more
@@ -145,6 +149,7 @@ module _ (lo hi : Key) (B : Map) where
   -- a node is read again
   pub gone_again : (Is : UnreadBlock → Want → Type 0) (path : List (Option Frame)) (i level : ℕ) (frame : Frame) (store : Blocks) (b : Below) (path' : List (Option Frame)) → length path ≡ 7 → i < 7 → level ≡ i + 1 → ((k : ℕ) → k < i → get_or path k None ≡ None) → get_or path i None ≡ Some frame → path' ≡ set path i b.frame → IsAgain lo hi Is B level frame (Ok b) → IsGone lo hi Is B (record { path = path; todo = None }) store (Ok (Between (record { path = path'; todo = b.todo })))
   gone_again Is path i level frame store b path' long lt level_is clear here set_is h seen on =
+      let node_here : (Q : ℕ → Spot → Type 0) → ((k : ℕ) → IfSome (get_or path k None) (λ f. Q (k + 1) f.spot)) → Q level frame.spot = λ Q nodes. subst (λ (x : ℕ). Q x frame.spot) (sym level_is) (subst (λ o. IfSome o (λ f. Q (i + 1) f.spot)) here (nodes i)) in
       let within : i < length path = omega (arith, long, lt) in
       let f : IsFrame lo hi B seen level frame = subst (λ (x : ℕ). IsFrame lo hi B seen x frame) (sym level_is) (subst (λ o. IfSome o (IsFrame lo hi B seen (i + 1))) here (on.frames i)) in
       let a = h seen f in
@@ -157,8 +162,10 @@ module _ (lo hi : Key) (B : Map) where
         on = subst (λ x. IsAlong lo hi B (seen ++ []) (record { path = x; todo = b.todo })) (sym set_is) (record {
           frames = frames_set seen [] path i b.frame within on.frames (seen_if seen [] (i + 1) b.frame (subst (λ (x : ℕ). IfSome b.frame (IsFrame lo hi B seen x)) level_is a.frame_is));
           above = above_set path i b.frame b.todo clear (lower b.todo level i (omega (arith, level_is)) a.level_is);
-          up = a.up;
+          up = bound_set path i b.frame within clear hi B level level_is frame.spot a.spot lo b.todo a.up a.level_is a.down (node_here (λ n s. LieBehind B path n s) on.up.nodes) on.up.nodes;
         });
+        under = λ root u. subst (λ x. IsUnder root hi B (record { path = x; todo = b.todo })) (sym set_is)
+            (under_set path i b.frame within clear hi B level level_is frame.spot a.spot root b.todo a.level_is a.down (node_here (λ n s. LeadsTo root hi B n s (drop n path)) u.nodes) u.nodes);
       }
 
   -- a block that could not be had

@@ -26,7 +26,7 @@ use Rattle.btr_walk.proofs.Ways.{IsLeafAt, IsInnerAt, at, at_leaf, down_at}
 
 module _ {X : Type 0} (key_of : X → Key) where
   -- all entries stand above what the first stands above
-  all_above : (other : Key) (x : X) (xs : List X) → ascends (map key_of (x ∷ xs)) ≡ true → key_number other < key_number (key_of x) → All (λ y. key_number other < key_number (key_of y)) (x ∷ xs)
+  pub all_above : (other : Key) (x : X) (xs : List X) → ascends (map key_of (x ∷ xs)) ≡ true → key_number other < key_number (key_of x) → All (λ y. key_number other < key_number (key_of y)) (x ∷ xs)
   all_above other x [] up lt = All-cons (λ y. key_number other < key_number (key_of y)) x [] lt (All-nil (λ y. key_number other < key_number (key_of y)))
   all_above other x (y ∷ ys) up lt =
       let parts = and_parts (key_lt (key_of x) (key_of y)) (ascends (map key_of (y ∷ ys))) up in
@@ -48,7 +48,7 @@ module _ {X : Type 0} (key_of : X → Key) where
   below_from up (suc n) (x ∷ xs) all = below_from up n xs (and_parts (is_below up (key_of x)) (list_all (is_below up) (map key_of xs)) all).1
 
 -- a key below one that is below a bound
-below_less : (up : Option Key) (a b : Key) → key_lt a b ≡ true → is_below up b ≡ true → is_below up a ≡ true
+pub below_less : (up : Option Key) (a b : Key) → key_lt a b ≡ true → is_below up b ≡ true → is_below up a ≡ true
 below_less None a b less e = refl
 below_less (Some up) a b less e =
     let first : key_number a < key_number b = ltb-true _ _ less in
@@ -56,7 +56,7 @@ below_less (Some up) a b less e =
     lt-ltb _ _ (omega (arith, first, second))
 
 -- what a judged block holds fits its spot
-fits_of : (spot : Spot) (node : Node) (b : Bool) (o : Option Node) → cond b (fitting spot o) None ≡ Some node → fits spot (keys_of node) ≡ true
+pub fits_of : (spot : Spot) (node : Node) (b : Bool) (o : Option Node) → cond b (fitting spot o) None ≡ Some node → fits spot (keys_of node) ≡ true
 fits_of spot node true None e = absurd (cc e)
 fits_of spot node true (Some found) e = here (fits spot (keys_of found)) refl e
   where

@@ -73,6 +73,7 @@ rests_is old new scan paused p ready = record {
   root = p.root;
   lo = p.lo;
   hi = p.hi;
+  path = p.rest;
   rank = ap (rank_on paused.place) (sym p.leaf) ∙ p.rank;
   shaped = λ rack h. (ready rack h).shaped;
   some = some_kept scan.leaf paused.place.leaf p.kept;

@@ -19,7 +19,7 @@ use Rattle.btr_walk.specs.Spot.{is_below}
 use Rattle.btr_walk.specs.Le.{want_of}
 use Rattle.btr_walk.specs.Range.{RangeProg, emit_all, over, range_at}
 use Rattle.btr_walk.specs.Reading.{Map, UnreadBlock, Reads}
-use Rattle.btr_walk.specs.Scans.{part_items, todo_prog, frame_or_rest, IsFrame, IsTodo, IsHeld}
+use Rattle.btr_walk.specs.Scans.{part_items, todo_prog, frame_or_rest, IsFrame, IsTodo, IsHeld, IsPick, IsDown}
 
 module _ (lo hi : Key) where
   abbrev pub rest_of : (Spot → RangeProg → RangeProg) → List KeyPointer → Option Frame → RangeProg → RangeProg
@@ -47,6 +47,7 @@ module _ (lo hi : Key) where
     pub fits : IfSome below.frame (λ f. (0 < f.next) × (f.next < f.end) × (f.end < 2 ^ 64))
     pub level : IfSome below.todo (λ t. t.level ≡ todo.level - 1)
     pub up : is_below todo.spot.up lo ≡ true → IsTodo lo hi below.todo
+    pub pick : IfSome below.todo (λ t. IsPick hi ps todo.spot below.frame t.spot)
 
   -- a block was read: the program of its spot is the want, and then what it has
   abbrev pub IsEntered : (UnreadBlock → Want → Type 0) → Map → Todo → Blocks → Result Entered TreeFault → Type 0
@@ -59,6 +60,8 @@ module _ (lo hi : Key) where
       × ((seen : List Want) → Contains seen (want_of todo.level todo.spot) → IfSome b.frame (IsFrame lo hi B seen todo.level))
       × IsTodo lo hi b.todo
       × IfSome b.todo (λ t. t.level ≡ todo.level - 1)
+      × IfSome b.todo (λ t. IsDown hi B todo.level todo.spot b.frame t.spot)
+      × IfSome b.frame (λ f. f.spot ≡ todo.spot)
   IsEntered Is B todo store (Err f) = Reads Is B todo.level todo.spot store (Err f)
 
 -- a leaf that is lent

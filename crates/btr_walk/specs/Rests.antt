@@ -60,6 +60,7 @@ pub record Rests (store : Blocks) (scan : Scan) (rest : Rest) : Type 0 where
   pub root : rest.root ≡ scan.root
   pub lo : rest.lo ≡ scan.lo
   pub hi : rest.hi ≡ scan.hi
+  pub path : rest.place.rest ≡ scan.place.rest
   pub rank : rank_left rest ≡ rank_of scan
   pub shaped : (rack : Seen) → IsReady rack store scan → IsShaped rest.place.rest
   pub program : (B : Map) (seen : List Want) → HoldsLeaf B seen store scan → rest_left B rest ≡ left_of B store scan

@@ -1,5 +1,5 @@
 -- What a scan and its store are after a step.
-use Rattle.std.specs.Prelude.{◌≡◌, ℕ, ◌-◌, ◌<◌, ◌≤◌, ◌++◌, List, length, filter, slice_index_or, if◌then◌else◌, [], Option, Some, None, IfSome, IsSomeAnd, Result, Ok, Err, ⊤}
+use Rattle.std.specs.Prelude.{◌≡◌, ℕ, ◌-◌, ◌<◌, ◌≤◌, ◌++◌, Bool, false, List, length, filter, slice_index_or, if◌then◌else◌, [], Option, Some, None, IfSome, IsSomeAnd, Result, Ok, Err, ⊤}
 use Rattle.std.specs.Borrow.{follows_so, MutBor, Fml}
 use mathlib.Core.Option.{none}
 use Rattle.btr_base.specs.Key.{key_le}
@@ -16,6 +16,7 @@ use Rattle.btr_walk.specs.declared.entering.LeafAt.{LeafAt}
 use Rattle.btr_walk.specs.declared.fault.TreeFault.{TreeFault}
 use Rattle.btr_walk.specs.declared.found.Found.{Found}
 use Rattle.btr_walk.specs.declared.frame.Frame.{Frame}
+use Rattle.btr_walk.specs.declared.place.RootPlace.{RootPlace}
 use Rattle.btr_walk.specs.declared.scan.Scan.{Scan}
 use Rattle.btr_walk.specs.Spot.{is_below}
 use Rattle.btr_walk.specs.Le.{TreeItem, tree_item}
@@ -24,7 +25,7 @@ use Rattle.btr_walk.specs.Scans.{wants, IsHeld}
 use Rattle.btr_walk.specs.Range.{RangeProg, emit_all, range}
 use Rattle.btr_walk.specs.Showing.{item_of}
 use Rattle.btr_walk.specs.Lending.{base}
-use Rattle.btr_walk.specs.Going.{place_prog, IsOn}
+use Rattle.btr_walk.specs.Going.{place_prog, IsPast, rejoined, IsOn, IsUnder}
 use Rattle.btr_walk.specs.Ranks.{IsShaped, rank_on}
 use Rattle.btr_walk.specs.Advancing.{IsInHand, loan_of, hand_items, left}
 
@@ -45,6 +46,7 @@ pub record Gives (B : Map) (seen : List Want) (old new : Blocks) (scan scan' : S
   pub past : List Want
   pub is : exec B (left_of B old scan) ≡ prepend (wants past) (first (Does (item_of found)) (exec B (left_of B new scan')))
   pub on : IsOn scan.lo scan.hi B (seen ++ past) scan'.place
+  pub under : (root : RootPlace) → IsUnder root scan.hi B scan.place.rest → IsUnder root scan.hi B scan'.place.rest
   pub held : HoldsLeaf B seen old scan → HoldsLeaf B (seen ++ past) new scan'
   pub met : IfSome scan'.leaf (WasMet new (item_of found))
 
@@ -103,17 +105,29 @@ pub record IsFrom (store : Blocks) (l : LeafAt) (key : Key) (l' : LeafAt) : Type
   pub fewer : l'.end - l'.next ≤ l.end - l.next
   pub items : hand_items (block_of store l'.loan) l' ≡ from_key key (hand_items (block_of store l.loan) l)
 
--- what is left from a key on: where the leaf in hand ends behind it, its items from the key on, and then what comes behind the
--- leaf; else what a new scan gives
-abbrev pub sought_from : Map → Blocks → Scan → Key → Option LeafAt → RangeProg
-sought_from B store scan key None = range key scan.hi scan.root
-sought_from B store scan key (Some l) = if is_below l.spot.up key then emit_all (from_key key (hand_items (block_of store l.loan) l)) (place_prog scan.lo scan.hi B scan.place.rest) else range key scan.hi scan.root
+-- a leaf in hand ends behind a key
+abbrev pub stays : Option LeafAt → Key → Bool
+stays None key = false
+stays (Some l) key = is_below l.spot.up key
 
--- a scan goes on at a key
+-- what is left from a key on, with no leaf in hand: what the lowest node of the path that the key is in has from it on, and what is to
+-- come of the nodes above; where it is in none, what a new scan gives
+abbrev pub joined_from : Map → Scan → Key → RangeProg
+joined_from B scan key = rejoined key scan.hi B 0 scan.place.rest.path (range key scan.hi scan.root)
+
+-- the same where a leaf may be in hand: where it ends behind the key, its items from the key on, and then what comes behind the leaf
+abbrev pub sought_from : Map → Blocks → Scan → Key → Option LeafAt → RangeProg
+sought_from B store scan key None = joined_from B scan key
+sought_from B store scan key (Some l) = if is_below l.spot.up key then emit_all (from_key key (hand_items (block_of store l.loan) l)) (place_prog scan.lo scan.hi B scan.place.rest) else joined_from B scan key
+
+-- a scan goes on at a key. Where it doesn't stay in its leaf, what is left is what a new scan from the key gives, past some wants: the
+-- nodes above the one that it goes on from are not read again
 pub record Sought (old new : Blocks) (scan scan' : Scan) (key : Key) : Type 0 where
   pub root : scan'.root ≡ scan.root
   pub hi : scan'.hi ≡ scan.hi
   pub program : (B : Map) → left_of B new scan' ≡ sought_from B old scan key scan.leaf
+  pub anew : (B : Map) → IsUnder scan.root scan.hi B scan.place.rest → stays scan.leaf key ≡ false → IsPast B (range key scan.hi scan.root) (left_of B new scan')
+  pub under : (B : Map) → IsUnder scan.root scan.hi B scan.place.rest → IsUnder scan.root scan.hi B scan'.place.rest
   pub on : (B : Map) (seen : List Want) → IsOn scan.lo scan.hi B seen scan.place → IsOn scan'.lo scan'.hi B seen scan'.place
   pub held : (B : Map) (seen : List Want) → HoldsLeaf B seen old scan → HoldsLeaf B seen new scan'
 
@@ -128,6 +142,7 @@ pub record Paused (old new : Blocks) (scan scan' : Scan) : Type 0 where
   pub hi : scan'.hi ≡ scan.hi
   pub leaf : scan'.leaf ≡ None
   pub kept : IfSome scan.leaf (λ l. scan'.place.leaf ≡ Some (frame_of l))
+  pub rest : scan'.place.rest ≡ scan.place.rest
   pub rank : rank_of scan' ≡ rank_of scan
   pub program : (B : Map) (seen : List Want) → HoldsLeaf B seen old scan → left_of B new scan' ≡ left_of B old scan
   pub on : (B : Map) (seen : List Want) → HoldsLeaf B seen old scan → IsOn scan.lo scan.hi B seen scan.place → IsOn scan.lo scan.hi B seen scan'.place

@@ -1,5 +1,5 @@
 -- What a scan has still to give.
-use Rattle.std.specs.Prelude.{◌≡◌, ℕ, ◌+◌, ◌-◌, ◌<◌, ◌≤◌, true, List, [], ◌∷◌, length, take, drop, map, All, Option, Some, None, IfSome, Result, Ok, Err}
+use Rattle.std.specs.Prelude.{◌≡◌, ℕ, ◌+◌, ◌-◌, ◌<◌, ◌≤◌, true, List, [], ◌∷◌, length, take, drop, map, All, slice_index_or, Option, Some, None, IfSome, Result, Ok, Err}
 use Rattle.std.specs.List.{Contains}
 use Rattle.btr_base.specs.Key.{key_number}
 use Rattle.btr_base.specs.declared.key.Key.{Key}
@@ -13,8 +13,9 @@ use Rattle.btr_walk.specs.declared.choice.Part.{Part}
 use Rattle.btr_walk.specs.declared.entering.LeafAt.{LeafAt}
 use Rattle.btr_walk.specs.declared.frame.Frame.{Frame}
 use Rattle.btr_walk.specs.declared.frame.Todo.{Todo}
+use Rattle.btr_walk.specs.declared.spot.Spot.{Spot}
 use Rattle.btr_walk.specs.Spot.{is_below, judged}
-use Rattle.btr_walk.specs.Le.{TreeItem, tree_item, want_of}
+use Rattle.btr_walk.specs.Le.{TreeItem, tree_item, below, up_of, want_of}
 use Rattle.btr_walk.specs.Range.{RangeProg, over, range_at}
 use Rattle.btr_walk.specs.Reading.{Map}
 
@@ -76,6 +77,31 @@ module _ (lo hi : Key) where
   -- a block that is to be read ends behind lo
   abbrev pub IsTodo : Option Todo → Type 0
   IsTodo todo = IfSome todo (λ t. is_below t.spot.up lo ≡ true)
+
+-- what a node keeps behind the child at a place: a frame from the next child on, or nothing where all behind begin above hi
+abbrev pub KeepsLater : Key → List KeyPointer → Spot → ℕ → Option Frame → Type 0
+KeepsLater hi ps node at None = All (λ p. key_number hi < key_number p.key) (drop (at + 1) ps)
+KeepsLater hi ps node at (Some frame) = (frame.spot ≡ node) × (frame.next ≡ at + 1)
+
+-- a child of a node with these pointers, and what the node keeps behind it
+pub record IsPick (hi : Key) (ps : List KeyPointer) (node : Spot) (frame : Option Frame) (child : Spot) : Type 0 where
+  pub at : ℕ
+  pub there : at < length ps
+  pub spot : (d : KeyPointer) → child ≡ below (slice_index_or ps at d) (up_of (drop (at + 1) ps) node.up)
+  pub low : (d : KeyPointer) → key_number (slice_index_or ps at d).key ≤ key_number hi
+  pub later : KeepsLater hi ps node at frame
+
+-- .. of a node that was read
+pub record IsDown (hi : Key) (B : Map) (level : ℕ) (node : Spot) (frame : Option Frame) (child : Spot) : Type 0 where
+  pub block : List ℕ
+  pub came : B (want_of level node) ≡ Ok block
+  pub is : judged level node block ≡ Some (Inner (pointers block))
+  pub pick : IsPick hi (pointers block) node frame child
+
+-- a frame's node ends behind a key, and its children that are still to come begin behind it
+pub record IsBehind (B : Map) (key : Key) (level : ℕ) (frame : Frame) : Type 0 where
+  pub up : is_below frame.spot.up key ≡ true
+  pub next : All (λ p. key_number key < key_number p.key) (drop frame.next (pointers_in (B (want_of level frame.spot))))
 
 abbrev pub wants : List Want → List (Mark Want TreeItem)
 wants [] = []

@@ -1,10 +1,11 @@
 // Where a scan begins.
-ghost use Rattle.std.specs.Prelude.{◌≡◌, ℕ, [], None, Some, slice_index_or};
+ghost use Rattle.std.specs.Prelude.{◌≡◌, ℕ, List, None, Some, slice_index_or};
 ghost use Rattle.btr_base.specs.declared.key.Key.{Key};
 ghost use Rattle.btr_walk.specs.Le.{root_spot};
 ghost use Rattle.btr_walk.specs.Range.{range};
 ghost use Rattle.btr_walk.specs.Reading.{Map};
-ghost use Rattle.btr_walk.specs.Going.{IsAlong, place_prog};
+ghost use Rattle.btr_read.specs.declared.want.Want.{Want};
+ghost use Rattle.btr_walk.specs.Going.{IsAlong, IsUnder, place_prog};
 ghost use Rattle.btr_walk.specs.Ranks.{IsShaped};
 
 use crate::RootPlace;
@@ -19,7 +20,8 @@ pub(crate) fn begin(root: &RootPlace) -> Where
     ensures todo { result.todo ≡ Some (record { level = root.now.level; spot = root_spot root.now }) }
     ensures path { (k : ℕ) → slice_index_or result.path k None ≡ None }
     ensures shaped { IsShaped result }
-    ensures on { (lo hi : Key) (B : Map) → IsAlong lo hi B [] result }
+    ensures on { (lo hi : Key) (B : Map) (seen : List Want) → IsAlong lo hi B seen result }
+    ensures under { (hi : Key) (B : Map) → IsUnder root.now hi B result }
 {
     let spot = Spot {
         addr: root.addr,

@@ -1,7 +1,7 @@
 // Whether a block fits its place.
 ghost use Rattle.std.specs.Prelude.{◌≡◌, ◌≤◌, length};
 ghost use Rattle.std.specs.Option.{is_some};
-ghost use Rattle.btr_walk.specs.Spot.{fits_ends, is_below, judged};
+ghost use Rattle.btr_walk.specs.Spot.{fits_ends, is_below, judged, spans};
 
 use crate::spot::Spot;
 use btr_base::Key;
@@ -16,6 +16,17 @@ impl Spot {
             None => true,
             Some(up) => key.is_before(up),
         }
+    }
+
+    // Whether the key is at or behind the one that its pointer states, and the block may have it.
+    pub(crate) fn spans(&self, key: Key) -> bool
+        ensures { result ≡ spans self.now key }
+    {
+        let begins = match self.first {
+            None => true,
+            Some(first) => !key.is_before(first),
+        };
+        begins && self.ends_behind(key)
     }
 
     // Whether a block whose first and last key are these fits.

@@ -28,6 +28,7 @@ mod path;
 mod place;
 mod preorder;
 mod reading;
+mod rejoining;
 mod rest;
 mod scan;
 mod scan_place;

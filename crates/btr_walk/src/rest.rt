@@ -4,7 +4,7 @@ ghost use Rattle.btr_rack.specs.Rack.{Seen, OnlyReads};
 ghost use Rattle.btr_read.specs.Serves.{Serves};
 ghost use Rattle.btr_read.specs.Store.{SameLoans, free_count};
 ghost use Rattle.btr_walk.specs.Advancing.{IsInHand};
-ghost use Rattle.btr_walk.specs.Going.{IsOn};
+ghost use Rattle.btr_walk.specs.Going.{IsOn, IsUnder};
 ghost use Rattle.btr_walk.specs.Range.{range};
 ghost use Rattle.btr_walk.specs.Ranks.{IsShaped};
 ghost use Rattle.btr_walk.specs.Reading.{Map, Tells, HasCause, unread_by};
@@ -59,6 +59,7 @@ impl Rest {
         ensures shaped { IsShaped result.place.rest }
         ensures program { (B : Map) → rest_left B result ≡ range lo hi root.now }
         ensures on { (B : Map) → IsOn lo hi B [] result.place }
+        ensures under { (B : Map) → IsUnder root.now hi B result.place.rest }
     {
         Rest {
             root: *root,

@@ -10,7 +10,7 @@ ghost use Rattle.btr_read.specs.Store.{Blocks};
 ghost use Rattle.btr_walk.specs.Range.{range};
 ghost use Rattle.btr_walk.specs.Reading.{Map, HasCause};
 ghost use Rattle.btr_base.specs.declared.key.Key.{Key};
-ghost use Rattle.btr_walk.specs.Going.{IsOn, place_prog};
+ghost use Rattle.btr_walk.specs.Going.{IsOn, IsUnder, place_prog};
 ghost use Rattle.btr_walk.specs.Le.{root_spot};
 ghost use Rattle.btr_walk.specs.Ranks.{IsShaped};
 ghost use Rattle.btr_rack.specs.Rack.{Seen};
@@ -21,6 +21,7 @@ use crate::begin::begin;
 use crate::entering::LeafAt;
 use crate::finding::found_at;
 use crate::frame::Frame;
+use crate::rejoining::rejoin;
 use crate::scan_place::ScanPlace;
 use crate::{Found, RootPlace, TreeFault};
 use btr_base::Key;
@@ -46,6 +47,7 @@ fn before_all(root: &RootPlace) -> ScanPlace
     ensures path { (k : ℕ) → slice_index_or result.rest.path k None ≡ None }
     ensures shaped { IsShaped result.rest }
     ensures on { (lo hi : Key) (B : Map) → IsOn lo hi B [] result }
+    ensures under { (hi : Key) (B : Map) → IsUnder root.now hi B result.rest }
 {
     ScanPlace {
         leaf: None,
@@ -63,6 +65,7 @@ impl Scan {
         ensures ready { (rack : Seen) (store : Blocks) → Serves rack store → IsReady rack store result }
         ensures program { (B : Map) (store : Blocks) → left_of B store result ≡ range lo hi root.now }
         ensures on { (B : Map) → IsOn lo hi B [] result.place }
+        ensures under { (B : Map) → IsUnder root.now hi B result.place.rest }
     {
         Scan {
             root: *root,
@@ -98,8 +101,9 @@ impl Scan {
     }
 
     /// Goes on at a key, where that is above the key of the item that was met last. Where the leaf that is kept ends behind the
-    /// key, the scan stays in it, at its first item from the key on. Else it gives the leaf back and begins anew at the root.
-    /// Nothing is read.
+    /// key, the scan stays in it, at its first item from the key on. Else it gives the leaf back and goes on as a new scan from the
+    /// key would, below the lowest node of its path that the key is in: that node is read again, and none above it. Only where the
+    /// key is in none of them, it begins anew at the root. Nothing is read here.
     pub fn seek(&mut self, key: Key, store: &mut Store)
         requires { IfSome self.old.leaf (IsInHand store.old) }
         ensures others { SameLoans (without_leaf store.old self.old) (without_leaf store.new self.new) }
@@ -109,7 +113,10 @@ impl Scan {
         match self.leaf.take() {
             None => {
                 self.lo = key;
-                self.place = before_all(&self.root);
+                self.place = ScanPlace {
+                    leaf: None,
+                    rest: rejoin(&self.place.rest, &self.root, key),
+                };
             }
             Some(hand) => {
                 if hand.spot.ends_behind(key) {
@@ -125,7 +132,10 @@ impl Scan {
                 } = hand;
                 store.give(loan);
                 self.lo = key;
-                self.place = before_all(&self.root);
+                self.place = ScanPlace {
+                    leaf: None,
+                    rest: rejoin(&self.place.rest, &self.root, key),
+                };
             }
         }
     }

@@ -3,8 +3,7 @@ ghost use Rattle.std.specs.Prelude.{◌<◌, IfOk, length};
 ghost use Rattle.btr_rack.specs.Memory.{slots_of};
 
 use super::scans::is_even_run;
-use super::volume::{CHUNK, FORM, START, floor, root, scanned, store_by, tree, tree_of};
-use crate::TreeFault;
+use super::volume::{CHUNK, FORM, Reading, START, read, root, tree, tree_of};
 use btr_blocks::{Body, Form, Tree};
 use btr_rack::{MemRack, Rack};
 use std::alloc::{AllocError, Global};
@@ -59,28 +58,20 @@ fn rack_with(alloc: Global, tree: &Tree, stale: &Tree, level: u8) -> Result<MemR
     Ok(rack)
 }
 
-// What a tree was found to be: the numbers of all its items, the greatest of them, and the fault of the scan.
-#[derive(Drop)]
-struct Reading {
-    numbers: Vec<u64>,
-    last: Option<u64>,
-    fault: Option<TreeFault>,
-}
-
 // The tree of so many items, with stale first copies at a level.
-fn read(alloc: Global, count: u64, level: u8) -> Result<Reading, Fail> {
+fn read_stale(alloc: Global, count: u64, level: u8) -> Result<Reading, Fail> {
     let tree = tree(alloc, count)?;
     let stale = tree_of(alloc, count, &STALE)?;
-    let place = root(&tree);
     let mut rack = rack_with(alloc, &tree, &stale, level)?;
-    let mut store = store_by(alloc, &rack, item(alloc)?.as_slice())?;
-    let last = floor(&mut store, &mut rack, &place, 99)?;
-    let (numbers, fault) = scanned(alloc, &mut store, &mut rack, &place, (0, 99), false)?;
-    Ok(Reading {
-        numbers,
-        last,
-        fault,
-    })
+    let item = item(alloc)?;
+    read(
+        alloc,
+        &mut rack,
+        item.as_slice(),
+        &root(&tree),
+        (0, 99),
+        false,
+    )
 }
 
 #[test]
@@ -97,9 +88,9 @@ fn stale_first_copies(rt: HostRuntime) -> Result<(), Fail> {
         (28, 2),
         (28, 3),
     ] {
-        let found = read(rt.alloc(), count, level)?;
+        let found = read_stale(rt.alloc(), count, level)?;
         assert_eq!(rt; found.fault, None);
-        assert_eq!(rt; found.last, Some(count.wrapping_mul(2).wrapping_sub(2)));
+        assert_eq!(rt; found.last, Ok(Some(count.wrapping_mul(2).wrapping_sub(2))));
         assert!(rt; is_even_run(found.numbers.as_slice(), count, 0, 99));
     }
     Ok(())

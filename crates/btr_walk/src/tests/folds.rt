@@ -5,7 +5,7 @@ ghost use Rattle.btr_read.specs.Serves.{Serves};
 ghost use Rattle.btr_read.specs.Store.{free_count};
 ghost use Rattle.btr_walk.specs.Folds.{Go, End};
 
-use super::volume::{START, key, rack_of, root, store_over, tree};
+use super::volume::{Harm, START, key, rack_of, root, store_over, tree};
 use crate::{FoldFault, Folder, Found, RootPlace, Took, TreeFault, fold};
 use btr_rack::MemRack;
 use btr_read::Store;
@@ -97,39 +97,47 @@ fn all_numbers(
     fold(root, key(lo), key(hi), rack, store, none)
 }
 
+// What folds answered: the number of the first item, and those of all items.
+#[derive(Drop)]
+struct Folded {
+    first: Result<Option<u64>, FoldFault<Infallible>>,
+    all: Result<Numbers, FoldFault<AllocError>>,
+}
+
+// The folds of the items from `lo` to `hi` in the tree of ten items, where one call fails.
+fn fold_both(alloc: Global, call: u64, lo: u64, hi: u64) -> Result<Folded, Fail> {
+    let tree = tree(alloc, 10)?;
+    let place = root(&tree);
+    let mut rack = rack_of(alloc, &tree, Harm::of_call(call))?;
+    let mut store = store_over(alloc, &rack)?;
+    let all = all_numbers(alloc, &mut store, &mut rack, &place, lo, hi);
+    let first = first_number(&mut store, &mut rack, &place, lo, hi);
+    Ok(Folded { first, all })
+}
+
 #[test]
 fn folds_of_a_tree(rt: HostRuntime) -> Result<(), Fail> {
-    let tree = tree(rt.alloc(), 10)?;
-    let place = root(&tree);
-    let mut rack = rack_of(rt.alloc(), &tree, &[], START)?;
-    let mut store = store_over(rt.alloc(), &rack)?;
-    for (lo, hi, wanted) in [
-        (0, 99, Some(0)),
-        (3, 18, Some(4)),
-        (5, 5, None),
-        (19, 99, None),
-    ] {
-        let Ok(found) = first_number(&mut store, &mut rack, &place, lo, hi) else {
+    let cases: [(u64, u64, Option<u64>, &[u64]); 4] = [
+        (3, 12, Some(4), &[4, 6, 8, 10, 12]),
+        (0, 3, Some(0), &[0, 2]),
+        (5, 5, None, &[]),
+        (19, 99, None, &[]),
+    ];
+    for (lo, hi, first, numbers) in cases {
+        let found = fold_both(rt.alloc(), u64::MAX, lo, hi)?;
+        let (Ok(number), Ok(all)) = (found.first, found.all) else {
             panic!(rt; "the tree is whole");
         };
-        assert_eq!(rt; found, wanted);
+        assert_eq!(rt; number, first);
+        assert_eq!(rt; all.numbers.as_slice(), numbers);
     }
-    let Ok(all) = all_numbers(rt.alloc(), &mut store, &mut rack, &place, 3, 12) else {
-        panic!(rt; "the tree is whole");
-    };
-    assert_eq!(rt; all.numbers.as_slice(), &[4, 6, 8, 10, 12][..]);
     Ok(())
 }
 
 #[test]
 fn folds_that_fail(rt: HostRuntime) -> Result<(), Fail> {
-    let tree = tree(rt.alloc(), 10)?;
-    let place = root(&tree);
-    for n in 1..12 {
-        let mut rack = rack_of(rt.alloc(), &tree, &[], START)?;
-        rack.fail_call(n)?;
-        let mut store = store_over(rt.alloc(), &rack)?;
-        match all_numbers(rt.alloc(), &mut store, &mut rack, &place, 0, 99) {
+    for n in 2..12 {
+        match fold_both(rt.alloc(), n, 0, 99)?.all {
             Ok(all) => assert_eq!(rt; all.numbers.len(), 10),
             Err(FoldFault::Tree(TreeFault::Unread(addr, slot))) => {
                 assert!(rt; addr >= START && slot == 0)

@@ -1,9 +1,7 @@
 // Scans and lookups of trees of one to four levels.
-use super::volume::{FORM, START, floor, key, rack_of, root, scanned, step_from, store_over, tree};
-use crate::{Scan, TreeFault};
+use super::volume::{FORM, Harm, START, read_tree, tree};
+use crate::TreeFault;
 use btr_base::sum;
-use std::alloc::Global;
-use std::process::Abort;
 use std::test::Fail;
 
 /// The even numbers from one to another, of those below twice a count.
@@ -35,9 +33,6 @@ fn ranges_of_trees(rt: HostRuntime) -> Result<(), Fail> {
     ] {
         let tree = tree(rt.alloc(), count)?;
         assert_eq!(rt; tree.level(), level);
-        let place = root(&tree);
-        let mut rack = rack_of(rt.alloc(), &tree, &[], START)?;
-        let mut store = store_over(rt.alloc(), &rack)?;
         for (lo, hi) in [
             (0, 99),
             (1, 54),
@@ -49,16 +44,9 @@ fn ranges_of_trees(rt: HostRuntime) -> Result<(), Fail> {
             (17, 6),
         ] {
             for is_pausing in [false, true] {
-                let (numbers, fault) = scanned(
-                    rt.alloc(),
-                    &mut store,
-                    &mut rack,
-                    &place,
-                    (lo, hi),
-                    is_pausing,
-                )?;
-                assert_eq!(rt; fault, None);
-                assert!(rt; is_even_run(numbers.as_slice(), count, lo, hi));
+                let found = read_tree(rt.alloc(), &tree, Harm::NONE, (lo, hi), is_pausing)?;
+                assert_eq!(rt; found.fault, None);
+                assert!(rt; is_even_run(found.numbers.as_slice(), count, lo, hi));
             }
         }
         for number in 0..60 {
@@ -66,7 +54,8 @@ fn ranges_of_trees(rt: HostRuntime) -> Result<(), Fail> {
                 last if count > 0 => Some(last.wrapping_mul(2)),
                 _ => None,
             };
-            assert_eq!(rt; floor(&mut store, &mut rack, &place, number)?, below);
+            let found = read_tree(rt.alloc(), &tree, Harm::NONE, (number, number), false)?;
+            assert_eq!(rt; found.last, Ok(below));
         }
     }
     Ok(())
@@ -82,29 +71,10 @@ fn edit(block: &mut [u8], at: usize, bytes: &[u8]) {
     }
 }
 
-// What ends the scan of the tree of ten items, of which a block was edited: three leaves of three and one of one, two nodes
-// above them, and the root.
-fn fault_of(
-    rt: &impl Abort,
-    alloc: Global,
-    block: usize,
-    at: usize,
-    bytes: &[u8],
-) -> Result<(u64, Option<TreeFault>), Fail> {
-    let tree = tree(alloc, 10)?;
-    let place = root(&tree);
-    let edited = tree.blocks.get(block).ok_or("no such block")?;
-    let mut copy = edited.bytes.as_slice().to_vec(alloc)?;
-    edit(&mut copy, at, bytes);
-    let mut rack = rack_of(alloc, &tree, &copy, edited.addr)?;
-    let mut store = store_over(alloc, &rack)?;
-    let (numbers, fault) = scanned(alloc, &mut store, &mut rack, &place, (0, 99), false)?;
-    assert!(rt; numbers.len() < 10);
-    Ok((edited.addr, fault))
-}
-
+// The tree of ten items: three leaves of three and one of one, two nodes above them, and the root.
 #[test]
 fn blocks_that_are_wrong(rt: HostRuntime) -> Result<(), Fail> {
+    let tree = tree(rt.alloc(), 10)?;
     // A block's header has its generation at 80, its count at 96 and its level at 100; the first entry's key is at 101. An
     // entry of a leaf has 25 bytes, one of a node 33.
     let cases: [(usize, usize, &[u8], bool); 8] = [
@@ -123,13 +93,22 @@ fn blocks_that_are_wrong(rt: HostRuntime) -> Result<(), Fail> {
         (3, 100, &[1], false),
     ];
     for (block, at, bytes, is_malformed) in cases {
-        let (addr, fault) = fault_of(&rt, rt.alloc(), block, at, bytes)?;
-        let wanted = if is_malformed {
-            TreeFault::Malformed(addr)
-        } else {
-            TreeFault::Lost(addr)
+        let edited = tree.blocks.get(block).ok_or("no such block")?;
+        let mut copy = edited.bytes.as_slice().to_vec(rt.alloc())?;
+        edit(&mut copy, at, bytes);
+        let harm = Harm {
+            bytes: &copy,
+            addr: edited.addr,
+            call: u64::MAX,
         };
-        assert_eq!(rt; fault, Some(wanted));
+        let found = read_tree(rt.alloc(), &tree, harm, (0, 99), false)?;
+        let wanted = if is_malformed {
+            TreeFault::Malformed(edited.addr)
+        } else {
+            TreeFault::Lost(edited.addr)
+        };
+        assert_eq!(rt; found.fault, Some(wanted));
+        assert!(rt; found.numbers.len() < 10);
     }
     Ok(())
 }
@@ -137,64 +116,18 @@ fn blocks_that_are_wrong(rt: HostRuntime) -> Result<(), Fail> {
 #[test]
 fn calls_that_fail(rt: HostRuntime) -> Result<(), Fail> {
     let tree = tree(rt.alloc(), 10)?;
-    let place = root(&tree);
     for n in 1..40 {
-        let is_pausing = n % 2 == 0;
-        let mut rack = rack_of(rt.alloc(), &tree, &[], START)?;
-        rack.fail_call(n)?;
-        let mut store = store_over(rt.alloc(), &rack)?;
-        let (numbers, fault) = scanned(
-            rt.alloc(),
-            &mut store,
-            &mut rack,
-            &place,
-            (0, 99),
-            is_pausing,
-        )?;
-        match fault {
-            None => assert_eq!(rt; numbers.len(), 10),
+        let found = read_tree(rt.alloc(), &tree, Harm::of_call(n), (0, 99), n % 2 == 0)?;
+        match found.fault {
+            None => assert_eq!(rt; found.numbers.len(), 10),
             Some(TreeFault::Unread(addr, slot)) => {
-                assert!(rt; addr >= START && slot == 0 && numbers.len() < 10)
+                assert!(rt; addr >= START && slot == 0 && found.numbers.len() < 10)
             }
             Some(_) => panic!(rt; "another fault"),
         }
         // What could be read is read again from the same place.
-        let (numbers, fault) = scanned(
-            rt.alloc(),
-            &mut store,
-            &mut rack,
-            &place,
-            (0, 99),
-            is_pausing,
-        )?;
-        assert_eq!(rt; fault, None);
-        assert_eq!(rt; numbers.len(), 10);
+        assert_eq!(rt; found.fault_again, None);
+        assert_eq!(rt; found.numbers_again.len(), 10);
     }
-    Ok(())
-}
-
-#[test]
-fn seeking_forward(rt: HostRuntime) -> Result<(), Fail> {
-    let tree = tree(rt.alloc(), 28)?;
-    let mut rack = rack_of(rt.alloc(), &tree, &[], START)?;
-    let mut store = store_over(rt.alloc(), &rack)?;
-    let mut scan = Scan::new(&root(&tree), key(0), key(52));
-    // In the leaf, behind it, at an item, between two, the last, and behind the last.
-    for (number, wanted) in [
-        (0, Some(0)),
-        (1, Some(2)),
-        (4, Some(4)),
-        (5, Some(6)),
-        (23, Some(24)),
-        (26, Some(26)),
-        (51, Some(52)),
-        (53, None),
-    ] {
-        assert_eq!(rt;
-            step_from(&mut store, &mut scan, &mut rack, number),
-            Ok(wanted)
-        );
-    }
-    scan.finish(&mut store);
     Ok(())
 }

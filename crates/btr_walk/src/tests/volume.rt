@@ -78,15 +78,39 @@ pub(super) fn root(tree: &Tree) -> RootPlace {
     }
 }
 
-/// A rack with the tree in its one image, which is open, and with these bytes over those from an address on.
-pub(super) fn rack_of(alloc: Global, tree: &Tree, edited: &[u8], addr: u64) -> Result<MemRack, Fail>
+/// What is wrong with an image: bytes that stand over those from an address on, and the number of the call that fails. The first
+/// call is the opening.
+#[derive(Clone, Copy)]
+pub(super) struct Harm<'a> {
+    pub(super) bytes: &'a [u8],
+    pub(super) addr: u64,
+    pub(super) call: u64,
+}
+
+impl Harm<'static> {
+    /// Nothing is wrong.
+    pub(super) const NONE: Harm<'static> = Harm {
+        bytes: &[],
+        addr: START,
+        call: u64::MAX,
+    };
+
+    /// One call fails.
+    pub(super) fn of_call(call: u64) -> Harm<'static> {
+        Harm { call, ..Harm::NONE }
+    }
+}
+
+/// A rack with the tree in its one image, which is open, and with what is wrong.
+pub(super) fn rack_of(alloc: Global, tree: &Tree, harm: Harm<'_>) -> Result<MemRack, Fail>
     ensures { IfOk result (λ rack. 0 < length (slots_of rack)) }
 {
     let mut rack = MemRack::new(alloc);
     rack.add("a", 8388608)?;
     tree.put(&mut rack, "a")?;
-    rack.poke("a", addr, edited)?;
+    rack.poke("a", harm.addr, harm.bytes)?;
     rack.open("a", false)?;
+    rack.fail_call(harm.call)?;
     Ok(rack)
 }
 
@@ -99,8 +123,8 @@ pub(super) fn store_over(alloc: Global, rack: &MemRack) -> Result<Store, Fail>
     store_by(alloc, rack, item(alloc)?.as_slice())
 }
 
-/// The store that reads the chunk of this item from the first image.
-pub(super) fn store_by(alloc: Global, rack: &MemRack, item: &[u8]) -> Result<Store, Fail>
+// The store that reads the chunk of this item from the first image.
+fn store_by(alloc: Global, rack: &MemRack, item: &[u8]) -> Result<Store, Fail>
     requires { 0 < length (slots_of rack.now) }
     ensures serves { IfOk result (Serves (seen_of rack.now)) }
     ensures free { IfOk result (λ store. free_count store ≡ 24) }
@@ -112,8 +136,12 @@ pub(super) fn store_by(alloc: Global, rack: &MemRack, item: &[u8]) -> Result<Sto
     Ok(store)
 }
 
-// The number of the next item.
-fn step(store: &mut Store, scan: &mut Scan, rack: &mut MemRack) -> Result<Option<u64>, TreeFault>
+/// The number of the next item.
+pub(super) fn step(
+    store: &mut Store,
+    scan: &mut Scan,
+    rack: &mut MemRack,
+) -> Result<Option<u64>, TreeFault>
     requires ready { IsReady (seen_of rack.old) store.old scan.old }
     requires free { free_count (without_leaf store.old scan.old) ≡ 24 }
     ensures ready { IsReady (seen_of rack.new) store.new scan.new }
@@ -126,8 +154,8 @@ fn step(store: &mut Store, scan: &mut Scan, rack: &mut MemRack) -> Result<Option
     }
 }
 
-// The numbers of the next items, to the end or to a fault, with a pause before each where it is asked for.
-fn collect(
+/// The numbers of the next items, to the end or to a fault, with a pause before each where it is asked for.
+pub(super) fn collect(
     store: &mut Store,
     scan: &mut Scan,
     rack: &mut MemRack,
@@ -152,8 +180,8 @@ fn collect(
     Ok(None)
 }
 
-/// The numbers of a tree's items in a range, and the fault that ended the scan, if one did; with a pause before each.
-pub(super) fn scanned(
+// The numbers of a tree's items in a range, and the fault that ended the scan, if one did; with a pause before each.
+fn scanned(
     alloc: Global,
     store: &mut Store,
     rack: &mut MemRack,
@@ -172,22 +200,6 @@ pub(super) fn scanned(
     let ended = collect(store, &mut scan, rack, is_pausing, &mut numbers);
     scan.finish(store);
     Ok((numbers, ended?))
-}
-
-/// The number of the next item from one on.
-pub(super) fn step_from(
-    store: &mut Store,
-    scan: &mut Scan,
-    rack: &mut MemRack,
-    number: u64,
-) -> Result<Option<u64>, TreeFault>
-    requires ready { IsReady (seen_of rack.old) store.old scan.old }
-    requires free { free_count (without_leaf store.old scan.old) ≡ 24 }
-    ensures ready { IsReady (seen_of rack.new) store.new scan.new }
-    ensures free { free_count (without_leaf store.new scan.new) ≡ 24 }
-{
-    scan.seek(key(number), store);
-    step(store, scan, rack)
 }
 
 // The number of the greatest item at or below one; the loan of its leaf is kept.
@@ -210,8 +222,8 @@ fn number_le(
     }
 }
 
-/// The number of the greatest item at or below one.
-pub(super) fn floor(
+// The number of the greatest item at or below one.
+fn floor(
     store: &mut Store,
     rack: &mut MemRack,
     root: &RootPlace,
@@ -228,4 +240,59 @@ pub(super) fn floor(
         store.give(loan);
     }
     found
+}
+
+/// What was found in a tree: the numbers of its items in a range, in two scans one after another, the faults that ended these, and
+/// the number of the greatest item at or below the range's end.
+#[derive(Drop)]
+pub(super) struct Reading {
+    pub(super) numbers: Vec<u64>,
+    pub(super) fault: Option<TreeFault>,
+    pub(super) numbers_again: Vec<u64>,
+    pub(super) fault_again: Option<TreeFault>,
+    pub(super) last: Result<Option<u64>, TreeFault>,
+}
+
+/// Reads a tree in the chunk of this item, with a pause before each item of the scans where it is asked for.
+pub(super) fn read(
+    alloc: Global,
+    rack: &mut MemRack,
+    item: &[u8],
+    root: &RootPlace,
+    range: (u64, u64),
+    is_pausing: bool,
+) -> Result<Reading, Fail>
+    requires { 0 < length (slots_of rack.old) }
+{
+    let mut store = store_by(alloc, rack, item)?;
+    let (numbers, fault) = scanned(alloc, &mut store, rack, root, range, is_pausing)?;
+    let (numbers_again, fault_again) = scanned(alloc, &mut store, rack, root, range, is_pausing)?;
+    let last = floor(&mut store, rack, root, range.1);
+    Ok(Reading {
+        numbers,
+        fault,
+        numbers_again,
+        fault_again,
+        last,
+    })
+}
+
+/// The same of a tree in a chunk with one copy.
+pub(super) fn read_tree(
+    alloc: Global,
+    tree: &Tree,
+    harm: Harm<'_>,
+    range: (u64, u64),
+    is_pausing: bool,
+) -> Result<Reading, Fail> {
+    let mut rack = rack_of(alloc, tree, harm)?;
+    let item = item(alloc)?;
+    read(
+        alloc,
+        &mut rack,
+        item.as_slice(),
+        &root(tree),
+        range,
+        is_pausing,
+    )
 }

@@ -5,8 +5,9 @@ ghost use Rattle.btr_read.specs.Serves.{Serves};
 ghost use Rattle.btr_read.specs.Store.{free_count};
 ghost use Rattle.btr_walk.specs.Preorder.{IsReadyFor, without_block};
 
-use super::volume::{START, rack_of, root, store_over, tree};
+use super::volume::{Harm, START, rack_of, root, store_over, tree};
 use crate::{BlockScan, RootPlace, TreeFault, next_block};
+use btr_blocks::Tree;
 use btr_rack::MemRack;
 use btr_read::Store;
 use std::alloc::{AllocError, Global};
@@ -72,42 +73,59 @@ fn walked(
     Ok((addrs, ended?))
 }
 
+// What two walks over a tree met one after another, the first of which may fail.
+#[derive(Drop)]
+struct Walks {
+    addrs: Vec<u64>,
+    fault: Option<TreeFault>,
+    addrs_again: Vec<u64>,
+    fault_again: Option<TreeFault>,
+}
+
+// Two walks over a tree, where one call fails.
+fn walk_twice(alloc: Global, tree: &Tree, call: u64) -> Result<Walks, Fail> {
+    let place = root(tree);
+    let mut rack = rack_of(alloc, tree, Harm::of_call(call))?;
+    let mut store = store_over(alloc, &rack)?;
+    let (addrs, fault) = walked(alloc, &mut store, &mut rack, &place)?;
+    let (addrs_again, fault_again) = walked(alloc, &mut store, &mut rack, &place)?;
+    Ok(Walks {
+        addrs,
+        fault,
+        addrs_again,
+        fault_again,
+    })
+}
+
 // The tree of ten items: three leaves of three and one of one, two nodes above them, and the root.
 #[test]
 fn blocks_in_preorder(rt: HostRuntime) -> Result<(), Fail> {
     let tree = tree(rt.alloc(), 10)?;
-    let place = root(&tree);
     let mut wanted = Vec::new(rt.alloc());
     for block in [6, 4, 0, 1, 2, 5, 3] {
         wanted.push(tree.blocks.get(block).ok_or("no such block")?.addr)?;
     }
-    let mut rack = rack_of(rt.alloc(), &tree, &[], START)?;
-    let mut store = store_over(rt.alloc(), &rack)?;
-    let (addrs, fault) = walked(rt.alloc(), &mut store, &mut rack, &place)?;
-    assert_eq!(rt; fault, None);
-    assert_eq!(rt; addrs.as_slice(), wanted.as_slice());
+    let found = walk_twice(rt.alloc(), &tree, u64::MAX)?;
+    assert_eq!(rt; found.fault, None);
+    assert_eq!(rt; found.addrs.as_slice(), wanted.as_slice());
     Ok(())
 }
 
 #[test]
 fn walks_that_fail(rt: HostRuntime) -> Result<(), Fail> {
     let tree = tree(rt.alloc(), 28)?;
-    let place = root(&tree);
-    for n in 1..20 {
-        let mut rack = rack_of(rt.alloc(), &tree, &[], START)?;
-        rack.fail_call(n)?;
-        let mut store = store_over(rt.alloc(), &rack)?;
-        let (addrs, fault) = walked(rt.alloc(), &mut store, &mut rack, &place)?;
-        match fault {
-            None => assert_eq!(rt; addrs.len(), tree.blocks.len()),
+    let count = tree.blocks.len();
+    for n in 2..22 {
+        let found = walk_twice(rt.alloc(), &tree, n)?;
+        match found.fault {
+            None => assert_eq!(rt; found.addrs.len(), count),
             Some(TreeFault::Unread(addr, slot)) => {
-                assert!(rt; addr >= START && slot == 0 && addrs.len() < tree.blocks.len())
+                assert!(rt; addr >= START && slot == 0 && found.addrs.len() < count)
             }
             Some(_) => panic!(rt; "another fault"),
         }
-        let (addrs, fault) = walked(rt.alloc(), &mut store, &mut rack, &place)?;
-        assert_eq!(rt; fault, None);
-        assert_eq!(rt; addrs.len(), tree.blocks.len());
+        assert_eq!(rt; found.fault_again, None);
+        assert_eq!(rt; found.addrs_again.len(), count);
     }
     Ok(())
 }

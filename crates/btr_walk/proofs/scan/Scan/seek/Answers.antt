@@ -1,12 +1,15 @@
-use Rattle.std.proofs.Common.{Some, refl, sym, ◌∙◌}
+use Rattle.std.proofs.Common.{Some, None, refl, sym, ◌∙◌}
 use Rattle.btr_walk.proofs.Lending.{served_back}
 use Rattle.btr_walk.proofs.Nexts.{sought_in, sought_others, sought_ready, sought_anew, anew_ready, no_hand, past_hand}
 use Rattle.btr_walk.proofs.scan.Scan.seek.Goals as goal
 
 pub returns-in-None-clause-sought : goal.returns-in-None-clause-sought
 returns-in-None-clause-sought c =
-    let p = c.before_all-self in
-    sought_anew c.args.store.now c.args.store.now c.args.self.now c.args.key p.result c.take.new.self c.take.ensures.after p.ensures.leaf (λ B. no_hand B c.args.store.now c.args.self.now c.args.key c.take.result c.in-None.is (sym c.take.ensures.value)) p.ensures.program p.ensures.path p.ensures.todo
+    sought_anew c.args.store.now c.args.store.now c.args.self.now c.args.key (record { leaf = None; rest = c.rejoin.result }) c.take.new.self c.take.ensures.after refl (λ B. no_hand B c.args.store.now c.args.self.now c.args.key c.take.result c.in-None.is (sym c.take.ensures.value)) c.rejoin.ensures
+
+pub returns-in-None-clause-ready : goal.returns-in-None-clause-ready
+returns-in-None-clause-ready c = λ now r.
+    anew_ready now c.args.store.now c.args.store.now c.args.self.now c.args.key (record { leaf = None; rest = c.rejoin.result }) c.take.new.self c.take.ensures.after c.rejoin.ensures (λ serves. serves) r
 
 pub returns-then-ends_behind-clause-sought : goal.returns-then-ends_behind-clause-sought
 returns-then-ends_behind-clause-sought c =
@@ -22,10 +25,8 @@ returns-then-ends_behind-clause-ready c = λ now r.
 
 pub returns-else-ends_behind-clause-sought : goal.returns-else-ends_behind-clause-sought
 returns-else-ends_behind-clause-sought c =
-    let p = c.before_all-self-in-Some in
-    sought_anew c.args.store.now c.give.new.self c.args.self.now c.args.key p.result c.take.new.self c.take.ensures.after p.ensures.leaf (λ B. past_hand B c.args.store.now c.args.self.now c.args.key c.in-Some.hand (sym c.take.ensures.value ∙ c.in-Some.is) (sym c.ends_behind.ensures ∙ c.if-ends_behind.false)) p.ensures.program p.ensures.path p.ensures.todo
+    sought_anew c.args.store.now c.give.new.self c.args.self.now c.args.key (record { leaf = None; rest = c.rejoin-in-Some.result }) c.take.new.self c.take.ensures.after refl (λ B. past_hand B c.args.store.now c.args.self.now c.args.key c.in-Some.hand (sym c.take.ensures.value ∙ c.in-Some.is) (sym c.ends_behind.ensures ∙ c.if-ends_behind.false)) c.rejoin-in-Some.ensures
 
 pub returns-else-ends_behind-clause-ready : goal.returns-else-ends_behind-clause-ready
 returns-else-ends_behind-clause-ready c = λ now r.
-    let p = c.before_all-self-in-Some in
-    anew_ready now c.args.store.now c.give.new.self c.args.self.now c.args.key p.result c.take.new.self c.take.ensures.after p.ensures.shaped (λ serves. served_back now c.args.store.now c.give.new.self c.in-Some.hand.loan serves c.give.ensures) r
+    anew_ready now c.args.store.now c.give.new.self c.args.self.now c.args.key (record { leaf = None; rest = c.rejoin-in-Some.result }) c.take.new.self c.take.ensures.after c.rejoin-in-Some.ensures (λ serves. served_back now c.args.store.now c.give.new.self c.in-Some.hand.loan serves c.give.ensures) r
