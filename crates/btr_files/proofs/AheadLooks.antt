@@ -1,9 +1,8 @@
 -- Lookups of checksums, and those that are kept behind them.
-use Rattle.std.proofs.Common.{◌≡◌, ℕ, Bool, true, false, cond, List, [], ◌∷◌, Option, Some, None, IfSome, Result, Ok, Err, refl, sym, ap, ◌∙◌, subst}
+use Rattle.std.proofs.Common.{◌≡◌, ℕ, Bool, false, cond, List, [], ◌∷◌, Option, Some, None, IfSome, Result, Ok, refl, sym, subst}
 use Rattle.btr_base.specs.declared.key.Key.{Key}
 use Rattle.btr_base.specs.declared.kind.SumKind.{SumKind}
 use Rattle.btr_base.specs.declared.stored.Sum.{Sum}
-use Rattle.btr_prog.specs.Answers.{Follows, no_part}
 use Rattle.btr_prog.specs.Prog.{Return, exec, bind, steps_of}
 use Rattle.btr_rack.specs.Rack.{Seen}
 use Rattle.btr_read.specs.Fate.{fate}

@@ -34,9 +34,10 @@ impl SumsAhead {
         }
     }
 
-    /// The checksum of the sector at an address, if one of this kind is kept.
+    /// The checksum of the sector at an address; `None` exactly where none of this kind is kept.
     pub fn get(&self, kind: SumKind, addr: u64) -> Option<Sum>
-        ensures { (sum : Sum) → result ≡ Some sum → (self.now.kind ≡ kind) × (kept_sum self.now addr ≡ Some sum) }
+        ensures found { (sum : Sum) → result ≡ Some sum → (self.now.kind ≡ kind) × (kept_sum self.now addr ≡ Some sum) }
+        ensures kept { self.now.kind ≡ kind → result ≡ kept_sum self.now addr }
     {
         if self.kind != kind {
             return None;

@@ -1,3 +1,5 @@
+mod dirs;
+mod files;
 mod lookups;
 mod pieces;
 mod volume;

@@ -1,19 +1,14 @@
-// Lookups in trees of several leaves.
-ghost use Rattle.std.specs.Prelude.{◌≡◌};
-ghost use Rattle.btr_rack.specs.Memory.{seen_of};
-ghost use Rattle.btr_read.specs.Serves.{Serves};
-ghost use Rattle.btr_read.specs.Store.{free_count};
-
-use super::volume::{DATA, FORM, START, SUMS, rack_of, root_of, tree_at, volume_over};
+// Lookups in trees of several leaves. Each is made in a volume of its own.
+use super::volume::{DATA, START, SUMS, form, rack_of, root_of, tree_at, tree_of, volume_over};
 use crate::{NameBuf, Survey, inode, linked, mounted, sum_of, survey};
-use btr_base::{Sum, sum};
+use btr_base::{Sum, SumKind, sum};
 use btr_blocks::{Body, Items, Tree, bodies};
 use btr_items::{FileExtent, Inode, Shape, item};
-use btr_rack::MemRack;
-use btr_volume::{TreeRoot, Volume};
 use btr_walk::TreeFault;
 use std::alloc::{AllocError, Global};
 use std::test::Fail;
+
+const CRC: SumKind = SumKind::Crc32c;
 
 const INODE: Inode = Inode {
     size: 10,
@@ -21,6 +16,13 @@ const INODE: Inode = Inode {
     mode: 0o100644,
     flags: 0,
 };
+
+// The faults of leaves of a tree, which stand one behind another.
+const IN_SECOND: TreeFault = TreeFault::Malformed(START + 8192);
+
+const IN_THIRD: TreeFault = TreeFault::Malformed(START + 16384);
+
+const IN_FOURTH: TreeFault = TreeFault::Malformed(START + 24576);
 
 // A name in its place.
 fn name(bytes: &[u8]) -> NameBuf {
@@ -31,187 +33,141 @@ fn name(bytes: &[u8]) -> NameBuf {
     name
 }
 
-// The calls, which leave the volume as it was.
+// The inode of a number, where the call of another number fails.
 fn inode_in(
-    root: &TreeRoot,
+    alloc: Global,
+    tree: &Tree,
+    failing: u64,
     ino: u64,
-    rack: &mut MemRack,
-    vol: &mut Volume,
-) -> Result<Option<Inode>, TreeFault>
-    requires serves { Serves (seen_of rack.old) vol.old.store }
-    requires free { free_count vol.old.store ≡ 24 }
-    ensures serves { Serves (seen_of rack.new) vol.new.store }
-    ensures free { free_count vol.new.store ≡ 24 }
-{
-    inode(root, ino, rack, vol)
+) -> Result<Result<Option<Inode>, TreeFault>, Fail> {
+    let root = root_of(tree);
+    let mut rack = rack_of(alloc, &[tree], &[])?;
+    rack.fail_call(failing)?;
+    let mut vol = volume_over(alloc, CRC, &rack, &root)?;
+    Ok(inode(&root, ino, &mut rack, &mut vol))
 }
 
-fn is_linked(
-    root: &TreeRoot,
+// Whether a name is the one of an inode: its directory, its index there and its bytes.
+fn linked_in(
+    alloc: Global,
+    tree: &Tree,
     ino: u64,
     link: (u64, u64, &[u8]),
-    rack: &mut MemRack,
-    vol: &mut Volume,
-) -> Result<bool, TreeFault>
-    requires serves { Serves (seen_of rack.old) vol.old.store }
-    requires free { free_count vol.old.store ≡ 24 }
-    ensures serves { Serves (seen_of rack.new) vol.new.store }
-    ensures free { free_count vol.new.store ≡ 24 }
-{
-    linked(root, ino, link.0, link.1, &name(link.2), rack, vol)
+) -> Result<Result<bool, TreeFault>, Fail> {
+    let root = root_of(tree);
+    let mut rack = rack_of(alloc, &[tree], &[])?;
+    let mut vol = volume_over(alloc, CRC, &rack, &root)?;
+    let name = name(link.2);
+    Ok(linked(&root, ino, link.0, link.1, &name, &mut rack, &mut vol))
 }
 
-fn is_mounted(
+// Whether a name is the one of a subvolume: the tree that has it, and the name there.
+fn mounted_in(
+    alloc: Global,
+    tree: &Tree,
     id: u64,
     parent: u64,
     link: (u64, u64, &[u8]),
-    rack: &mut MemRack,
-    vol: &mut Volume,
-) -> Result<bool, TreeFault>
-    requires serves { Serves (seen_of rack.old) vol.old.store }
-    requires free { free_count vol.old.store ≡ 24 }
-    ensures serves { Serves (seen_of rack.new) vol.new.store }
-    ensures free { free_count vol.new.store ≡ 24 }
-{
-    mounted(id, parent, link.0, link.1, &name(link.2), rack, vol)
+) -> Result<Result<bool, TreeFault>, Fail> {
+    let root = root_of(tree);
+    let mut rack = rack_of(alloc, &[tree], &[])?;
+    let mut vol = volume_over(alloc, CRC, &rack, &root)?;
+    let name = name(link.2);
+    Ok(mounted(id, parent, link.0, link.1, &name, &mut rack, &mut vol))
 }
 
-fn surveyed(
-    root: &TreeRoot,
-    ino: u64,
-    rack: &mut MemRack,
-    vol: &mut Volume,
-) -> Result<Survey, TreeFault>
-    requires serves { Serves (seen_of rack.old) vol.old.store }
-    requires free { free_count vol.old.store ≡ 24 }
-    ensures serves { Serves (seen_of rack.new) vol.new.store }
-    ensures free { free_count vol.new.store ≡ 24 }
-{
-    survey(root, ino, rack, vol)
+fn survey_in(alloc: Global, tree: &Tree, ino: u64) -> Result<Result<Survey, TreeFault>, Fail> {
+    let root = root_of(tree);
+    let mut rack = rack_of(alloc, &[tree], &[])?;
+    let mut vol = volume_over(alloc, CRC, &rack, &root)?;
+    Ok(survey(&root, ino, &mut rack, &mut vol))
 }
 
-fn sum_at(
-    root: &TreeRoot,
+// The checksum of the sector at an address, in a filesystem whose checksums are of this kind and stand in a tree, or in none.
+fn sum_in(
+    alloc: Global,
+    kind: SumKind,
+    tree: &Tree,
+    is_there: bool,
     addr: u64,
-    rack: &mut MemRack,
-    vol: &mut Volume,
-) -> Result<Option<Sum>, TreeFault>
-    requires serves { Serves (seen_of rack.old) vol.old.store }
-    requires free { free_count vol.old.store ≡ 24 }
-    ensures serves { Serves (seen_of rack.new) vol.new.store }
-    ensures free { free_count vol.new.store ≡ 24 }
-{
-    sum_of(Some(root), addr, rack, vol)
+) -> Result<Result<Option<Sum>, TreeFault>, Fail> {
+    let root = root_of(tree);
+    let mut rack = rack_of(alloc, &[tree], &[])?;
+    let mut vol = volume_over(alloc, kind, &rack, &root)?;
+    let sums = if is_there { Some(&root) } else { None };
+    Ok(sum_of(sums, addr, &mut rack, &mut vol))
 }
 
-// A tree with the inodes 257 to 266.
+// A tree with the inodes 257 to 266, and one that breaks its form.
 fn inodes(alloc: Global) -> Result<Tree, Fail> {
     let mut items = Items::new(alloc);
     for ino in 257..267 {
-        items.put(
-            ino,
-            item::INODE_ITEM,
-            0,
-            bodies::inode_item(alloc, &INODE, 7, 0)?,
-        )?;
+        let body = bodies::inode_item(alloc, &INODE, 7, 0)?;
+        items.put(ino, item::INODE_ITEM, 0, body)?;
     }
     items.put(300, item::INODE_ITEM, 0, Body::new(alloc).zeros(159)?)?;
-    tree_at(alloc, START, items)
+    tree_of(alloc, items)
 }
 
 #[test]
 fn inodes_of_a_tree(rt: HostRuntime) -> Result<(), Fail> {
     let tree = inodes(rt.alloc())?;
-    let root = root_of(&tree);
-    let mut rack = rack_of(rt.alloc(), &[tree], &[])?;
-    let mut vol = volume_over(rt.alloc(), &rack, &root)?;
-    assert_eq!(rt; inode_in(&root, 257, &mut rack, &mut vol), Ok(Some(INODE)));
-    assert_eq!(rt; inode_in(&root, 266, &mut rack, &mut vol), Ok(Some(INODE)));
-    assert_eq!(rt; inode_in(&root, 256, &mut rack, &mut vol), Ok(None));
-    assert_eq!(rt; inode_in(&root, 301, &mut rack, &mut vol), Ok(None));
-    let broken = inode_in(&root, 300, &mut rack, &mut vol);
-    assert!(rt; matches!(broken, Err(TreeFault::Malformed(_))));
-    Ok(())
-}
-
-#[test]
-fn an_inode_that_cannot_be_read(rt: HostRuntime) -> Result<(), Fail> {
-    for n in 2..5 {
-        let tree = inodes(rt.alloc())?;
-        let root = root_of(&tree);
-        let mut rack = rack_of(rt.alloc(), &[tree], &[])?;
-        rack.fail_call(n)?;
-        let mut vol = volume_over(rt.alloc(), &rack, &root)?;
-        let found = inode_in(&root, 257, &mut rack, &mut vol);
-        assert!(rt; matches!(found, Err(TreeFault::Unread(_, 0))));
+    for (ino, wanted) in [
+        (257, Ok(Some(INODE))),
+        (266, Ok(Some(INODE))),
+        (256, Ok(None)),
+        (301, Ok(None)),
+        (300, Err(IN_FOURTH)),
+    ] {
+        let found = inode_in(rt.alloc(), &tree, 0, ino)?;
+        assert_eq!(rt; found, wanted, "of {ino}");
+    }
+    // The second to the fourth call read the blocks above an inode's item.
+    for failing in 2..5 {
+        let found = inode_in(rt.alloc(), &tree, failing, 257)?;
+        assert!(rt;
+            matches!(found, Err(TreeFault::Unread(_, 0))),
+            "at {failing}"
+        );
     }
     Ok(())
 }
 
+// Inodes with names: 257 has one, 258 two in one item, 259 two in items of both kinds, 260 one in an INODE_EXTREF, and
+// those of 261 and 262 break their form.
+fn names(alloc: Global) -> Result<Tree, Fail> {
+    let mut items = Items::new(alloc);
+    let (one, two) = (item::INODE_REF, item::INODE_EXTREF);
+    items.put(257, one, 256, bodies::inode_ref(alloc, 2, b"one")?)?;
+    items.put(258, one, 256, bodies::inode_ref(alloc, 3, b"one")?)?;
+    items.append(258, one, 256, &bodies::inode_ref(alloc, 4, b"two")?)?;
+    items.put(259, one, 256, bodies::inode_ref(alloc, 5, b"one")?)?;
+    items.put(259, two, 77, bodies::ext_ref(alloc, 256, 6, b"two")?)?;
+    items.put(260, two, 77, bodies::ext_ref(alloc, 256, 7, b"one")?)?;
+    items.put(261, one, 256, Body::new(alloc))?;
+    items.put(262, one, 256, bodies::inode_ref(alloc, 8, b"one")?)?;
+    items.put(262, one, 257, Body::new(alloc).zeros(9)?)?;
+    tree_of(alloc, items)
+}
+
 #[test]
 fn names_of_inodes(rt: HostRuntime) -> Result<(), Fail> {
-    let alloc = rt.alloc();
-    let mut items = Items::new(alloc);
-    let reference = item::INODE_REF;
-    items.put(257, reference, 256, bodies::inode_ref(alloc, 2, b"one")?)?;
-    items.put(258, reference, 256, bodies::inode_ref(alloc, 3, b"one")?)?;
-    items.append(258, reference, 256, &bodies::inode_ref(alloc, 4, b"two")?)?;
-    items.put(259, reference, 256, bodies::inode_ref(alloc, 5, b"one")?)?;
-    items.put(
-        259,
-        item::INODE_EXTREF,
-        77,
-        bodies::ext_ref(alloc, 256, 6, b"two")?,
-    )?;
-    items.put(
-        260,
-        item::INODE_EXTREF,
-        77,
-        bodies::ext_ref(alloc, 256, 7, b"one")?,
-    )?;
-    items.put(261, reference, 256, Body::new(alloc))?;
-    items.put(262, reference, 256, bodies::inode_ref(alloc, 8, b"one")?)?;
-    items.put(262, reference, 257, Body::new(alloc).zeros(9)?)?;
-    let tree = tree_at(alloc, START, items)?;
-    let root = root_of(&tree);
-    let mut rack = rack_of(alloc, &[tree], &[])?;
-    let mut vol = volume_over(alloc, &rack, &root)?;
-    assert_eq!(rt;
-        is_linked(&root, 257, (256, 2, b"one"), &mut rack, &mut vol),
-        Ok(true)
-    );
-    assert_eq!(rt;
-        is_linked(&root, 257, (257, 2, b"one"), &mut rack, &mut vol),
-        Ok(false)
-    );
-    assert_eq!(rt;
-        is_linked(&root, 257, (256, 3, b"one"), &mut rack, &mut vol),
-        Ok(false)
-    );
-    assert_eq!(rt;
-        is_linked(&root, 257, (256, 2, b"on"), &mut rack, &mut vol),
-        Ok(false)
-    );
-    assert_eq!(rt;
-        is_linked(&root, 258, (256, 3, b"one"), &mut rack, &mut vol),
-        Ok(false)
-    );
-    assert_eq!(rt;
-        is_linked(&root, 259, (256, 5, b"one"), &mut rack, &mut vol),
-        Ok(false)
-    );
-    assert_eq!(rt;
-        is_linked(&root, 260, (256, 7, b"one"), &mut rack, &mut vol),
-        Ok(true)
-    );
-    assert_eq!(rt;
-        is_linked(&root, 263, (256, 7, b"one"), &mut rack, &mut vol),
-        Ok(false)
-    );
-    let empty = is_linked(&root, 261, (256, 7, b"one"), &mut rack, &mut vol);
-    assert!(rt; matches!(empty, Err(TreeFault::Malformed(_))));
-    let broken = is_linked(&root, 262, (256, 8, b"one"), &mut rack, &mut vol);
-    assert!(rt; matches!(broken, Err(TreeFault::Malformed(_))));
+    let tree = names(rt.alloc())?;
+    for (ino, parent, index, name, wanted) in [
+        (257, 256, 2, b"one".as_slice(), Ok(true)),
+        (257, 257, 2, b"one".as_slice(), Ok(false)),
+        (257, 256, 3, b"one".as_slice(), Ok(false)),
+        (257, 256, 2, b"on".as_slice(), Ok(false)),
+        (258, 256, 3, b"one".as_slice(), Ok(false)),
+        (259, 256, 5, b"one".as_slice(), Ok(false)),
+        (260, 256, 7, b"one".as_slice(), Ok(true)),
+        (263, 256, 7, b"one".as_slice(), Ok(false)),
+        (261, 256, 7, b"one".as_slice(), Err(IN_SECOND)),
+        (262, 256, 8, b"one".as_slice(), Err(IN_THIRD)),
+    ] {
+        let found = linked_in(rt.alloc(), &tree, ino, (parent, index, name))?;
+        assert_eq!(rt; found, wanted, "of {ino}");
+    }
     Ok(())
 }
 
@@ -223,34 +179,18 @@ fn names_of_subvolumes(rt: HostRuntime) -> Result<(), Fail> {
     items.put(256, backref, 5, bodies::root_ref(alloc, 256, 2, b"sub")?)?;
     items.put(257, backref, 5, bodies::root_ref(alloc, 256, 3, b"two")?)?;
     items.put(257, backref, 256, bodies::root_ref(alloc, 256, 3, b"two")?)?;
-    let tree = tree_at(alloc, START, items)?;
-    let root = root_of(&tree);
-    let mut rack = rack_of(alloc, &[tree], &[])?;
-    let mut vol = volume_over(alloc, &rack, &root)?;
-    assert_eq!(rt;
-        is_mounted(256, 5, (256, 2, b"sub"), &mut rack, &mut vol),
-        Ok(true)
-    );
-    assert_eq!(rt;
-        is_mounted(256, 6, (256, 2, b"sub"), &mut rack, &mut vol),
-        Ok(false)
-    );
-    assert_eq!(rt;
-        is_mounted(256, 5, (257, 2, b"sub"), &mut rack, &mut vol),
-        Ok(false)
-    );
-    assert_eq!(rt;
-        is_mounted(256, 5, (256, 2, b"two"), &mut rack, &mut vol),
-        Ok(false)
-    );
-    assert_eq!(rt;
-        is_mounted(257, 5, (256, 3, b"two"), &mut rack, &mut vol),
-        Ok(false)
-    );
-    assert_eq!(rt;
-        is_mounted(258, 5, (256, 3, b"sub"), &mut rack, &mut vol),
-        Ok(false)
-    );
+    let tree = tree_of(alloc, items)?;
+    for (id, parent, dirid, index, name, wanted) in [
+        (256, 5, 256, 2, b"sub".as_slice(), true),
+        (256, 6, 256, 2, b"sub".as_slice(), false),
+        (256, 5, 257, 2, b"sub".as_slice(), false),
+        (256, 5, 256, 2, b"two".as_slice(), false),
+        (257, 5, 256, 3, b"two".as_slice(), false),
+        (258, 5, 256, 3, b"sub".as_slice(), false),
+    ] {
+        let found = mounted_in(alloc, &tree, id, parent, (dirid, index, name))?;
+        assert_eq!(rt; found, Ok(wanted), "of {id}");
+    }
     Ok(())
 }
 
@@ -287,64 +227,58 @@ fn surveys_of_files(rt: HostRuntime) -> Result<(), Fail> {
     items.put(257, data, 8192, bodies::inline(alloc, 7, b"end")?)?;
     items.put(260, data, 0, extent(alloc, 0, false)?)?;
     items.put(260, data, 4096, extent(alloc, 3, false)?)?;
-    let tree = tree_at(alloc, START, items)?;
-    let root = root_of(&tree);
-    let mut rack = rack_of(alloc, &[tree], &[])?;
-    let mut vol = volume_over(alloc, &rack, &root)?;
-    assert_eq!(rt;
-        surveyed(&root, 256, &mut rack, &mut vol),
-        Ok(Survey::Clear)
-    );
-    assert_eq!(rt;
-        surveyed(&root, 257, &mut rack, &mut vol),
-        Ok(Survey::Clear)
-    );
-    assert_eq!(rt;
-        surveyed(&root, 258, &mut rack, &mut vol),
-        Ok(Survey::Compressed)
-    );
-    assert_eq!(rt;
-        surveyed(&root, 259, &mut rack, &mut vol),
-        Ok(Survey::Encoded)
-    );
-    let overlap = surveyed(&root, 260, &mut rack, &mut vol);
-    assert!(rt; matches!(overlap, Err(TreeFault::Malformed(_))));
+    let tree = tree_of(alloc, items)?;
+    for (ino, wanted) in [
+        (256, Ok(Survey::Clear)),
+        (257, Ok(Survey::Clear)),
+        (258, Ok(Survey::Compressed)),
+        (259, Ok(Survey::Encoded)),
+        (260, Err(IN_FOURTH)),
+    ] {
+        let found = survey_in(alloc, &tree, ino)?;
+        assert_eq!(rt; found, wanted, "of {ino}");
+    }
     Ok(())
 }
 
-// A run of so many checksums, each of a sector of zeros.
-fn run(alloc: Global, count: usize) -> Result<Body, AllocError> {
-    let zeros = sum(FORM.sums, &[0; 4096]);
+// A run of checksums of these sectors, each of one byte.
+fn run(alloc: Global, kind: SumKind, sectors: &[u8]) -> Result<Body, AllocError> {
     let mut body = Body::new(alloc);
-    for _ in 0..count {
-        body = bodies::with_sum(body, FORM.sums, &zeros)?;
+    for byte in sectors {
+        body = bodies::with_sum(body, kind, &sum(kind, &[*byte; 4096]))?;
     }
     Ok(body)
+}
+
+// The checksum of a sector of one byte.
+fn sum_by(kind: SumKind, byte: Option<u8>) -> Option<Sum> {
+    match byte {
+        None => None,
+        Some(byte) => Some(sum(kind, &[byte; 4096])),
+    }
 }
 
 #[test]
 fn checksums_of_sectors(rt: HostRuntime) -> Result<(), Fail> {
     let alloc = rt.alloc();
-    let mut items = Items::new(alloc);
-    let minus_ten = u64::MAX - 9;
-    items.put(minus_ten, item::EXTENT_CSUM, DATA, run(alloc, 2)?)?;
-    items.put(minus_ten, item::EXTENT_CSUM, DATA + 16384, run(alloc, 1)?)?;
-    let tree = tree_at(alloc, SUMS, items)?;
-    let root = root_of(&tree);
-    let mut rack = rack_of(alloc, &[tree], &[])?;
-    let mut vol = volume_over(alloc, &rack, &root)?;
-    let zeros = sum(FORM.sums, &[0; 4096]);
-    assert_eq!(rt; sum_at(&root, DATA, &mut rack, &mut vol), Ok(Some(zeros)));
-    assert_eq!(rt;
-        sum_at(&root, DATA + 4096, &mut rack, &mut vol),
-        Ok(Some(zeros))
-    );
-    assert_eq!(rt; sum_at(&root, DATA + 8192, &mut rack, &mut vol), Ok(None));
-    assert_eq!(rt;
-        sum_at(&root, DATA + 16384, &mut rack, &mut vol),
-        Ok(Some(zeros))
-    );
-    assert_eq!(rt; sum_at(&root, DATA - 4096, &mut rack, &mut vol), Ok(None));
-    assert_eq!(rt; sum_of(None, DATA, &mut rack, &mut vol), Ok(None));
+    for kind in [SumKind::Crc32c, SumKind::Xxh64, SumKind::Sha256] {
+        let mut items = Items::new(alloc);
+        let (sums, csum) = (u64::MAX - 9, item::EXTENT_CSUM);
+        items.put(sums, csum, DATA, run(alloc, kind, &[1, 2])?)?;
+        items.put(sums, csum, DATA + 16384, run(alloc, kind, &[5])?)?;
+        let tree = tree_at(alloc, &form(kind), SUMS, items)?;
+        for (addr, is_there, byte) in [
+            (DATA - 4096, true, None),
+            (DATA, true, Some(1)),
+            (DATA + 4096, true, Some(2)),
+            (DATA + 8192, true, None),
+            (DATA + 16384, true, Some(5)),
+            (DATA + 20480, true, None),
+            (DATA, false, None),
+        ] {
+            let found = sum_in(alloc, kind, &tree, is_there, addr)?;
+            assert_eq!(rt; found, Ok(sum_by(kind, byte)), "at {addr}");
+        }
+    }
     Ok(())
 }

@@ -5,11 +5,10 @@ ghost use Rattle.btr_read.specs.Serves.{Serves};
 ghost use Rattle.btr_read.specs.Store.{free_count};
 ghost use Rattle.btr_files.specs.Streaming.{without_file, IsPiece, IsReading};
 
-use super::volume::{DATA, FORM, START, SUMS, rack_of, root_of, tree_at, volume_over};
+use super::files::{DATA_LEN, Run, SECTORS, data, files, sums};
+use super::volume::{DATA, START, rack_of, root_of, volume_over};
 use crate::{FileBytes, Piece, next_piece};
-use btr_base::sum;
-use btr_blocks::{Body, Items, Tree, bodies};
-use btr_items::{FileExtent, Shape, item};
+use btr_base::SumKind;
 use btr_rack::MemRack;
 use btr_volume::{TreeRoot, Volume};
 use btr_walk::TreeFault;
@@ -124,113 +123,15 @@ fn collect(
     Ok(())
 }
 
-// The pieces of a file, up to its end or to a fault; behind a read that failed it goes on.
-fn parts_of(
-    alloc: Global,
-    tree: &TreeRoot,
-    named: Named,
-    sums: Option<TreeRoot>,
-    rack: &mut MemRack,
-    vol: &mut Volume,
-) -> Result<Vec<Part>, AllocError>
-    requires serves { Serves (seen_of rack.old) vol.old.store }
-    requires free { free_count vol.old.store ≡ 24 }
-    ensures serves { Serves (seen_of rack.new) vol.new.store }
-    ensures free { free_count vol.new.store ≡ 24 }
-{
-    let mut parts = Vec::new(alloc);
-    let mut file = FileBytes::new(*tree, named.ino, named.size, named.nosum, sums);
-    let collected = collect(vol, &mut file, rack, &mut parts);
-    file.finish(vol);
-    collected?;
-    Ok(parts)
+/// A filesystem with these files: the kind of its checksums, the runs of them, and the number of the call that fails; 0 is none.
+#[derive(Clone, Copy)]
+struct Setting<'a> {
+    kind: SumKind,
+    runs: &'a [Run<'a>],
+    failing: u64,
 }
 
-// Four sectors, of ones, twos, threes and fours.
-fn data(alloc: Global) -> Result<Vec<u8>, AllocError> {
-    let mut bytes = Vec::new(alloc);
-    for byte in 1..5 {
-        for _ in 0..4096 {
-            bytes.push(byte)?;
-        }
-    }
-    Ok(bytes)
-}
-
-// The checksums of the first three of them, of which the third is wrong.
-fn sums(alloc: Global) -> Result<Tree, Fail> {
-    let mut body = Body::new(alloc);
-    for byte in [1, 2, 7] {
-        body = bodies::with_sum(body, FORM.sums, &sum(FORM.sums, &[byte; 4096]))?;
-    }
-    let mut items = Items::new(alloc);
-    items.put(u64::MAX - 9, item::EXTENT_CSUM, DATA, body)?;
-    tree_at(alloc, SUMS, items)
-}
-
-fn body(alloc: Global, shape: Shape) -> Result<Body, AllocError> {
-    bodies::file_extent(
-        alloc,
-        &FileExtent {
-            generation: 7,
-            ram: 16384,
-            compression: 0,
-            encoded: false,
-            shape,
-        },
-    )
-}
-
-// Bytes of the four sectors.
-fn some(alloc: Global, skip: u64, len: u64) -> Result<Body, AllocError> {
-    let shape = Shape::Regular {
-        addr: DATA,
-        disk_len: 16384,
-        skip,
-        len,
-    };
-    body(alloc, shape)
-}
-
-fn hole(alloc: Global, len: u64) -> Result<Body, AllocError> {
-    let shape = Shape::Regular {
-        addr: 0,
-        disk_len: 0,
-        skip: 0,
-        len,
-    };
-    body(alloc, shape)
-}
-
-fn preallocated(alloc: Global, len: u64) -> Result<Body, AllocError> {
-    let shape = Shape::Prealloc {
-        addr: DATA,
-        disk_len: 16384,
-        skip: 0,
-        len,
-    };
-    body(alloc, shape)
-}
-
-// Files: 257 has a hole, two sectors and a preallocated extent, 258 is inline, 259 and 260 have all sectors, 261 has extents that overlap,
-// and 262 is inline and has then the sector without a checksum.
-fn files(alloc: Global) -> Result<Tree, Fail> {
-    let kind = item::EXTENT_DATA;
-    let mut items = Items::new(alloc);
-    items.put(257, kind, 0, hole(alloc, 4096)?)?;
-    items.put(257, kind, 4096, some(alloc, 0, 8192)?)?;
-    items.put(257, kind, 16384, preallocated(alloc, 4096)?)?;
-    items.put(258, kind, 0, bodies::inline(alloc, 7, b"hello")?)?;
-    items.put(259, kind, 4096, some(alloc, 4096, 4096)?)?;
-    items.put(260, kind, 0, some(alloc, 0, 16384)?)?;
-    items.put(261, kind, 0, some(alloc, 0, 8192)?)?;
-    items.put(261, kind, 4096, some(alloc, 0, 4096)?)?;
-    items.put(262, kind, 0, bodies::inline(alloc, 7, b"hello")?)?;
-    items.put(262, kind, 4096, some(alloc, 12288, 4096)?)?;
-    tree_at(alloc, START, items)
-}
-
-/// A rack with these files and their checksums, and the volume that reads it.
+/// A rack with the files and their checksums, and the volume that reads it.
 #[derive(Drop)]
 struct Scene {
     rack: MemRack,
@@ -239,18 +140,17 @@ struct Scene {
     sums: TreeRoot,
 }
 
-// The call of this number fails.
-fn make_scene(alloc: Global, failing: u64) -> Result<Scene, Fail>
+fn make_scene(alloc: Global, setting: &Setting<'_>) -> Result<Scene, Fail>
     ensures serves { IfOk result (λ scene. Serves (seen_of scene.rack) scene.vol.store) }
     ensures free { IfOk result (λ scene. free_count scene.vol.store ≡ 24) }
 {
-    let files = files(alloc)?;
-    let sums = sums(alloc)?;
+    let files = files(alloc, setting.kind)?;
+    let sums = sums(alloc, setting.kind, setting.runs)?;
     let root = root_of(&files);
     let sums_root = root_of(&sums);
-    let mut rack = rack_of(alloc, &[files, sums], data(alloc)?.as_slice())?;
-    rack.fail_call(failing)?;
-    let vol = volume_over(alloc, &rack, &root)?;
+    let mut rack = rack_of(alloc, &[&files, &sums], data(alloc)?.as_slice())?;
+    rack.fail_call(setting.failing)?;
+    let vol = volume_over(alloc, setting.kind, &rack, &root)?;
     Ok(Scene {
         rack,
         vol,
@@ -259,37 +159,27 @@ fn make_scene(alloc: Global, failing: u64) -> Result<Scene, Fail>
     })
 }
 
-// The pieces of a file in it.
-fn parts(alloc: Global, scene: &mut Scene, named: Named) -> Result<Vec<Part>, AllocError>
-    requires serves { Serves (seen_of scene.old.rack) scene.old.vol.store }
-    requires free { free_count scene.old.vol.store ≡ 24 }
-    ensures serves { Serves (seen_of scene.new.rack) scene.new.vol.store }
-    ensures free { free_count scene.new.vol.store ≡ 24 }
-{
+// The pieces of a file in such a filesystem, up to its end or to a fault; behind a read that failed it goes on.
+fn parts(alloc: Global, setting: &Setting<'_>, named: Named) -> Result<Vec<Part>, Fail> {
+    let mut scene = make_scene(alloc, setting)?;
     let sums = if named.summed { Some(scene.sums) } else { None };
-    parts_of(
-        alloc,
-        &scene.files,
-        named,
-        sums,
-        &mut scene.rack,
-        &mut scene.vol,
-    )
+    let mut parts = Vec::new(alloc);
+    let mut file = FileBytes::new(scene.files, named.ino, named.size, named.nosum, sums);
+    let collected = collect(&mut scene.vol, &mut file, &mut scene.rack, &mut parts);
+    file.finish(&mut scene.vol);
+    collected?;
+    Ok(parts)
 }
 
-#[test]
-fn holes_and_sectors(rt: HostRuntime) -> Result<(), Fail> {
-    let mut scene = make_scene(rt.alloc(), 1000)?;
-    let found = parts(rt.alloc(), &mut scene, file(257, 30000))?;
-    let wanted = [
-        Part::Gap(4096),
-        same(4096, 1),
-        same(4096, 2),
-        Part::Gap(17712),
-    ];
-    assert_eq!(rt; found.as_slice(), wanted.as_slice());
-    Ok(())
-}
+/// The first three sectors have checksums, and that of the third is wrong.
+const THREE: Setting<'static> = Setting {
+    kind: SumKind::Crc32c,
+    runs: &[Run {
+        sector: 0,
+        bytes: &[1, 2, 7],
+    }],
+    failing: 0,
+};
 
 const HELLO: Part = Part::Bytes {
     len: 5,
@@ -299,86 +189,124 @@ const HELLO: Part = Part::Bytes {
 };
 
 #[test]
-fn inline_bytes(rt: HostRuntime) -> Result<(), Fail> {
-    let mut scene = make_scene(rt.alloc(), 1000)?;
-    let long = parts(rt.alloc(), &mut scene, file(258, 100))?;
-    assert_eq!(rt; long.as_slice(), [HELLO, Part::Gap(95)].as_slice());
-    let cut = parts(rt.alloc(), &mut scene, file(258, 1))?;
-    assert_eq!(rt; cut.as_slice(), [same(1, b'h')].as_slice());
-    Ok(())
-}
-
-#[test]
-fn sizes_of_files(rt: HostRuntime) -> Result<(), Fail> {
-    let mut scene = make_scene(rt.alloc(), 1000)?;
-    let middle = parts(rt.alloc(), &mut scene, file(259, 5000))?;
-    assert_eq!(rt;
-        middle.as_slice(),
-        [Part::Gap(4096), same(904, 2)].as_slice()
-    );
-    let empty = parts(rt.alloc(), &mut scene, file(259, 0))?;
-    assert_eq!(rt; empty.len(), 0);
-    let large = parts(rt.alloc(), &mut scene, file(256, 1 << 60))?;
-    assert_eq!(rt; large.as_slice(), [Part::Gap(1 << 60)].as_slice());
-    Ok(())
-}
-
-#[test]
-fn a_sector_that_is_lost(rt: HostRuntime) -> Result<(), Fail> {
-    let mut scene = make_scene(rt.alloc(), 1000)?;
-    let found = parts(rt.alloc(), &mut scene, file(260, 16384))?;
+fn pieces_of_files(rt: HostRuntime) -> Result<(), Fail> {
     let lost = Part::Fault(TreeFault::Lost(DATA + 8192));
-    assert_eq!(rt;
-        found.as_slice(),
-        [same(4096, 1), same(4096, 2), lost].as_slice()
-    );
-    Ok(())
-}
-
-#[test]
-fn a_missing_checksum(rt: HostRuntime) -> Result<(), Fail> {
-    let mut scene = make_scene(rt.alloc(), 1000)?;
-    let found = parts(rt.alloc(), &mut scene, file(262, 8192))?;
-    assert_eq!(rt;
-        found.as_slice(),
-        [HELLO, Part::Gap(4091), plain(4096, 4)].as_slice()
-    );
+    let overlap = Part::Fault(TreeFault::Malformed(START + 16384));
+    for (named, wanted) in [
+        (
+            file(257, 30000),
+            [
+                Part::Gap(4096),
+                same(4096, 1),
+                same(4096, 2),
+                Part::Gap(17712),
+            ]
+            .as_slice(),
+        ),
+        (file(258, 100), [HELLO, Part::Gap(95)].as_slice()),
+        (file(258, 1), [same(1, b'h')].as_slice()),
+        (file(259, 5000), [Part::Gap(4096), same(904, 2)].as_slice()),
+        (file(259, 0), [].as_slice()),
+        (file(256, 1 << 60), [Part::Gap(1 << 60)].as_slice()),
+        (
+            file(260, 16384),
+            [same(4096, 1), same(4096, 2), lost].as_slice(),
+        ),
+        (
+            file(261, 12288),
+            [same(4096, 1), same(4096, 2), overlap].as_slice(),
+        ),
+        (
+            file(262, 8192),
+            [HELLO, Part::Gap(4091), plain(4096, 4)].as_slice(),
+        ),
+    ] {
+        let found = parts(rt.alloc(), &THREE, named)?;
+        assert_eq!(rt; found.as_slice(), wanted, "of {}", named.ino);
+    }
     Ok(())
 }
 
 #[test]
 fn sectors_without_checksums(rt: HostRuntime) -> Result<(), Fail> {
-    let mut scene = make_scene(rt.alloc(), 1000)?;
     let all = [
         plain(4096, 1),
         plain(4096, 2),
         plain(4096, 3),
         plain(4096, 4),
     ];
-    let mut named = file(260, 16384);
-    named.nosum = true;
-    let untested = parts(rt.alloc(), &mut scene, named)?;
-    assert_eq!(rt; untested.as_slice(), all.as_slice());
-    named.nosum = false;
-    named.summed = false;
-    let treeless = parts(rt.alloc(), &mut scene, named)?;
-    assert_eq!(rt; treeless.as_slice(), all.as_slice());
+    for (nosum, summed) in [(true, true), (false, false)] {
+        let named = Named {
+            ino: 260,
+            size: 16384,
+            nosum,
+            summed,
+        };
+        let found = parts(rt.alloc(), &THREE, named)?;
+        assert_eq!(rt; found.as_slice(), all.as_slice());
+    }
     Ok(())
 }
 
 #[test]
-fn extents_that_overlap(rt: HostRuntime) -> Result<(), Fail> {
-    let mut scene = make_scene(rt.alloc(), 1000)?;
-    let found = parts(rt.alloc(), &mut scene, file(261, 12288))?;
-    assert_eq!(rt; found.len(), 3);
-    assert!(rt; matches!(found[2], Part::Fault(TreeFault::Malformed(_))));
+fn checksums_of_each_kind(rt: HostRuntime) -> Result<(), Fail> {
+    // One item begins two sectors before the file's extent, and the other ends one sector before its end.
+    let runs = [
+        Run {
+            sector: 0,
+            bytes: &[1, 2, 3, 4],
+        },
+        Run {
+            sector: 5,
+            bytes: &[6, 7],
+        },
+    ];
+    let wanted = [
+        same(4096, 3),
+        same(4096, 4),
+        plain(4096, 5),
+        same(4096, 6),
+        same(4096, 7),
+        plain(4096, 8),
+    ];
+    for kind in [SumKind::Crc32c, SumKind::Xxh64, SumKind::Sha256] {
+        let setting = Setting {
+            kind,
+            runs: &runs,
+            failing: 0,
+        };
+        let found = parts(rt.alloc(), &setting, file(263, 24576))?;
+        assert_eq!(rt; found.as_slice(), wanted.as_slice());
+    }
+    Ok(())
+}
+
+#[test]
+fn more_checksums_than_are_kept(rt: HostRuntime) -> Result<(), Fail> {
+    // One item has those of all sectors; of 32 bytes each 128 are kept.
+    let mut bytes = [0; SECTORS as usize];
+    let mut wanted = Vec::new(rt.alloc());
+    for i in 0..SECTORS {
+        bytes[i as usize] = i + 1;
+        wanted.push(same(4096, i + 1))?;
+    }
+    let setting = Setting {
+        kind: SumKind::Sha256,
+        runs: &[Run {
+            sector: 0,
+            bytes: &bytes,
+        }],
+        failing: 0,
+    };
+    let found = parts(rt.alloc(), &setting, file(264, DATA_LEN))?;
+    assert_eq!(rt; found.as_slice(), wanted.as_slice());
     Ok(())
 }
 
 // How many pieces of the file 257 come before the block that can't be read where the call of this number fails, and how many behind it.
 fn pieces_around(alloc: Global, failing: u64) -> Result<(usize, usize), Fail> {
-    let mut scene = make_scene(alloc, failing)?;
-    let found = parts(alloc, &mut scene, file(257, 30000))?;
+    let setting = Setting { failing, ..THREE };
+    let found = parts(alloc, &setting, file(257, 30000))?;
     for i in 0..found.len() {
         if matches!(found[i], Part::Fault(TreeFault::Unread(_, 0))) {
             return Ok((i, found.len() - i - 1));
@@ -390,12 +318,16 @@ fn pieces_around(alloc: Global, failing: u64) -> Result<(usize, usize), Fail> {
 #[test]
 fn files_that_cannot_be_read(rt: HostRuntime) -> Result<(), Fail> {
     // The calls from the second on read the three levels to the file's extents, the checksums, and two sectors.
-    assert_eq!(rt; pieces_around(rt.alloc(), 2)?, (0, 4));
-    assert_eq!(rt; pieces_around(rt.alloc(), 3)?, (0, 4));
-    assert_eq!(rt; pieces_around(rt.alloc(), 4)?, (0, 4));
-    assert_eq!(rt; pieces_around(rt.alloc(), 5)?, (1, 3));
-    assert_eq!(rt; pieces_around(rt.alloc(), 6)?, (1, 3));
-    assert_eq!(rt; pieces_around(rt.alloc(), 7)?, (2, 2));
-    assert_eq!(rt; pieces_around(rt.alloc(), 8)?, (4, 0));
+    for (failing, around) in [
+        (2, (0, 4)),
+        (3, (0, 4)),
+        (4, (0, 4)),
+        (5, (1, 3)),
+        (6, (1, 3)),
+        (7, (2, 2)),
+        (8, (4, 0)),
+    ] {
+        assert_eq!(rt; pieces_around(rt.alloc(), failing)?, around, "at {failing}");
+    }
     Ok(())
 }

@@ -4,6 +4,7 @@ ghost use Rattle.btr_rack.specs.Memory.{seen_of, slots_of};
 ghost use Rattle.btr_read.specs.Serves.{Serves};
 ghost use Rattle.btr_read.specs.Store.{free_count};
 
+use btr_base::SumKind;
 use btr_blocks::{Form, Items, Tree, bodies};
 use btr_chunk::{Chunk, ChunkTable, Stripe};
 use btr_rack::{MemRack, Rack};
@@ -25,17 +26,28 @@ pub(super) const DATA: u64 = 3145728;
 
 const CHUNK: u64 = 4194304;
 
+/// The length of a block.
+pub(super) const BLOCK: u32 = 8192;
+
 /// Small blocks, of which a leaf has three items and a node three pointers at most.
-pub(super) const FORM: Form = Form {
-    nodesize: 4096,
-    items: 3,
-    pointers: 3,
-    ..Form::DEFAULT
-};
+pub(super) fn form(sums: SumKind) -> Form {
+    Form {
+        sums,
+        nodesize: BLOCK as usize,
+        items: 3,
+        pointers: 3,
+        ..Form::DEFAULT
+    }
+}
+
+/// The tree of these items that begins at the chunk's start.
+pub(super) fn tree_of(alloc: Global, items: Items) -> Result<Tree, Fail> {
+    tree_at(alloc, &form(SumKind::Crc32c), START, items)
+}
 
 /// The tree of these items that begins at an address.
-pub(super) fn tree_at(alloc: Global, addr: u64, items: Items) -> Result<Tree, Fail> {
-    Ok(Tree::grow(alloc, &FORM, addr, items)?)
+pub(super) fn tree_at(alloc: Global, form: &Form, addr: u64, items: Items) -> Result<Tree, Fail> {
+    Ok(Tree::grow(alloc, form, addr, items)?)
 }
 
 /// Its root.
@@ -45,7 +57,7 @@ pub(super) fn root_of(tree: &Tree) -> TreeRoot {
         offset: 0,
         place: RootPlace {
             addr: tree.root(),
-            generation: FORM.generation,
+            generation: Form::DEFAULT.generation,
             level: tree.level(),
         },
         dirid: 256,
@@ -54,7 +66,7 @@ pub(super) fn root_of(tree: &Tree) -> TreeRoot {
 }
 
 /// A rack with the trees and the data in its one image, which is open.
-pub(super) fn rack_of(alloc: Global, trees: &[Tree], data: &[u8]) -> Result<MemRack, Fail>
+pub(super) fn rack_of(alloc: Global, trees: &[&Tree], data: &[u8]) -> Result<MemRack, Fail>
     ensures { IfOk result (λ rack. 0 < length (slots_of rack)) }
 {
     let mut rack = MemRack::new(alloc);
@@ -67,9 +79,18 @@ pub(super) fn rack_of(alloc: Global, trees: &[Tree], data: &[u8]) -> Result<MemR
     Ok(rack)
 }
 
+// The number of a kind of checksum.
+fn type_of(sums: SumKind) -> u16 {
+    match sums {
+        SumKind::Crc32c => 0,
+        SumKind::Xxh64 => 1,
+        SumKind::Sha256 => 2,
+    }
+}
+
 // The superblock of a filesystem whose root tree begins at the chunk's start.
-fn sup_of(root: &RootPlace) -> Super {
-    let fsid = FORM.fsid;
+fn sup_of(sums: SumKind, root: &RootPlace) -> Super {
+    let fsid = Form::DEFAULT.fsid;
     Super {
         fsid,
         place: 65536,
@@ -83,15 +104,15 @@ fn sup_of(root: &RootPlace) -> Super {
         root_dir: 6,
         num_devices: 1,
         sectorsize: 4096,
-        nodesize: 4096,
-        leafsize: 4096,
+        nodesize: BLOCK,
+        leafsize: BLOCK,
         stripesize: 4096,
         sys_chunk_array_size: 0,
         chunk_root_generation: 0,
         compat: 0,
         compat_ro: 0,
         incompat: 0,
-        csum_type: 0,
+        csum_type: type_of(sums),
         root_level: root.level,
         chunk_root_level: 0,
         log_root_level: 0,
@@ -104,7 +125,12 @@ fn sup_of(root: &RootPlace) -> Super {
 }
 
 /// The volume that reads the chunk from the first image. The tree is its root tree too.
-pub(super) fn volume_over(alloc: Global, rack: &MemRack, root: &TreeRoot) -> Result<Volume, Fail>
+pub(super) fn volume_over(
+    alloc: Global,
+    sums: SumKind,
+    rack: &MemRack,
+    root: &TreeRoot,
+) -> Result<Volume, Fail>
     requires { 0 < length (slots_of rack.now) }
     ensures serves { IfOk result (λ vol. Serves (seen_of rack.now) vol.store) }
     ensures free { IfOk result (λ vol. free_count vol.store ≡ 24) }
@@ -117,10 +143,10 @@ pub(super) fn volume_over(alloc: Global, rack: &MemRack, root: &TreeRoot) -> Res
     let item = bodies::chunk_item(alloc, CHUNK, 2, &[stripe])?;
     let mut chunks = ChunkTable::new(alloc);
     chunks.add(Chunk::read(alloc, START, item.as_slice())?)?;
-    let mut store = Store::new(alloc, FORM.sums, FORM.fsid, 4096, chunks)?;
+    let mut store = Store::new(alloc, sums, Form::DEFAULT.fsid, BLOCK, chunks)?;
     store.add_device(1, 0, rack.len(0))?;
     Ok(Volume {
         store,
-        sup: sup_of(&root.place),
+        sup: sup_of(sums, &root.place),
     })
 }

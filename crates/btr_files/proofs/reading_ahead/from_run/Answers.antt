@@ -1,5 +1,4 @@
-use Rattle.std.proofs.Common.{◌≡◌, ℕ, ◌+◌, ◌-◌, ◌*◌, ◌/◌, ◌<◌, ◌≤◌, length, take, drop, refl, sym, ap, ◌∙◌, subst, arith}
-use Rattle.btr_base.specs.Sum.{sum_size}
+use Rattle.std.proofs.Common.{◌≡◌, ℕ, ◌+◌, ◌-◌, ◌*◌, ◌/◌, ◌≤◌, length, take, drop, refl, ap, ◌∙◌, subst, arith}
 use Rattle.btr_files.proofs.AheadSums.{part_copied, part_ends, taken_behind, taken_within, taken_same}
 use Rattle.btr_files.proofs.reading_ahead.from_run.Goals as goal
 

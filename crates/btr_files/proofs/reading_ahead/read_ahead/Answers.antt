@@ -1,5 +1,5 @@
-use Rattle.std.proofs.Common.{◌≡◌, true, Ok, sym, ◌∙◌}
-use Rattle.btr_files.proofs.AheadSums.{from_is_ahead, none_ahead}
+use Rattle.std.proofs.Common.{sym, ◌∙◌}
+use Rattle.btr_files.proofs.AheadSums.{from_is_ahead}
 use Rattle.btr_files.proofs.reading_ahead.read_ahead.Goals as goal
 
 pub returns : goal.returns

@@ -11,7 +11,7 @@ use Rattle.btr_files.proofs.sector.want_of.Goals as goal
 
 pub returns-in-Some-clause-content : goal.returns-in-Some-clause-content
 returns-in-Some-clause-content g c =
-    let kept = c.get.ensures c.in-Some.sum c.in-Some.is in
+    let kept = c.get.ensures.found c.in-Some.sum c.in-Some.is in
     let layout = c.args.vol.now.store.layout in
     let a = g.R.Rack.seen c.args.rack.now in
     want_kept layout (kind_in c.args.vol.now.sup) c.args.source.now.sums c.args.source.now.nosum c.args.addr c.args.ahead.now c.in-Some.sum c.if-source.false (kept.0 ∙ c.kind_of.ensures) kept.1 (unread_by layout a a)

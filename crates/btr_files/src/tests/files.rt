@@ -1,0 +1,109 @@
+// Files and their checksums.
+use super::volume::{DATA, START, SUMS, form, tree_at};
+use btr_base::{SumKind, sum};
+use btr_blocks::{Body, Items, Tree, bodies};
+use btr_items::{FileExtent, Shape, item};
+use std::alloc::{AllocError, Global};
+use std::test::Fail;
+
+/// How many sectors of data there are: the first of ones, the second of twos, and so on.
+pub(super) const SECTORS: u8 = 130;
+
+/// The length of them all.
+pub(super) const DATA_LEN: u64 = 532480;
+
+/// The data.
+pub(super) fn data(alloc: Global) -> Result<Vec<u8>, AllocError> {
+    let mut bytes = Vec::new(alloc);
+    for byte in 0..SECTORS {
+        for _ in 0..4096 {
+            bytes.push(byte + 1)?;
+        }
+    }
+    Ok(bytes)
+}
+
+/// A run of checksums from a sector on, each of a sector of one byte.
+#[derive(Clone, Copy)]
+pub(super) struct Run<'a> {
+    pub(super) sector: u64,
+    pub(super) bytes: &'a [u8],
+}
+
+/// The checksum tree with these runs.
+pub(super) fn sums(alloc: Global, kind: SumKind, runs: &[Run<'_>]) -> Result<Tree, Fail> {
+    let mut items = Items::new(alloc);
+    for run in runs {
+        let mut body = Body::new(alloc);
+        for byte in run.bytes {
+            body = bodies::with_sum(body, kind, &sum(kind, &[*byte; 4096]))?;
+        }
+        let addr = DATA + run.sector % 1024 * 4096;
+        items.put(u64::MAX - 9, item::EXTENT_CSUM, addr, body)?;
+    }
+    tree_at(alloc, &form(kind), SUMS, items)
+}
+
+fn body(alloc: Global, shape: Shape) -> Result<Body, AllocError> {
+    bodies::file_extent(
+        alloc,
+        &FileExtent {
+            generation: 7,
+            ram: DATA_LEN,
+            compression: 0,
+            encoded: false,
+            shape,
+        },
+    )
+}
+
+// Bytes of the data.
+fn some(alloc: Global, skip: u64, len: u64) -> Result<Body, AllocError> {
+    let shape = Shape::Regular {
+        addr: DATA,
+        disk_len: DATA_LEN,
+        skip,
+        len,
+    };
+    body(alloc, shape)
+}
+
+fn hole(alloc: Global, len: u64) -> Result<Body, AllocError> {
+    let shape = Shape::Regular {
+        addr: 0,
+        disk_len: 0,
+        skip: 0,
+        len,
+    };
+    body(alloc, shape)
+}
+
+fn preallocated(alloc: Global, len: u64) -> Result<Body, AllocError> {
+    let shape = Shape::Prealloc {
+        addr: DATA,
+        disk_len: DATA_LEN,
+        skip: 0,
+        len,
+    };
+    body(alloc, shape)
+}
+
+/// Files: 257 has a hole, two sectors and a preallocated extent, 258 is inline, 259 has the second sector behind a hole and 260 the first four,
+/// 261 has extents that overlap, 262 is inline and has then the fourth sector, 263 has the third to the eighth, and 264 all.
+pub(super) fn files(alloc: Global, kind: SumKind) -> Result<Tree, Fail> {
+    let data = item::EXTENT_DATA;
+    let mut items = Items::new(alloc);
+    items.put(257, data, 0, hole(alloc, 4096)?)?;
+    items.put(257, data, 4096, some(alloc, 0, 8192)?)?;
+    items.put(257, data, 16384, preallocated(alloc, 4096)?)?;
+    items.put(258, data, 0, bodies::inline(alloc, 7, b"hello")?)?;
+    items.put(259, data, 4096, some(alloc, 4096, 4096)?)?;
+    items.put(260, data, 0, some(alloc, 0, 16384)?)?;
+    items.put(261, data, 0, some(alloc, 0, 8192)?)?;
+    items.put(261, data, 4096, some(alloc, 0, 4096)?)?;
+    items.put(262, data, 0, bodies::inline(alloc, 7, b"hello")?)?;
+    items.put(262, data, 4096, some(alloc, 12288, 4096)?)?;
+    items.put(263, data, 0, some(alloc, 8192, 24576)?)?;
+    items.put(264, data, 0, some(alloc, 0, DATA_LEN)?)?;
+    tree_at(alloc, &form(kind), START, items)
+}
