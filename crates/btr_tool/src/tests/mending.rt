@@ -207,7 +207,7 @@ const SPOILED: [Spoiled; 4] = [
     },
 ];
 
-fn spoiled(alloc: Global, case: &Spoiled) -> Result<MemRack, Fail> {
+fn spoil_images(alloc: Global, case: &Spoiled) -> Result<MemRack, Fail> {
     let mut rack = row(alloc, case.rows.volume)?;
     for name in case.spoiled {
         spoil(&mut rack, name)?;
@@ -220,7 +220,7 @@ fn spoiled_images_are_mended(rt: HostRuntime) -> Result<(), Fail> {
     let alloc = rt.alloc();
     for case in &SPOILED {
         let right = row(alloc, case.rows.volume)?;
-        let mut rack = spoiled(alloc, case)?;
+        let mut rack = spoil_images(alloc, case)?;
         scrubs(&rt, alloc, &mut rack, case.rows.names, Some(case.text), 0)?;
         expect_same(&rt, &right, &rack, case.rows.names);
     }
@@ -235,7 +235,7 @@ fn stop_at(
     write: u64,
     text: &[u8],
 ) -> Result<(), Fail> {
-    let mut rack = spoiled(alloc, case)?;
+    let mut rack = spoil_images(alloc, case)?;
     rack.tear(165);
     rack.fail_write(write)?;
     scrubs(rt, alloc, &mut rack, case.rows.names, Some(text), 4)?;
