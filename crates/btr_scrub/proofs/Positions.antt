@@ -161,6 +161,10 @@ of_range layout t copy slot off range is has e c =
       offset = omega (arith, at.1);
     }
 
+pub copy_of_range : (layout : Layout) (t : Target) (copy slot off : ℕ) (range : Range) (is : IsSought layout t) (has : HasMirror copy t) (e : range_of t (Mirror copy) ≡ Some range) (c : covers slot off range ≡ true) → (of_range layout t copy slot off range is has e c).copy ≡ copy
+unfolding of_range
+copy_of_range layout t copy slot off range is has e c = refl
+
 -- it is the byte of an address of the block
 pub is_of_copy : (layout : Layout) (t : Target) (slot off : ℕ) → IsTable layout.chunks → (is : IsSought layout t) → (b : IsCopyByte layout t slot off)
     → IsOfCopy layout.chunks (record { devid = (place_at t.chunk (Mirror b.copy) t.at).devid; offset = off }) is.number b.copy (addr_of t.want + b.behind)

@@ -3,8 +3,8 @@ ghost use Rattle.btr_scrub.specs.Survival.{BadBlockIsWrong, DifferingParityIsWro
 ghost use Rattle.btr_scrub.specs.Places.{ElementsApart};
 ghost use Rattle.btr_scrub.specs.Listed.{FewBytes};
 ghost use Rattle.btr_scrub.specs.Staying.{RightStays, RowOutlivesWrites, RowWritesAreWrong};
-ghost use Rattle.btr_scrub.specs.Leaves.{ChunksAreSynced, StoppedKeepsTheRest, WritesKeepTheRest};
-ghost use Rattle.btr_scrub.specs.Whole.{ListedWrites, WorksKeepTheRest};
+ghost use Rattle.btr_scrub.specs.Leaves.{WritesKeepTheRest};
+ghost use Rattle.btr_scrub.specs.Whole.{ListedCounts, ListedWrites, WorksKeepTheRest};
 ghost use Rattle.btr_scrub.specs.Glue.{SomeCandidateIsRight, ParityOfRanges, BlockOfElement, PartStands, RowGivesBlocks};
 
 /// Where at most as many elements of a full stripe are wrong as there is parity, some candidate of each block reads none of
@@ -87,17 +87,6 @@ pub fn row_writes_are_wrong()
     ensures { RowWritesAreWrong }
 {}
 
-/// Where scrub was stopped at one of its acts, by a write, a sync or memory that failed, all that lies outside the ranges is
-/// as before.
-pub fn stopped_keeps_the_rest()
-    ensures { StoppedKeepsTheRest }
-{}
-
-/// Behind each chunk no image has a write that isn't synced.
-pub fn chunks_are_synced()
-    ensures { ChunksAreSynced }
-{}
-
 /// The writes for a list of all checked blocks are those that mend the filesystem.
 pub fn listed_writes()
     ensures { ListedWrites }
@@ -106,4 +95,9 @@ pub fn listed_writes()
 /// Whatever failed as the blocks of a list were mended, all that lies outside the ranges of their writes is as before.
 pub fn works_keep_the_rest()
     ensures { WorksKeepTheRest }
+{}
+
+/// The counts for a list of all checked blocks are the tally of the repair, but that each stands still at its type's end.
+pub fn listed_counts()
+    ensures { ListedCounts }
 {}

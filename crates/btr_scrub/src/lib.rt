@@ -31,10 +31,10 @@ mod whole;
 
 pub use gathered::Gathered;
 pub use laws::{
-    bad_block_is_wrong, block_of_element, chunks_are_synced, differing_parity_is_wrong,
-    elements_apart, elements_are_slices, few_bytes, listed_writes, parity_of_ranges, part_stands,
+    bad_block_is_wrong, block_of_element, differing_parity_is_wrong,
+    elements_apart, elements_are_slices, few_bytes, listed_counts, listed_writes, parity_of_ranges, part_stands,
     right_stays, row_gives_blocks, row_outlives_writes, row_survives, row_writes_are_wrong,
-    some_candidate_is_right, stopped_keeps_the_rest, works_keep_the_rest, writes_keep_the_rest,
+    some_candidate_is_right, works_keep_the_rest, writes_keep_the_rest,
 };
 pub use listed::Listed;
 pub use missing::missing_device;

@@ -3,7 +3,7 @@ use Rattle.btr_mend.proofs.Doing.{only_slots}
 use Rattle.btr_scrub.specs.Order.{AreApart}
 use Rattle.btr_scrub.specs.Scrubbing.{chunk_count_for, chunk_writes_for}
 use Rattle.btr_scrub.proofs.Syncs.{sync_slots}
-use Rattle.btr_scrub.proofs.Working.{can_mend_synced, some_and, works_halted, works_synced}
+use Rattle.btr_scrub.proofs.Working.{can_mend_synced, some_and, works_halted, works_read, works_synced}
 use Rattle.btr_scrub.proofs.mending.mend_and_sync.Goals as goal
 
 pub sync_marked-requires : goal.sync_marked-requires
