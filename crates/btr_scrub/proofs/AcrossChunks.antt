@@ -37,7 +37,7 @@ use Rattle.btr_scrub.specs.declared.tally.Tally.{Tally}
 use Rattle.btr_scrub.proofs.Agreeing.{Alike, copies_alike, of_mapped, writes_alike}
 use Rattle.btr_scrub.proofs.Blockwise.{none_first, none_flat, none_passes, of_targets}
 use Rattle.btr_scrub.proofs.CopyWrites.{same_element, written_byte}
-use Rattle.btr_scrub.proofs.Elements.{range_stands, stands_on}
+use Rattle.btr_row.proofs.Elements.{range_stands, stands_on}
 use Rattle.btr_scrub.proofs.Places.{is_at}
 use Rattle.btr_scrub.proofs.Positions.{IsCopyByte, is_sought, of_range, on_stripe}
 use Rattle.btr_scrub.proofs.RowAgreeing.{RowAlike, flat_same, fold_same, row_writes_alike}

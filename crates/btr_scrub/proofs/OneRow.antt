@@ -31,7 +31,7 @@ use Rattle.btr_row.specs.declared.mended.MendedRow.{MendedRow}
 use Rattle.btr_scrub.specs.Leaves.{LiesInStripe}
 use Rattle.btr_scrub.specs.Scrubbing.{HasRooms, Scrubs, counted_row}
 use Rattle.btr_scrub.specs.declared.tally.Tally.{Tally}
-use Rattle.btr_scrub.proofs.Elements.{range_stands, stands_on}
+use Rattle.btr_row.proofs.Elements.{range_stands, stands_on}
 use Rattle.btr_scrub.proofs.Positions.{find_at}
 use Rattle.btr_scrub.proofs.Scrubbing.{does_fault, does_value, does_weaker, tell, told}
 use Rattle.btr_scrub.proofs.Some.{any_at}

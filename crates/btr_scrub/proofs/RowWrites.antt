@@ -34,7 +34,7 @@ use Rattle.btr_scrub.specs.Places.{IsOfElement}
 use Rattle.btr_scrub.specs.Repair.{covers}
 use Rattle.btr_scrub.proofs.Agreeing.{Alike}
 use Rattle.btr_scrub.proofs.CopyWrites.{same_element}
-use Rattle.btr_scrub.proofs.Elements.{range_stands, stands_on, stripe-row}
+use Rattle.btr_row.proofs.Elements.{range_stands, stands_on, stripe-row}
 use Rattle.btr_scrub.proofs.Places.{covering}
 use Rattle.btr_scrub.proofs.Positions.{striped_fits, striped_position}
 use Rattle.btr_scrub.proofs.RowAgreeing.{RowAlike, parity_alike, parity_has, row_alike}

@@ -22,8 +22,8 @@ use Rattle.btr_scrub.specs.Right.{Committed, HasFewWrong, committed_for}
 use Rattle.btr_row.specs.Rows as rows
 use Rattle.btr_row.specs.Rows.{Row, blocks_at, element, element_with, parities, range_in_element, slice_with, slices_with, with_block}
 use Rattle.btr_scrub.specs.Survival.{AreBehind, ElementsAreSlices, IsSoundRow, KeepsRight, RowSurvives}
-use Rattle.btr_scrub.proofs.Elements.{range_stands, stands_on}
-use Rattle.btr_scrub.proofs.Pasting.{length-pasted, pasted-below, pasted-within}
+use Rattle.btr_row.proofs.Elements.{range_stands, stands_on}
+use Rattle.btr_row.proofs.Pasted.{length-pasted, pasted-below, pasted-within}
 use Rattle.btr_scrub.proofs.Stripes.{any_of, no_mirror, row_gives_blocks}
 use Rattle.btr_mend.specs.Writes.{Images}
 

@@ -27,7 +27,8 @@ use Rattle.btr_scrub.specs.Right.{Committed, IsRight}
 use Rattle.btr_row.specs.Rows.{Row, column_of, differing, differs, element_with, is_decided, parities, parity_writes, range_in_element, row_writes, sector_write}
 use Rattle.btr_scrub.specs.Staying.{IsInWrong, IsRowOf, RowWritesAreWrong}
 use Rattle.btr_scrub.specs.Survival.{AcceptsRight, IsParity, IsSoundRow, RightPasses}
-use Rattle.btr_scrub.proofs.Elements.{has_ranges, range_stands, stands_on, stripe-row}
+use Rattle.btr_row.proofs.Elements.{range_stands, stands_on, stripe-row}
+use Rattle.btr_scrub.proofs.Elements.{has_ranges}
 use Rattle.btr_scrub.proofs.Places.{covering}
 use Rattle.btr_scrub.proofs.Staying.{covered}
 use Rattle.btr_scrub.proofs.Wrong.{bad_block_is_wrong, differing_parity_is_wrong}

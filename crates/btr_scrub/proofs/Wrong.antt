@@ -25,7 +25,7 @@ use Rattle.btr_row.specs.Rows.{Row, blocks_at, column_of, element, element_with,
 use Rattle.btr_scrub.specs.Survival.{BadBlockIsWrong, DifferingParityIsWrong, IsParity}
 use Rattle.btr_scrub.proofs.Elements.{block_of_element}
 use Rattle.btr_scrub.proofs.Ranges.{parity_of_ranges}
-use Rattle.btr_scrub.proofs.Pasting.{length-pasted, pasted-above, pasted-below, pasted-within}
+use Rattle.btr_row.proofs.Pasted.{length-pasted, pasted-above, pasted-below, pasted-within}
 use Rattle.btr_scrub.proofs.Survival.{block_there, at_slice, slice_there, some_of, of_filter, range_ext}
 use Rattle.btr_mend.specs.Writes.{Images}
 
