@@ -50,7 +50,7 @@ use Rattle.btr_scrub.proofs.Writes.{any_filter_map, any_flat, any_map, mapped, p
 pub same_block : (layout : Layout) (wants : List Want) (end : ℕ) (t u : Target) (one other : ℕ) → AreApart layout end wants → In t (targets layout wants) → In u (targets layout wants)
     → one < size_of t → other < size_of u → addr_of t.want + one ≡ addr_of u.want + other → t ≡ u
 same_block layout [] end t u one other apart i j lt below same = absurd i
-same_block layout (w ∷ ws) end t u one other apart i j lt below same = by (sought layout w) refl i j
+same_block layout (w ∷ ws) end t u one other apart i j lt below same = by (sought layout w) refl i j (λ k l. same_block layout ws (addr_of w + len_of layout.setting w) t u one other apart.2 k l lt below same)
   where
     -- the first ends before the others
     before : (v x : Target) → sought layout w ≡ Ok v → In x (targets layout ws) → addr_of v.want + size_of v ≤ addr_of x.want
@@ -61,12 +61,12 @@ same_block layout (w ∷ ws) end t u one other apart i j lt below same = by (sou
         let size : size_of v ≡ len_of layout.setting w = ap (λ g. len_of g v.want) first.setting_is ∙ ap (len_of layout.setting) first.want_is in
         omega (arith, begin, size, all_behind layout (addr_of w + len_of layout.setting w) ws apart.2 o.0 o.1, ap addr_of (sought_of layout o.0 x o.2).want_is)
 
-    by : (r : Result Target Fault) → sought layout w ≡ r → In t (cons_option (ok_or_none r) (targets layout ws)) → In u (cons_option (ok_or_none r) (targets layout ws)) → t ≡ u
-    by (Err f) s i j = same_block layout ws (addr_of w + len_of layout.setting w) t u one other apart.2 i j lt below same
-    by (Ok v) s (inl e) (inl f) = sym e ∙ f
-    by (Ok v) s (inl e) (inr j) = absurd (omega (arith, same, lt, subst (λ (x : Target). addr_of x.want + size_of x ≤ addr_of u.want) e (before v u s j)))
-    by (Ok v) s (inr i) (inl f) = absurd (omega (arith, same, below, subst (λ (x : Target). addr_of x.want + size_of x ≤ addr_of t.want) f (before v t s i)))
-    by (Ok v) s (inr i) (inr j) = same_block layout ws (addr_of w + len_of layout.setting w) t u one other apart.2 i j lt below same
+    by : (r : Result Target Fault) → sought layout w ≡ r → In t (cons_option (ok_or_none r) (targets layout ws)) → In u (cons_option (ok_or_none r) (targets layout ws)) → (In t (targets layout ws) → In u (targets layout ws) → t ≡ u) → t ≡ u
+    by (Err f) s i j rest = rest i j
+    by (Ok v) s (inl e) (inl f) rest = sym e ∙ f
+    by (Ok v) s (inl e) (inr j) rest = absurd (omega (arith, same, lt, subst (λ (x : Target). addr_of x.want + size_of x ≤ addr_of u.want) e (before v u s j)))
+    by (Ok v) s (inr i) (inl f) rest = absurd (omega (arith, same, below, subst (λ (x : Target). addr_of x.want + size_of x ≤ addr_of t.want) f (before v t s i)))
+    by (Ok v) s (inr i) (inr j) rest = rest i j
 
 -- a byte of a block is of one copy
 same_copy : (layout : Layout) (t : Target) (slot off : ℕ) → IsTable layout.chunks → HaveOwnSlots layout.devices → (is : IsSought layout t) → (b c : IsCopyByte layout t slot off) → b.copy ≡ c.copy
@@ -215,7 +215,7 @@ module _ (images : Images) (layout : Layout) (C : Committed) (wants : List Want)
       good : is_good images t (Mirror k) ≡ true
       good = ap (λ s. passes s t.want (element images t (Mirror k))) is.setting ∙ subst (λ o. IfSome o (λ bytes. passes layout.setting t.want bytes ≡ true)) right (had.pass t.want)
 
-      byte : (slot off : ℕ) → covers slot off range ≡ true → IsCopyByte layout t slot off
+      abbrev byte : (slot off : ℕ) → covers slot off range ≡ true → IsCopyByte layout t slot off
       byte slot off c = of_range layout t k slot off range is (has_mirror t n k has lt) whole c
 
       not_bad : (b : Bool) → not b ≡ true → b ≡ true → ⊥

@@ -3,6 +3,7 @@ use Rattle.std.proofs.Common.{◌≡◌, ℕ, ◌<◌, ◌≤◌, Bool, true, fa
 use Rattle.std.proofs.lemmas.List.{append-nil}
 use Rattle.std.proofs.lemmas.Option.{same_Some}
 use Rattle.std.specs.List.{fold}
+use Rattle.std.specs.Option.{option_map}
 use Rattle.btr_chunk.specs.Table.{IsTable}
 use Rattle.btr_chunk.specs.declared.stripe.Stripe.{Stripe}
 use Rattle.btr_prog.specs.Answers.{Follows, no_part}
@@ -26,7 +27,7 @@ use Rattle.btr_mend.proofs.Doing.{stopped_first}
 use Rattle.btr_scrub.specs.Devices.{HaveLengths}
 use Rattle.btr_scrub.specs.Gathering.{StopCause, checked_among, count_met, stop_halt}
 use Rattle.btr_scrub.specs.Leaves.{KeepsOutside}
-use Rattle.btr_scrub.specs.Repair.{Effect, blocks, effect, effect_of_ending, effect_unless, first_missing, meeting, stood_tally, stop_of, tally, writes}
+use Rattle.btr_scrub.specs.Repair.{Effect, blocks, devid_of, effect, effect_of_ending, effect_unless, first_missing, meeting, stood_tally, stop_of, tally, writes}
 use Rattle.btr_scrub.specs.Right.{AreBytes, Committed, IsRepairable, RangesLieInWrong, RangesMayHoldAnything, StandsFor}
 use Rattle.btr_scrub.specs.Scrubbed.{AnswersAs, Called, HasEffect, IsImageFault, IsLeftBy, IsSafe, IsScrubbed, IsSure, OfImages, ReadsAt}
 use Rattle.btr_scrub.specs.Scrubbing.{IsOfScrub, Works, all_count_for, all_writes_for, plain}
@@ -72,7 +73,7 @@ module _ (c : Called) where
 
     left_by : (ws : Images → List Write) → OfImages c (λ images left. IsLeftBy (ws images) images left)
     left_by ws = of_images c (λ images left. IsLeftBy (ws images) images left) (λ images left e f.
-    subst (IsLeftBy (ws images) images) (sym (left_is images left e f)) (record { stopped = stopped_first (ws images) images; rest = record { count = refl; lengths = λ slot. refl; bytes = λ slot off e. refl } }))
+        subst (IsLeftBy (ws images) images) (sym (left_is images left e f)) (record { stopped = stopped_first (ws images) images; rest = record { count = refl; lengths = λ slot. refl; bytes = λ slot off e. refl } }))
 
     later_new : mid.account.faults ≤ c.new.account.faults
     later_new = omega (arith, ap (λ (s : Seen). s.account.faults) same)
@@ -87,7 +88,7 @@ module _ (c : Called) where
     lacking = record {
       answers = λ sure. of_images c (λ images left. AnswersAs c images left c.result) (λ images left e f. subst (AnswersAs c images left) (sym answer) (record {
         answer = answer ∙ sym (ap (λ o. (effect_unless c.write images c.fs o).answer) is);
-        images = left_is c.old none_read same images left e f ∙ sym (ap (λ o. (effect_unless c.write images c.fs o).images) is);
+        same = left_is c.old none_read same images left e f ∙ sym (ap (λ o. (effect_unless c.write images c.fs o).images) is);
       }));
       left = λ sure. left_by c.old none_read same (λ images. (effect c.write images c.fs).writes);
       reads = subst (ReadsAt c) (sym answer) same;
@@ -110,7 +111,7 @@ module _ (c : Called) where
       refused_by : (images left : Images) → c.old.held ≡ Some images → c.new.held ≡ Some left → (f : Fault) → why ≡ stop_of f → (meeting images c.fs).ending ≡ Err f → HasEffect c images left
       refused_by images left e g f is ending = record {
         answer = answer ∙ ap Err is ∙ sym (ap (λ (x : Effect). x.answer) (effect_is images (Err f) ending));
-        images = left_is mid reads same images left e g ∙ sym (ap (λ (x : Effect). x.images) (effect_is images (Err f) ending));
+        same = left_is mid reads same images left e g ∙ sym (ap (λ (x : Effect). x.images) (effect_is images (Err f) ending));
       }
 
       module _ (done : List Met) (tells : Tells layout c.old mid (λ B. Follows (unread_by layout c.old mid) no_part [] (exec B (units_in c.fs.sup layout.chunks)) done (Err (stop_halt why)))) (cause : StopCause {A = Tally} layout c.old mid (Err why)) where
@@ -226,7 +227,7 @@ module _ (c : Called) where
           all_done : HasEffect c images left
           all_done = record {
             answer = says ∙ ap (λ r. answer_of r tally') is ∙ ap (λ t. Ok t) tally_is ∙ sym (ap (λ (x : Effect). x.answer) (effect_ok images d));
-            images = done_writes ∙ ap (λ vs. fold write_on images (writes_if c.write vs)) (writes_are images d) ∙ written_or c.write (writes images c.fs) ∙ sym (ap (λ (x : Effect). x.images) (effect_ok images d));
+            same = done_writes ∙ ap (λ vs. fold write_on images (writes_if c.write vs)) (writes_are images d) ∙ written_or c.write (writes images c.fs) ∙ sym (ap (λ (x : Effect). x.images) (effect_ok images d));
           }
 
         answers_by : (r : Result (Unit {0}) MendFault) → ended ≡ r → AnswersAs c images left (answer_of r tally')
@@ -315,8 +316,25 @@ module _ (c : Called) where
       anything = tell c.old.held (λ images. RangesMayHoldAnything images c.fs) (λ images e. may_hold_anything images c.fs table own (lengths images e) (bytes images e) node some);
       wrong = tell c.old.held (λ images. RangesLieInWrong images c.fs) (λ images e. lie_in_wrong images c.fs table own (lengths images e) (bytes images e) node some);
       left = λ sure. of_images c (λ images left. (C : Committed) → IsRepairable images c.fs C → All (StandsFor left C) (blocks images c.fs)) (λ images left e g C h.
-      let l = images_of c (λ images left. IsLeftBy (effect c.write images c.fs).writes images left) images left e g (scrubbed.left sure) in
+          let l = images_of c (λ images left. IsLeftBy (effect c.write images c.fs).writes images left) images left e g (scrubbed.left sure) in
       let same : (effect c.write images c.fs).writes ≡ writes_if c.write (writes images c.fs) = ap (λ (x : Effect). x.writes) (effect_is h.given images (Ok tt) h.met) in
       may_hold_anything images c.fs table own (lengths images e) (bytes images e) node some C left h
       (ranges_keep c.write images left (writes images c.fs) (subst (λ vs. KeepsOutside (map (λ (w : Write). w.range) vs) images left) same l.rest)));
     }
+
+-- what is known of a device that isn't given, by its id alone
+pub lacks : (o : Option Stripe) (devid : ℕ) (old : Seen) → Some devid ≡ option_map devid_of o → IfSome o (λ stripe. (◌≡◌ {A = Result Tally Stop} (Err (stop.Missing devid)) (Err (stop.Missing stripe.devid))) × (old ≡ old))
+lacks None devid old e = tt
+lacks (Some stripe) devid old e = (ap (λ d. Err (stop.Missing d)) (same_Some devid stripe.devid e), refl)
+
+pub not_given : (o : Option Stripe) (devid : ℕ) → Some devid ≡ option_map devid_of o → o ≡ None → ⊥
+not_given None devid e is = cc
+not_given (Some stripe) devid e is = cc
+
+pub all_given : (o : Option Stripe) → None ≡ option_map devid_of o → o ≡ None
+all_given None e = refl
+all_given (Some stripe) e = cc
+
+pub none_lacks : (c : Called) (o : Option Stripe) → o ≡ None → IfSome o (λ stripe. (c.result ≡ Err (stop.Missing stripe.devid)) × (c.new ≡ c.old))
+none_lacks c None e = tt
+none_lacks c (Some stripe) e = cc

@@ -60,41 +60,47 @@ address_is layout t is parity =
     let rest : t.at.rest ≡ o % 65536 = ap (λ (e : Elements). e.rest) at in
     omega (arith, whole, rest, from)
 
+in_more : {X : Type 0} (o : Option X) (x : X) (xs : List X) → In x xs → In x (cons_option o xs)
+in_more None x xs i = i
+in_more (Some y) x xs i = inr i
+
 -- those of blocks that are apart which pass two tests, and lie in one slice, are apart there
 module _ (layout : Layout) (p q : Target → Bool) (base : ℕ) where
-  pub apart_behind : (wants : List Want) (end e : ℕ) → AreApart layout end wants → (e ≡ 0) ⊎ (base + e ≤ end) → ((t : Target) → In t (targets layout wants) → p t ≡ true → q t ≡ true → addr_of t.want ≡ base + t.at.rest)
-      → AreBehind e (filter q (filter p (targets layout wants)))
+  abbrev AreAt : List Target → Type 0
+  AreAt ts = (t : Target) → In t ts → p t ≡ true → q t ≡ true → addr_of t.want ≡ base + t.at.rest
+
+  -- one more, before others
+  module _ (w : Want) (ws : List Want) (end e : ℕ) (apart : AreApart layout end (w ∷ ws)) (from : (e ≡ 0) ⊎ (base + e ≤ end)) (at : AreAt (targets layout (w ∷ ws)))
+      (rest : (f : ℕ) → (f ≡ 0) ⊎ (base + f ≤ addr_of w + len_of layout.setting w) → AreBehind f (filter q (filter p (targets layout ws)))) where
+    past : (e ≡ 0) ⊎ (base + e ≤ end) → (e ≡ 0) ⊎ (base + e ≤ addr_of w + len_of layout.setting w)
+    past (inl z) = inl z
+    past (inr le) = inr (omega (arith, le, apart.0))
+
+    module _ (t : Target) (s : sought layout w ≡ Ok t) where
+      begins : (e ≡ 0) ⊎ (base + e ≤ end) → addr_of t.want ≡ base + t.at.rest → e ≤ t.at.rest
+      begins (inl z) a = omega (arith, z)
+      begins (inr le) a = omega (arith, le, apart.0, a, ap addr_of (sought_of layout w t s).want_is)
+
+      and : (c : Bool) → p t ≡ true → q t ≡ c → AreBehind e (cond c (t ∷ filter q (filter p (targets layout ws))) (filter q (filter p (targets layout ws))))
+      and true pe qe =
+          let o = sought_of layout w t s in
+          let size : size_of t ≡ len_of layout.setting w = ap (λ g. len_of g t.want) o.setting_is ∙ ap (len_of layout.setting) o.want_is in
+          let a = at t (subst (λ r. In t (cons_option (ok_or_none r) (targets layout ws))) (sym s) (inl refl)) pe qe in
+          (begins from a, rest (t.at.rest + size_of t) (inr (omega (arith, a, size, ap addr_of o.want_is))))
+      and false pe qe = rest e (past from)
+
+      or : (b : Bool) → p t ≡ b → AreBehind e (filter q (cond b (t ∷ filter p (targets layout ws)) (filter p (targets layout ws))))
+      or true pe = and (q t) pe refl
+      or false pe = rest e (past from)
+
+    of_sought : (r : Result Target Fault) → sought layout w ≡ r → AreBehind e (filter q (filter p (cons_option (ok_or_none r) (targets layout ws))))
+    of_sought (Err f) s = absurd (false≢true (subst IsOk s apart.1))
+    of_sought (Ok t) s = or t s (p t) refl
+
+  pub apart_behind : (wants : List Want) (end e : ℕ) → AreApart layout end wants → (e ≡ 0) ⊎ (base + e ≤ end) → AreAt (targets layout wants) → AreBehind e (filter q (filter p (targets layout wants)))
   apart_behind [] end e apart from at = tt
-  apart_behind (w ∷ ws) end e apart from at = by (sought layout w) refl
-    where
-      by : (r : Result Target Fault) → sought layout w ≡ r → AreBehind e (filter q (filter p (cons_option (ok_or_none r) (targets layout ws))))
-      by (Err f) s = absurd (false≢true (subst IsOk s apart.1))
-      by (Ok t) s = or (p t) refl
-        where
-          there : (u : Target) → In u (t ∷ targets layout ws) → In u (targets layout (w ∷ ws))
-          there u i = subst (λ r. In u (cons_option (ok_or_none r) (targets layout ws))) (sym s) i
-
-          is_of : (addr_of t.want ≡ addr_of w) × (size_of t ≡ len_of layout.setting w)
-          is_of = let o = sought_of layout w t s in (ap addr_of o.want_is, ap (λ g. len_of g t.want) o.setting_is ∙ ap (len_of layout.setting) o.want_is)
-
-          rest_is : (f : ℕ) → (f ≡ 0) ⊎ (base + f ≤ addr_of w + len_of layout.setting w) → AreBehind f (filter q (filter p (targets layout ws)))
-          rest_is f g = apart_behind ws (addr_of w + len_of layout.setting w) f apart.2 g (λ u i pe qe. at u (there u (inr i)) pe qe)
-
-          past : (e ≡ 0) ⊎ (base + e ≤ end) → (e ≡ 0) ⊎ (base + e ≤ addr_of w + len_of layout.setting w)
-          past (inl z) = inl z
-          past (inr le) = inr (omega (arith, le, apart.0))
-
-          begins : (e ≡ 0) ⊎ (base + e ≤ end) → addr_of t.want ≡ base + t.at.rest → e ≤ t.at.rest
-          begins (inl z) a = omega (arith, z)
-          begins (inr le) a = omega (arith, le, apart.0, a, is_of.0)
-
-          and : (c : Bool) → p t ≡ true → q t ≡ c → AreBehind e (cond c (t ∷ filter q (filter p (targets layout ws))) (filter q (filter p (targets layout ws))))
-          and true pe qe = let a = at t (there t (inl refl)) pe qe in (begins from a, rest_is (t.at.rest + size_of t) (inr (omega (arith, a, is_of.0, is_of.1))))
-          and false pe qe = rest_is e (past from)
-
-          or : (b : Bool) → p t ≡ b → AreBehind e (filter q (cond b (t ∷ filter p (targets layout ws)) (filter p (targets layout ws))))
-          or true pe = and (q t) pe refl
-          or false pe = rest_is e (past from)
+  apart_behind (w ∷ ws) end e apart from at =
+      of_sought w ws end e apart from at (λ f g. apart_behind ws (addr_of w + len_of layout.setting w) f apart.2 g (λ u i pe qe. at u (in_more (ok_or_none (sought layout w)) u (targets layout ws) i) pe qe)) (sought layout w) refl
 
 -- ---- the row of a number
 

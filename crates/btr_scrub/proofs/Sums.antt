@@ -1,5 +1,5 @@
 -- Sums over lists that are taken apart.
-use Rattle.std.proofs.Common.{◌≡◌, ◌≢◌, ℕ, zero, suc, ◌+◌, Bool, true, false, cond, List, [], ◌∷◌, map, length, slice_get, Some, refl, sym, ap, ◌∙◌, inl, inr, arith}
+use Rattle.std.proofs.Common.{◌≡◌, ◌≢◌, ℕ, zero, suc, ◌+◌, Bool, true, false, cond, List, [], ◌∷◌, map, length, slice_get, Some, refl, sym, ap, ◌∙◌, inl, inr, arith, zero-add}
 use Rattle.std.proofs.lemmas.List.Sums.{sum_by-append, sum_by-cons}
 use Rattle.std.proofs.lemmas.Option.{same_Some}
 use Rattle.std.specs.List.{filter, flat_map, sum_by}
@@ -28,11 +28,11 @@ sum_flat f g (x ∷ xs) = sum_by-append f (g x) (flat_map g xs) ∙ ap (λ n. su
 
 sum_filter : {X : Type 0} (f : X → ℕ) (p : X → Bool) (xs : List X) → sum_by f (filter p xs) ≡ sum_by (λ x. cond (p x) (f x) 0) xs
 sum_filter f p [] = refl
-sum_filter f p (x ∷ xs) = by (p x) refl
+sum_filter f p (x ∷ xs) = by (p x) refl (sum_filter f p xs)
   where
-    by : (b : Bool) → p x ≡ b → sum_by f (cond b (x ∷ filter p xs) (filter p xs)) ≡ sum_by (λ y. cond (p y) (f y) 0) (x ∷ xs)
-    by true e = sum_by-cons f x (filter p xs) ∙ ap (λ n. f x + n) (sum_filter f p xs) ∙ ap (λ b. cond b (f x) 0 + sum_by (λ y. cond (p y) (f y) 0) xs) (sym e) ∙ sym (sum_by-cons (λ y. cond (p y) (f y) 0) x xs)
-    by false e = sum_filter f p xs ∙ ap (λ b. cond b (f x) 0 + sum_by (λ y. cond (p y) (f y) 0) xs) (sym e) ∙ sym (sum_by-cons (λ y. cond (p y) (f y) 0) x xs)
+    by : (b : Bool) → p x ≡ b → sum_by f (filter p xs) ≡ sum_by (λ y. cond (p y) (f y) 0) xs → sum_by f (cond b (x ∷ filter p xs) (filter p xs)) ≡ sum_by (λ y. cond (p y) (f y) 0) (x ∷ xs)
+    by true e rest = sum_by-cons f x (filter p xs) ∙ ap (λ n. f x + n) rest ∙ ap (λ b. cond b (f x) 0 + sum_by (λ y. cond (p y) (f y) 0) xs) (sym e) ∙ sym (sum_by-cons (λ y. cond (p y) (f y) 0) x xs)
+    by false e rest = rest ∙ sym (zero-add (sum_by (λ y. cond (p y) (f y) 0) xs)) ∙ ap (λ b. cond b (f x) 0 + sum_by (λ y. cond (p y) (f y) 0) xs) (sym e) ∙ sym (sum_by-cons (λ y. cond (p y) (f y) 0) x xs)
 
 -- a sum of sums, the other way
 sum_swap : {K X : Type 0} (g : K → X → ℕ) (ks : List K) (xs : List X) → sum_by (λ k. sum_by (g k) xs) ks ≡ sum_by (λ x. sum_by (λ k. g k x) ks) xs

@@ -22,8 +22,8 @@ use Rattle.btr_row.specs.Rows.{Row, parities, parity_writes}
 use Rattle.btr_scrub.specs.Gathering.{checked_among, count_met}
 use Rattle.btr_scrub.specs.Glue.{In}
 use Rattle.btr_scrub.specs.Order.{IsSought}
-use Rattle.btr_scrub.specs.Repair.{blocks, is_in_chunk, is_in_row, is_unchecked, met, row_of, rows_in, tally}
-use Rattle.btr_scrub.specs.Scrubbing.{all_count_for, blocks_count, count_block, count_row, count_row_of, counted_row, rows_count, stood, stood_tally}
+use Rattle.btr_scrub.specs.Repair.{blocks, is_in_chunk, is_in_row, is_unchecked, met, row_of, rows_in, stood, stood_tally, tally}
+use Rattle.btr_scrub.specs.Scrubbing.{all_count_for, blocks_count, count_block, count_row, count_row_of, counted_row, rows_count}
 use Rattle.btr_scrub.specs.Units.{Checked, Met, Unchecked}
 use Rattle.btr_scrub.specs.Whole.{ListedCounts, first_tally}
 use Rattle.btr_scrub.specs.declared.tally.Tally.{Tally}
@@ -87,7 +87,7 @@ module _ (images : Images) (layout : Layout) (write : Bool) (ts : List Target) w
       by (b ∷ bs) is = ap (λ bs. get (count_row_of bs u (mended_row images layout r write))) is ∙ sym (ap (λ bs. get (counted_row u (length bs) (mended_row images layout r write))) is) ∙ some u m r e
 
   -- the sum of what is written, where it is written
-  written : Target → ℕ
+  abbrev written : Target → ℕ
   written t = length (writes_if write (block_writes images t))
 
   written_sum : (us : List Target) → cond write (sum_by (λ t. length (block_writes images t)) us) 0 ≡ sum_by (λ t. length (writes_if write (block_writes images t))) us

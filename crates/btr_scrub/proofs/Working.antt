@@ -98,13 +98,13 @@ module _ (layout : Layout) (write : Bool) where
   -- a chunk was mended, and its images synced
   pub works_synced : (f : Images → List Write) (c : Images → Tally → Tally) (m m' : List Bool) (a b z : Seen) (t u : Tally) (x : Unit {0}) (r : Result (Unit {0}) MendFault) → write ≡ true
       → Scrubs layout write f c m m' a b t u (Ok x) → SyncsMarked m' b z r → Works layout write f c a z t u r
-  works_synced f c m m' a b z t u x r yes h s = record {
+  works_synced f c m m' a b z t u x r writing h s = record {
     does = recast (IsOfScrub layout) (λ i. writes_if write (f i) ++ []) (λ i. writes_if write (f i)) [] [] (plain a) (plain z) r (λ images e. append-nil (writes_if write (f images)))
         (does_next (Unit {0}) (Unit {0}) (IsOfScrub layout) (λ i. writes_if write (f i)) (λ i. []) [] [] [] (plain a) (plain b) (plain z) x r (λ images e. refl)
         (does_plain (LiesInStripe layout) (IsOfScrub layout) (λ i. writes_if write (f i)) m m' a b (Ok x) (λ range l. inr l) h.does) (does_sync layout m' b z r s));
     counts = counted r;
     synced = waits r s.synced;
-    unwritten = λ w. absurd (false≢true (sym w ∙ yes));
+    unwritten = λ w. absurd (false≢true (sym w ∙ writing));
   }
     where
       counted : (r : Result (Unit {0}) MendFault) → OnOk r (IfSome a.held (λ images. u ≡ c images t))
@@ -117,10 +117,10 @@ module _ (layout : Layout) (write : Bool) where
 
   -- .. or only read
   pub works_read : (f : Images → List Write) (c : Images → Tally → Tally) (m m' : List Bool) (a b : Seen) (t u : Tally) (x : Unit {0}) → write ≡ false → Scrubs {A = Unit {0}} layout write f c m m' a b t u (Ok x) → Works {A = Unit {0}} layout write f c a b t u (Ok x)
-  works_read f c m m' a b t u x no h = record {
+  works_read f c m m' a b t u x reading h = record {
     does = does_plain {A = Unit {0}} (LiesInStripe layout) (IsOfScrub layout) (λ i. writes_if write (f i)) m m' a b (Ok x) (λ range l. inr l) h.does;
     counts = h.counts;
-    synced = λ none. ap (λ (s : Seen). s.unsynced) (h.unwritten no).same ∙ none;
+    synced = λ none. ap (λ (s : Seen). s.unsynced) (h.unwritten reading).same ∙ none;
     unwritten = h.unwritten;
   }
   -- .. or came to a halt

@@ -38,7 +38,7 @@ OfImages c P = IfSome c.old.held (λ images. IfSome c.new.held (P images))
 -- the answer and the images that are left are those of the effect
 pub record HasEffect (c : Called) (images left : Images) : Type 0 where
   pub answer : c.result ≡ (effect c.write images c.fs).answer
-  pub images : left ≡ (effect c.write images c.fs).images
+  pub same : left ≡ (effect c.write images c.fs).images
 
 -- a fault of a tree is that of the effect, or a block could not be read
 abbrev pub FaultsAs : Called → Images → Images → TreeFault → Type 0

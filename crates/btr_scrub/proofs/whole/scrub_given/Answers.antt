@@ -22,7 +22,7 @@ returns-in-Err-clause-scrubs g c = record {
 }
 
 pub returns-clause-scrubs : goal.returns-clause-scrubs
-returns-clause-scrubs g c none =
+returns-clause-scrubs g c =
     let s = c.args.vol.now.sup in
     let layout = c.args.vol.now.store.layout in
     let old = g.R.Rack.seen c.args.rack.now in
