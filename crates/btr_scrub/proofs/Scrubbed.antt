@@ -40,13 +40,14 @@ use Rattle.btr_scrub.proofs.Safe.{lie_in_wrong, may_hold_anything}
 use Rattle.btr_scrub.proofs.Scrubbing.{tell, told}
 use Rattle.btr_scrub.proofs.Tallying.{listed_counts}
 use Rattle.btr_scrub.proofs.Told.{listed_writes}
+use Rattle.btr_scrub.proofs.Working.{some_and}
 
 -- what is said of the images before and behind, where they are told
-of_images : (c : Called) (P : Images → Images → Type 0) → ((images left : Images) → c.old.held ≡ Some images → c.new.held ≡ Some left → P images left) → OfImages c P
-of_images c P h = tell c.old.held (λ images. IfSome c.new.held (P images)) (λ images e. tell c.new.held (P images) (λ left f. h images left e f))
+of_images : (c : Called) (P : Images → Images → Type 0) → ((images : Images) → c.old.held ≡ Some images → (left : Images) × (c.new.held ≡ Some left)) → ((images left : Images) → c.old.held ≡ Some images → c.new.held ≡ Some left → P images left) → OfImages c P
+of_images c P still h = tell c.old.held (λ images. IsSomeAnd c.new.held (P images)) (λ images e. let l = still images e in subst (λ o. IsSomeAnd o (P images)) (sym l.1) (h images l.0 e l.1))
 
-images_of : (c : Called) (P : Images → Images → Type 0) (images left : Images) → c.old.held ≡ Some images → c.new.held ≡ Some left → OfImages c P → P images left
-images_of c P images left e f h = told c.new.held (P images) left f (told c.old.held (λ images. IfSome c.new.held (P images)) images e h)
+images_of : (c : Called) (P : Images → Images → Type 0) (images : Images) → c.old.held ≡ Some images → OfImages c P → (left : Images) × (c.new.held ≡ Some left) × P images left
+images_of c P images e h = some_and c.new.held (P images) (told c.old.held (λ images. IsSomeAnd c.new.held (P images)) images e h)
 
 rose_behind : (old mid new : ℕ) → old ≤ mid → Rose mid new → Rose old new
 rose_behind old mid new le rose = (omega (arith, rose.0), omega (arith, rose.1))
@@ -71,8 +72,11 @@ module _ (c : Called) where
     left_is : (images left : Images) → c.old.held ≡ Some images → c.new.held ≡ Some left → left ≡ images
     left_is images left e f = same_Some left images (sym f ∙ ap (λ (s : Seen). s.held) same ∙ ap (λ (s : Seen). s.held) reads.same ∙ e)
 
+    still : (images : Images) → c.old.held ≡ Some images → (left : Images) × (c.new.held ≡ Some left)
+    still images e = (images, ap (λ (s : Seen). s.held) same ∙ ap (λ (s : Seen). s.held) reads.same ∙ e)
+
     left_by : (ws : Images → List Write) → OfImages c (λ images left. IsLeftBy (ws images) images left)
-    left_by ws = of_images c (λ images left. IsLeftBy (ws images) images left) (λ images left e f.
+    left_by ws = of_images c (λ images left. IsLeftBy (ws images) images left) still (λ images left e f.
         subst (IsLeftBy (ws images) images) (sym (left_is images left e f)) (record { stopped = stopped_first (ws images) images; rest = record { count = refl; lengths = λ slot. refl; bytes = λ slot off e. refl } }))
 
     later_new : mid.account.faults ≤ c.new.account.faults
@@ -86,7 +90,7 @@ module _ (c : Called) where
 
     pub lacking : IsScrubbed c
     lacking = record {
-      answers = λ sure. of_images c (λ images left. AnswersAs c images left c.result) (λ images left e f. subst (AnswersAs c images left) (sym answer) (record {
+      answers = λ sure. of_images c (λ images left. AnswersAs c images left c.result) (still c.old none_read same) (λ images left e f. subst (AnswersAs c images left) (sym answer) (record {
         answer = answer ∙ sym (ap (λ o. (effect_unless c.write images c.fs o).answer) is);
         same = left_is c.old none_read same images left e f ∙ sym (ap (λ o. (effect_unless c.write images c.fs o).images) is);
       }));
@@ -157,7 +161,7 @@ module _ (c : Called) where
 
         pub stopped : IsScrubbed c
         stopped = record {
-          answers = λ sure. of_images c (λ images left. AnswersAs c images left c.result) (λ images left e g. subst (AnswersAs c images left) (sym answer)
+          answers = λ sure. of_images c (λ images left. AnswersAs c images left c.result) (still mid reads same) (λ images left e g. subst (AnswersAs c images left) (sym answer)
               (answers_as images left e g why refl (told c.old.held (Ended why) images e (told_map _ mid tells (later_new mid reads same) sure)) cause));
           left = λ sure. left_by mid reads same (λ images. (effect c.write images c.fs).writes);
           reads = subst (ReadsAt c) (sym answer) (reads_at why cause);
@@ -168,7 +172,7 @@ module _ (c : Called) where
     -- a list that is refused
     pub list_refused : (mid : Seen) → OnlyReads c.old mid → c.new ≡ mid → (f : TreeFault) → c.result ≡ Err (stop.Tree f) → Tells layout c.old mid (λ B. ⊥) → IsScrubbed c
     list_refused mid reads same f answer tells = record {
-      answers = λ sure. of_images c (λ images left. AnswersAs c images left c.result) (λ images left e g. absurd (told c.old.held (λ images. ⊥) images e (told_map (λ B. ⊥) mid tells (later_new mid reads same) sure)));
+      answers = λ sure. of_images c (λ images left. AnswersAs c images left c.result) (still mid reads same) (λ images left e g. absurd (told c.old.held (λ images. ⊥) images e (told_map (λ B. ⊥) mid tells (later_new mid reads same) sure)));
       left = λ sure. left_by mid reads same (λ images. (effect c.write images c.fs).writes);
       reads = subst (ReadsAt c) (sym answer) (reads_new mid reads same);
       unwritten = λ w. reads_new mid reads same;
@@ -279,10 +283,18 @@ module _ (c : Called) where
           the_slot e = cc e
       image_by slot (Err Memory) a e = cc
 
+      -- the images are told still
+      told_still : (images : Images) → c.old.held ≡ Some images → (left : Images) × (c.new.held ≡ Some left)
+      told_still images e = by ended (subst (λ o. Leaves (λ i. writes_if c.write (ws i)) o c.new.held ended) (mid_held images e) works.does.held)
+        where
+          by : (r : Result (Unit {0}) MendFault) → Leaves (λ i. writes_if c.write (ws i)) (Some images) c.new.held r → (left : Images) × (c.new.held ≡ Some left)
+          by (Ok u) l = (fold write_on images (writes_if c.write (ws images)), l)
+          by (Err x) l = let k = some_and c.new.held (IsStopped (writes_if c.write (ws images)) images) l in (k.0, k.1)
+
       pub mended : IsScrubbed c
       mended = record {
-        answers = λ sure. of_images c (λ images left. AnswersAs c images left c.result) (λ images left e g. subst (AnswersAs c images left) (sym says) (answers_by images left e g (done_of images e sure) ended refl));
-        left = λ sure. of_images c (λ images left. IsLeftBy (effect c.write images c.fs).writes images left) (λ images left e g. left_as images left e g (done_of images e sure));
+        answers = λ sure. of_images c (λ images left. AnswersAs c images left c.result) told_still (λ images left e g. subst (AnswersAs c images left) (sym says) (answers_by images left e g (done_of images e sure) ended refl));
+        left = λ sure. of_images c (λ images left. IsLeftBy (effect c.write images c.fs).writes images left) told_still (λ images left e g. left_as images left e g (done_of images e sure));
         reads = subst (ReadsAt c) (sym says) (reads_by ended);
         unwritten = λ w. reads_more reads (works.unwritten w);
         image = λ slot e. image_by slot ended works.does.account (sym says ∙ e);
@@ -315,11 +327,14 @@ module _ (c : Called) where
     is_safe = record {
       anything = tell c.old.held (λ images. RangesMayHoldAnything images c.fs) (λ images e. may_hold_anything images c.fs table own (lengths images e) (bytes images e) node some);
       wrong = tell c.old.held (λ images. RangesLieInWrong images c.fs) (λ images e. lie_in_wrong images c.fs table own (lengths images e) (bytes images e) node some);
-      left = λ sure. of_images c (λ images left. (C : Committed) → IsRepairable images c.fs C → All (StandsFor left C) (blocks images c.fs)) (λ images left e g C h.
-          let l = images_of c (λ images left. IsLeftBy (effect c.write images c.fs).writes images left) images left e g (scrubbed.left sure) in
-      let same : (effect c.write images c.fs).writes ≡ writes_if c.write (writes images c.fs) = ap (λ (x : Effect). x.writes) (effect_is h.given images (Ok tt) h.met) in
-      may_hold_anything images c.fs table own (lengths images e) (bytes images e) node some C left h
-      (ranges_keep c.write images left (writes images c.fs) (subst (λ vs. KeepsOutside (map (λ (w : Write). w.range) vs) images left) same l.rest)));
+      left = λ sure. of_images c (λ images left. (C : Committed) → IsRepairable images c.fs C → All (StandsFor left C) (blocks images c.fs))
+          (λ images e. let l = images_of c (λ images left. IsLeftBy (effect c.write images c.fs).writes images left) images e (scrubbed.left sure) in (l.0, l.1))
+          (λ images left e g C h.
+          let l = images_of c (λ images left. IsLeftBy (effect c.write images c.fs).writes images left) images e (scrubbed.left sure) in
+          let k : IsLeftBy (effect c.write images c.fs).writes images left = subst (IsLeftBy (effect c.write images c.fs).writes images) (same_Some l.0 left (sym l.1 ∙ g)) l.2 in
+          let same : (effect c.write images c.fs).writes ≡ writes_if c.write (writes images c.fs) = ap (λ (x : Effect). x.writes) (effect_is h.given images (Ok tt) h.met) in
+          may_hold_anything images c.fs table own (lengths images e) (bytes images e) node some C left h
+          (ranges_keep c.write images left (writes images c.fs) (subst (λ vs. KeepsOutside (map (λ (w : Write). w.range) vs) images left) same k.rest)));
     }
 
 -- what is known of a device that isn't given, by its id alone

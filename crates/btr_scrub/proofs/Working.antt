@@ -123,6 +123,7 @@ module _ (layout : Layout) (write : Bool) where
     synced = λ none. ap (λ (s : Seen). s.unsynced) (h.unwritten reading).same ∙ none;
     unwritten = h.unwritten;
   }
+
   -- .. or came to a halt
   pub works_halted : (f : Images → List Write) (c : Images → Tally → Tally) (m m' : List Bool) (a b : Seen) (t u : Tally) (e : MendFault) → Scrubs {A = Unit {0}} layout write f c m m' a b t u (Err e) → Works {A = Unit {0}} layout write f c a b t u (Err e)
   works_halted f c m m' a b t u e h = record {

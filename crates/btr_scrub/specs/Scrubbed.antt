@@ -1,5 +1,5 @@
 -- What a call of scrub answers, and what stands in the images behind it, whatever failed.
-use Rattle.std.specs.Prelude.{◌≡◌, ◌⊎◌, ℕ, ◌≤◌, Bool, false, List, map, None, IfSome, Result, Ok, Err, ⊤}
+use Rattle.std.specs.Prelude.{◌≡◌, ◌⊎◌, ℕ, ◌≤◌, Bool, false, List, map, None, IfSome, IsSomeAnd, Result, Ok, Err, ⊤}
 use Rattle.std.specs.List.{All}
 use Rattle.btr_mend.specs.Writes.{Images, IsStopped, Write}
 use Rattle.btr_rack.specs.Rack.{OnlyReads, Rose, Seen, Steady}
@@ -31,9 +31,9 @@ called vol write old new result = record { fs = record { layout = vol.store.layo
 abbrev pub IsSure : Called → Type 0
 IsSure c = Steady c.old.account.faults c.new.account.faults ⊎ AgreedOn c.fs.layout c.old.held
 
--- where the rack tells its images, this holds of them as they were and as they are left
+-- where the rack tells its images it tells them still, and this holds of them as they were and as they are left
 abbrev pub OfImages : Called → (Images → Images → Type 0) → Type 0
-OfImages c P = IfSome c.old.held (λ images. IfSome c.new.held (P images))
+OfImages c P = IfSome c.old.held (λ images. IsSomeAnd c.new.held (P images))
 
 -- the answer and the images that are left are those of the effect
 pub record HasEffect (c : Called) (images left : Images) : Type 0 where

@@ -141,15 +141,7 @@ fn mend_collected<R: Rack>(
     ensures scrubs { (r : Row) → IsRowOf store.old.layout at.chunk at.number room.old.wants.items r
         → Scrubs store.old.layout write (λ images. row_writes images store.old.layout r) (λ images tally. counted_row tally (length r.blocks) (mended_row images store.old.layout r write)) marks.old marks.new (R.seen rack.old) (R.seen rack.new) tally.old tally.new result }
 {
-    match mend_row(
-        at,
-        &room.wants,
-        write,
-        rack,
-        store,
-        &mut room.buffer,
-        marks,
-    ) {
+    match mend_row(at, &room.wants, write, rack, store, &mut room.buffer, marks) {
         Ok(mended) => {
             *tally = counted_row(tally, room.wants.len() as u64, &mended);
             Ok(())

@@ -149,8 +149,10 @@ fn scrub_given<R: Rack>(
     }
 }
 
-/// Reads each copy of each checked block, and writes what is bad anew where a right copy or enough parity is left; with `write` false it only reads. The
-/// images of a chunk that were written are synced behind it. Five slots are free; where it writes, each image was opened for writing.
+/// Reads each copy of each checked block, and writes what is bad anew where a right copy or enough parity is left (`docs/FORMAT.md`, "Checked blocks" and
+/// "Full stripes"); with `write` false it only reads. The images of a chunk that were written are synced behind it. Whatever failed, what stands in the
+/// images is what stands behind a first part of the writes, the next one perhaps in part, so far as the copies that pass agree (`IsScrubbed`); and each
+/// block that could be had can be had then (`IsSafe`). Five slots are free; where it writes, each image was opened for writing.
 ///
 /// `Missing`: the device of a stripe isn't given, or its image ends before the stripe's end; nothing was read. `NoTree` and `Tree`: the checked blocks
 /// can't be listed, and nothing was written. `Image`: a read, a write or a sync of an image failed, and nothing was tried behind it. `Memory`: for want
@@ -168,6 +170,7 @@ pub fn scrub<R: Rack>(
     requires large { 4096 ≤ vol.old.sup.nodesize }
     ensures serves { Serves (R.seen rack.new) vol.new.store }
     ensures volume { SameVolume vol.old vol.new }
+    ensures table { IsTable vol.old.store.layout.chunks }
     ensures missing { IfSome (first_missing vol.old.store.layout) (λ stripe. (result ≡ Err (stop.Missing stripe.devid)) × (R.seen rack.new ≡ R.seen rack.old)) }
     ensures scrubs { first_missing vol.old.store.layout ≡ None → ScrubsAll vol.old.sup vol.old.store.layout write (R.seen rack.old) (R.seen rack.new) result }
     ensures scrubbed { IsScrubbed (called vol.old write (R.seen rack.old) (R.seen rack.new) result) }

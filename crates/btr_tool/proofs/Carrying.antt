@@ -16,7 +16,7 @@ use Rattle.btr_restore.specs.Running.{Outside}
 use Rattle.btr_read.specs.Layout.{Layout}
 use Rattle.btr_volume.specs.Start.{Start}
 use Rattle.btr_walk.specs.Reading.{FaultCause}
-use Rattle.btr_tool.specs.Agreeing.{AreAgreed, FollowsCheck, IsCheckOrUnread}
+use Rattle.btr_tool.specs.Agreeing.{AreAgreed, FollowsAgreed, IfAgreeing, IsOrUnread}
 use Rattle.btr_tool.specs.Answers.{error_line}
 use Rattle.btr_tool.specs.Behind.{IfSteady, IsFault}
 use Rattle.btr_tool.specs.Causes.{IsBehindWords, opened_with}
@@ -92,8 +92,8 @@ module _ (words : Words) (at : ℕ) (usage : IsUsageAt words at) where
   pub usage_order : (shelf : Option Shelf) (old new : Seen) (x : Outside) → IfSome shelf (λ s. FollowsOrder words s old new x x (Usage at))
   usage_order shelf old new x = all_told shelf _ (λ s plan dest images from. absurd (usage.no_sentence _ from.sentence))
 
-  pub usage_checked : (shelf : Option Shelf) (x : Outside) → IfSome shelf (λ s. FollowsCheck words s x x (Usage at))
-  usage_checked shelf x = all_told shelf _ (λ s read_data images from. absurd (usage.no_sentence _ from.sentence))
+  pub usage_agreed : (shelf : Option Shelf) (x : Outside) → IfSome shelf (λ s. FollowsAgreed words s x x (Usage at))
+  usage_agreed shelf x = all_told shelf _ (λ s command images from. absurd (usage.no_sentence _ from.sentence))
 
   pub usage_repaired : (shelf : Option Shelf) (steady : Type 0) (held : Option Images) → IfSome shelf (λ s. steady → Usage at ≢ Memory → KeepsRepair words s held)
   usage_repaired shelf steady held = all_told shelf _ (λ s calm enough images from. absurd (usage.no_sentence _ from.sentence))
@@ -202,17 +202,17 @@ module _ (words names : Words) (plan : Plan) (sentence : IsSentence plan words) 
         of p dest images start few (Failed slot) many is = bare p dest images start (inl (slot, is))
         of p dest images start few memory_fault many is = bare p dest images start (inr (inr (inr is)))
 
-    pub opening_checked : (shelf : Option Shelf) (x : Outside) (result : Answer) → result ≡ opening_answer fault → IfSome shelf (λ s. FollowsCheck words s x x result)
-    opening_checked shelf x result is =
-        all_told shelf _ (λ s read_data images from agreed.
-        subst (λ a. Comes (MayWantBy words x.out_calls) (IsCheckOrUnread read_data images) x x a) (sym is)
-        (comes_bare (MayWantBy words x.out_calls) (IsCheckOrUnread read_data images) x (opening_answer fault)
-        (of read_data images (subst (λ l. length l ≤ most_images) (ap (λ (q : Plan). images_of q words) (one_plan words _ plan from.sentence sentence) ∙ named) from.few) fault many) (opening_no_fault fault)))
+    pub opening_agreed : (shelf : Option Shelf) (x : Outside) (result : Answer) → result ≡ opening_answer fault → IfSome shelf (λ s. FollowsAgreed words s x x result)
+    opening_agreed shelf x result is =
+        all_told shelf _ (λ s command images from agreed. all_agreeing command (λ wanted. Comes (MayWantBy words x.out_calls) (IsOrUnread (wanted images)) x x result) (λ wanted.
+        subst (λ a. Comes (MayWantBy words x.out_calls) (IsOrUnread (wanted images)) x x a) (sym is)
+        (comes_bare (MayWantBy words x.out_calls) (IsOrUnread (wanted images)) x (opening_answer fault)
+        (of (wanted images) (subst (λ l. length l ≤ most_images) (ap (λ (q : Plan). images_of q words) (one_plan words _ plan from.sentence sentence) ∙ named) from.few) fault many) (opening_no_fault fault))))
       where
-        of : (read_data : Bool) (images : Images) → length names ≤ most_images → (f : OpeningFault) → HasTooMany names (Err f) → IsCheckOrUnread read_data images (refused (opening_answer f))
-        of read_data images few (TooMany count) many = absurd (omega (arith, few, many.0, many.1))
-        of read_data images few (Failed slot) many = inr (inr (inl (slot, refl)))
-        of read_data images few memory_fault many = inr (inr (inr refl))
+        of : (wanted : Outcome) → length names ≤ most_images → (f : OpeningFault) → HasTooMany names (Err f) → IsOrUnread wanted (refused (opening_answer f))
+        of wanted few (TooMany count) many = absurd (omega (arith, few, many.0, many.1))
+        of wanted few (Failed slot) many = inr (inr (inl (slot, refl)))
+        of wanted few memory_fault many = inr (inr (inr refl))
 
     pub opening_unchanged : AreOpenedAs (opens_to_write plan.command) old.shelf new.slots new.held → (AsksToWrite words → ⊥) → AreUnchanged old.shelf new.slots new.held
     opening_unchanged opens never = of (opens_to_write plan.command) refl opens
@@ -330,21 +330,23 @@ module _ (words names : Words) (plan : Plan) (sentence : IsSentence plan words) 
             (subst (λ d. InOrder p d images mid new x y answer) from.named
             (subst (λ i. InOrder p (get_or words from.number []) i mid new x y answer) (the_images held images same) (order from.number p (sym (ap (λ (q : Plan). q.command) one)))))
 
-    pub command_checked : (x y : Outside) → OpensAll names old.shelf mid.held (Ok tt)
-        → ((read_data : Bool) → plan.command ≡ Check read_data → IfSome mid.held (λ images. AreAgreed images → Comes (MayWant plan.command x.out_calls) (IsCheckOrUnread read_data images) x y answer))
-        → IfSome old.shelf (λ shelf. FollowsCheck words shelf x y answer)
-    command_checked x y = of old.shelf mid.held
+    pub command_agreed : (x y : Outside) → OpensAll names old.shelf mid.held (Ok tt)
+        → IfAgreeing plan.command (λ wanted. IfSome mid.held (λ images. AreAgreed images → Comes (MayWant plan.command x.out_calls) (IsOrUnread (wanted images)) x y answer))
+        → IfSome old.shelf (λ shelf. FollowsAgreed words shelf x y answer)
+    command_agreed x y = of old.shelf mid.held
       where
         of : (shelf : Option Shelf) (held : Option Images) → OpensAll names shelf held (Ok tt)
-            → ((read_data : Bool) → plan.command ≡ Check read_data → IfSome held (λ images. AreAgreed images → Comes (MayWant plan.command x.out_calls) (IsCheckOrUnread read_data images) x y answer))
-            → IfSome shelf (λ shelf. FollowsCheck words shelf x y answer)
-        of None held opens checked = tt
-        of (Some at) None opens checked = absurd opens
-        of (Some at) (Some held) opens checked = λ read_data images from agreed.
+            → IfAgreeing plan.command (λ wanted. IfSome held (λ images. AreAgreed images → Comes (MayWant plan.command x.out_calls) (IsOrUnread (wanted images)) x y answer))
+            → IfSome shelf (λ shelf. FollowsAgreed words shelf x y answer)
+        of None held opens comes = tt
+        of (Some at) None opens comes = absurd opens
+        of (Some at) (Some held) opens comes = λ command images from agreed.
             let one = one_plan words _ plan from.sentence sentence in
             let same : ◌≡◌ {A = Option Images} (Some held) (Some images) = sym opens ∙ sym (ap (λ (q : Plan). taken (images_of q words) at) one ∙ ap (λ l. taken l at) named) ∙ from.from in
-            comes_also (MayWant plan.command x.out_calls) (MayWantBy words x.out_calls) (IsCheckOrUnread read_data images) (IsCheckOrUnread read_data images) x y answer (may_want x) (λ outcome o. o)
-            (subst (λ i. AreAgreed i → Comes (MayWant plan.command x.out_calls) (IsCheckOrUnread read_data i) x y answer) (the_images held images same) (checked read_data (sym (ap (λ (q : Plan). q.command) one))) agreed)
+            map_agreeing command (λ wanted. AreAgreed held → Comes (MayWant plan.command x.out_calls) (IsOrUnread (wanted held)) x y answer) (λ wanted. Comes (MayWantBy words x.out_calls) (IsOrUnread (wanted images)) x y answer)
+            (λ wanted shows. comes_also (MayWant plan.command x.out_calls) (MayWantBy words x.out_calls) (IsOrUnread (wanted images)) (IsOrUnread (wanted images)) x y answer (may_want x) (λ outcome o. o)
+            (subst (λ i. AreAgreed i → Comes (MayWant plan.command x.out_calls) (IsOrUnread (wanted i)) x y answer) (the_images held images same) shows agreed))
+            (subst (λ k. IfAgreeing k (λ wanted. AreAgreed held → Comes (MayWant plan.command x.out_calls) (IsOrUnread (wanted held)) x y answer)) (sym (ap (λ (q : Plan). q.command) one)) comes)
 
     pub none_decided : (other : Answer) → IsDecided words other → ⊥
     none_decided other decided = omega (arith, few, (too_many_decided other decided).0)

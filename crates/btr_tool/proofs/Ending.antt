@@ -5,17 +5,21 @@ use Rattle.std.proofs.lemmas.List.{take_all}
 use Rattle.btr_rack.specs.Rack.{Seen, Slot, Rose, Steady, Shelf}
 use Rattle.btr_rack.specs.Out.{CallAccount}
 use Rattle.btr_restore.specs.Running.{Outside}
-use Rattle.btr_tool.specs.Agreeing.{FollowsCheck, IsCheckOrUnread, KeepsCheck}
+use Rattle.btr_tool.specs.Agreeing.{FollowsAgreed, IfAgreeing, IsOrUnread, KeepsAgreed}
 use Rattle.btr_tool.specs.Answers.{error_line}
 use Rattle.btr_tool.specs.Causes.{HidesNone, ImageCause, IsBehindWords, IsMissingImage, IsShut, TreeCause}
+use Rattle.btr_tool.specs.Checked.{check_outcome}
 use Rattle.btr_tool.specs.Effects.{FollowsWords, HasEffect, HasPart, IsOutcome, IsTold, MayFollow, MayWantBy}
 use Rattle.btr_tool.specs.Outcomes.{Outcome, refused, CallFailed, Comes, HasFirstPart, IsPrinted, IsPut, MayEnd, OrBare, OrMemory, Stands, StandsPartly}
 use Rattle.btr_tool.specs.Images.{taken}
 use Rattle.btr_tool.specs.Repaired.{AreLeft, LeavesImages, MayWrite}
+use Rattle.btr_tool.specs.Scrubbed.{scrub_outcome}
 use Rattle.btr_tool.specs.Words.{Words}
 use Rattle.btr_volume.specs.Start.{Images}
 use Rattle.btr_tool.specs.declared.answer.Answer.{Answer}
 use Rattle.btr_tool.specs.declared.answer.Answer.TheVariants.{ImageFault, SinkFault, OutFault, Memory}
+use Rattle.btr_tool.specs.declared.plan.Command.{Command}
+use Rattle.btr_tool.specs.declared.plan.Command.TheVariants.{Super, Dump, Roots, Check, Scrub, Restore}
 use Rattle.btr_tool.proofs.Coming.{comes_printed, put_ends, whole_first, with_line}
 use Rattle.btr_tool.proofs.Faulting.{no_tree, tree_in}
 
@@ -37,6 +41,23 @@ whole_line x y outcome answer may partly =
 
 whole : (x y : Outside) (outcome : Outcome) → Stands x y outcome.steps (error_line outcome.answer) → HasFirstPart x y outcome
 whole x y outcome stands = whole_line x y outcome outcome.answer (inl refl) (record { done = outcome.steps; first = whole_first outcome.steps; stands = stands })
+
+-- what follows of what a command comes to where the copies agree
+pub map_agreeing : (command : Command) (P Q : (Images → Outcome) → Type 0) → ((wanted : Images → Outcome) → P wanted → Q wanted) → IfAgreeing command P → IfAgreeing command Q
+map_agreeing Super P Q f p = tt
+map_agreeing (Dump choice) P Q f p = tt
+map_agreeing Roots P Q f p = tt
+map_agreeing (Check read_data) P Q f p = f (check_outcome read_data) p
+map_agreeing (Scrub write) P Q f p = f (scrub_outcome write) p
+map_agreeing (Restore dest plan) P Q f p = tt
+
+pub all_agreeing : (command : Command) (P : (Images → Outcome) → Type 0) → ((wanted : Images → Outcome) → P wanted) → IfAgreeing command P
+all_agreeing Super P f = tt
+all_agreeing (Dump choice) P f = tt
+all_agreeing Roots P f = tt
+all_agreeing (Check read_data) P f = f (check_outcome read_data)
+all_agreeing (Scrub write) P f = f (scrub_outcome write)
+all_agreeing (Restore dest plan) P f = tt
 
 -- the answer before its line, or a fault of the put
 abbrev Ends : Answer → Answer → Type 0
@@ -74,8 +95,10 @@ module _ (words : Words) (x y : Outside) (new : Option (List ℕ)) (after : Call
   pub is_told : Comes May (OrBare (MayFollow words)) x y answer → IsTold words x z result
   is_told comes = (comes.outcome, comes.is_one, print (OrBare (MayFollow words)) comes)
 
-  pub keeps_check : (shelf : Shelf) → FollowsCheck words shelf x y answer → KeepsCheck words shelf x z result
-  keeps_check shelf follows read_data images from agreed = let comes = follows read_data images from agreed in (comes.outcome, comes.is_one, print (IsCheckOrUnread read_data images) comes)
+  pub keeps_agreed : (shelf : Shelf) → FollowsAgreed words shelf x y answer → KeepsAgreed words shelf x z result
+  keeps_agreed shelf follows command images from agreed =
+      map_agreeing command (λ wanted. Comes May (IsOrUnread (wanted images)) x y answer) (λ wanted. (outcome : Outcome) × IsOrUnread (wanted images) outcome × IsPrinted May x z outcome result)
+      (λ wanted comes. (comes.outcome, comes.is_one, print (IsOrUnread (wanted images)) comes)) (follows command images from agreed)
 
   pub out_failed : (IsOne : Outcome → Type 0) → Comes May IsOne x y answer → result ≡ OutFault → CallFailed x.out_calls after
   out_failed IsOne comes is =

@@ -4,7 +4,7 @@ use Rattle.std.specs.Option.{IfSome}
 use Rattle.btr_files.specs.declared.plan.RestorePlan.{RestorePlan}
 use Rattle.btr_rack.specs.Rack.{Account, OnlyReads, Seen, Steady}
 use Rattle.btr_restore.specs.Running.{Outside}
-use Rattle.btr_tool.specs.Agreeing.{AreAgreed, IsCheckOrUnread}
+use Rattle.btr_tool.specs.Agreeing.{AreAgreed, IfAgreeing, IsOrUnread}
 use Rattle.btr_tool.specs.Behind.{IfSteady, IsBehind}
 use Rattle.btr_tool.specs.Commands.{IsBehindCommand, KeepsRack, MayFail, MayWant, TellsCause, command_outcome}
 use Rattle.btr_tool.specs.Order.{InOrder}
@@ -15,7 +15,7 @@ use Rattle.btr_tool.specs.declared.answer.Answer.{Answer}
 use Rattle.btr_tool.specs.declared.plan.Command.{Command}
 use Rattle.btr_tool.specs.declared.plan.Command.TheVariants.{Check, Restore, Scrub}
 use Rattle.btr_tool.proofs.Coming.{comes_also, comes_shown}
-use Rattle.btr_tool.proofs.Ending.{when_told}
+use Rattle.btr_tool.proofs.Ending.{map_agreeing, when_told}
 use Rattle.btr_tool.proofs.Openings.{Images}
 
 module _ (command : Command) (x y : Outside) (same : y.sink ≡ x.sink) (same_calls : y.sink_calls ≡ x.sink_calls) (answer : Answer) where
@@ -29,16 +29,19 @@ module _ (command : Command) (x y : Outside) (same : y.sink ≡ x.sink) (same_ca
   pub shown_told : (IsOne : Outcome → Type 0) → Shows (OrBare IsOne) x.text y.text x.out_calls y.out_calls answer → Comes (MayWant command x.out_calls) (OrBare IsOne) x y answer
   shown_told IsOne shows = comes_shown (MayWant command x.out_calls) (OrBare IsOne) x y answer same same_calls (λ scarce. inl scarce) shows
 
-  -- .. a check, by its words
-  pub shown_checked : (given read_data : Bool) → Check given ≡ Check read_data → (held : Option Images) → IfSome held (λ images. AreAgreed images → Shows (IsCheckOrUnread given images) x.text y.text x.out_calls y.out_calls answer)
-      → IfSome held (λ images. AreAgreed images → Comes (MayWant command x.out_calls) (IsCheckOrUnread read_data images) x y answer)
-  shown_checked given read_data is held =
-      when_told held (λ images. AreAgreed images → Shows (IsCheckOrUnread given images) x.text y.text x.out_calls y.out_calls answer) (λ images. AreAgreed images → Comes (MayWant command x.out_calls) (IsCheckOrUnread read_data images) x y answer)
-      (λ images shows agreed. comes_shown (MayWant command x.out_calls) (IsCheckOrUnread read_data images) x y answer same same_calls (λ scarce. inl scarce)
-      (subst (λ b. Shows (IsCheckOrUnread b images) x.text y.text x.out_calls y.out_calls answer) same_choice (shows agreed)))
-    where
-      same_choice : given ≡ read_data
-      same_choice = cc is
+  -- .. where the copies agree
+  pub shown_agreed : (given : Command) → command ≡ given → (held : Option Images) → IfAgreeing given (λ wanted. IfSome held (λ images. AreAgreed images → Shows (IsOrUnread (wanted images)) x.text y.text x.out_calls y.out_calls answer))
+      → IfAgreeing command (λ wanted. IfSome held (λ images. AreAgreed images → Comes (MayWant command x.out_calls) (IsOrUnread (wanted images)) x y answer))
+  shown_agreed given is held shows =
+      subst (λ k. IfAgreeing k (λ wanted. IfSome held (λ images. AreAgreed images → Comes (MayWant command x.out_calls) (IsOrUnread (wanted images)) x y answer))) (sym is)
+      (map_agreeing given (λ wanted. IfSome held (λ images. AreAgreed images → Shows (IsOrUnread (wanted images)) x.text y.text x.out_calls y.out_calls answer))
+      (λ wanted. IfSome held (λ images. AreAgreed images → Comes (MayWant command x.out_calls) (IsOrUnread (wanted images)) x y answer))
+      (λ wanted. when_told held (λ images. AreAgreed images → Shows (IsOrUnread (wanted images)) x.text y.text x.out_calls y.out_calls answer) (λ images. AreAgreed images → Comes (MayWant command x.out_calls) (IsOrUnread (wanted images)) x y answer)
+      (λ images s agreed. comes_shown (MayWant command x.out_calls) (IsOrUnread (wanted images)) x y answer same same_calls (λ scarce. inl scarce) (s agreed))) shows)
+
+-- .. a command of which nothing is said there
+pub none_agreeing : (command given : Command) → command ≡ given → IfAgreeing given (λ wanted. ⊥) → {P : (Images → Outcome) → Type 0} → IfAgreeing command P
+none_agreeing command given is none {P} = subst (λ k. IfAgreeing k P) (sym is) (map_agreeing given (λ wanted. ⊥) P (λ wanted h. absurd h) none)
 
 -- a command that writes into a destination, whose name is a word
 pub writing_comes : (number : ℕ) (plan : RestorePlan) (words : Words) (dest : List ℕ) (x y : Outside) (answer : Answer) → get_or words number [] ≡ dest → (images : Images) → Comes (Unit {0}) (OrMemory (λ outcome. restored plan dest images ≡ outcome)) x y answer

@@ -10,7 +10,7 @@ use Rattle.btr_tool.specs.declared.plan.Command.TheVariants.{Super, Dump, Roots,
 use Rattle.btr_tool.proofs.Causing.{name_at}
 use Rattle.btr_tool.proofs.Coming.{comes_also}
 use Rattle.btr_tool.proofs.Ending.{when_told}
-use Rattle.btr_tool.proofs.Performing.{only_reads, restored_order, scrub_writes, shown_checked, shown_effect, shown_told, writing_comes}
+use Rattle.btr_tool.proofs.Performing.{none_agreeing, only_reads, restored_order, scrub_writes, shown_agreed, shown_effect, shown_told, writing_comes}
 use Rattle.btr_tool.proofs.commands.perform.Goals as goal
 
 pub returns-in-Super-clause-effect : goal.returns-in-Super-clause-effect
@@ -129,30 +129,34 @@ returns-in-Restore-clause-order g c = λ number plan is.
     (name_at c.args.words.now c.in-Restore.dest c.index-words-dest.result c.as_str.result.now (subst (λ command. HasWords command (length c.args.words.now)) c.in-Restore.is c.requires.words) c.as_str.ensures.value c.index-words-dest.is)
     c.restore_files.ensures.order
 
-pub returns-in-Super-clause-checked : goal.returns-in-Super-clause-checked
-returns-in-Super-clause-checked g c = λ read_data is. absurd (cc (sym c.in-Super.is ∙ is))
+pub returns-in-Super-clause-agreed : goal.returns-in-Super-clause-agreed
+returns-in-Super-clause-agreed g c = none_agreeing c.args.command Super c.in-Super.is tt
 
-pub returns-in-Dump-clause-checked : goal.returns-in-Dump-clause-checked
-returns-in-Dump-clause-checked g c = λ read_data is. absurd (cc (sym c.in-Dump.is ∙ is))
+pub returns-in-Dump-clause-agreed : goal.returns-in-Dump-clause-agreed
+returns-in-Dump-clause-agreed g c = none_agreeing c.args.command (Dump c.in-Dump.choice) c.in-Dump.is tt
 
-pub returns-in-Roots-clause-checked : goal.returns-in-Roots-clause-checked
-returns-in-Roots-clause-checked g c = λ read_data is. absurd (cc (sym c.in-Roots.is ∙ is))
+pub returns-in-Roots-clause-agreed : goal.returns-in-Roots-clause-agreed
+returns-in-Roots-clause-agreed g c = none_agreeing c.args.command Roots c.in-Roots.is tt
 
-pub returns-in-Restore-clause-checked : goal.returns-in-Restore-clause-checked
-returns-in-Restore-clause-checked g c = λ read_data is. absurd (cc (sym c.in-Restore.is ∙ is))
+pub returns-in-Restore-clause-agreed : goal.returns-in-Restore-clause-agreed
+returns-in-Restore-clause-agreed g c = none_agreeing c.args.command (Restore c.in-Restore.dest c.in-Restore.plan) c.in-Restore.is tt
 
-pub returns-in-Check-clause-checked : goal.returns-in-Check-clause-checked
-returns-in-Check-clause-checked g c = λ read_data is.
-    shown_checked c.args.command
+pub returns-in-Check-clause-agreed : goal.returns-in-Check-clause-agreed
+returns-in-Check-clause-agreed g c =
+    shown_agreed c.args.command
     (outside (g.T.TreeSink.sink c.args.tree.now) (g.T.TreeSink.account c.args.tree.now) (g.O.Out.text c.args.out.now) (g.O.Out.account c.args.out.now))
     (outside (g.T.TreeSink.sink c.args.tree.now) (g.T.TreeSink.account c.args.tree.now) (g.O.Out.text c.show_findings.new.out) (g.O.Out.account c.show_findings.new.out)) refl refl (answer_of c.show_findings.result)
-    c.in-Check.read_data read_data (sym c.in-Check.is ∙ is) (g.R.Rack.seen c.args.rack.now).held c.show_findings.ensures.agreed
+    (Check c.in-Check.read_data) c.in-Check.is (g.R.Rack.seen c.args.rack.now).held c.show_findings.ensures.agreed
 
 pub returns-in-Scrub-clause-order : goal.returns-in-Scrub-clause-order
 returns-in-Scrub-clause-order g c = λ number plan is. absurd (cc (sym c.in-Scrub.is ∙ is))
 
-pub returns-in-Scrub-clause-checked : goal.returns-in-Scrub-clause-checked
-returns-in-Scrub-clause-checked g c = λ read_data is. absurd (cc (sym c.in-Scrub.is ∙ is))
+pub returns-in-Scrub-clause-agreed : goal.returns-in-Scrub-clause-agreed
+returns-in-Scrub-clause-agreed g c =
+    shown_agreed c.args.command
+    (outside (g.T.TreeSink.sink c.args.tree.now) (g.T.TreeSink.account c.args.tree.now) (g.O.Out.text c.args.out.now) (g.O.Out.account c.args.out.now))
+    (outside (g.T.TreeSink.sink c.args.tree.now) (g.T.TreeSink.account c.args.tree.now) (g.O.Out.text c.scrub_images.new.out) (g.O.Out.account c.scrub_images.new.out)) refl refl (answer_of c.scrub_images.result)
+    (Scrub c.in-Scrub.write) c.in-Scrub.is (g.R.Rack.seen c.args.rack.now).held c.scrub_images.ensures.agreed
 
 pub returns-in-Super-clause-cause : goal.returns-in-Super-clause-cause
 returns-in-Super-clause-cause g c =
