@@ -83,7 +83,7 @@ agreed_before Super images answer line unread = inr (refl, line)
 agreed_before (Dump choice) images answer line unread = inr (inr unread)
 agreed_before Roots images answer line unread = inr (inr unread)
 agreed_before (Check read_data) images answer line unread = inr unread
-agreed_before (Scrub write) images answer line unread = inr (refl, line)
+agreed_before (Scrub write) images answer line unread = inr unread
 agreed_before (Restore dest plan) images answer line unread = inr (refl, line)
 
 -- words that are no sentence

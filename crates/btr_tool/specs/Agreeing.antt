@@ -1,10 +1,11 @@
--- What a command that shows something comes to where calls on images failed, but the copies of each block agree.
-use Rattle.std.specs.Prelude.{◌≡◌, ◌⊎◌, ℕ, ◌≤◌, Bool, length, Some, Ok}
+-- What a command comes to where calls on images failed, but the copies of each block agree.
+use Rattle.std.specs.Prelude.{◌≡◌, ◌⊎◌, ℕ, ◌≤◌, Bool, length, Some, Result, Ok, Err}
 use Rattle.btr_rack.specs.Rack.{Shelf}
 use Rattle.btr_read.specs.Fate.{Agree, fate}
 use Rattle.btr_read.specs.Layout.{Layout}
 use Rattle.btr_read.specs.declared.want.Want.TheVariants as want
 use Rattle.btr_restore.specs.Running.{Outside}
+use Rattle.btr_scrub.specs.declared.tally.Tally.{Tally}
 use Rattle.btr_volume.specs.Start.{Images, Start, start_of}
 use Rattle.btr_walk.specs.Reading.{UnreadBlock}
 use Rattle.btr_tool.specs.Checked.{check_outcome}
@@ -13,7 +14,8 @@ use Rattle.btr_tool.specs.Effects.{MayWantBy}
 use Rattle.btr_tool.specs.Filesystem.{Filesystem, filesystem_of}
 use Rattle.btr_tool.specs.Images.{most_images, taken}
 use Rattle.btr_tool.specs.Order.{IsAgreed}
-use Rattle.btr_tool.specs.Outcomes.{Outcome, Comes, IsPrinted, OrBare, refused}
+use Rattle.btr_tool.specs.Outcomes.{Outcome, Comes, IsPrinted, OrBare, refused, showing}
+use Rattle.btr_tool.specs.Scrubbed.{scrub_outcome, tally_shown}
 use Rattle.btr_tool.specs.Trees.{BreaksOffIn, trees_outcome}
 use Rattle.btr_tool.specs.Words.{Words, IsSentence, images_of}
 use Rattle.btr_tool.specs.declared.answer.Answer.{Answer}
@@ -55,9 +57,9 @@ IsUnreadOrWant outcome =
     ⊎ ((slot : ℕ) × (outcome ≡ refused (ImageFault slot)))
     ⊎ (outcome ≡ refused Memory)
 
--- a check comes to what the images hold, or to what could not be read
-abbrev pub IsCheckOrUnread : Bool → Images → Outcome → Type 0
-IsCheckOrUnread read_data images outcome = (check_outcome read_data images ≡ outcome) ⊎ IsUnreadOrWant outcome
+-- an outcome is this one, or what could not be read
+abbrev pub IsOrUnread : Outcome → Outcome → Type 0
+IsOrUnread wanted outcome = (wanted ≡ outcome) ⊎ IsUnreadOrWant outcome
 
 -- showing trees comes to what the images hold, whole or up to a block that could not be read, or to what could not be read before
 abbrev pub IsTreesOrUnread : DumpChoice → Images → Outcome → Type 0
@@ -71,8 +73,8 @@ abbrev pub ComesAgreed : Command → Images → Outcome → Type 0
 ComesAgreed Super images outcome = OrBare (MayCome Super) outcome
 ComesAgreed (Dump choice) images outcome = IsTreesOrUnread choice images outcome
 ComesAgreed Roots images outcome = IsTreesOrUnread RootLines images outcome
-ComesAgreed (Check read_data) images outcome = IsCheckOrUnread read_data images outcome
-ComesAgreed (Scrub write) images outcome = OrBare (MayCome (Scrub write)) outcome
+ComesAgreed (Check read_data) images outcome = IsOrUnread (check_outcome read_data images) outcome
+ComesAgreed (Scrub write) images outcome = IsOrUnread (scrub_outcome write images) outcome
 ComesAgreed (Restore dest plan) images outcome = OrBare (MayCome (Restore dest plan)) outcome
 
 -- the words ask for a command over these images of a shelf
@@ -93,3 +95,8 @@ KeepsAgreed words shelf x y result =
     → AsksOf words shelf plan images
     → AreAgreedFor plan.command images
     → (outcome : Outcome) × ComesAgreed plan.command images outcome × IsPrinted (MayWantBy words x.out_calls) x y outcome result
+
+-- what a scrub of images that agree is done with: its counts, or its refusal
+abbrev pub ScrubsAgreed : Bool → Images → Result Tally Answer → Type 0
+ScrubsAgreed write images (Ok tally) = scrub_outcome write images ≡ showing (tally_shown tally)
+ScrubsAgreed write images (Err answer) = IsOrUnread (scrub_outcome write images) (refused answer)

@@ -69,8 +69,8 @@ pub fn run<R: Rack, T: TreeSink, O: Out>(
         (outside (T.sink tree.old) (T.account tree.old) (O.text out.old) (O.account out.old))
         (outside (T.sink tree.new) (T.account tree.new) (O.text out.new) (O.account out.new)) result) }
 
-    // Whatever failed, a check of images whose copies agree comes to the same, or to a block or a superblock that could not be read; so does showing
-    // trees, whose text goes up to that block.
+    // Whatever failed, a check or a scrub of images whose copies agree comes to the same, or to a block or an image that could not be read; so does
+    // showing trees, whose text goes up to that block.
     ensures agreed { IfSome (R.seen rack.old).shelf (λ shelf.
         KeepsAgreed (map string_bytes words.now) shelf
         (outside (T.sink tree.old) (T.account tree.old) (O.text out.old) (O.account out.old))

@@ -5,10 +5,9 @@ use Rattle.btr_check.specs.Running.{is_outside}
 use Rattle.btr_check.specs.Text.{findings_text}
 use Rattle.btr_rack.specs.Out.{Puts}
 use Rattle.btr_rack.specs.declared.error.SinkError.{SinkError}
-use Rattle.btr_tool.specs.Agreeing.{IsCheckOrUnread}
 use Rattle.btr_tool.specs.Answers.{answer_of, output_answer}
 use Rattle.btr_tool.specs.Behind.{IsUnread}
-use Rattle.btr_tool.specs.Checked.{IsCheckOutcome, check_in, found, listing}
+use Rattle.btr_tool.specs.Checked.{IsCheckOutcome, check_in, check_outcome, found, listing}
 use Rattle.btr_tool.specs.Faults.{stop_answer}
 use Rattle.btr_tool.specs.Outcomes.{showing}
 use Rattle.btr_tool.proofs.Agreements.{listed_agreed, stopped_agreed, unopened_agreed}
@@ -43,7 +42,7 @@ returns-in_err-volume-clause-agreed g c =
     let old = g.R.Rack.seen c.args.rack.now in
     let new = g.R.Rack.seen c.open_filesystem.new.rack in
     let answer = c.in_err-volume.field-0.0 in
-    unopened_agreed (check_in c.args.read_data) (λ images a. refl) (IsCheckOrUnread c.args.read_data) (λ images outcome o. o) old new answer (answer_of c.from_residual.result) (answer_gives c.from_residual.result answer c.from_residual.ensures.1) (g.O.Out.text c.args.out.now) (g.O.Out.account c.args.out.now) c.in_err-volume.ensures.opened
+    unopened_agreed (check_outcome c.args.read_data) (λ images a e. ap (check_in c.args.read_data images) e) old new answer (answer_of c.from_residual.result) (answer_gives c.from_residual.result answer c.from_residual.ensures.1) (g.O.Out.text c.args.out.now) (g.O.Out.account c.args.out.now) c.in_err-volume.ensures.opened
 
 pub returns-in_err-findings-clause-effect : goal.returns-in_err-findings-clause-effect
 returns-in_err-findings-clause-effect g c =
@@ -92,7 +91,7 @@ returns-in_err-findings-clause-agreed g c =
     let ran = c.in_err-findings.ensures.ran in
     let result = answer_of c.from_residual-in_err-findings.result in
     let gives = answer_gives c.from_residual-in_err-findings.result (stop_answer end) c.from_residual-in_err-findings.ensures.1 in
-    stopped_agreed old mid new c.in_ok-volume.ensures.reads volume c.in_ok-volume.ensures.opened c.args.read_data end ran.quiet result gives (stop_calm end ran.quiet) (g.O.Out.text c.args.out.now) (g.O.Out.account c.args.out.now) ran.told
+    stopped_agreed c.args.read_data old mid new c.in_ok-volume.ensures.reads volume c.in_ok-volume.ensures.opened end ran.quiet result gives (stop_calm end ran.quiet) (g.O.Out.text c.args.out.now) (g.O.Out.account c.args.out.now) ran.told
 
 pub returns-in_err-put_findings-clause-effect : goal.returns-in_err-put_findings-clause-effect
 returns-in_err-put_findings-clause-effect g c =
@@ -167,7 +166,7 @@ returns-in_err-put_findings-clause-agreed g c =
     let after = g.O.Out.account c.put_findings.new.out in
     let puts = subst (λ l. Puts text text' (findings_text l) put) c.deref.ensures.value c.in_err-put_findings.ensures.text in
     let counts = c.in_err-put_findings.ensures.account in
-    listed_agreed old mid new c.in_ok-volume.ensures.reads volume c.in_ok-volume.ensures.opened c.args.read_data all result text text' before after
+    listed_agreed c.args.read_data old mid new c.in_ok-volume.ensures.reads volume c.in_ok-volume.ensures.opened all result text text' before after
     (listed c.args.read_data old mid new c.in_ok-volume.ensures.reads ran.reads all put result due text text' before after puts counts (λ outcome. outcome ≡ showing (listing all)) refl) ran.told
 
 pub returns-clause-effect : goal.returns-clause-effect
@@ -243,5 +242,5 @@ returns-clause-agreed g c =
     let after = g.O.Out.account c.put_findings.new.out in
     let puts = subst (λ l. Puts text text' (findings_text l) put) c.deref.ensures.value c.in_ok-put_findings.ensures.text in
     let counts = c.in_ok-put_findings.ensures.account in
-    listed_agreed old mid new c.in_ok-volume.ensures.reads volume c.in_ok-volume.ensures.opened c.args.read_data all result text text' before after
+    listed_agreed c.args.read_data old mid new c.in_ok-volume.ensures.reads volume c.in_ok-volume.ensures.opened all result text text' before after
     (listed c.args.read_data old mid new c.in_ok-volume.ensures.reads ran.reads all put result due text text' before after puts counts (λ outcome. outcome ≡ showing (listing all)) refl) ran.told

@@ -2,12 +2,14 @@ use Rattle.std.proofs.Common.{◌≡◌, ◌∙◌, inr, length, map, Some, refl
 use Rattle.std.specs.Option.{IfSome}
 use Rattle.std.specs.String.{string_bytes}
 use Rattle.btr_restore.specs.Running.{outside}
-use Rattle.btr_tool.specs.Agreeing.{AreAgreed, AreAgreedFor, AreAgreedOn, ComesAgreed, IsCheckOrUnread, IsTreesOrUnread}
+use Rattle.btr_tool.specs.Agreeing.{AreAgreed, AreAgreedFor, AreAgreedOn, ComesAgreed, IsOrUnread, IsTreesOrUnread}
 use Rattle.btr_tool.specs.Answers.{answer_of}
 use Rattle.btr_tool.specs.Behind.{IfSteady}
+use Rattle.btr_tool.specs.Checked.{check_outcome}
 use Rattle.btr_tool.specs.Commands.{HasWords, IsBehindCommand, command_outcome, MayCome, MayWant, opens_to_write}
 use Rattle.btr_tool.specs.Outcomes.{Comes, OrBare, OrMemory}
 use Rattle.btr_tool.specs.Restored.{IsRestored}
+use Rattle.btr_tool.specs.Scrubbed.{scrub_outcome}
 use Rattle.btr_tool.specs.declared.plan.Command.TheVariants.{Super, Dump, Roots, Check, Scrub, Restore}
 use Rattle.btr_tool.specs.declared.plan.DumpChoice.TheVariants.{RootLines}
 use Rattle.btr_tool.proofs.Causing.{name_at}
@@ -145,8 +147,7 @@ returns-in-Scrub-clause-agreed g c =
     let x = outside (g.T.TreeSink.sink c.args.tree.now) (g.T.TreeSink.account c.args.tree.now) (g.O.Out.text c.args.out.now) (g.O.Out.account c.args.out.now) in
     let y = outside (g.T.TreeSink.sink c.args.tree.now) (g.T.TreeSink.account c.args.tree.now) (g.O.Out.text c.scrub_images.new.out) (g.O.Out.account c.scrub_images.new.out) in
     subst (λ command. IfSome (g.R.Rack.seen c.args.rack.now).held (λ images. AreAgreedFor command images → Comes (MayWant command x.out_calls) (ComesAgreed command images) x y (answer_of c.scrub_images.result))) (sym c.in-Scrub.is)
-    (told_so (MayWant (Scrub c.in-Scrub.write) x.out_calls) (AreAgreedFor (Scrub c.in-Scrub.write)) (OrBare (MayCome (Scrub c.in-Scrub.write))) (ComesAgreed (Scrub c.in-Scrub.write)) x y (answer_of c.scrub_images.result) (g.R.Rack.seen c.args.rack.now).held (λ images outcome one. one)
-    (shown_told (Scrub c.in-Scrub.write) x y refl refl (answer_of c.scrub_images.result) (MayCome (Scrub c.in-Scrub.write)) c.scrub_images.ensures.told))
+    (shown_so (Scrub c.in-Scrub.write) x y refl refl (answer_of c.scrub_images.result) AreAgreed (λ images. IsOrUnread (scrub_outcome c.in-Scrub.write images)) (g.R.Rack.seen c.args.rack.now).held c.scrub_images.ensures.agreed)
 
 pub returns-in-Restore-clause-agreed : goal.returns-in-Restore-clause-agreed
 returns-in-Restore-clause-agreed g c =
@@ -175,7 +176,7 @@ returns-in-Check-clause-agreed g c =
     let x = outside (g.T.TreeSink.sink c.args.tree.now) (g.T.TreeSink.account c.args.tree.now) (g.O.Out.text c.args.out.now) (g.O.Out.account c.args.out.now) in
     let y = outside (g.T.TreeSink.sink c.args.tree.now) (g.T.TreeSink.account c.args.tree.now) (g.O.Out.text c.show_findings.new.out) (g.O.Out.account c.show_findings.new.out) in
     subst (λ command. IfSome (g.R.Rack.seen c.args.rack.now).held (λ images. AreAgreedFor command images → Comes (MayWant command x.out_calls) (ComesAgreed command images) x y (answer_of c.show_findings.result))) (sym c.in-Check.is)
-    (shown_so (Check c.in-Check.read_data) x y refl refl (answer_of c.show_findings.result) AreAgreed (IsCheckOrUnread c.in-Check.read_data) (g.R.Rack.seen c.args.rack.now).held c.show_findings.ensures.agreed)
+    (shown_so (Check c.in-Check.read_data) x y refl refl (answer_of c.show_findings.result) AreAgreed (λ images. IsOrUnread (check_outcome c.in-Check.read_data images)) (g.R.Rack.seen c.args.rack.now).held c.show_findings.ensures.agreed)
 
 pub returns-in-Scrub-clause-order : goal.returns-in-Scrub-clause-order
 returns-in-Scrub-clause-order g c = λ number plan is. absurd (cc (sym c.in-Scrub.is ∙ is))
