@@ -39,6 +39,7 @@ use Rattle.btr_volume.specs.declared.which.Which.TheVariants.{Images as images_l
 use Rattle.btr_tool.specs.declared.answer.Answer.{Answer}
 use Rattle.btr_tool.specs.declared.answer.Answer.TheVariants.{Usage, Limit, ImageFault, SinkFault, OutFault, Memory}
 use Rattle.btr_tool.proofs.Causing.{none_failed_yet, none_failed_twice, opened_again}
+use Rattle.btr_tool.proofs.Ending.{all_agreeing, map_agreeing}
 use Rattle.btr_tool.proofs.Coming.{comes_bare, comes_also}
 use Rattle.btr_tool.proofs.Faulting.{no_tree, tree_in}
 use Rattle.btr_tool.proofs.Openings.{Images}

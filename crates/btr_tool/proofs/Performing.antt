@@ -40,8 +40,8 @@ module _ (command : Command) (x y : Outside) (same : y.sink ≡ x.sink) (same_ca
       (λ images s agreed. comes_shown (MayWant command x.out_calls) (IsOrUnread (wanted images)) x y answer same same_calls (λ scarce. inl scarce) (s agreed))) shows)
 
 -- .. a command of which nothing is said there
-pub none_agreeing : (command given : Command) → command ≡ given → IfAgreeing given (λ wanted. ⊥) → {P : (Images → Outcome) → Type 0} → IfAgreeing command P
-none_agreeing command given is none {P} = subst (λ k. IfAgreeing k P) (sym is) (map_agreeing given (λ wanted. ⊥) P (λ wanted h. absurd h) none)
+pub none_agreeing : (command given : Command) → command ≡ given → IfAgreeing given (λ wanted. ⊥) → (P : (Images → Outcome) → Type 0) → IfAgreeing command P
+none_agreeing command given is none P = subst (λ k. IfAgreeing k P) (sym is) (map_agreeing given (λ wanted. ⊥) P (λ wanted h. absurd h) none)
 
 -- a command that writes into a destination, whose name is a word
 pub writing_comes : (number : ℕ) (plan : RestorePlan) (words : Words) (dest : List ℕ) (x y : Outside) (answer : Answer) → get_or words number [] ≡ dest → (images : Images) → Comes (Unit {0}) (OrMemory (λ outcome. restored plan dest images ≡ outcome)) x y answer

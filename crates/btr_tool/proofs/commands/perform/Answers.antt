@@ -130,16 +130,16 @@ returns-in-Restore-clause-order g c = λ number plan is.
     c.restore_files.ensures.order
 
 pub returns-in-Super-clause-agreed : goal.returns-in-Super-clause-agreed
-returns-in-Super-clause-agreed g c = none_agreeing c.args.command Super c.in-Super.is tt
+returns-in-Super-clause-agreed g c = none_agreeing c.args.command Super c.in-Super.is tt _
 
 pub returns-in-Dump-clause-agreed : goal.returns-in-Dump-clause-agreed
-returns-in-Dump-clause-agreed g c = none_agreeing c.args.command (Dump c.in-Dump.choice) c.in-Dump.is tt
+returns-in-Dump-clause-agreed g c = none_agreeing c.args.command (Dump c.in-Dump.choice) c.in-Dump.is tt _
 
 pub returns-in-Roots-clause-agreed : goal.returns-in-Roots-clause-agreed
-returns-in-Roots-clause-agreed g c = none_agreeing c.args.command Roots c.in-Roots.is tt
+returns-in-Roots-clause-agreed g c = none_agreeing c.args.command Roots c.in-Roots.is tt _
 
 pub returns-in-Restore-clause-agreed : goal.returns-in-Restore-clause-agreed
-returns-in-Restore-clause-agreed g c = none_agreeing c.args.command (Restore c.in-Restore.dest c.in-Restore.plan) c.in-Restore.is tt
+returns-in-Restore-clause-agreed g c = none_agreeing c.args.command (Restore c.in-Restore.dest c.in-Restore.plan) c.in-Restore.is tt _
 
 pub returns-in-Check-clause-agreed : goal.returns-in-Check-clause-agreed
 returns-in-Check-clause-agreed g c =
