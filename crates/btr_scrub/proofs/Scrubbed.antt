@@ -316,6 +316,19 @@ module _ (c : Called) where
         by (Some stripe) is m = lacking stripe is m.0 m.1
         by None is m = let s = scrubs is in goes_on is s.mid s.reads s.done s.listing s.goes
 
+    -- the slots stay
+    slots_on : (mid : Seen) → OnlyReads c.old mid → (done : List Met) (l : Listing) → Goes c.fs.sup layout c.write c.old mid c.new done c.result l → c.new.slots ≡ c.old.slots
+    slots_on mid reads done (Stopped why) g = ap (λ (s : Seen). s.slots) g.1 ∙ ap (λ (s : Seen). s.slots) reads.same
+    slots_on mid reads done Listed g = ap (λ (s : Seen). s.slots) g.1.works.does.only.same ∙ ap (λ (s : Seen). s.slots) reads.same
+    slots_on mid reads done (Refused f) g = ap (λ (s : Seen). s.slots) g.1 ∙ ap (λ (s : Seen). s.slots) reads.same
+
+    pub slots_stay : c.new.slots ≡ c.old.slots
+    slots_stay = by (first_missing layout) refl missing
+      where
+        by : (o : Option Stripe) → first_missing layout ≡ o → IfSome o (λ stripe. (c.result ≡ Err (stop.Missing stripe.devid)) × (c.new ≡ c.old)) → c.new.slots ≡ c.old.slots
+        by (Some stripe) is m = ap (λ (s : Seen). s.slots) m.1
+        by None is m = let s = scrubs is in slots_on s.mid s.reads s.done s.listing s.goes
+
   -- and safe
   module _ (table : IsTable layout.chunks) (own : HaveOwnSlots layout.devices) (lengths : (images : Images) → c.old.held ≡ Some images → HaveLengths images layout) (bytes : (images : Images) → c.old.held ≡ Some images → AreBytes images)
       (node : c.fs.sup.nodesize ≡ c.fs.layout.setting.nodesize) (some : 0 < c.fs.sup.nodesize) (scrubbed : IsScrubbed c) where

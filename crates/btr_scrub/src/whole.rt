@@ -171,6 +171,7 @@ pub fn scrub<R: Rack>(
     ensures serves { Serves (R.seen rack.new) vol.new.store }
     ensures volume { SameVolume vol.old vol.new }
     ensures table { IsTable vol.old.store.layout.chunks }
+    ensures slots { (R.seen rack.new).slots ≡ (R.seen rack.old).slots }
     ensures missing { IfSome (first_missing vol.old.store.layout) (λ stripe. (result ≡ Err (stop.Missing stripe.devid)) × (R.seen rack.new ≡ R.seen rack.old)) }
     ensures scrubs { first_missing vol.old.store.layout ≡ None → ScrubsAll vol.old.sup vol.old.store.layout write (R.seen rack.old) (R.seen rack.new) result }
     ensures scrubbed { IsScrubbed (called vol.old write (R.seen rack.old) (R.seen rack.new) result) }
