@@ -5,6 +5,7 @@ use Rattle.std.specs.Option.{option_map}
 use Rattle.btr_chunk.specs.Chunk.{mirrors}
 use Rattle.btr_chunk.specs.declared.place.Part.TheVariants.{Mirror}
 use Rattle.btr_rack.specs.Rack.{NoneFailed, OnlyReads, Seen}
+use Rattle.btr_rack.proofs.Reading.{reads_more}
 use Rattle.btr_read.specs.Candidates.{Target, element, range_of}
 use Rattle.btr_read.specs.Mirror.{HasMirror}
 use Rattle.btr_read.specs.Store.{Blocks, IsLentBy, IsLiveIn, Lent, SameLoans, block_of, loan_in, with_loan, without_kept}
@@ -34,7 +35,7 @@ has_bytes store loan live = of (loan_in store loan.slot) refl live.live
 module _ (t : Target) (write : Bool) (marks : List Bool) (a b : Seen) (reads : OnlyReads a b) where
   -- a read failed
   pub mends_failed : (B : Type 0) (fault : MendFault) → AccountsMend {A = B} (IsOfCopy t) a b (Err fault) → Mends t write marks marks a b (Err fault)
-  mends_failed B fault account = record { does = does_failed (IsOfCopy t) Mended B (λ images. writes_if write (block_writes images t)) marks a b fault reads account; counts = tt }
+  mends_failed B fault account = record { does = does_failed (IsOfCopy t) Mended B (λ images. writes_if write (block_writes images t)) marks a b fault reads account; counts = tt; unwritten = λ w. reads }
 
   module _ (none : NoneFailed a.account b.account) where
     -- nothing was written
@@ -42,6 +43,7 @@ module _ (t : Target) (write : Bool) (marks : List Bool) (a b : Seen) (reads : O
     unwritten m writes counts = record {
       does = does_as (IsOfCopy t) (λ i. []) (λ images. writes_if write (block_writes images t)) marks marks a b m m writes (does_reads (IsOfCopy t) marks a b m reads none);
       counts = told a.held (λ images. m ≡ mended_of images t write) counts;
+      unwritten = λ w. reads;
     }
 
     module _ (n : ℕ) (has : mirrors t.chunk ≡ Some n) (stand : (k : ℕ) → HasMirror k t → IsSome (range_of t (Mirror k))) where
@@ -68,6 +70,7 @@ module _ (t : Target) (write : Bool) (marks : List Bool) (a b : Seen) (reads : O
           mends_wrote h = record {
             does = does_as (IsOfCopy t) (λ i. copy_writes t bytes (flagged flags n)) (λ images. writes_if write (block_writes images t)) marks marks' a d tt (record { bad = count; repaired = count; lost = false }) same_writes (behind (Ok tt) h);
             counts = told a.held (λ images. record { bad = count; repaired = count; lost = false } ≡ mended_of images t write) (λ images e. counted_write images t n has stand m flags count lt (first images e) (bad images e) ∙ ap (mended_of images t) (sym yes));
+            unwritten = λ w. absurd (false≢true (sym w ∙ yes));
           }
 
           -- .. up to a write that failed
@@ -75,6 +78,7 @@ module _ (t : Target) (write : Bool) (marks : List Bool) (a b : Seen) (reads : O
           mends_cut fault h = record {
             does = does_as_halt (IsOfCopy t) (Unit {0}) Mended (λ i. copy_writes t bytes (flagged flags n)) (λ images. writes_if write (block_writes images t)) marks marks' a d fault same_writes (behind (Err fault) h);
             counts = tt;
+            unwritten = λ w. absurd (false≢true (sym w ∙ yes));
           }
 
 -- the same behind reads
@@ -82,6 +86,7 @@ pub mends_behind : (t : Target) (write : Bool) (marks marks' : List Bool) (a b d
 mends_behind t write marks marks' a b d r reads none h = record {
   does = does_behind (IsOfCopy t) (λ images. writes_if write (block_writes images t)) marks marks' a b d r reads none h.does;
   counts = subst (λ o. Counts o t write r) (same_held reads) h.counts;
+  unwritten = λ w. reads_more reads (h.unwritten w);
 }
 
 -- a store that forgot what it kept is served, whatever was written

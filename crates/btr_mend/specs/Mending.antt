@@ -4,7 +4,7 @@ use Rattle.std.specs.List.{filter, range_with_len}
 use Rattle.btr_chunk.specs.Chunk.{mirrors}
 use Rattle.btr_chunk.specs.declared.place.Part.{Part}
 use Rattle.btr_chunk.specs.declared.place.Part.TheVariants.{Mirror}
-use Rattle.btr_rack.specs.Rack.{Seen}
+use Rattle.btr_rack.specs.Rack.{OnlyReads, Seen}
 use Rattle.btr_rack.specs.declared.place.Place.{Place as Range}
 use Rattle.btr_read.specs.Candidates.{Target, element, range_of}
 use Rattle.btr_read.specs.Cause.{IsOf}
@@ -46,9 +46,11 @@ Counts held t write (Ok mended) = IfSome held (λ images. mended ≡ mended_of i
 Counts held t write (Err fault) = Unit {0}
 
 -- A block was read, and written where it is bad: exactly the writes that mend it, or those up to one that failed. What was written is marked by its slot.
+-- Where it was only to be read, it was.
 pub record Mends (t : Target) (write : Bool) (marks marks' : List Bool) (old new : Seen) (result : Result Mended MendFault) : Type 0 where
   pub does : Does (IsOfCopy t) (λ images. writes_if write (block_writes images t)) marks marks' old new result
   pub counts : Counts old.held t write result
+  pub unwritten : write ≡ false → OnlyReads old new
 
 -- a copy is the first that passes
 pub record IsFirst (images : Images) (t : Target) (mirror : ℕ) : Type 0 where

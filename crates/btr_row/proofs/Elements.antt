@@ -56,7 +56,7 @@ range_stands off len o device e le =
     ap (range_on off len) e ∙ ap (λ b. cond b (Some (range_in device.slot off len)) None) (le-leb (off + len) device.len le)
 
 -- the stripe of a part hangs on the row alone
-stripe-row : (p : Profile) (n : ℕ) (q : Part) (at bt : Elements) → mirror_count p n ≡ None → at.row ≡ bt.row → stripe_of p n q at ≡ stripe_of p n q bt
+pub stripe-row : (p : Profile) (n : ℕ) (q : Part) (at bt : Elements) → mirror_count p n ≡ None → at.row ≡ bt.row → stripe_of p n q at ≡ stripe_of p n q bt
 stripe-row p n q at bt none e = elim (without_copies p n none) [
   | inl five ↦ subst (λ p. stripe_of p n q at ≡ stripe_of p n q bt) (sym five) (with_five q)
   | inr six ↦ subst (λ p. stripe_of p n q at ≡ stripe_of p n q bt) (sym six) (with_six q)

@@ -1,6 +1,7 @@
 -- What mending a row comes to.
 use Rattle.std.proofs.Common.{◌≡◌, ℕ, Bool, true, false, cond, List, [], length, Some, Ok, Err, count_by, sym, ap, ◌∙◌, subst}
 use Rattle.std.specs.List.{sum_by}
+use Rattle.std.proofs.lemmas.Bool.{false≢true}
 use Rattle.std.proofs.lemmas.Option.{same_Some}
 use Rattle.btr_rack.specs.Rack.{NoneFailed, OnlyReads, Seen}
 use Rattle.btr_read.specs.Layout.{Layout}
@@ -47,7 +48,7 @@ counts_are images layout row write judged buffer repaired parity is r p = same_m
 module _ (layout : Layout) (row : Row) (write : Bool) (marks : List Bool) (a b : Seen) (reads : OnlyReads a b) where
   -- a read failed
   pub mends_failed : (fault : MendFault) → AccountsMend {A = Judged} (IsOfRow layout row) a b (Err fault) → MendsRow layout row write marks marks a b (Err fault)
-  mends_failed fault account = record { does = does_failed (IsOfRow layout row) MendedRow Judged (λ images. writes_if write (row_writes images layout row)) marks a b fault reads account; counts = tt }
+  mends_failed fault account = record { does = does_failed (IsOfRow layout row) MendedRow Judged (λ images. writes_if write (row_writes images layout row)) marks a b fault reads account; counts = tt; unwritten = λ w. reads }
 
   module _ (none : NoneFailed a.account b.account) (judged : Judged) (buffer : RowBuffer) (prepared : (images : Images) → a.held ≡ Some images → IsPrepared images layout row judged buffer) (parity : ℕ)
       (counted : (images : Images) → a.held ≡ Some images → parity ≡ sum_by (λ part. length (parity_writes images layout row part)) (parities row.chunk.profile)) where
@@ -58,6 +59,7 @@ module _ (layout : Layout) (row : Row) (write : Bool) (marks : List Bool) (a b :
           (λ images e. ap (λ w. writes_if w (row_writes images layout row)) (sym no_write)) (does_reads (IsOfRow layout row) marks a b (made judged.bad 0 judged.lost parity) reads none);
       counts = told a.held (λ images. made judged.bad 0 judged.lost parity ≡ mended_row images layout row write)
           (λ images e. counts_are images layout row write judged buffer 0 parity (prepared images e) (ap (λ w. cond w (sum_by (λ t. length (block_writes images t)) row.blocks) 0) (sym no_write)) (counted images e));
+      unwritten = λ w. reads;
     }
 
     module _ (written : write ≡ true) (marks' : List Bool) (d : Seen) where
@@ -71,6 +73,7 @@ module _ (layout : Layout) (row : Row) (write : Bool) (marks : List Bool) (a b :
             (does_behind (IsOfRow layout row) (λ i. told_writes (λ images. row_writes images layout row) a.held) marks marks' a b d (Ok tt) reads none h);
         counts = told a.held (λ images. made judged.bad judged.rebuilt judged.lost parity ≡ mended_row images layout row write)
             (λ images e. let is = prepared images e in counts_are images layout row write judged buffer judged.rebuilt parity is (is.blocks.rebuilt ∙ ap (λ w. cond w (sum_by (λ t. length (block_writes images t)) row.blocks) 0) (sym written)) (counted images e));
+        unwritten = λ w. absurd (false≢true (sym w ∙ written));
       }
 
   -- .. up to a write that failed
@@ -80,6 +83,7 @@ module _ (layout : Layout) (row : Row) (write : Bool) (marks : List Bool) (a b :
         (λ images e. ap (told_writes (λ images. row_writes images layout row)) e ∙ ap (λ w. writes_if w (row_writes images layout row)) (sym written))
         (does_behind (IsOfRow layout row) (λ i. told_writes (λ images. row_writes images layout row) a.held) marks marks' a b d (Err fault) reads none h);
     counts = tt;
+    unwritten = λ w. absurd (false≢true (sym w ∙ written));
   }
 
 -- what was prepared is what is told

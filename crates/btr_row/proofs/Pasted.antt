@@ -23,7 +23,7 @@ module _ (image : List ℕ) (off : ℕ) (bytes : List ℕ) (fits : off + length 
       let c = length-drop (off + length bytes) image in
       omega (arith, a, c, both_long, fits)
 
-  pasted-below : (i d : ℕ) → i < off → get_or (pasted image off bytes) i d ≡ get_or image i d
+  pub pasted-below : (i d : ℕ) → i < off → get_or (pasted image off bytes) i d ≡ get_or image i d
   pasted-below i d lt =
       get_or_append_left (take off image ++ bytes) rest d i (omega (arith, both_long, lt))
       ∙ get_or_append_left (take off image) bytes d i (omega (arith, front, lt)) ∙ get_or-take off image i d lt
@@ -33,7 +33,7 @@ module _ (image : List ℕ) (off : ℕ) (bytes : List ℕ) (fits : off + length 
       get_or_append_left (take off image ++ bytes) rest d i (omega (arith, both_long, lt))
       ∙ get_or-append_right (take off image) bytes off i d front le
 
-  pasted-above : (i d : ℕ) → off + length bytes ≤ i → get_or (pasted image off bytes) i d ≡ get_or image i d
+  pub pasted-above : (i d : ℕ) → off + length bytes ≤ i → get_or (pasted image off bytes) i d ≡ get_or image i d
   pasted-above i d le =
       get_or-append_right (take off image ++ bytes) rest (off + length bytes) i d both_long le
       ∙ get_or-drop (off + length bytes) image (i - (off + length bytes)) d

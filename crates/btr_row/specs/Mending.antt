@@ -1,11 +1,11 @@
 -- What mending a full stripe did.
-use Rattle.std.specs.Prelude.{◌≡◌, ℕ, ◌+◌, ◌*◌, ◌≤◌, Bool, List, length, map, Option, None, IfSome, IsSome, IsSomeAnd, Some, Result, Ok, Err, if◌then◌else◌, count_by}
+use Rattle.std.specs.Prelude.{◌≡◌, ℕ, ◌+◌, ◌*◌, ◌≤◌, Bool, List, false, length, map, Option, None, IfSome, IsSome, IsSomeAnd, Some, Result, Ok, Err, if◌then◌else◌, count_by}
 use Rattle.std.specs.List.{All, sum_by}
 use Rattle.btr_chunk.specs.Chunk.{mirrors, stripe_length}
 use Rattle.btr_chunk.specs.Mapping.{HasPart}
 use Rattle.btr_chunk.specs.Table.{chunk_at}
 use Rattle.btr_chunk.specs.declared.place.Part.{Part}
-use Rattle.btr_rack.specs.Rack.{Seen}
+use Rattle.btr_rack.specs.Rack.{OnlyReads, Seen}
 use Rattle.btr_rack.specs.declared.place.Place.{Place as Range}
 use Rattle.btr_read.specs.Candidates.{Target}
 use Rattle.btr_read.specs.Cause.{LiesIn}
@@ -82,6 +82,8 @@ CountsRow held layout row write (Ok mended) = IfSome held (λ images. mended ≡
 CountsRow held layout row write (Err fault) = Unit {0}
 
 -- A row was read, and written where it is to be mended: exactly the writes that mend it, or those up to one that failed. What was written is marked by its slot.
+-- Where it was only to be read, it was.
 pub record MendsRow (layout : Layout) (row : Row) (write : Bool) (marks marks' : List Bool) (old new : Seen) (result : Result MendedRow MendFault) : Type 0 where
   pub does : Does (IsOfRow layout row) (λ images. writes_if write (row_writes images layout row)) marks marks' old new result
   pub counts : CountsRow old.held layout row write result
+  pub unwritten : write ≡ false → OnlyReads old new

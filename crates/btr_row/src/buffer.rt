@@ -7,7 +7,7 @@ use std::alloc::Global;
 // How many bytes an element has.
 pub(crate) const ELEMENT: usize = 65536;
 
-/// Memory for one full stripe, which serves row after row.
+/// Memory for one full stripe, whose elements have 65536 bytes each (`docs/FORMAT.md`, "Full stripes"). It serves row after row.
 #[derive(Drop)]
 pub struct RowBuffer {
     // The elements as they were read: the slices, P, and Q.

@@ -8,6 +8,7 @@
 
 mod accepting;
 mod applying;
+mod at;
 mod blocks;
 mod buffer;
 mod gathering;
@@ -25,6 +26,7 @@ mod spot;
 mod stripe;
 mod writing;
 
+pub use at::RowAt;
 pub use buffer::RowBuffer;
 pub use mended::MendedRow;
 pub use mending::mend_row;

@@ -1,4 +1,4 @@
-/// What came of a full stripe.
+/// What came of a full stripe (`docs/FORMAT.md`, "Full stripes").
 #[derive(Clone, Copy, Debug, PartialEq, Eq)]
 pub struct MendedRow {
     /// How many of its checked blocks don't pass at their own place.

@@ -9,28 +9,26 @@ ghost use Rattle.btr_row.specs.Mending.{HasRoom, IsRow, IsRowOf, MendsRow};
 use crate::applying::{count_parities, write_row};
 use crate::preparing::prepare;
 use crate::stripe::full_stripe;
-use crate::{MendedRow, RowBuffer};
+use crate::{MendedRow, RowAt, RowBuffer};
 use btr_mend::MendFault;
 use btr_rack::Rack;
 use btr_read::{Store, Want};
 
-/// Mends the row of a number in the chunk that starts at an address. The row is read whole, one call for each element, and every choice is made from
+/// Mends a full stripe (`docs/FORMAT.md`, "Full stripes"). The row is read whole, one call for each element, and every choice is made from
 /// those bytes. Each checked block that doesn't pass at its own place is written over with the bytes of its first candidate that passes, in the order
 /// of the wants, and then each sector of P, and of Q, that differs from that of the new data, in the columns of 4096 bytes that meet a checked block
 /// and none that is lost; one write each. Where the row is only to be read, nothing is written. The slots that were written are marked; a mark is never
 /// taken away.
 ///
-/// The chunk has parity, the row is one of it, and each of its elements stands on a device that is given. The wants are blocks of the row, `nodesize` is
+/// The chunk has parity, the row is one of it, and each of its elements stands on a device that is given. The wants are blocks of the row, its node size is
 /// that of the store, and the buffer has room for as many elements as the chunk has stripes. Where the row is to be written, each image was opened for
 /// writing. Nothing is lent, and no slot need be free.
 ///
 /// `Image`: a read or a write of an image failed, and nothing was tried behind it; no byte is written before all is read. `Memory`: a write wanted
 /// memory.
 pub fn mend_row<R: Rack>(
-    chunk: u64,
-    number: u64,
+    at: RowAt,
     wants: &[Want],
-    nodesize: u32,
     write: bool,
     rack: &mut R,
     store: &mut Store,
@@ -40,16 +38,16 @@ pub fn mend_row<R: Rack>(
     requires serves { Serves (R.seen rack.old) store.old }
     requires writable { IsTrue write → AreWritable (R.seen rack.old).slots }
     requires slots { length (R.seen rack.old).slots ≤ length marks.old }
-    requires nodesize { nodesize ≡ store.old.layout.setting.nodesize }
-    requires row { IsRow store.old.layout chunk number wants.now }
-    requires room { (row : Row) → IsRowOf store.old.layout chunk number wants.now row → HasRoom buffer.old (length row.chunk.stripes) }
+    requires nodesize { at.nodesize ≡ store.old.layout.setting.nodesize }
+    requires row { IsRow store.old.layout at.chunk at.number wants.now }
+    requires room { (row : Row) → IsRowOf store.old.layout at.chunk at.number wants.now row → HasRoom buffer.old (length row.chunk.stripes) }
     ensures serves { Serves (R.seen rack.new) store.new }
     ensures loans { SameLoans store.old store.new }
     ensures room { (elements : ℕ) → HasRoom buffer.old elements → HasRoom buffer.new elements }
-    ensures mends { (row : Row) → IsRowOf store.old.layout chunk number wants.now row
+    ensures mends { (row : Row) → IsRowOf store.old.layout at.chunk at.number wants.now row
         → MendsRow store.old.layout row write marks.old marks.new (R.seen rack.old) (R.seen rack.new) result }
 {
-    let stripe = full_stripe(chunk, number, nodesize, store);
+    let stripe = full_stripe(at.chunk, at.number, at.nodesize, store);
     let judged = match prepare(wants, &stripe, rack, store, buffer) {
         Ok(judged) => judged,
         Err(fault) => return Err(fault),

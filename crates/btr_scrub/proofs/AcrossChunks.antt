@@ -37,7 +37,7 @@ use Rattle.btr_scrub.specs.declared.tally.Tally.{Tally}
 use Rattle.btr_scrub.proofs.Agreeing.{Alike, copies_alike, of_mapped, writes_alike}
 use Rattle.btr_scrub.proofs.Blockwise.{none_first, none_flat, none_passes, of_targets}
 use Rattle.btr_scrub.proofs.CopyWrites.{same_element, written_byte}
-use Rattle.btr_scrub.proofs.Elements.{range_stands, stands_on}
+use Rattle.btr_row.proofs.Elements.{range_stands, stands_on}
 use Rattle.btr_scrub.proofs.Places.{is_at}
 use Rattle.btr_scrub.proofs.Positions.{IsCopyByte, is_sought, of_range, on_stripe}
 use Rattle.btr_scrub.proofs.RowAgreeing.{RowAlike, flat_same, fold_same, row_writes_alike}
@@ -62,7 +62,7 @@ one_chunk layout i j slot off table own a b =
     let devid : a.devid ≡ b.devid = own a.devid b.devid a.device b.device a.given b.given (a.same_slot ∙ sym b.same_slot) in
     (stripes_apart layout.chunks (record { devid = a.devid; offset = off }) i j a.stripe b.stripe table a.lies (subst (λ d. LiesIn layout.chunks (record { devid = d; offset = off }) j b.stripe) (sym devid) b.lies)).0
 
-copy_in_chunk : (layout : Layout) (t : Target) (slot off : ℕ) → IsTable layout.chunks → (is : IsSought layout t) → IsCopyByte layout t slot off → InChunk layout is.number slot off
+pub copy_in_chunk : (layout : Layout) (t : Target) (slot off : ℕ) → IsTable layout.chunks → (is : IsSought layout t) → IsCopyByte layout t slot off → InChunk layout is.number slot off
 copy_in_chunk layout t slot off table is b =
     let place = place_at t.chunk (Mirror b.copy) t.at in
     let on = on_stripe layout t (Mirror b.copy) table is b.has in
@@ -75,14 +75,14 @@ copy_in_chunk layout t slot off table is b =
       lies = record { chunk = t.chunk; there = is.there; stripe = on.stripe; stripe_there = on.there; inside = record { device = on.devid; begin = omega (arith, on.begin, b.offset); end = omega (arith, on.end, b.offset, b.below) } };
     }
 
-element_in_chunk : (layout : Layout) (row : Row) (q : Part) (slot off : ℕ) → IsTable layout.chunks → (e : IsOfElement layout row q slot off) → InChunk layout e.number slot off
+pub element_in_chunk : (layout : Layout) (row : Row) (q : Part) (slot off : ℕ) → IsTable layout.chunks → (e : IsOfElement layout row q slot off) → InChunk layout e.number slot off
 element_in_chunk layout row q slot off table e =
     let a = is_at layout row q slot off table e in
     record { devid = a.stripe.devid; device = a.device; given = a.given; same_slot = a.same_slot; stripe = stripe_of row.chunk.profile (length row.chunk.stripes) q (record { row = row.number; index = 0; rest = 0 }); lies = a.lies }
 
 -- ---- lists
 
-sum_same : {X : Type 0} (f g : X → ℕ) (xs : List X) → ((x : X) → In x xs → f x ≡ g x) → sum_by f xs ≡ sum_by g xs
+pub sum_same : {X : Type 0} (f g : X → ℕ) (xs : List X) → ((x : X) → In x xs → f x ≡ g x) → sum_by f xs ≡ sum_by g xs
 sum_same f g xs h = fold_same (λ a x. a + f x) (λ a x. a + g x) xs 0 (λ x i z. ap (λ n. z + n) (h x i))
 
 count_same : {X : Type 0} (f g : X → Bool) (xs : List X) → ((x : X) → In x xs → f x ≡ g x) → count_by f xs ≡ count_by g xs
@@ -126,7 +126,7 @@ module _ (layout : Layout) (table : IsTable layout.chunks) (own : HaveOwnSlots l
     pub number_is : is.number ≡ number
     pub chunk_is : t.chunk ≡ chunk
 
-  of_chunk : (t : Target) → In t (blocks_in layout chunk wants) → OfChunk t
+  pub of_chunk : (t : Target) → In t (blocks_in layout chunk wants) → OfChunk t
   of_chunk t i =
       let f = passing_filter (is_in_chunk chunk) t (targets layout wants) i in
       let w = of_targets layout t wants f.0 in

@@ -34,7 +34,7 @@ use Rattle.btr_scrub.proofs.Scrubbing.{IsUnmoved, scrubs_as, scrubs_cut, scrubs_
 use Rattle.btr_chunk.proofs.Rule.{facts}
 use Rattle.btr_read.proofs.Fates.{sought_of}
 use Rattle.btr_scrub.proofs.Positions.{is_sought, on_stripe}
-use Rattle.btr_scrub.proofs.Elements.{range_stands, stands_on}
+use Rattle.btr_row.proofs.Elements.{range_stands, stands_on}
 use Rattle.btr_scrub.proofs.Survival.{some_of}
 use Rattle.btr_scrub.proofs.CopyWrites.{AreCopied, all_fit, behind_alike}
 use Rattle.btr_scrub.proofs.Agreeing.{writes_alike}

@@ -29,7 +29,7 @@ use Rattle.btr_scrub.specs.Leaves.{Fits, KeepsOutside}
 use Rattle.btr_scrub.specs.Order.{IsSought}
 use Rattle.btr_scrub.specs.Repair.{covers}
 use Rattle.btr_scrub.proofs.Agreeing.{Alike, copies_alike, of_mapped}
-use Rattle.btr_scrub.proofs.Elements.{range_stands, stands_on}
+use Rattle.btr_row.proofs.Elements.{range_stands, stands_on}
 use Rattle.btr_scrub.proofs.Positions.{IsCopyByte, of_range, shares}
 use Rattle.btr_scrub.proofs.Staying.{covered, range_same}
 use Rattle.btr_scrub.proofs.Writes.{any_filter_map, any_flat, any_map, mapped, passing_filter}

@@ -11,8 +11,6 @@ pub mod Listing
 pub mod Reading
 pub mod Staying
 pub mod Writes
-pub mod Stopping
-pub mod Syncing
 pub mod Gathering
 pub mod Eachwise
 pub mod OneSector
@@ -35,8 +33,18 @@ pub mod Working
 pub mod Placing
 pub mod Ends
 pub mod Unitwise
+pub mod Lists
 pub mod InRows
+pub mod RowNumbers
+pub mod NextRow
 pub mod Rowwise
 pub mod OneRow
 pub mod Told
 pub mod Outside
+pub mod SoundRows
+pub mod Outliving
+pub mod InWrong
+pub mod Safe
+pub mod Sums
+pub mod Tallying
+pub mod Scrubbed

@@ -31,7 +31,7 @@ use Rattle.btr_row.specs.declared.mended.MendedRow.{MendedRow}
 use Rattle.btr_scrub.specs.Leaves.{LiesInStripe}
 use Rattle.btr_scrub.specs.Scrubbing.{HasRooms, Scrubs, counted_row}
 use Rattle.btr_scrub.specs.declared.tally.Tally.{Tally}
-use Rattle.btr_scrub.proofs.Elements.{range_stands, stands_on}
+use Rattle.btr_row.proofs.Elements.{range_stands, stands_on}
 use Rattle.btr_scrub.proofs.Positions.{find_at}
 use Rattle.btr_scrub.proofs.Scrubbing.{does_fault, does_value, does_weaker, tell, told}
 use Rattle.btr_scrub.proofs.Some.{any_at}
@@ -88,6 +88,7 @@ pub scrubs_row : (layout : Layout) (write : Bool) (row : Row) (m n : List Bool) 
 scrubs_row layout write row m n a b tally tally' mended in_stripe h e = record {
   does = does_value (LiesInStripe layout) (λ images. writes_if write (row_writes images layout row)) m n a b mended tt (does_weaker (IsOfRow layout row) (LiesInStripe layout) (λ images. writes_if write (row_writes images layout row)) m n a b (Ok mended) in_stripe h.does);
   counts = tell a.held (λ images. tally' ≡ counted_row tally (length row.blocks) (mended_row images layout row write)) (λ images held. e ∙ ap (counted_row tally (length row.blocks)) (told a.held (λ images. mended ≡ mended_row images layout row write) images held h.counts));
+  unwritten = h.unwritten;
 }
 
 pub scrubs_row_not : (layout : Layout) (write : Bool) (row : Row) (m n : List Bool) (a b : Seen) (tally : Tally) (fault : MendFault) → ((range : Range) → IsOfRow layout row range → LiesInStripe layout range)
@@ -96,6 +97,7 @@ pub scrubs_row_not : (layout : Layout) (write : Bool) (row : Row) (m n : List Bo
 scrubs_row_not layout write row m n a b tally fault in_stripe h = record {
   does = does_fault {A = MendedRow} {B = Unit {0}} (LiesInStripe layout) (λ images. writes_if write (row_writes images layout row)) m n a b fault (does_weaker {A = MendedRow} (IsOfRow layout row) (LiesInStripe layout) (λ images. writes_if write (row_writes images layout row)) m n a b (Err fault) in_stripe h.does);
   counts = tt;
+  unwritten = h.unwritten;
 }
 
 -- the chunk of what is sought is the one that holds the address

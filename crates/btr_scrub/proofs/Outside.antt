@@ -1,5 +1,5 @@
 -- Whatever failed, nothing changes but the ranges of the writes.
-use Rattle.std.proofs.Common.{◌≡◌, ℕ, zero, suc, Bool, true, false, List, [], ◌∷◌, ◌++◌, map, All, slice_get, Some, IsSomeAnd, Result, Ok, Err, refl, sym, ap, ◌∙◌, subst, inl, inr, arith}
+use Rattle.std.proofs.Common.{◌≡◌, ℕ, zero, suc, Bool, true, false, ◌||◌, List, [], ◌∷◌, ◌++◌, map, All, slice_get, Some, IsSomeAnd, Result, Ok, Err, refl, sym, ap, ◌∙◌, subst, inl, inr, arith}
 use Rattle.std.proofs.lemmas.Option.{same_Some}
 use Rattle.std.specs.List.{fold, list_any}
 use Rattle.btr_rack.specs.declared.place.Place.{Place as Range}
@@ -11,13 +11,9 @@ use Rattle.btr_scrub.specs.Repair.{covers}
 use Rattle.btr_scrub.specs.Scrubbing.{all_writes_for, chunk_writes_for}
 use Rattle.btr_scrub.specs.Whole.{WorksKeepTheRest}
 use Rattle.btr_scrub.proofs.AcrossChunks.{chunk_short, flat_short}
+use Rattle.btr_scrub.proofs.Lists.{at_in}
 use Rattle.btr_scrub.proofs.Shorts.{Short, one_short, shorts_keep, shorts_keep_if}
-use Rattle.btr_scrub.proofs.Stopping.{first_false, none_of_append}
-
-at_in : {X : Type 0} (x : X) (xs : List X) → In x xs → (i : ℕ) × (slice_get xs i ≡ Some x)
-at_in x [] i = absurd i
-at_in x (y ∷ xs) (inl e) = (0, ap Some e)
-at_in x (y ∷ xs) (inr i) = let r = at_in x xs i in (suc r.0, r.1)
+use Rattle.std.proofs.lemmas.Bool.{false≢true}
 
 left_short : (images : Images) (xs ys : List Write) → All (Short images) (xs ++ ys) → All (Short images) xs
 left_short images [] ys all i d below = absurd (omega (arith, below))
@@ -30,6 +26,21 @@ right_short images (x ∷ xs) ys all = right_short images xs ys (λ j e lt. all 
 
 abbrev ranges : List Write → List Range
 ranges ws = map (λ (w : Write). w.range) ws
+
+none_of_append : (slot off : ℕ) (xs ys : List Write) → list_any (covers slot off) (ranges (xs ++ ys)) ≡ false
+    → (list_any (covers slot off) (ranges xs) ≡ false) × (list_any (covers slot off) (ranges ys) ≡ false)
+none_of_append slot off [] ys e = (refl, e)
+none_of_append slot off (x ∷ xs) ys e = by (covers slot off x.range) e (none_of_append slot off xs ys)
+  where
+    by : (b : Bool) → (b || list_any (covers slot off) (ranges (xs ++ ys))) ≡ false
+        → (list_any (covers slot off) (ranges (xs ++ ys)) ≡ false → (list_any (covers slot off) (ranges xs) ≡ false) × (list_any (covers slot off) (ranges ys) ≡ false))
+        → ((b || list_any (covers slot off) (ranges xs)) ≡ false) × (list_any (covers slot off) (ranges ys) ≡ false)
+    by true e rest = absurd (false≢true (sym e))
+    by false e rest = rest e
+
+first_false : (a b : Bool) → (a || b) ≡ false → (a || false) ≡ false
+first_false true b e = e
+first_false false b e = refl
 
 torn_keeps : (images left : Images) (before behind : List Write) → All (Short images) (before ++ behind) → IsTorn behind (fold write_on images before) left → KeepsOutside (ranges (before ++ behind)) images left
 torn_keeps images left before [] all t = absurd t
@@ -56,7 +67,7 @@ stopped_keeps images left ws all s =
       | inr part ↦ torn_keeps images left s.before s.behind shorts part
     ])
 
-stopped_if : (write : Bool) (images left : Images) (ws : List Write) → All (Short images) ws → IsStopped (writes_if write ws) images left → KeepsOutside (ranges ws) images left
+pub stopped_if : (write : Bool) (images left : Images) (ws : List Write) → All (Short images) ws → IsStopped (writes_if write ws) images left → KeepsOutside (ranges ws) images left
 stopped_if true images left ws all s = stopped_keeps images left ws all s
 stopped_if false images left ws all s =
     let none = stopped_keeps images left [] (λ i d below. absurd (omega (arith, below))) s in

@@ -1,50 +1,14 @@
 -- Bytes that are written over others.
-use Rattle.std.proofs.Common.{◌≡◌, ◌⊎◌, ℕ, suc, ◌+◌, ◌-◌, ◌<◌, ◌≤◌, Bool, true, false, ◌&&◌, ◌||◌, leb, ltb, List, [], ◌∷◌, ◌++◌, map, length, get_or, set, take, drop, refl, sym, ap, ◌∙◌, subst, inl, inr, arith, length-append}
+use Rattle.std.proofs.Common.{◌≡◌, ◌⊎◌, ℕ, suc, ◌+◌, ◌-◌, ◌<◌, ◌≤◌, Bool, true, false, ◌&&◌, ◌||◌, leb, ltb, List, [], ◌∷◌, map, length, get_or, set, refl, sym, ap, ◌∙◌, subst, inl, inr, arith}
 use Rattle.std.proofs.lemmas.Bool.{false≢true, cases_eq, cases_lt, eq-eqb, le-leb, lt-ltb}
-use Rattle.std.proofs.lemmas.List.{length-set, length-drop, get_or-set_same, get_or-set_other, get_or-take, get_or-drop, get_or_append_left, get_or-append_right, set_past}
+use Rattle.std.proofs.lemmas.List.{length-set, get_or-set_same, get_or-set_other, set_past}
 use Rattle.std.specs.List.{fold, list_any}
 use Rattle.btr_rack.specs.Rack.{image_of, pasted, written}
 use Rattle.btr_rack.specs.declared.place.Place.{Place as Range}
-use Rattle.btr_read.proofs.Pieces.{length-first}
 use Rattle.btr_scrub.specs.Leaves.{KeepsOutside, WritesKeepTheRest}
 use Rattle.btr_scrub.specs.Repair.{covers}
 use Rattle.btr_mend.specs.Writes.{Images, Write, write_on}
-
-module _ (image : List ℕ) (off : ℕ) (bytes : List ℕ) (fits : off + length bytes ≤ length image) where
-  abbrev rest : List ℕ
-  rest = drop (off + length bytes) image
-
-  front : length (take off image) ≡ off
-  front = length-first image off (omega (arith, fits))
-
-  both_long : length (take off image ++ bytes) ≡ off + length bytes
-  both_long = let a = length-append (take off image) bytes in omega (arith, a, front)
-
-  pub length-pasted : length (pasted image off bytes) ≡ length image
-  length-pasted =
-      let a = length-append (take off image ++ bytes) rest in
-      let c = length-drop (off + length bytes) image in
-      omega (arith, a, c, both_long, fits)
-
-  pub pasted-below : (i d : ℕ) → i < off → get_or (pasted image off bytes) i d ≡ get_or image i d
-  pasted-below i d lt =
-      get_or_append_left (take off image ++ bytes) rest d i (omega (arith, both_long, lt))
-      ∙ get_or_append_left (take off image) bytes d i (omega (arith, front, lt)) ∙ get_or-take off image i d lt
-
-  pub pasted-within : (i d : ℕ) → off ≤ i → i < off + length bytes → get_or (pasted image off bytes) i d ≡ get_or bytes (i - off) d
-  pasted-within i d le lt =
-      get_or_append_left (take off image ++ bytes) rest d i (omega (arith, both_long, lt))
-      ∙ get_or-append_right (take off image) bytes off i d front le
-
-  pub pasted-above : (i d : ℕ) → off + length bytes ≤ i → get_or (pasted image off bytes) i d ≡ get_or image i d
-  pasted-above i d le =
-      get_or-append_right (take off image ++ bytes) rest (off + length bytes) i d both_long le
-      ∙ get_or-drop (off + length bytes) image (i - (off + length bytes)) d
-      ∙ ap (λ j. get_or image j d) (omega (arith, le))
-
-  pub pasted-outside : (i d : ℕ) → (i < off) ⊎ (off + length bytes ≤ i) → get_or (pasted image off bytes) i d ≡ get_or image i d
-  pasted-outside i d (inl lt) = pasted-below i d lt
-  pasted-outside i d (inr le) = pasted-above i d le
+use Rattle.btr_row.proofs.Pasted.{length-pasted, pasted-outside}
 
 -- a byte that a range doesn't cover lies outside
 pub not_covered : (slot off : ℕ) (range : Range) → covers slot off range ≡ false → range.slot ≡ slot → (off < range.off) ⊎ (range.off + range.len ≤ off)

@@ -21,7 +21,7 @@ use Rattle.btr_chunk.proofs.Apart.{stripes_apart}
 use Rattle.btr_scrub.specs.Places.{ElementsApart, IsOfElement}
 use Rattle.btr_scrub.specs.Repair.{covers}
 use Rattle.btr_row.specs.Rows.{Row, range_in_element}
-use Rattle.btr_scrub.proofs.Elements.{range_stands, stands_on}
+use Rattle.btr_row.proofs.Elements.{range_stands, stands_on}
 
 -- the byte's place on its device, and in its element
 pub record IsAt (layout : Layout) (row : Row) (part : Part) (slot off : ℕ) (number : ℕ) : Type 0 where

@@ -33,7 +33,7 @@ use Rattle.btr_mend.specs.Mending.{IsOfCopy as IsOfMirror}
 use Rattle.btr_scrub.specs.Leaves.{LiesInStripe}
 use Rattle.btr_scrub.specs.Order.{IsSought}
 use Rattle.btr_scrub.specs.Repair.{covers}
-use Rattle.btr_scrub.proofs.Elements.{range_stands, stands_on}
+use Rattle.btr_row.proofs.Elements.{range_stands, stands_on}
 use Rattle.btr_scrub.proofs.Places.{covering}
 use Rattle.btr_scrub.proofs.Some.{any_at}
 
@@ -160,6 +160,10 @@ of_range layout t copy slot off range is has e c =
       same_slot = at.0;
       offset = omega (arith, at.1);
     }
+
+pub copy_of_range : (layout : Layout) (t : Target) (copy slot off : ℕ) (range : Range) (is : IsSought layout t) (has : HasMirror copy t) (e : range_of t (Mirror copy) ≡ Some range) (c : covers slot off range ≡ true) → (of_range layout t copy slot off range is has e c).copy ≡ copy
+unfolding of_range
+copy_of_range layout t copy slot off range is has e c = refl
 
 -- it is the byte of an address of the block
 pub is_of_copy : (layout : Layout) (t : Target) (slot off : ℕ) → IsTable layout.chunks → (is : IsSought layout t) → (b : IsCopyByte layout t slot off)

@@ -1,5 +1,5 @@
 -- The writes for a full stripe lie in its elements, and leave those of other rows.
-use Rattle.std.proofs.Common.{◌≡◌, ℕ, ◌+◌, ◌-◌, ◌*◌, ◌<◌, ◌≤◌, true, false, not, ◌&&◌, List, [], ◌∷◌, map, length, drop, slice_get, All, Option, Some, None, IsNone, IsSome, IsSomeAnd, refl, sym, ap, ◌∙◌, subst, inl, inr, arith, length-take}
+use Rattle.std.proofs.Common.{◌≡◌, ℕ, ◌+◌, ◌-◌, ◌*◌, ◌<◌, ◌≤◌, true, false, not, ◌&&◌, List, [], ◌∷◌, map, length, drop, slice_get, All, Option, Some, None, IsNone, IsSome, IfSome, IsSomeAnd, refl, sym, ap, ◌∙◌, subst, inl, inr, arith, length-take}
 use Rattle.std.proofs.lemmas.Bool.{false≢true}
 use Rattle.std.proofs.lemmas.List.Elements.{All-append, All-cons, All-nil}
 use Rattle.std.proofs.lemmas.Option.{same_Some}
@@ -17,6 +17,7 @@ use Rattle.btr_chunk.proofs.Rows.{without_copies}
 use Rattle.btr_rack.specs.Rack.{bytes_of, image_of, range_in}
 use Rattle.btr_rack.specs.declared.place.Place.{Place as Range}
 use Rattle.btr_read.specs.Candidates.{Target, range_of, range_on, size_of}
+use Rattle.btr_read.specs.Cause.{LiesIn}
 use Rattle.btr_read.specs.Layout.{Layout, device_in}
 use Rattle.btr_read.specs.Want.{addr_of}
 use Rattle.btr_read.specs.declared.device.Device.{Device}
@@ -33,7 +34,7 @@ use Rattle.btr_scrub.specs.Places.{IsOfElement}
 use Rattle.btr_scrub.specs.Repair.{covers}
 use Rattle.btr_scrub.proofs.Agreeing.{Alike}
 use Rattle.btr_scrub.proofs.CopyWrites.{same_element}
-use Rattle.btr_scrub.proofs.Elements.{range_stands, stands_on, stripe-row}
+use Rattle.btr_row.proofs.Elements.{range_stands, stands_on, stripe-row}
 use Rattle.btr_scrub.proofs.Places.{covering}
 use Rattle.btr_scrub.proofs.Positions.{striped_fits, striped_position}
 use Rattle.btr_scrub.proofs.RowAgreeing.{RowAlike, parity_alike, parity_has, row_alike}
@@ -56,7 +57,7 @@ pub record IsBlockOf (layout : Layout) (row : Row) (t : Target) : Type 0 where
   pub number : t.at.row ≡ row.number
 
 -- a block of a chunk with parity lies in one element
-in_one_element : (layout : Layout) (t : Target) → IsSought layout t → mirrors t.chunk ≡ None → t.at.rest + size_of t ≤ 65536
+pub in_one_element : (layout : Layout) (t : Target) → IsSought layout t → mirrors t.chunk ≡ None → t.at.rest + size_of t ≤ 65536
 in_one_element layout t is none =
     let striped : is_striped t.chunk.profile ≡ true = elim (without_copies t.chunk.profile (length t.chunk.stripes) none) [ inl five ↦ ap is_striped five | inr six ↦ ap is_striped six ] in
     let rest = ap (λ (e : Elements). e.rest) (is.at ∙ striped_position t.chunk (addr_of t.want) striped) in
@@ -177,6 +178,18 @@ module _ (layout : Layout) (row : Row) (table : IsTable layout.chunks) (is_row :
 
   column_at : (column : ℕ) → column < 16 → IsPosition row.chunk (record { row = row.number; index = 0; rest = column * 4096 })
   column_at column few = record { index = is_row.position.index; inside = omega (arith, is_row.position.inside, few) }
+
+  -- a sector of an element lies in it
+  pub sector_inside : (q : Part) (column : ℕ) (range : Range) → HasPart row.chunk.profile (length row.chunk.stripes) q → column < 16 → range_in_element layout row q (column * 4096) 4096 ≡ Some range → IfSome (range_in_element layout row q 0 65536) (LiesIn range)
+  sector_inside q column range has few e =
+      let b = begins q has in
+      let l = lies q 0 (column * 4096) has (column_at column few) in
+      let place = place_at row.chunk q (record { row = row.number; index = 0; rest = column * 4096 }) in
+      let given : device_in layout.devices place.devid ≡ Some b.device = ap (device_in layout.devices) l.devid ∙ b.given in
+      let same : range ≡ range_in b.device.slot place.offset 4096 = same_Some range (range_in b.device.slot place.offset 4096) (sym e ∙ range_stands place.offset 4096 (device_in layout.devices place.devid) b.device given (omega (arith, b.within, l.offset, few))) in
+      let off : range.off ≡ place.offset = ap (λ (r : Range). r.off) same in
+      let len : range.len ≡ 4096 = ap (λ (r : Range). r.len) same in
+      subst (λ o. IfSome o (LiesIn range)) (sym b.whole) (record { slot = ap (λ (r : Range). r.slot) same; from = omega (arith, off, l.offset); to = omega (arith, off, len, l.offset, few) })
 
   -- .. for a parity
   written_parity : (images : Images) (q : Part) (slot off : ℕ) → HasPart row.chunk.profile (length row.chunk.stripes) q → list_any (λ (w : Write). covers slot off w.range) (parity_writes images layout row q) ≡ true → IsOfElement layout row q slot off

@@ -5,6 +5,7 @@ use Rattle.std.proofs.lemmas.Option.{same_Some}
 use Rattle.std.specs.List.{count_by, fold}
 use Rattle.btr_rack.specs.Rack.{Seen}
 use Rattle.btr_rack.specs.declared.place.Place.{Place as Range}
+use Rattle.btr_rack.proofs.Reading.{reads_more}
 use Rattle.btr_read.specs.Layout.{Layout}
 use Rattle.btr_chunk.specs.Table.{IsTable}
 use Rattle.btr_read.specs.Candidates.{Target}
@@ -118,6 +119,7 @@ module _ (layout : Layout) (write : Bool) where
   scrubs_as {A = A} f g c d m n a b t u r same h = record {
     does = recast (LiesInStripe layout) (λ i. writes_if write (f i)) (λ i. writes_if write (g i)) m n a b r (λ images e. ap (writes_if write) (same images e).0) h.does;
     counts = by r h.counts;
+    unwritten = h.unwritten;
   }
     where
       by : (r : Result A MendFault) → OnOk r (IfSome a.held (λ images. u ≡ c images t)) → OnOk r (IfSome a.held (λ images. u ≡ d images t))
@@ -134,6 +136,7 @@ module _ (layout : Layout) (write : Bool) where
     does = recast (LiesInStripe layout) (λ i. writes_if write (f i) ++ writes_if write (g i)) (λ i. writes_if write (f i ++ g i)) m o a z r (λ images e. if_append write (f images) (g images))
         (does_next A U (LiesInStripe layout) (λ i. writes_if write (f i)) (λ i. writes_if write (g i)) m n o a b z x r (λ images e. ap (writes_if write) (same images e).0) h.does k.does);
     counts = by r k.counts;
+    unwritten = λ w. reads_more (h.unwritten w) (k.unwritten w);
   }
     where
       by : (r : Result A MendFault) → OnOk r (IfSome b.held (λ images. v ≡ d images u)) → OnOk r (IfSome a.held (λ images. v ≡ d images (c images t)))
@@ -149,6 +152,7 @@ module _ (layout : Layout) (write : Bool) where
     does = recast {A = B} (LiesInStripe layout) (λ i. writes_if write (f i) ++ writes_if write (g i)) (λ i. writes_if write (f i ++ g i)) m n a b (Err x) (λ images e. if_append write (f images) (g images))
         (does_cut A B (LiesInStripe layout) (λ i. writes_if write (f i)) (λ i. writes_if write (g i)) m n a b x h.does);
     counts = tt;
+    unwritten = h.unwritten;
   }
 
   -- nothing was done
@@ -157,6 +161,7 @@ module _ (layout : Layout) (write : Bool) where
     does = recast (LiesInStripe layout) (λ i. []) (λ i. writes_if write []) marks marks a a (Ok x) (λ images e. none write)
         (does_reads (LiesInStripe layout) marks a a x (record { same = refl; later = omega arith; same_shut = refl }) (record { faults = refl; fresh = refl; missed = refl; last = refl; opening = refl; shut = refl }));
     counts = tell a.held (λ images. t ≡ t) (λ images e. refl);
+    unwritten = λ w. record { same = refl; later = omega arith; same_shut = refl };
   }
     where
       none : (b : Bool) → [] ≡ writes_if b []
@@ -168,6 +173,7 @@ pub scrubs_nothing : (layout : Layout) (write : Bool) (marks : List Bool) (a : S
 scrubs_nothing layout write marks a t = record {
   does = does_failed (LiesInStripe layout) (Unit {0}) (Unit {0}) (λ i. writes_if write []) marks a a Memory (record { same = refl; later = omega arith; same_shut = refl }) (record { faults = refl; fresh = refl; missed = refl; last = refl; opening = refl; shut = refl });
   counts = tt;
+  unwritten = λ w. record { same = refl; later = omega arith; same_shut = refl };
 }
 
 -- ---- a block
@@ -178,6 +184,7 @@ pub scrubs_block : (layout : Layout) (write : Bool) (t : Target) (m n : List Boo
 scrubs_block layout write t m n a b tally tally' mended in_stripe h e = record {
   does = does_value (LiesInStripe layout) (λ images. writes_if write (block_writes images t)) m n a b mended tt (does_weaker (IsOfCopy t) (LiesInStripe layout) (λ images. writes_if write (block_writes images t)) m n a b (Ok mended) in_stripe h.does);
   counts = tell a.held (λ images. tally' ≡ count_block images write tally t) (λ images held. e ∙ ap (counted tally) (told a.held (λ images. mended ≡ mended_of images t write) images held h.counts));
+  unwritten = h.unwritten;
 }
 
 pub scrubs_block_not : (layout : Layout) (write : Bool) (t : Target) (m n : List Bool) (a b : Seen) (tally : Tally) (fault : MendFault) → ((range : Range) → IsOfCopy t range → LiesInStripe layout range)
@@ -185,6 +192,7 @@ pub scrubs_block_not : (layout : Layout) (write : Bool) (t : Target) (m n : List
 scrubs_block_not layout write t m n a b tally fault in_stripe h = record {
   does = does_fault {A = Mended} {B = Unit {0}} (LiesInStripe layout) (λ images. writes_if write (block_writes images t)) m n a b fault (does_weaker {A = Mended} (IsOfCopy t) (LiesInStripe layout) (λ images. writes_if write (block_writes images t)) m n a b (Err fault) in_stripe h.does);
   counts = tt;
+  unwritten = h.unwritten;
 }
 
 -- ---- what can be mended can be mended again

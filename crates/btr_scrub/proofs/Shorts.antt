@@ -24,7 +24,8 @@ use Rattle.btr_scrub.specs.Leaves.{KeepsOutside}
 use Rattle.btr_scrub.specs.Order.{IsSought}
 use Rattle.btr_scrub.specs.Repair.{covers}
 use Rattle.btr_scrub.proofs.CopyWrites.{first_of, is_there}
-use Rattle.btr_scrub.proofs.Pasting.{image_set, keeps_more, keeps_none, length-pasted, not_covered, pasted-outside}
+use Rattle.btr_row.proofs.Pasted.{length-pasted, pasted-outside}
+use Rattle.btr_scrub.proofs.Pasting.{image_set, keeps_more, keeps_none, not_covered}
 
 -- a write lies in its image, and has at most as many bytes as its range
 pub record Short (images : Images) (write : Write) : Type 0 where

@@ -19,7 +19,7 @@ use Rattle.btr_scrub.specs.Repair.{covers, row_of}
 use Rattle.btr_scrub.specs.Right.{Committed, IsRight}
 use Rattle.btr_row.specs.Rows.{Row, range_in_element}
 use Rattle.btr_scrub.specs.Staying.{AvoidRight, IsInCopies, IsInWrong, IsRowOf, RightStays, RowOutlivesWrites}
-use Rattle.btr_scrub.proofs.Elements.{range_stands, stands_on}
+use Rattle.btr_row.proofs.Elements.{range_stands, stands_on}
 use Rattle.btr_chunk.specs.Apart.{LiesIn}
 use Rattle.btr_chunk.proofs.Apart.{stripes_apart}
 use Rattle.btr_scrub.proofs.Places.{elements_apart, is_at}

@@ -22,8 +22,8 @@ use Rattle.btr_scrub.specs.Right.{Committed, HasFewWrong, committed_for}
 use Rattle.btr_row.specs.Rows as rows
 use Rattle.btr_row.specs.Rows.{Row, blocks_at, element, element_with, parities, range_in_element, slice_with, slices_with, with_block}
 use Rattle.btr_scrub.specs.Survival.{AreBehind, ElementsAreSlices, IsSoundRow, KeepsRight, RowSurvives}
-use Rattle.btr_scrub.proofs.Elements.{range_stands, stands_on}
-use Rattle.btr_scrub.proofs.Pasting.{length-pasted, pasted-below, pasted-within}
+use Rattle.btr_row.proofs.Elements.{range_stands, stands_on}
+use Rattle.btr_row.proofs.Pasted.{length-pasted, pasted-below, pasted-within}
 use Rattle.btr_scrub.proofs.Stripes.{any_of, no_mirror, row_gives_blocks}
 use Rattle.btr_mend.specs.Writes.{Images}
 
@@ -213,7 +213,7 @@ row_survives images left layout C row t sound few keeps among =
     let block = sound.blocks t among in
     let b = some_of (C t.want) block.committed in
     let n : slice_count t ≡ rows.slice_count row = ap (λ c. data_count c.profile (length c.stripes)) block.lies.chunk in
-    let lt : t.at.index < rows.slice_count row = omega (arith, n, block.in_row.target.position.index) in
+    let lt : t.at.index < rows.slice_count row = omega (arith, n, block.in_row.position.index) in
     let there = block_there images layout C row sound t b.0 among lt b.1 in
     let bytes = slice_range (get_or (slices_with images layout (committed_for C) row) t.at.index []) t.at.rest (t.at.rest + size_of t) in
     any_of (λ c. (stands t c ≡ true) × All (λ q. ¬ (Contains (parts_read (slice_count t) t.at.index c) q)) few.wrong × (value_of left t c ≡ bytes))

@@ -12,7 +12,7 @@ use Rattle.btr_scrub.specs.Repair.{checked_target, is_in_chunk, met, ok_or_none,
 use Rattle.btr_scrub.specs.Units.{Checked, Met, Unchecked}
 use Rattle.btr_scrub.specs.Whole.{ListedWrites}
 
-targets_met : (layout : Layout) (ms : List Met) → targets layout (checked_among ms) ≡ filter_map (checked_target layout) ms
+pub targets_met : (layout : Layout) (ms : List Met) → targets layout (checked_among ms) ≡ filter_map (checked_target layout) ms
 targets_met layout [] = refl
 targets_met layout (Checked want ∷ ms) = ap (cons_option (ok_or_none (sought layout want))) (targets_met layout ms)
 targets_met layout (Unchecked addr ∷ ms) = targets_met layout ms

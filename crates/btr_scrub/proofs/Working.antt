@@ -13,6 +13,7 @@ use Rattle.btr_chunk.proofs.Bytes.{at-below}
 use Rattle.btr_chunk.proofs.Rule.{facts}
 use Rattle.btr_rack.specs.Rack.{OnlyReads, Seen}
 use Rattle.btr_rack.specs.declared.place.Place.{Place as Range}
+use Rattle.btr_rack.proofs.Reading.{reads_more}
 use Rattle.btr_read.specs.Candidates.{Target}
 use Rattle.btr_read.specs.Fate.{sought}
 use Rattle.btr_read.specs.Layout.{Layout}
@@ -95,14 +96,15 @@ module _ (layout : Layout) (write : Bool) where
       false≢true (sym (among.1 (marked_below m' range.slot marked)) ∙ marked))
 
   -- a chunk was mended, and its images synced
-  pub works_synced : (f : Images → List Write) (c : Images → Tally → Tally) (m m' : List Bool) (a b z : Seen) (t u : Tally) (x : Unit {0}) (r : Result (Unit {0}) MendFault)
+  pub works_synced : (f : Images → List Write) (c : Images → Tally → Tally) (m m' : List Bool) (a b z : Seen) (t u : Tally) (x : Unit {0}) (r : Result (Unit {0}) MendFault) → write ≡ true
       → Scrubs layout write f c m m' a b t u (Ok x) → SyncsMarked m' b z r → Works layout write f c a z t u r
-  works_synced f c m m' a b z t u x r h s = record {
+  works_synced f c m m' a b z t u x r writing h s = record {
     does = recast (IsOfScrub layout) (λ i. writes_if write (f i) ++ []) (λ i. writes_if write (f i)) [] [] (plain a) (plain z) r (λ images e. append-nil (writes_if write (f images)))
         (does_next (Unit {0}) (Unit {0}) (IsOfScrub layout) (λ i. writes_if write (f i)) (λ i. []) [] [] [] (plain a) (plain b) (plain z) x r (λ images e. refl)
         (does_plain (LiesInStripe layout) (IsOfScrub layout) (λ i. writes_if write (f i)) m m' a b (Ok x) (λ range l. inr l) h.does) (does_sync layout m' b z r s));
     counts = counted r;
     synced = waits r s.synced;
+    unwritten = λ w. absurd (false≢true (sym w ∙ writing));
   }
     where
       counted : (r : Result (Unit {0}) MendFault) → OnOk r (IfSome a.held (λ images. u ≡ c images t))
@@ -113,12 +115,22 @@ module _ (layout : Layout) (write : Bool) where
       waits (Ok y) k = λ none. none_waits f m m' a b z x h.does k none
       waits (Err e) k = tt
 
+  -- .. or only read
+  pub works_read : (f : Images → List Write) (c : Images → Tally → Tally) (m m' : List Bool) (a b : Seen) (t u : Tally) (x : Unit {0}) → write ≡ false → Scrubs {A = Unit {0}} layout write f c m m' a b t u (Ok x) → Works {A = Unit {0}} layout write f c a b t u (Ok x)
+  works_read f c m m' a b t u x reading h = record {
+    does = does_plain {A = Unit {0}} (LiesInStripe layout) (IsOfScrub layout) (λ i. writes_if write (f i)) m m' a b (Ok x) (λ range l. inr l) h.does;
+    counts = h.counts;
+    synced = λ none. ap (λ (s : Seen). s.unsynced) (h.unwritten reading).same ∙ none;
+    unwritten = h.unwritten;
+  }
+
   -- .. or came to a halt
   pub works_halted : (f : Images → List Write) (c : Images → Tally → Tally) (m m' : List Bool) (a b : Seen) (t u : Tally) (e : MendFault) → Scrubs {A = Unit {0}} layout write f c m m' a b t u (Err e) → Works {A = Unit {0}} layout write f c a b t u (Err e)
   works_halted f c m m' a b t u e h = record {
     does = does_plain {A = Unit {0}} (LiesInStripe layout) (IsOfScrub layout) (λ i. writes_if write (f i)) m m' a b (Err e) (λ range l. inr l) h.does;
     counts = tt;
     synced = tt;
+    unwritten = h.unwritten;
   }
 
   -- ---- one after another
@@ -129,6 +141,7 @@ module _ (layout : Layout) (write : Bool) where
     does = recast (IsOfScrub layout) (λ i. writes_if write (f i)) (λ i. writes_if write (g i)) [] [] (plain a) (plain b) r (λ images e. ap (writes_if write) (same images e).0) h.does;
     counts = by r h.counts;
     synced = h.synced;
+    unwritten = h.unwritten;
   }
     where
       by : (r : Result (Unit {0}) MendFault) → OnOk r (IfSome a.held (λ images. u ≡ c images t)) → OnOk r (IfSome a.held (λ images. u ≡ d images t))
@@ -142,6 +155,7 @@ module _ (layout : Layout) (write : Bool) where
         (does_next (Unit {0}) (Unit {0}) (IsOfScrub layout) (λ i. writes_if write (f i)) (λ i. writes_if write (g i)) [] [] [] (plain a) (plain b) (plain z) x r (λ images e. ap (writes_if write) (same images e).0) h.does k.does);
     counts = by r k.counts;
     synced = waits r k.synced;
+    unwritten = λ w. reads_more (h.unwritten w) (k.unwritten w);
   }
     where
       by : (r : Result (Unit {0}) MendFault) → OnOk r (IfSome b.held (λ images. v ≡ d images u)) → OnOk r (IfSome a.held (λ images. v ≡ d images (c images t)))
@@ -161,6 +175,7 @@ module _ (layout : Layout) (write : Bool) where
         (does_cut (Unit {0}) (Unit {0}) (IsOfScrub layout) (λ i. writes_if write (f i)) (λ i. writes_if write (g i)) [] [] (plain a) (plain b) x h.does);
     counts = tt;
     synced = tt;
+    unwritten = h.unwritten;
   }
 
   pub works_none : (a : Seen) (t : Tally) → Works {A = Unit {0}} layout write (λ i. []) (λ i y. y) a a t t (Ok tt)
@@ -169,6 +184,7 @@ module _ (layout : Layout) (write : Bool) where
         (does_reads (IsOfScrub layout) [] (plain a) (plain a) tt (record { same = refl; later = omega arith; same_shut = refl }) (record { faults = refl; fresh = refl; missed = refl; last = refl; opening = refl; shut = refl }));
     counts = tell a.held (λ images. t ≡ t) (λ images e. refl);
     synced = λ none. none;
+    unwritten = λ w. record { same = refl; later = omega arith; same_shut = refl };
   }
     where
       none : (b : Bool) → [] ≡ writes_if b []
@@ -341,4 +357,5 @@ works_nothing layout write f c a t = record {
   does = does_failed (IsOfScrub layout) (Unit {0}) (Unit {0}) (λ i. writes_if write (f i)) [] (plain a) (plain a) Memory (record { same = refl; later = omega arith; same_shut = refl }) (record { faults = refl; fresh = refl; missed = refl; last = refl; opening = refl; shut = refl });
   counts = tt;
   synced = tt;
+  unwritten = λ w. record { same = refl; later = omega arith; same_shut = refl };
 }

@@ -27,7 +27,8 @@ use Rattle.btr_scrub.specs.Right.{Committed, IsRight}
 use Rattle.btr_row.specs.Rows.{Row, column_of, differing, differs, element_with, is_decided, parities, parity_writes, range_in_element, row_writes, sector_write}
 use Rattle.btr_scrub.specs.Staying.{IsInWrong, IsRowOf, RowWritesAreWrong}
 use Rattle.btr_scrub.specs.Survival.{AcceptsRight, IsParity, IsSoundRow, RightPasses}
-use Rattle.btr_scrub.proofs.Elements.{has_ranges, range_stands, stands_on, stripe-row}
+use Rattle.btr_row.proofs.Elements.{range_stands, stands_on, stripe-row}
+use Rattle.btr_scrub.proofs.Elements.{has_ranges}
 use Rattle.btr_scrub.proofs.Places.{covering}
 use Rattle.btr_scrub.proofs.Staying.{covered}
 use Rattle.btr_scrub.proofs.Wrong.{bad_block_is_wrong, differing_parity_is_wrong}
@@ -102,7 +103,7 @@ module _ (images : Images) (layout : Layout) (C : Committed) (blocks : List Targ
       → (HasPart row.chunk.profile (length row.chunk.stripes) (part.Slice t.at.index)) × IsSomeAnd (range_in_element layout row (part.Slice t.at.index) 0 65536) (λ range. covers slot off range ≡ true)
   block_covers t range among e c =
       let block = sound.blocks t among in
-      let mine : HasPart t.chunk.profile (length t.chunk.stripes) (part.Slice t.at.index) = (subst IsNone (sym block.in_row.parity) refl, block.in_row.target.position.index) in
+      let mine : HasPart t.chunk.profile (length t.chunk.stripes) (part.Slice t.at.index) = (subst IsNone (sym block.in_row.parity) refl, block.in_row.position.index) in
       let has : HasPart row.chunk.profile (length row.chunk.stripes) (part.Slice t.at.index) = subst (λ c. HasPart c.profile (length c.stripes) (part.Slice t.at.index)) block.lies.chunk mine in
       let r = has_ranges images layout row t (part.Slice t.at.index) block.in_row block.lies mine (sound.stand (part.Slice t.at.index) has) in
       let same : range ≡ range_in r.slot (r.off + t.at.rest) (size_of t) = same_Some range (range_in r.slot (r.off + t.at.rest) (size_of t)) (sym e ∙ r.block) in

@@ -25,7 +25,7 @@ use Rattle.btr_row.specs.Rows.{Row, blocks_at, column_of, element, element_with,
 use Rattle.btr_scrub.specs.Survival.{BadBlockIsWrong, DifferingParityIsWrong, IsParity}
 use Rattle.btr_scrub.proofs.Elements.{block_of_element}
 use Rattle.btr_scrub.proofs.Ranges.{parity_of_ranges}
-use Rattle.btr_scrub.proofs.Pasting.{length-pasted, pasted-above, pasted-below, pasted-within}
+use Rattle.btr_row.proofs.Pasted.{length-pasted, pasted-above, pasted-below, pasted-within}
 use Rattle.btr_scrub.proofs.Survival.{block_there, at_slice, slice_there, some_of, of_filter, range_ext}
 use Rattle.btr_mend.specs.Writes.{Images}
 
@@ -35,7 +35,7 @@ bad_block_is_wrong images layout C row t sound among pass bad right =
     let block = sound.blocks t among in
     let b = some_of (C t.want) block.committed in
     let n : slice_count t ≡ rows.slice_count row = ap (λ c. data_count c.profile (length c.stripes)) block.lies.chunk in
-    let lt : t.at.index < rows.slice_count row = omega (arith, n, block.in_row.target.position.index) in
+    let lt : t.at.index < rows.slice_count row = omega (arith, n, block.in_row.position.index) in
     let has : HasPart row.chunk.profile (length row.chunk.stripes) (part.Slice t.at.index) = slice_there images layout C row sound t.at.index lt in
     let mine : HasPart t.chunk.profile (length t.chunk.stripes) (part.Slice t.at.index) = subst (λ c. HasPart c.profile (length c.stripes) (part.Slice t.at.index)) (sym block.lies.chunk) has in
     let value : read.element images t (part.Slice t.at.index) ≡ b.0 =

@@ -18,3 +18,4 @@ pub mod Judging
 pub mod Rowing
 pub mod Scrubbing
 pub mod Whole
+pub mod Scrubbed

@@ -1,5 +1,5 @@
 -- All of it: the writes in order, the images that they make, the ranges, and the counts.
-use Rattle.std.specs.Prelude.{ℕ, ◌+◌, ◌/◌, ◌-◌, Bool, true, false, ◌&&◌, ◌==◌, nat_le, nat_lt, List, [], length, map, Option, Some, None, Result, Ok, Err, is_none, slice_get, slice_index, if◌then◌else◌, count_by}
+use Rattle.std.specs.Prelude.{ℕ, ◌+◌, ◌/◌, ◌-◌, ◌^◌, min, Bool, true, false, ◌&&◌, ◌==◌, nat_le, nat_lt, List, [], length, map, Option, Some, None, Result, Ok, Err, is_none, slice_get, slice_index, if◌then◌else◌, count_by}
 use Rattle.std.specs.List.{filter, filter_map, flat_map, fold, find, range_with_len, sum_by}
 use Rattle.std.specs.Option.{option_map_or}
 use Rattle.btr_chunk.specs.Chunk.{stripe_length, mirrors}
@@ -22,7 +22,7 @@ use Rattle.btr_scrub.specs.Filesystem.{Filesystem}
 use Rattle.btr_scrub.specs.Units.{Met, Checked, Unchecked, units}
 use Rattle.btr_mend.specs.Blocks.{bad_parts, is_lost, block_writes}
 use Rattle.btr_row.specs.Rows.{Row, parities, parity_writes, row_writes}
-use Rattle.btr_mend.specs.Writes.{Write, write_on}
+use Rattle.btr_mend.specs.Writes.{Write, write_on, writes_if}
 
 -- a stripe has no place of its length on a device that is given
 abbrev pub is_missing : List Member → ℕ → Stripe → Bool
@@ -130,17 +130,30 @@ stop_of (fate.Unmapped addr) = stop.Tree (tree.Unmapped addr)
 stop_of (fate.Crosses addr) = stop.Tree (tree.Crosses addr)
 stop_of (fate.Malformed addr) = stop.Tree (tree.Malformed addr)
 
--- what scrub comes to: its answer, and the images behind it
+-- a count, which stands still at its type's end
+abbrev pub stood : ℕ → ℕ
+stood n = min n (2 ^ 64 - 1)
+
+-- counts each of which does
+abbrev pub stood_tally : Tally → Tally
+stood_tally t = record { blocks = stood t.blocks; bad = stood t.bad; repaired = stood t.repaired; lost = stood t.lost; parity = stood t.parity; unchecked = stood t.unchecked }
+
+-- what scrub comes to: its answer, the writes that are made, and the images behind it
 pub record Effect : Type 0 where
   pub answer : Result Tally Stop
+  pub writes : List Write
   pub images : List (List ℕ)
 
+-- nothing is written
+abbrev pub refused_as : List (List ℕ) → Stop → Effect
+refused_as images stop = record { answer = Err stop; writes = []; images = images }
+
 abbrev pub effect_of_ending : Bool → List (List ℕ) → Filesystem → Result (Unit {0}) Fault → Effect
-effect_of_ending write images fs (Ok _) = record { answer = Ok (tally images fs write); images = if write then repaired images fs else images }
-effect_of_ending write images fs (Err fault) = record { answer = Err (stop_of fault); images = images }
+effect_of_ending write images fs (Ok _) = record { answer = Ok (stood_tally (tally images fs write)); writes = writes_if write (writes images fs); images = if write then repaired images fs else images }
+effect_of_ending write images fs (Err fault) = refused_as images (stop_of fault)
 
 abbrev pub effect_unless : Bool → List (List ℕ) → Filesystem → Option Stripe → Effect
-effect_unless write images fs (Some stripe) = record { answer = Err (stop.Missing stripe.devid); images = images }
+effect_unless write images fs (Some stripe) = refused_as images (stop.Missing stripe.devid)
 effect_unless write images fs None = effect_of_ending write images fs (meeting images fs).ending
 
 abbrev pub effect : Bool → List (List ℕ) → Filesystem → Effect

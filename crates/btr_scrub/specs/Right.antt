@@ -4,13 +4,12 @@ use Rattle.std.specs.List.{All, Any, Contains}
 use Rattle.btr_rack.specs.declared.place.Place.{Place as Range}
 use Rattle.btr_chunk.specs.Chunk.{mirrors}
 use Rattle.btr_chunk.specs.Mapping.{HasPart}
-use Rattle.btr_chunk.specs.Table.{IsTable}
 use Rattle.btr_chunk.specs.declared.place.Part.{Part}
-use Rattle.btr_read.specs.Candidates.{Target, candidates, parts_read, range_of, size_of, slice_count, stands, value_of}
+use Rattle.btr_read.specs.Candidates.{Target, candidates, range_of, size_of, stands, value_of}
 use Rattle.btr_read.specs.Candidates as read
 use Rattle.btr_read.specs.Cause.{LiesIn}
 use Rattle.btr_read.specs.Fate.{passing_for, sought}
-use Rattle.btr_read.specs.Layout.{HaveOwnSlots, Layout}
+use Rattle.btr_read.specs.Layout.{Layout}
 use Rattle.btr_read.specs.Want.{passes}
 use Rattle.btr_read.specs.declared.want.Want.{Want}
 use Rattle.btr_scrub.specs.Filesystem.{Filesystem}
@@ -18,7 +17,6 @@ use Rattle.btr_mend.specs.Blocks.{own_parts}
 use Rattle.btr_row.specs.Rows.{Row, parities, element, element_with, range_in_element}
 use Rattle.btr_scrub.specs.Repair.{first_missing, meeting, blocks, rows, ranges}
 use Rattle.btr_parity.specs.Slices.{IsSlice}
-use Rattle.btr_scrub.specs.Devices.{HaveLengths}
 use Rattle.btr_scrub.specs.Leaves.{KeepsOutside}
 use Rattle.btr_mend.specs.Writes.{Images}
 
@@ -58,12 +56,9 @@ pub record HasFewWrong (images : Images) (layout : Layout) (C : Committed) (row 
 abbrev pub HasRightCopy : Images → Committed → Target → Type 0
 HasRightCopy images C t = IsSome (mirrors t.chunk) → Any (λ part. C t.want ≡ Some (read.element images t part)) (own_parts t)
 
--- all blocks can be had again, whatever one write does
+-- all blocks can be had again, whatever is written: no device is missing, all blocks can be listed, committed bytes pass and are all that passes, each
+-- checked block has some, and each lies in a full stripe with few wrong elements, or has a copy with them
 pub record IsRepairable (images : Images) (fs : Filesystem) (C : Committed) : Type 0 where
-  pub table : IsTable fs.layout.chunks
-  pub bytes : AreBytes images
-  pub lengths : HaveLengths images fs.layout
-  pub slots : HaveOwnSlots fs.layout.devices
   pub given : first_missing fs.layout ≡ None
   pub met : (meeting images fs).ending ≡ Ok tt
   pub pass : AllPass fs.layout C
@@ -78,9 +73,8 @@ abbrev pub StandsFor : Images → Committed → Target → Type 0
 StandsFor images C t = Any (λ c. (stands t c ≡ true) × (C t.want ≡ Some (value_of images t c))) (candidates t)
 
 -- whatever bytes stand in the ranges, each checked block has a candidate with its committed bytes
-abbrev pub RangesMayHoldAnything : Type 0
-RangesMayHoldAnything = (images left : Images) (fs : Filesystem) (C : Committed)
-    → IsRepairable images fs C → KeepsOutside (ranges images fs) images left → All (StandsFor left C) (blocks images fs)
+abbrev pub RangesMayHoldAnything : Images → Filesystem → Type 0
+RangesMayHoldAnything images fs = (C : Committed) (left : Images) → IsRepairable images fs C → KeepsOutside (ranges images fs) images left → All (StandsFor left C) (blocks images fs)
 
 -- a range lies in an element of a full stripe that is wrong
 abbrev pub LiesInWrong : Images → Layout → Committed → Row → Range → Type 0
@@ -92,6 +86,6 @@ abbrev pub IsOfWrongCopy : Images → Committed → Range → Target → Type 0
 IsOfWrongCopy images C range t = Any (λ part. (range_of t part ≡ Some range) × (C t.want ≢ Some (read.element images t part))) (own_parts t)
 
 -- each range lies in a wrong element, or is a copy that isn't the committed one
-abbrev pub RangesLieInWrong : Type 0
-RangesLieInWrong = (images : Images) (fs : Filesystem) (C : Committed) → IsRepairable images fs C
+abbrev pub RangesLieInWrong : Images → Filesystem → Type 0
+RangesLieInWrong images fs = (C : Committed) → IsRepairable images fs C
     → All (λ range. Any (λ row. LiesInWrong images fs.layout C row range) (rows images fs) ⊎ Any (IsOfWrongCopy images C range) (blocks images fs)) (ranges images fs)

@@ -1,10 +1,10 @@
 -- Mending block by block and chunk by chunk: what was done, and what is counted.
-use Rattle.std.specs.Prelude.{◌≡◌, ◌⊎◌, ℕ, ◌+◌, ◌-◌, ◌^◌, ◌<◌, ◌≤◌, min, Bool, List, [], ◌∷◌, ◌++◌, length, Option, Some, None, is_none, slice_index_or, false, IsTrue, IfSome, OnOk, Result, slice_get, if◌then◌else◌}
+use Rattle.std.specs.Prelude.{◌≡◌, ◌⊎◌, ℕ, ◌+◌, ◌<◌, ◌≤◌, Bool, List, [], ◌∷◌, ◌++◌, length, Option, Some, None, is_none, slice_index_or, false, IsTrue, IfSome, OnOk, Result, slice_get, if◌then◌else◌}
 use Rattle.std.specs.List.{filter, flat_map, fold}
 use Rattle.btr_chunk.specs.Chunk.{mirrors}
 use Rattle.btr_chunk.specs.Table.{IsTable}
 use Rattle.btr_chunk.specs.declared.chunk.Chunk.{Chunk}
-use Rattle.btr_rack.specs.Rack.{Seen, in_others}
+use Rattle.btr_rack.specs.Rack.{OnlyReads, Seen, in_others}
 use Rattle.btr_read.specs.Candidates.{Target}
 use Rattle.btr_read.specs.Layout.{Layout}
 use Rattle.btr_read.specs.Serves.{Serves}
@@ -24,7 +24,7 @@ use Rattle.btr_row.specs.declared.mended.MendedRow.{MendedRow}
 use Rattle.btr_scrub.specs.Glue.{In}
 use Rattle.btr_scrub.specs.Leaves.{LiesInStripe}
 use Rattle.btr_scrub.specs.Order.{AreApart, targets}
-use Rattle.btr_scrub.specs.Repair.{first_missing, is_in_chunk, rows_in}
+use Rattle.btr_scrub.specs.Repair.{first_missing, is_in_chunk, rows_in, stood}
 use Rattle.btr_scrub.specs.declared.tally.Tally.{Tally}
 
 -- the first of some blocks, if there is one, begins at or behind an address
@@ -36,10 +36,6 @@ BeginsBehind end (want ∷ wants) = end ≤ addr_of want
 abbrev pub GivesBelow : List Want → ℕ → Option Want → List Want → Type 0
 GivesBelow old end None new = (new ≡ old) × BeginsBehind end old
 GivesBelow old end (Some want) new = (old ≡ want ∷ new) × (addr_of want < end)
-
--- a count, which stands still at its type's end
-abbrev pub stood : ℕ → ℕ
-stood n = min n (2 ^ 64 - 1)
 
 -- counts with those of one more block
 abbrev pub counted : Tally → Mended → Tally
@@ -68,6 +64,7 @@ pub record CanMend (write : Bool) (rack : Seen) (store : Blocks) (marks : List B
 pub record Scrubs {A : Type 0} (layout : Layout) (write : Bool) (writes : Images → List Write) (count : Images → Tally → Tally) (marks marks' : List Bool) (old new : Seen) (tally tally' : Tally) (result : Result A MendFault) : Type 0 where
   pub does : Does (LiesInStripe layout) (λ images. writes_if write (writes images)) marks marks' old new result
   pub counts : OnOk result (IfSome old.held (λ images. tally' ≡ count images tally))
+  pub unwritten : write ≡ false → OnlyReads old new
 
 -- the writes for blocks, and the counts of them
 abbrev pub blocks_writes : List Target → Images → List Write
@@ -149,6 +146,7 @@ pub record Works {A : Type 0} (layout : Layout) (write : Bool) (writes : Images 
   pub does : Does (IsOfScrub layout) (λ images. writes_if write (writes images)) [] [] (plain old) (plain new) result
   pub counts : OnOk result (IfSome old.held (λ images. tally' ≡ count images tally))
   pub synced : OnOk result (old.unsynced ≡ [] → new.unsynced ≡ [])
+  pub unwritten : write ≡ false → OnlyReads old new
 
 -- the images of the first n marks are synced: nothing waits for it any more there
 pub record AreSynced (marks : List Bool) (n : ℕ) (ranges left : List Range) : Type 0 where

@@ -19,7 +19,7 @@ use Rattle.btr_scrub.specs.Judging.{IsUnplaced}
 use Rattle.btr_chunk.specs.Table.{IsTable}
 use Rattle.btr_scrub.specs.Devices.{HaveLengths}
 use Rattle.btr_scrub.specs.Leaves.{KeepsOutside}
-use Rattle.btr_scrub.specs.Repair.{first_missing, met, writes}
+use Rattle.btr_scrub.specs.Repair.{first_missing, met, stood_tally, tally, writes}
 use Rattle.btr_scrub.specs.Scrubbing.{Works, all_count_for, all_writes_for}
 use Rattle.btr_scrub.specs.Units.{Met, units_in}
 use Rattle.btr_scrub.specs.declared.tally.Tally.{Tally}
@@ -66,6 +66,11 @@ pub record ScrubsAll (s : Super) (layout : Layout) (write : Bool) (old new : See
 -- the writes for a list of all blocks that are met are those that mend the filesystem
 abbrev pub ListedWrites : Type 0
 ListedWrites = (images : Images) (fs : Filesystem) → all_writes_for fs.layout fs.layout.chunks (checked_among (met images fs)) images ≡ writes images fs
+
+-- the counts for a list of all blocks that are met are the tally of the repair, but that each stands still at its type's end
+abbrev pub ListedCounts : Type 0
+ListedCounts = (images : Images) (fs : Filesystem) (write : Bool) → IsTable fs.layout.chunks
+    → all_count_for fs.layout write fs.layout.chunks (checked_among (met images fs)) images (first_tally (fold count_met 0 (met images fs))) ≡ stood_tally (tally images fs write)
 
 -- whatever failed, all that lies outside the ranges of those writes is as before
 abbrev pub WorksKeepTheRest : Type 0

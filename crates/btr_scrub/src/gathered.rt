@@ -1,6 +1,6 @@
 use crate::listed::Listed;
 
-/// What was met of a filesystem's blocks.
+/// What was met of a filesystem's blocks (`docs/FORMAT.md`, "Checked blocks").
 #[derive(Drop)]
 pub struct Gathered {
     /// The checked blocks.

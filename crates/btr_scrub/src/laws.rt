@@ -1,35 +1,35 @@
-//! Laws of candidates, places and parity. The functions do nothing.
+//! Laws of candidates, places and parity (`docs/FORMAT.md`: "Chunks", "Parity", "Reading a block", "Full stripes"). The functions do nothing.
 ghost use Rattle.btr_scrub.specs.Survival.{BadBlockIsWrong, DifferingParityIsWrong, ElementsAreSlices, RowSurvives};
 ghost use Rattle.btr_scrub.specs.Places.{ElementsApart};
 ghost use Rattle.btr_scrub.specs.Listed.{FewBytes};
 ghost use Rattle.btr_scrub.specs.Staying.{RightStays, RowOutlivesWrites, RowWritesAreWrong};
-ghost use Rattle.btr_scrub.specs.Leaves.{ChunksAreSynced, StoppedKeepsTheRest, WritesKeepTheRest};
-ghost use Rattle.btr_scrub.specs.Whole.{ListedWrites, WorksKeepTheRest};
+ghost use Rattle.btr_scrub.specs.Leaves.{WritesKeepTheRest};
+ghost use Rattle.btr_scrub.specs.Whole.{ListedCounts, ListedWrites, WorksKeepTheRest};
 ghost use Rattle.btr_scrub.specs.Glue.{SomeCandidateIsRight, ParityOfRanges, BlockOfElement, PartStands, RowGivesBlocks};
 
 /// Where at most as many elements of a full stripe are wrong as there is parity, some candidate of each block reads none of
-/// them, and gives the bytes as they should be.
+/// them, and gives the bytes as they should be (`docs/FORMAT.md`, "Full stripes").
 pub fn some_candidate_is_right()
     ensures { SomeCandidateIsRight }
 {}
 
-/// The parity of some bytes of each slice is those bytes of the parity.
+/// The parity of some bytes of each slice is those bytes of the parity (`docs/FORMAT.md`, "Parity").
 pub fn parity_of_ranges()
     ensures { ParityOfRanges }
 {}
 
-/// The bytes that a block's candidates read of a part are those of the part's element, in the block's place.
+/// The bytes that a block's candidates read of a part are those of the part's element, in the block's place (`docs/FORMAT.md`, "Full stripes").
 pub fn block_of_element()
     ensures { BlockOfElement }
 {}
 
-/// A part of a block stands where the part's element does.
+/// A part of a block stands where the part's element does (`docs/FORMAT.md`, "Full stripes").
 pub fn part_stands()
     ensures { PartStands }
 {}
 
 /// Where a full stripe is right but for as many elements as there is parity, some candidate of each block in it reads none
-/// of them, and gives the block's bytes as they should be.
+/// of them, and gives the block's bytes as they should be (`docs/FORMAT.md`, "Full stripes").
 pub fn row_gives_blocks()
     ensures { RowGivesBlocks }
 {}
@@ -39,66 +39,55 @@ pub fn writes_keep_the_rest()
     ensures { WritesKeepTheRest }
 {}
 
-/// An element that stands has 65536 bytes.
+/// An element that stands has 65536 bytes (`docs/FORMAT.md`, "Full stripes").
 pub fn elements_are_slices()
     ensures { ElementsAreSlices }
 {}
 
 /// Where a full stripe has as many wrong elements as there is parity, and its right elements stay as they are, each block in
-/// it has a candidate with its committed bytes, whatever stands in the wrong elements.
+/// it has a candidate with its committed bytes, whatever stands in the wrong elements (`docs/FORMAT.md`, "Full stripes").
 pub fn row_survives()
     ensures { RowSurvives }
 {}
 
-/// Each byte of an image is of one element of one full stripe at most.
+/// Each byte of an image is of one element of one full stripe at most (`docs/FORMAT.md`, "Chunks").
 pub fn elements_apart()
     ensures { ElementsApart }
 {}
 
-/// A bad block lies in an element that is wrong.
+/// A bad block lies in an element that is wrong (`docs/FORMAT.md`, "Full stripes").
 pub fn bad_block_is_wrong()
     ensures { BadBlockIsWrong }
 {}
 
-/// A parity that differs from that of the new data in a decided column is an element that is wrong.
+/// A parity that differs from that of the new data in a decided column is an element that is wrong (`docs/FORMAT.md`, "Full stripes").
 pub fn differing_parity_is_wrong()
     ensures { DifferingParityIsWrong }
 {}
 
-/// A list of checked blocks takes at most 48 bytes for each sector, and 32 for each tree block.
+/// A list of checked blocks takes at most 48 bytes for each sector, and 32 for each tree block (`docs/FORMAT.md`, "Checked blocks").
 pub fn few_bytes()
     ensures { FewBytes }
 {}
 
 /// Where each byte of some ranges lies in wrong elements or in chunks with copies, the right elements of full stripes stay,
-/// whatever is written in the ranges.
+/// whatever is written in the ranges (`docs/FORMAT.md`, "Full stripes").
 pub fn right_stays()
     ensures { RightStays }
 {}
 
 /// So each block of a full stripe with as many wrong elements as there is parity has a candidate with its committed bytes,
-/// whatever is written in the ranges.
+/// whatever is written in the ranges (`docs/FORMAT.md`, "Full stripes").
 pub fn row_outlives_writes()
     ensures { RowOutlivesWrites }
 {}
 
-/// Each byte that the writes of a full stripe change lies in a wrong element of it.
+/// Each byte that the writes of a full stripe change lies in a wrong element of it (`docs/FORMAT.md`, "Full stripes").
 pub fn row_writes_are_wrong()
     ensures { RowWritesAreWrong }
 {}
 
-/// Where scrub was stopped at one of its acts, by a write, a sync or memory that failed, all that lies outside the ranges is
-/// as before.
-pub fn stopped_keeps_the_rest()
-    ensures { StoppedKeepsTheRest }
-{}
-
-/// Behind each chunk no image has a write that isn't synced.
-pub fn chunks_are_synced()
-    ensures { ChunksAreSynced }
-{}
-
-/// The writes for a list of all checked blocks are those that mend the filesystem.
+/// The writes for a list of all checked blocks are those that mend the filesystem (`docs/FORMAT.md`, "Checked blocks").
 pub fn listed_writes()
     ensures { ListedWrites }
 {}
@@ -106,4 +95,9 @@ pub fn listed_writes()
 /// Whatever failed as the blocks of a list were mended, all that lies outside the ranges of their writes is as before.
 pub fn works_keep_the_rest()
     ensures { WorksKeepTheRest }
+{}
+
+/// The counts for a list of all checked blocks are the tally of the repair, but that each stands still at its type's end (`docs/FORMAT.md`, "The line of a scrub").
+pub fn listed_counts()
+    ensures { ListedCounts }
 {}

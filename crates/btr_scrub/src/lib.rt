@@ -3,8 +3,8 @@
 //! `scrub` first makes the list of the checked blocks (`list_blocks`), which reads the extent tree and the checksum tree and writes nothing, and then goes
 //! over it chunk by chunk. The layer above is promised exactly the blocks that `specs/Units.antt` says, in their order, or the first fault; and then
 //! exactly the writes that follow from what the images held as it began, or those up to a call that failed (`Whole`, `Scrubbing`). For one block with
-//! copies see `btr_mend`, and for one full stripe `btr_row`. `Repair` says what all of it comes to, and `Leaves` what a call leaves, whatever failed.
-//! `Right`, `Survival` and `Staying` say that each block can be had from what is left, whatever bytes stand in the ranges that are written.
+//! copies see `btr_mend`, and for one full stripe `btr_row`. `Repair` says what all of it comes to, and `Scrubbed` what a call answers and leaves, whatever
+//! failed. `Right`, `Survival` and `Staying` say that each block can be had from what is left, whatever bytes stand in the ranges that are written.
 #![tactic(auto)]
 
 mod chunks;
@@ -31,10 +31,10 @@ mod whole;
 
 pub use gathered::Gathered;
 pub use laws::{
-    bad_block_is_wrong, block_of_element, chunks_are_synced, differing_parity_is_wrong,
-    elements_apart, elements_are_slices, few_bytes, listed_writes, parity_of_ranges, part_stands,
+    bad_block_is_wrong, block_of_element, differing_parity_is_wrong, elements_apart,
+    elements_are_slices, few_bytes, listed_counts, listed_writes, parity_of_ranges, part_stands,
     right_stays, row_gives_blocks, row_outlives_writes, row_survives, row_writes_are_wrong,
-    some_candidate_is_right, stopped_keeps_the_rest, works_keep_the_rest, writes_keep_the_rest,
+    some_candidate_is_right, works_keep_the_rest, writes_keep_the_rest,
 };
 pub use listed::Listed;
 pub use missing::missing_device;

@@ -9,7 +9,7 @@ use btr_base::{Memory, Sum, SumKind};
 use std::alloc::Global;
 use std::marker::Model;
 
-/// The checked blocks of a filesystem in their order. Sectors of data that follow each other are one run of 16 bytes, and each has its checksum of 4, 8
+/// The checked blocks of a filesystem in their order (`docs/FORMAT.md`, "Checked blocks"). Sectors of data that follow each other are one run of 16 bytes, and each has its checksum of 4, 8
 /// or 32 bytes; a tree block has 16 bytes beside its run.
 #[derive(Drop)]
 pub struct Listed {

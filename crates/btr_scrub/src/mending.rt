@@ -55,7 +55,7 @@ fn mend_chunk<R: Rack>(
     }
 }
 
-// The same, and syncs the images that were written.
+// The same, and where it writes syncs the images that were written.
 fn mend_and_sync<R: Rack>(
     number: usize,
     nodesize: u32,
@@ -83,9 +83,13 @@ fn mend_and_sync<R: Rack>(
     match mend_chunk(
         number, nodesize, write, blocks, rack, store, room, marks, tally,
     ) {
-        Ok(()) => sync_marked(rack, marks),
-        Err(fault) => Err(fault),
+        Ok(()) => {}
+        Err(fault) => return Err(fault),
     }
+    if !write {
+        return Ok(());
+    }
+    sync_marked(rack, marks)
 }
 
 /// Mends the blocks of a list, chunk by chunk, and syncs the images of each chunk that were written behind it.

@@ -7,7 +7,7 @@ use crate::run::RunKind;
 use btr_read::Want;
 use std::marker::Model;
 
-/// A place in a list of checked blocks, seen as those that come behind it.
+/// A place in a list of checked blocks (`docs/FORMAT.md`, "Checked blocks"), seen as those that come behind it.
 #[derive(Drop)]
 pub struct Reader<'a> {
     listed: &'a Listed,

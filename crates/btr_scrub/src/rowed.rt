@@ -21,7 +21,7 @@ use btr_chunk::{Chunk, elements};
 use btr_mend::MendFault;
 use btr_rack::Rack;
 use btr_read::{Store, Want};
-use btr_row::{MendedRow, RowBuffer, mend_row};
+use btr_row::{MendedRow, RowAt, RowBuffer, mend_row};
 
 /// Memory for the full stripes, one after another: the checked blocks of one, and its bytes.
 #[derive(Drop)]
@@ -121,11 +121,9 @@ fn counted_row(tally: &Tally, blocks: u64, mended: &MendedRow) -> Tally
     }
 }
 
-// Mends a row of the chunk that starts at an address, whose blocks were collected, and counts what came of it.
+// Mends a row whose blocks were collected, and counts what came of it.
 fn mend_collected<R: Rack>(
-    start: u64,
-    row: u64,
-    nodesize: u32,
+    at: RowAt,
     write: bool,
     rack: &mut R,
     store: &mut Store,
@@ -134,26 +132,16 @@ fn mend_collected<R: Rack>(
     tally: &mut Tally,
 ) -> Result<(), MendFault>
     requires ready { CanMend write (R.seen rack.old) store.old marks.old }
-    requires nodesize { nodesize ≡ store.old.layout.setting.nodesize }
+    requires nodesize { at.nodesize ≡ store.old.layout.setting.nodesize }
     requires rooms { HasRooms store.old.layout room.old.buffer }
-    requires row { IsRow store.old.layout start row room.old.wants.items }
+    requires row { IsRow store.old.layout at.chunk at.number room.old.wants.items }
     ensures ready { CanMend write (R.seen rack.new) store.new marks.new }
     ensures loans { SameLoans store.old store.new }
     ensures rooms { HasRooms store.old.layout room.new.buffer }
-    ensures scrubs { (r : Row) → IsRowOf store.old.layout start row room.old.wants.items r
+    ensures scrubs { (r : Row) → IsRowOf store.old.layout at.chunk at.number room.old.wants.items r
         → Scrubs store.old.layout write (λ images. row_writes images store.old.layout r) (λ images tally. counted_row tally (length r.blocks) (mended_row images store.old.layout r write)) marks.old marks.new (R.seen rack.old) (R.seen rack.new) tally.old tally.new result }
 {
-    match mend_row(
-        start,
-        row,
-        &room.wants,
-        nodesize,
-        write,
-        rack,
-        store,
-        &mut room.buffer,
-        marks,
-    ) {
+    match mend_row(at, &room.wants, write, rack, store, &mut room.buffer, marks) {
         Ok(mended) => {
             *tally = counted_row(tally, room.wants.len() as u64, &mended);
             Ok(())
@@ -195,7 +183,12 @@ pub(crate) fn mend_rows<R: Rack>(
             Ok(row) => row,
             Err(_) => return Err(MendFault::Memory),
         };
-        match mend_collected(start, row, nodesize, write, rack, store, room, marks, tally) {
+        let at = RowAt {
+            chunk: start,
+            number: row,
+            nodesize,
+        };
+        match mend_collected(at, write, rack, store, room, marks, tally) {
             Ok(()) => {}
             Err(fault) => return Err(fault),
         }

@@ -6,11 +6,11 @@ ghost use Rattle.btr_scrub.specs.Listed.{IsList};
 use crate::listed::Listed;
 use crate::reader::{Reader, read_all};
 use crate::{
-    Tally, bad_block_is_wrong, block_of_element, chunks_are_synced, differing_parity_is_wrong,
-    elements_apart, elements_are_slices, few_bytes, list_blocks, listed_writes, parity_of_ranges,
+    Tally, bad_block_is_wrong, block_of_element, differing_parity_is_wrong, elements_apart,
+    elements_are_slices, few_bytes, list_blocks, listed_counts, listed_writes, parity_of_ranges,
     part_stands, right_stays, row_gives_blocks, row_outlives_writes, row_survives,
-    row_writes_are_wrong, scrub, some_candidate_is_right, stopped_keeps_the_rest,
-    works_keep_the_rest, writes_keep_the_rest,
+    row_writes_are_wrong, scrub, some_candidate_is_right, works_keep_the_rest,
+    writes_keep_the_rest,
 };
 use btr_base::{Sum, SumKind};
 use btr_make::{RowVolume, row};
@@ -98,11 +98,11 @@ fn blocks_of_small_volumes(rt: HostRuntime) -> Result<(), Fail> {
 fn laws_do_nothing(_: HostRuntime) -> Result<(), Fail> {
     bad_block_is_wrong();
     block_of_element();
-    chunks_are_synced();
     differing_parity_is_wrong();
     elements_apart();
     elements_are_slices();
     few_bytes();
+    listed_counts();
     listed_writes();
     parity_of_ranges();
     part_stands();
@@ -112,7 +112,6 @@ fn laws_do_nothing(_: HostRuntime) -> Result<(), Fail> {
     row_survives();
     row_writes_are_wrong();
     some_candidate_is_right();
-    stopped_keeps_the_rest();
     works_keep_the_rest();
     writes_keep_the_rest();
     Ok(())

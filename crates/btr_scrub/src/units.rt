@@ -56,7 +56,7 @@ fn gather_all<R: Rack>(rack: &mut R, vol: &mut Volume, gathered: &mut Gathered) 
     }
 }
 
-/// Lists the checked blocks of a filesystem, in the order of chunks and addresses: the tree blocks, and the sectors of data that have a checksum.
+/// Lists the checked blocks of a filesystem (`docs/FORMAT.md`, "Checked blocks"), in the order of chunks and addresses: the tree blocks, and the sectors of data that have a checksum.
 /// The sectors that have none are counted. Nothing is written, and five slots are free.
 ///
 /// `NoTree` where there is no extent tree. `Tree` where a block of the root tree, the extent tree or the checksum tree can't be had or is malformed,

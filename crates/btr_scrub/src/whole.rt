@@ -12,6 +12,7 @@ ghost use Rattle.btr_volume.specs.declared.stop.Stop.TheVariants as stop;
 ghost use Rattle.btr_scrub.specs.Listed.{IsList, kept_wants};
 ghost use Rattle.btr_scrub.specs.Order.{AreApart};
 ghost use Rattle.btr_scrub.specs.Repair.{first_missing};
+ghost use Rattle.btr_scrub.specs.Scrubbed.{IsSafe, IsScrubbed, called};
 ghost use Rattle.btr_scrub.specs.Scrubbing.{CanMend, HasRooms};
 ghost use Rattle.btr_scrub.specs.Whole.{ScrubsAll, WorksOn, first_tally};
 
@@ -119,8 +120,39 @@ fn mend_listed<R: Rack>(
     }
 }
 
-/// Reads each copy of each checked block, and writes what is bad anew where a right copy or enough parity is left; with `write` false it only reads. The
-/// images of a chunk that were written are synced behind it. Five slots are free; where it writes, each image was opened for writing.
+// Lists the checked blocks, looks the list over once more, and mends them.
+fn scrub_given<R: Rack>(
+    alloc: Global,
+    write: bool,
+    rack: &mut R,
+    vol: &mut Volume,
+) -> Result<Tally, Stop>
+    requires serves { Serves (R.seen rack.old) vol.old.store }
+    requires room { 5 ≤ free_count vol.old.store }
+    requires writable { IsTrue write → AreWritable (R.seen rack.old).slots }
+    requires nodesize { vol.old.sup.nodesize ≡ vol.old.store.layout.setting.nodesize }
+    requires large { 4096 ≤ vol.old.sup.nodesize }
+    requires table { IsTable vol.old.store.layout.chunks }
+    requires given { first_missing vol.old.store.layout ≡ None }
+    ensures serves { Serves (R.seen rack.new) vol.new.store }
+    ensures volume { SameVolume vol.old vol.new }
+    ensures scrubs { ScrubsAll vol.old.sup vol.old.store.layout write (R.seen rack.old) (R.seen rack.new) result }
+{
+    let gathered = match list_blocks(alloc, rack, vol) {
+        Ok(gathered) => gathered,
+        Err(stop) => return Err(stop),
+    };
+    let mut blocks = read_all(&gathered.list);
+    match judge_blocks(&mut blocks, vol.sup.nodesize, &vol.store) {
+        Ok(()) => mend_listed(alloc, write, &gathered, rack, vol),
+        Err(fault) => Err(Stop::Tree(fault)),
+    }
+}
+
+/// Reads each copy of each checked block, and writes what is bad anew where a right copy or enough parity is left (`docs/FORMAT.md`, "Checked blocks" and
+/// "Full stripes"); with `write` false it only reads. The images of a chunk that were written are synced behind it. Whatever failed, what stands in the
+/// images is what stands behind a first part of the writes, the next one perhaps in part, so far as the copies that pass agree (`IsScrubbed`); and each
+/// block that could be had can be had then (`IsSafe`). Five slots are free; where it writes, each image was opened for writing.
 ///
 /// `Missing`: the device of a stripe isn't given, or its image ends before the stripe's end; nothing was read. `NoTree` and `Tree`: the checked blocks
 /// can't be listed, and nothing was written. `Image`: a read, a write or a sync of an image failed, and nothing was tried behind it. `Memory`: for want
@@ -138,19 +170,15 @@ pub fn scrub<R: Rack>(
     requires large { 4096 ≤ vol.old.sup.nodesize }
     ensures serves { Serves (R.seen rack.new) vol.new.store }
     ensures volume { SameVolume vol.old vol.new }
+    ensures table { IsTable vol.old.store.layout.chunks }
+    ensures slots { (R.seen rack.new).slots ≡ (R.seen rack.old).slots }
     ensures missing { IfSome (first_missing vol.old.store.layout) (λ stripe. (result ≡ Err (stop.Missing stripe.devid)) × (R.seen rack.new ≡ R.seen rack.old)) }
     ensures scrubs { first_missing vol.old.store.layout ≡ None → ScrubsAll vol.old.sup vol.old.store.layout write (R.seen rack.old) (R.seen rack.new) result }
+    ensures scrubbed { IsScrubbed (called vol.old write (R.seen rack.old) (R.seen rack.new) result) }
+    ensures safe { IsSafe (called vol.old write (R.seen rack.old) (R.seen rack.new) result) }
 {
-    if let Some(devid) = missing_device(&vol.store) {
-        return Err(Stop::Missing(devid));
-    }
-    let gathered = match list_blocks(alloc, rack, vol) {
-        Ok(gathered) => gathered,
-        Err(stop) => return Err(stop),
-    };
-    let mut blocks = read_all(&gathered.list);
-    match judge_blocks(&mut blocks, vol.sup.nodesize, &vol.store) {
-        Ok(()) => mend_listed(alloc, write, &gathered, rack, vol),
-        Err(fault) => Err(Stop::Tree(fault)),
+    match missing_device(&vol.store) {
+        Some(devid) => Err(Stop::Missing(devid)),
+        None => scrub_given(alloc, write, rack, vol),
     }
 }

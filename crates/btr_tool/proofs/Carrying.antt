@@ -16,7 +16,7 @@ use Rattle.btr_restore.specs.Running.{Outside}
 use Rattle.btr_read.specs.Layout.{Layout}
 use Rattle.btr_volume.specs.Start.{Start}
 use Rattle.btr_walk.specs.Reading.{FaultCause}
-use Rattle.btr_tool.specs.Agreeing.{AreAgreed, FollowsCheck, IsCheckOrUnread}
+use Rattle.btr_tool.specs.Agreeing.{AreAgreedFor, ComesAgreed, FollowsAgreed, IsUnreadOrWant}
 use Rattle.btr_tool.specs.Answers.{error_line}
 use Rattle.btr_tool.specs.Behind.{IfSteady, IsFault}
 use Rattle.btr_tool.specs.Causes.{IsBehindWords, opened_with}
@@ -77,6 +77,15 @@ as_opened calm None held slots answer opens = tt
 as_opened calm (Some at) None slots answer opens = tt
 as_opened calm (Some at) (Some images) slots answer opens = (images, opens, as_they_were calm images images answer refl)
 
+-- what is answered before anything is put is one of the answers of each command over images that agree
+agreed_before : (command : Command) (images : Images) (answer : Answer) → error_line answer ≢ [] → IsUnreadOrWant (refused answer) → ComesAgreed command images (refused answer)
+agreed_before Super images answer line unread = inr (refl, line)
+agreed_before (Dump choice) images answer line unread = inr (inr unread)
+agreed_before Roots images answer line unread = inr (inr unread)
+agreed_before (Check read_data) images answer line unread = inr unread
+agreed_before (Scrub write) images answer line unread = inr unread
+agreed_before (Restore dest plan) images answer line unread = inr (refl, line)
+
 -- words that are no sentence
 module _ (words : Words) (at : ℕ) (usage : IsUsageAt words at) where
   usage_no_fault : IsNoFault (Usage at)
@@ -92,8 +101,8 @@ module _ (words : Words) (at : ℕ) (usage : IsUsageAt words at) where
   pub usage_order : (shelf : Option Shelf) (old new : Seen) (x : Outside) → IfSome shelf (λ s. FollowsOrder words s old new x x (Usage at))
   usage_order shelf old new x = all_told shelf _ (λ s plan dest images from. absurd (usage.no_sentence _ from.sentence))
 
-  pub usage_checked : (shelf : Option Shelf) (x : Outside) → IfSome shelf (λ s. FollowsCheck words s x x (Usage at))
-  usage_checked shelf x = all_told shelf _ (λ s read_data images from. absurd (usage.no_sentence _ from.sentence))
+  pub usage_agreed : (shelf : Option Shelf) (x : Outside) → IfSome shelf (λ s. FollowsAgreed words s x x (Usage at))
+  usage_agreed shelf x = all_told shelf _ (λ s plan images asks. absurd (usage.no_sentence _ asks.sentence))
 
   pub usage_repaired : (shelf : Option Shelf) (steady : Type 0) (held : Option Images) → IfSome shelf (λ s. steady → Usage at ≢ Memory → KeepsRepair words s held)
   usage_repaired shelf steady held = all_told shelf _ (λ s calm enough images from. absurd (usage.no_sentence _ from.sentence))
@@ -202,17 +211,18 @@ module _ (words names : Words) (plan : Plan) (sentence : IsSentence plan words) 
         of p dest images start few (Failed slot) many is = bare p dest images start (inl (slot, is))
         of p dest images start few memory_fault many is = bare p dest images start (inr (inr (inr is)))
 
-    pub opening_checked : (shelf : Option Shelf) (x : Outside) (result : Answer) → result ≡ opening_answer fault → IfSome shelf (λ s. FollowsCheck words s x x result)
-    opening_checked shelf x result is =
-        all_told shelf _ (λ s read_data images from agreed.
-        subst (λ a. Comes (MayWantBy words x.out_calls) (IsCheckOrUnread read_data images) x x a) (sym is)
-        (comes_bare (MayWantBy words x.out_calls) (IsCheckOrUnread read_data images) x (opening_answer fault)
-        (of read_data images (subst (λ l. length l ≤ most_images) (ap (λ (q : Plan). images_of q words) (one_plan words _ plan from.sentence sentence) ∙ named) from.few) fault many) (opening_no_fault fault)))
+    pub opening_agreed : (shelf : Option Shelf) (x : Outside) (result : Answer) → result ≡ opening_answer fault → IfSome shelf (λ s. FollowsAgreed words s x x result)
+    opening_agreed shelf x result is =
+        all_told shelf _ (λ s p images asks agreed.
+        subst (λ a. Comes (MayWantBy words x.out_calls) (ComesAgreed p.command images) x x a) (sym is)
+        (comes_bare (MayWantBy words x.out_calls) (ComesAgreed p.command images) x (opening_answer fault)
+        (agreed_before p.command images (opening_answer fault) (opening_line fault)
+        (of images (subst (λ l. length l ≤ most_images) (ap (λ (q : Plan). images_of q words) (one_plan words _ plan asks.sentence sentence) ∙ named) asks.few) fault many)) (opening_no_fault fault)))
       where
-        of : (read_data : Bool) (images : Images) → length names ≤ most_images → (f : OpeningFault) → HasTooMany names (Err f) → IsCheckOrUnread read_data images (refused (opening_answer f))
-        of read_data images few (TooMany count) many = absurd (omega (arith, few, many.0, many.1))
-        of read_data images few (Failed slot) many = inr (inr (inl (slot, refl)))
-        of read_data images few memory_fault many = inr (inr (inr refl))
+        of : (images : Images) → length names ≤ most_images → (f : OpeningFault) → HasTooMany names (Err f) → IsUnreadOrWant (refused (opening_answer f))
+        of images few (TooMany count) many = absurd (omega (arith, few, many.0, many.1))
+        of images few (Failed slot) many = inr (inl (slot, refl))
+        of images few memory_fault many = inr (inr refl)
 
     pub opening_unchanged : AreOpenedAs (opens_to_write plan.command) old.shelf new.slots new.held → (AsksToWrite words → ⊥) → AreUnchanged old.shelf new.slots new.held
     opening_unchanged opens never = of (opens_to_write plan.command) refl opens
@@ -330,21 +340,23 @@ module _ (words names : Words) (plan : Plan) (sentence : IsSentence plan words) 
             (subst (λ d. InOrder p d images mid new x y answer) from.named
             (subst (λ i. InOrder p (get_or words from.number []) i mid new x y answer) (the_images held images same) (order from.number p (sym (ap (λ (q : Plan). q.command) one)))))
 
-    pub command_checked : (x y : Outside) → OpensAll names old.shelf mid.held (Ok tt)
-        → ((read_data : Bool) → plan.command ≡ Check read_data → IfSome mid.held (λ images. AreAgreed images → Comes (MayWant plan.command x.out_calls) (IsCheckOrUnread read_data images) x y answer))
-        → IfSome old.shelf (λ shelf. FollowsCheck words shelf x y answer)
-    command_checked x y = of old.shelf mid.held
+    pub command_agreed : (x y : Outside) → OpensAll names old.shelf mid.held (Ok tt)
+        → IfSome mid.held (λ images. AreAgreedFor plan.command images → Comes (MayWant plan.command x.out_calls) (ComesAgreed plan.command images) x y answer)
+        → IfSome old.shelf (λ shelf. FollowsAgreed words shelf x y answer)
+    command_agreed x y = of old.shelf mid.held
       where
-        of : (shelf : Option Shelf) (held : Option Images) → OpensAll names shelf held (Ok tt)
-            → ((read_data : Bool) → plan.command ≡ Check read_data → IfSome held (λ images. AreAgreed images → Comes (MayWant plan.command x.out_calls) (IsCheckOrUnread read_data images) x y answer))
-            → IfSome shelf (λ shelf. FollowsCheck words shelf x y answer)
-        of None held opens checked = tt
-        of (Some at) None opens checked = absurd opens
-        of (Some at) (Some held) opens checked = λ read_data images from agreed.
-            let one = one_plan words _ plan from.sentence sentence in
-            let same : ◌≡◌ {A = Option Images} (Some held) (Some images) = sym opens ∙ sym (ap (λ (q : Plan). taken (images_of q words) at) one ∙ ap (λ l. taken l at) named) ∙ from.from in
-            comes_also (MayWant plan.command x.out_calls) (MayWantBy words x.out_calls) (IsCheckOrUnread read_data images) (IsCheckOrUnread read_data images) x y answer (may_want x) (λ outcome o. o)
-            (subst (λ i. AreAgreed i → Comes (MayWant plan.command x.out_calls) (IsCheckOrUnread read_data i) x y answer) (the_images held images same) (checked read_data (sym (ap (λ (q : Plan). q.command) one))) agreed)
+        Comes_so : Command → Images → Type 0
+        Comes_so command images = AreAgreedFor command images → Comes (MayWant command x.out_calls) (ComesAgreed command images) x y answer
+
+        of : (shelf : Option Shelf) (held : Option Images) → OpensAll names shelf held (Ok tt) → IfSome held (λ images. Comes_so plan.command images) → IfSome shelf (λ shelf. FollowsAgreed words shelf x y answer)
+        of None held opens comes = tt
+        of (Some at) None opens comes = absurd opens
+        of (Some at) (Some held) opens comes = λ p images asks agreed.
+            let one = one_plan words _ plan asks.sentence sentence in
+            let same : ◌≡◌ {A = Option Images} (Some held) (Some images) = sym opens ∙ sym (ap (λ (q : Plan). taken (images_of q words) at) one ∙ ap (λ l. taken l at) named) ∙ asks.from in
+            let by_command : Comes_so p.command images = subst (λ c. Comes_so c images) (sym (ap (λ (q : Plan). q.command) one)) (subst (λ i. Comes_so plan.command i) (the_images held images same) comes) in
+            comes_also (MayWant p.command x.out_calls) (MayWantBy words x.out_calls) (ComesAgreed p.command images) (ComesAgreed p.command images) x y answer
+            (subst (λ c. MayWant c x.out_calls → MayWantBy words x.out_calls) (sym (ap (λ (q : Plan). q.command) one)) (may_want x)) (λ outcome o. o) (by_command agreed)
 
     pub none_decided : (other : Answer) → IsDecided words other → ⊥
     none_decided other decided = omega (arith, few, (too_many_decided other decided).0)

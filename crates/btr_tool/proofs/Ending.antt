@@ -5,7 +5,7 @@ use Rattle.std.proofs.lemmas.List.{take_all}
 use Rattle.btr_rack.specs.Rack.{Seen, Slot, Rose, Steady, Shelf}
 use Rattle.btr_rack.specs.Out.{CallAccount}
 use Rattle.btr_restore.specs.Running.{Outside}
-use Rattle.btr_tool.specs.Agreeing.{FollowsCheck, IsCheckOrUnread, KeepsCheck}
+use Rattle.btr_tool.specs.Agreeing.{ComesAgreed, FollowsAgreed, KeepsAgreed}
 use Rattle.btr_tool.specs.Answers.{error_line}
 use Rattle.btr_tool.specs.Causes.{HidesNone, ImageCause, IsBehindWords, IsMissingImage, IsShut, TreeCause}
 use Rattle.btr_tool.specs.Effects.{FollowsWords, HasEffect, HasPart, IsOutcome, IsTold, MayFollow, MayWantBy}
@@ -74,8 +74,8 @@ module _ (words : Words) (x y : Outside) (new : Option (List ℕ)) (after : Call
   pub is_told : Comes May (OrBare (MayFollow words)) x y answer → IsTold words x z result
   is_told comes = (comes.outcome, comes.is_one, print (OrBare (MayFollow words)) comes)
 
-  pub keeps_check : (shelf : Shelf) → FollowsCheck words shelf x y answer → KeepsCheck words shelf x z result
-  keeps_check shelf follows read_data images from agreed = let comes = follows read_data images from agreed in (comes.outcome, comes.is_one, print (IsCheckOrUnread read_data images) comes)
+  pub keeps_agreed : (shelf : Shelf) → FollowsAgreed words shelf x y answer → KeepsAgreed words shelf x z result
+  keeps_agreed shelf follows plan images asks agreed = let comes = follows plan images asks agreed in (comes.outcome, comes.is_one, print (ComesAgreed plan.command images) comes)
 
   pub out_failed : (IsOne : Outcome → Type 0) → Comes May IsOne x y answer → result ≡ OutFault → CallFailed x.out_calls after
   out_failed IsOne comes is =

@@ -21,3 +21,4 @@ pub mod Promises
 pub mod Orders
 pub mod Agreements
 pub mod Mendings
+pub mod Mended

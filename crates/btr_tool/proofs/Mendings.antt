@@ -23,9 +23,10 @@ use Rattle.btr_scrub.specs.Judging.{IsUnplaced}
 use Rattle.btr_scrub.specs.Repair.{effect_of_ending, effect_unless, first_missing, meeting, met, repaired, writes}
 use Rattle.btr_scrub.specs.Scrubbing.{IsOfScrub, Works, all_count_for, all_writes_for, plain}
 use Rattle.btr_scrub.specs.Units.{Met, units_in}
-use Rattle.btr_scrub.specs.Whole.{Goes, Listed, ListedWrites, Listing, Refused, ScrubsAll, Stopped, first_tally}
+use Rattle.btr_scrub.specs.Whole.{Goes, Listed, ListedCounts, ListedWrites, Listing, Refused, ScrubsAll, Stopped, first_tally}
 use Rattle.btr_scrub.specs.Whole as whole
 use Rattle.btr_scrub.specs.declared.tally.Tally.{Tally}
+use Rattle.btr_chunk.specs.Table.{IsTable}
 use Rattle.btr_chunk.specs.declared.stripe.Stripe.{Stripe}
 use Rattle.btr_volume.specs.Opening.{SuperUnread}
 use Rattle.btr_volume.specs.Start.{Images}
@@ -37,7 +38,7 @@ use Rattle.btr_walk.proofs.Fetched.{cause_since}
 use Rattle.btr_walk.specs.Reading.{FaultCause, Map, Tells, unread_by}
 use Rattle.btr_walk.specs.declared.fault.TreeFault.{TreeFault}
 use Rattle.btr_walk.specs.declared.fault.TreeFault.TheVariants as tree
-use Rattle.btr_tool.specs.Agreeing.{AreAgreed}
+use Rattle.btr_tool.specs.Agreeing.{AreAgreed, IsOrUnread, ScrubsAgreed}
 use Rattle.btr_tool.specs.Behind.{HasToldCause, HasTreeCause, IfSteady, IsBehind, IsFault, IsNoCrossing}
 use Rattle.btr_tool.specs.Answers.{error_line}
 use Rattle.btr_tool.specs.Checked.{found}
@@ -81,7 +82,7 @@ the_images : (a b : Images) → ◌≡◌ {A = Option Images} (Some a) (Some b) 
 the_images a b e = cc e
 
 -- what a scrub comes to, leaves and writes, by the filesystem of the images
-outcome_by : (write : Bool) (images : Images) → scrub_outcome write images ≡ scrub_in write images (filesystem_of images)
+pub outcome_by : (write : Bool) (images : Images) → scrub_outcome write images ≡ scrub_in write images (filesystem_of images)
 unfolding scrub_outcome
 outcome_by write images = refl
 
@@ -157,7 +158,7 @@ module _ (write : Bool) (old mid : Seen) (first : OnlyReads old mid) (volume : V
       ⊎_elim (λ steady. (
         told_at old.held (λ i. Steady old.account.faults mid.account.faults → OpensFilesystem i (Ok volume)) images told content (omega (arith, steady.0, second.later), omega (arith, steady.1, second.later)),
         told_at mid.held (λ i. Steady mid.account.faults at.account.faults → P (fate i layout)) images (ap (λ (s : Seen). s.held) first.same ∙ told) (steadily layout mid at P tells) (omega (arith, steady.0, first.later), steady.1),
-      )) (λ agreed. told_at old.held (λ i. AreAgreed i → Both P i) images told (agreeing true old mid at first volume opened P (Both P) (λ i o p. (o, p)) tells) agreed) sure
+      )) (λ agreed. told_at old.held (λ i. AreAgreed i → Both P i) images told (agreeing old mid at first volume opened P (Both P) (λ i o p. (o, p)) tells) agreed) sure
 
   -- a device isn't given
   module _ (stripe : Stripe) (missing : first_missing layout ≡ Some stripe) where
@@ -279,7 +280,7 @@ module _ (write : Bool) (old mid : Seen) (first : OnlyReads old mid) (volume : V
         (λ images told steady. absurd (sure_told (λ B. ⊥) at second tells images told (inl steady)).1))
 
     -- the blocks were listed, and mended
-    module _ (listed : ListedWrites) (new : Seen) (done : List Met) (tells : Tells layout mid at (λ B. Follows (unread_by layout mid at) no_part [] (exec B (units_in volume.sup layout.chunks)) done (Ok tt))) where
+    module _ (listed : ListedWrites) (countings : ListedCounts) (table : IsTable layout.chunks) (new : Seen) (done : List Met) (tells : Tells layout mid at (λ B. Follows (unread_by layout mid at) no_part [] (exec B (units_in volume.sup layout.chunks)) done (Ok tt))) where
       abbrev ws : Images → List Write
       ws images = all_writes_for layout layout.chunks (checked_among done) images
 
@@ -388,6 +389,7 @@ module _ (write : Bool) (old mid : Seen) (first : OnlyReads old mid) (volume : V
                 told_at at.held (λ i. tally ≡ all_count_for layout write layout.chunks (checked_among done) i (first_tally (fold count_met 0 done))) images (at_images images told)
                 (subst (λ r. OnOk r (IfSome at.held (λ i. tally ≡ all_count_for layout write layout.chunks (checked_among done) i (first_tally (fold count_met 0 done))))) is works.counts)
                 ∙ ap (λ d. all_count_for layout write layout.chunks (checked_among d) images (first_tally (fold count_met 0 d))) same
+                ∙ countings images fs write table
 
             counted : (images : Images) → old.held ≡ Some images → Both Is images → scrub_outcome write images ≡ showing (tally_shown tally)
             counted images told h =
@@ -402,16 +404,16 @@ module _ (write : Bool) (old mid : Seen) (first : OnlyReads old mid) (volume : V
         worked = mended ended refl
 
   -- what the call came to
-  pub scrubs_so : ListedWrites → (new : Seen) (result : Result Tally Stop) → IfSome (first_missing layout) (λ stripe. (result ≡ Err (stop.Missing stripe.devid)) × (new ≡ mid))
+  pub scrubs_so : ListedWrites → ListedCounts → IsTable layout.chunks → (new : Seen) (result : Result Tally Stop) → IfSome (first_missing layout) (λ stripe. (result ≡ Err (stop.Missing stripe.devid)) × (new ≡ mid))
       → (first_missing layout ≡ None → ScrubsAll volume.sup layout write mid new result) → Scrubs write old new (answered result)
-  scrubs_so listed new result missing scrubs = of (first_missing layout) refl missing
+  scrubs_so listed countings table new result missing scrubs = of (first_missing layout) refl missing
     where
       ended_as : (r : Result Tally Stop) (n : Seen) → result ≡ r → new ≡ n → Scrubs write old n (answered r) → Scrubs write old new (answered result)
       ended_as r n is same s = subst (λ q. Scrubs write old new (answered q)) (sym is) (subst (λ m. Scrubs write old m (answered r)) (sym same) s)
 
       by : (given : first_missing layout ≡ None) (at : Seen) → OnlyReads mid at → (done : List Met) (l : Listing) → Goes volume.sup layout write mid at new done result l → Scrubs write old new (answered result)
       by given at second done (Stopped why) g = ended_as (Err why) at g.0 g.1 (listing_stopped given at second why g.3 done g.2)
-      by given at second done Listed g = ended_as (whole.answer_of g.1.ended g.1.tally) new g.1.says refl (worked given at second listed new done g.0 g.1.tally g.1.ended g.1.works)
+      by given at second done Listed g = ended_as (whole.answer_of g.1.ended g.1.tally) new g.1.says refl (worked given at second listed countings table new done g.0 g.1.tally g.1.ended g.1.works)
       by given at second done (Refused f) g = ended_as (Err (stop.Tree f)) at g.0 g.1 (listing_refused given at second f g.2 g.3)
 
       of : (m : Option Stripe) → first_missing layout ≡ m → IfSome m (λ stripe. (result ≡ Err (stop.Missing stripe.devid)) × (new ≡ mid)) → Scrubs write old new (answered result)
@@ -429,6 +431,12 @@ module _ (write : Bool) (old new : Seen) (answer result : Answer) (is : result �
       (λ images. Steady old.account.faults new.account.faults → Shows (IsOneOf images) text text account account result)
       (λ images to steady. subst (Shows (IsOneOf images) text text account account) (sym is)
       (shows_bare (IsOneOf images) text account answer (⊎_elim (λ both. inl (ap (λ o. Some o) both.0)) (λ want. inr (ap refused want)) (to steady)) s.bare.no_fault)) s.content
+
+  pub refused_agreed : (text : Option (List ℕ)) (account : CallAccount) → IfSome old.held (λ images. AreAgreed images → ScrubsAgreed write images (Err answer))
+      → IfSome old.held (λ images. AreAgreed images → Shows (IsOrUnread (scrub_outcome write images)) text text account account result)
+  refused_agreed text account =
+      when_told old.held (λ images. AreAgreed images → ScrubsAgreed write images (Err answer)) (λ images. AreAgreed images → Shows (IsOrUnread (scrub_outcome write images)) text text account account result)
+      (λ images to agreed. subst (Shows (IsOrUnread (scrub_outcome write images)) text text account account) (sym is) (shows_bare (IsOrUnread (scrub_outcome write images)) text account answer (to agreed) s.bare.no_fault))
 
   pub refused_told : (text : Option (List ℕ)) (account : CallAccount) → Shows (OrBare IsScrubOutcome) text text account account result
   refused_told text account = subst (Shows (OrBare IsScrubOutcome) text text account account) (sym is) (shows_bare (OrBare IsScrubOutcome) text account answer (inr (refl, s.bare.line)) s.bare.no_fault)
@@ -457,6 +465,11 @@ module _ (write : Bool) (old new : Seen) (tally : Tally) (s : Scrubs write old n
         when_told old.held (λ images. Steady old.account.faults new.account.faults → ScrubsTo write images (Ok tally))
         (λ images. Steady old.account.faults new.account.faults → Shows (OrMemory (λ outcome. Some (scrub_outcome write images) ≡ Some outcome)) text text' before after result)
         (λ images to steady. shown_so (OrMemory (λ outcome. Some (scrub_outcome write images) ≡ Some outcome)) (inl (ap (λ o. Some o) (to steady)))) s.content
+
+    pub done_agreed : IfSome old.held (λ images. AreAgreed images → ScrubsAgreed write images (Ok tally)) → IfSome old.held (λ images. AreAgreed images → Shows (IsOrUnread (scrub_outcome write images)) text text' before after result)
+    done_agreed =
+        when_told old.held (λ images. AreAgreed images → ScrubsAgreed write images (Ok tally)) (λ images. AreAgreed images → Shows (IsOrUnread (scrub_outcome write images)) text text' before after result)
+        (λ images to agreed. shown_so (IsOrUnread (scrub_outcome write images)) (inl (to agreed)))
 
     pub done_told : Shows (OrBare IsScrubOutcome) text text' before after result
     done_told = shown_so (OrBare IsScrubOutcome) (inl (record { tally = tally; is = refl }))

@@ -1,10 +1,9 @@
 -- What a command that only shows something comes to, as a command among others.
-use Rattle.std.proofs.Common.{◌≡◌, inl, inr, ⊎_elim, ℕ, Bool, true, List, [], get_or, Option, Some, sym, ap, ◌∙◌, subst}
+use Rattle.std.proofs.Common.{◌≡◌, inl, inr, ⊎_elim, ℕ, Bool, true, List, [], get_or, Option, Some, None, sym, ap, ◌∙◌, subst}
 use Rattle.std.specs.Option.{IfSome}
 use Rattle.btr_files.specs.declared.plan.RestorePlan.{RestorePlan}
 use Rattle.btr_rack.specs.Rack.{Account, OnlyReads, Seen, Steady}
 use Rattle.btr_restore.specs.Running.{Outside}
-use Rattle.btr_tool.specs.Agreeing.{AreAgreed, IsCheckOrUnread}
 use Rattle.btr_tool.specs.Behind.{IfSteady, IsBehind}
 use Rattle.btr_tool.specs.Commands.{IsBehindCommand, KeepsRack, MayFail, MayWant, TellsCause, command_outcome}
 use Rattle.btr_tool.specs.Order.{InOrder}
@@ -13,7 +12,7 @@ use Rattle.btr_tool.specs.Restored.{restored}
 use Rattle.btr_tool.specs.Words.{Words}
 use Rattle.btr_tool.specs.declared.answer.Answer.{Answer}
 use Rattle.btr_tool.specs.declared.plan.Command.{Command}
-use Rattle.btr_tool.specs.declared.plan.Command.TheVariants.{Check, Restore, Scrub}
+use Rattle.btr_tool.specs.declared.plan.Command.TheVariants.{Restore, Scrub}
 use Rattle.btr_tool.proofs.Coming.{comes_also, comes_shown}
 use Rattle.btr_tool.proofs.Ending.{when_told}
 use Rattle.btr_tool.proofs.Openings.{Images}
@@ -29,16 +28,18 @@ module _ (command : Command) (x y : Outside) (same : y.sink ≡ x.sink) (same_ca
   pub shown_told : (IsOne : Outcome → Type 0) → Shows (OrBare IsOne) x.text y.text x.out_calls y.out_calls answer → Comes (MayWant command x.out_calls) (OrBare IsOne) x y answer
   shown_told IsOne shows = comes_shown (MayWant command x.out_calls) (OrBare IsOne) x y answer same same_calls (λ scarce. inl scarce) shows
 
-  -- .. a check, by its words
-  pub shown_checked : (given read_data : Bool) → Check given ≡ Check read_data → (held : Option Images) → IfSome held (λ images. AreAgreed images → Shows (IsCheckOrUnread given images) x.text y.text x.out_calls y.out_calls answer)
-      → IfSome held (λ images. AreAgreed images → Comes (MayWant command x.out_calls) (IsCheckOrUnread read_data images) x y answer)
-  shown_checked given read_data is held =
-      when_told held (λ images. AreAgreed images → Shows (IsCheckOrUnread given images) x.text y.text x.out_calls y.out_calls answer) (λ images. AreAgreed images → Comes (MayWant command x.out_calls) (IsCheckOrUnread read_data images) x y answer)
-      (λ images shows agreed. comes_shown (MayWant command x.out_calls) (IsCheckOrUnread read_data images) x y answer same same_calls (λ scarce. inl scarce)
-      (subst (λ b. Shows (IsCheckOrUnread b images) x.text y.text x.out_calls y.out_calls answer) same_choice (shows agreed)))
-    where
-      same_choice : given ≡ read_data
-      same_choice = cc is
+  -- .. where the images agree
+  pub shown_so : (Agrees : Images → Type 0) (IsOne : Images → Outcome → Type 0) (held : Option Images) → IfSome held (λ images. Agrees images → Shows (IsOne images) x.text y.text x.out_calls y.out_calls answer)
+      → IfSome held (λ images. Agrees images → Comes (MayWant command x.out_calls) (IsOne images) x y answer)
+  shown_so Agrees IsOne held =
+      when_told held (λ images. Agrees images → Shows (IsOne images) x.text y.text x.out_calls y.out_calls answer) (λ images. Agrees images → Comes (MayWant command x.out_calls) (IsOne images) x y answer)
+      (λ images shows agreed. comes_shown (MayWant command x.out_calls) (IsOne images) x y answer same same_calls (λ scarce. inl scarce) (shows agreed))
+
+-- what may come at all, where that is all that is said of it where the images agree
+pub told_so : (May : Type 0) (Agrees : Images → Type 0) (IsOne : Outcome → Type 0) (IsSo : Images → Outcome → Type 0) (x y : Outside) (answer : Answer) (held : Option Images) → ((images : Images) (outcome : Outcome) → IsOne outcome → IsSo images outcome)
+    → Comes May IsOne x y answer → IfSome held (λ images. Agrees images → Comes May (IsSo images) x y answer)
+told_so May Agrees IsOne IsSo x y answer None so comes = tt
+told_so May Agrees IsOne IsSo x y answer (Some images) so comes = λ agreed. comes_also May May IsOne (IsSo images) x y answer (λ may. may) (so images) comes
 
 -- a command that writes into a destination, whose name is a word
 pub writing_comes : (number : ℕ) (plan : RestorePlan) (words : Words) (dest : List ℕ) (x y : Outside) (answer : Answer) → get_or words number [] ≡ dest → (images : Images) → Comes (Unit {0}) (OrMemory (λ outcome. restored plan dest images ≡ outcome)) x y answer

@@ -7,14 +7,17 @@ use Rattle.btr_dump.specs.Showing.{Grows, TextRun, TellsBlock, Puts, PutsAsked}
 use Rattle.btr_dump.specs.Stops.{StopCause, StopCounts}
 use Rattle.btr_dump.proofs.Telling.{cause_since}
 use Rattle.btr_prog.specs.Answers.{Names}
-use Rattle.btr_prog.specs.Calls.{First}
+use Rattle.btr_prog.specs.Calls.{Any, First}
+use Rattle.btr_prog.specs.Prog.{wants_of}
 use Rattle.btr_rack.specs.Rack.{Account, Seen, NoneFailed, OnlyReads, Rose, Steady}
 use Rattle.btr_rack.specs.Out.{Adds, CallAccount}
 use Rattle.btr_rack.specs.declared.error.SinkError.TheVariants as sink
 use Rattle.btr_rack.proofs.Reading.{reads_more}
-use Rattle.btr_read.specs.Fate.{fate}
+use Rattle.btr_read.specs.Fate.{Agree, Agreed, fate}
 use Rattle.btr_read.specs.Layout.{Layout}
+use Rattle.btr_read.specs.Want.{addr_of}
 use Rattle.btr_read.specs.declared.want.Want.{Want}
+use Rattle.btr_read.specs.declared.want.Want.TheVariants.{Block}
 use Rattle.btr_volume.specs.Opening.{SuperUnread}
 use Rattle.btr_volume.specs.Start.{Images}
 use Rattle.btr_volume.specs.declared.fault.OpenFault.{OpenFault}
@@ -31,7 +34,7 @@ use Rattle.btr_tool.specs.Behind.{AnyFault, IfSteady, IsBehind, IsFault, HasTree
 use Rattle.btr_tool.specs.Faults.{open_answer, tree_answer}
 use Rattle.btr_tool.specs.Filesystem.{Filesystem, OpensFilesystem, IsBySupers, IsRefusal, MayMend, filesystem_in, filesystem_of}
 use Rattle.btr_tool.specs.Outcomes.{Outcome, IsNoFault, Shows, OrBare, OrMemory, refused, showing}
-use Rattle.btr_tool.specs.Trees.{IsTreesOutcome, asked_answer, call_answer, shown_by, trees_in, trees_outcome, trees_shown, whole_answer}
+use Rattle.btr_tool.specs.Trees.{BreaksOff, IsTreesOutcome, asked_answer, call_answer, shown_by, trees_in, trees_outcome, trees_shown, whole_answer}
 use Rattle.btr_tool.specs.declared.plan.DumpChoice.{DumpChoice}
 use Rattle.btr_tool.specs.declared.answer.Answer.{Answer}
 use Rattle.btr_tool.specs.declared.answer.Answer.TheVariants.{Done, Usage, NoSuper, SumKind, Foreign, Twin, Unsupported, Geometry, LogPending, BadArray, Limit, NoTree, ImageFault}
@@ -39,7 +42,7 @@ use Rattle.btr_tool.proofs.Coming.{shows_bare, shows_also}
 use Rattle.btr_tool.proofs.Ending.{when_told}
 use Rattle.btr_tool.proofs.Faulting.{tree_in, tree_back}
 use Rattle.btr_tool.proofs.Refusals.{open_line, open_no_fault, open_no_usage}
-use Rattle.btr_tool.proofs.Shows.{asked_come, puts_come}
+use Rattle.btr_tool.proofs.Shows.{HasUnread, asked_come, puts_come}
 
 steady_not_rose : (before now : ℕ) → Steady before now → Rose before now → ⊥
 steady_not_rose before now steady rose = omega (arith, steady.0, steady.1, rose.0, rose.1)
@@ -65,6 +68,32 @@ module _ (layout : Layout) (old new : Seen) where
   steadily_block : (addr : ℕ) (P : Map → Type 0) → TellsBlock layout addr old new P → IfSteady old.held old.account new.account (λ images. P (fate images layout))
   steadily_block addr P tells = told_where old.held (Steady old.account.faults new.account.faults) (λ images. P (fate images layout)) (λ steady. tells.calls.content First (omega (arith, tells.calls.later, steady.0), steady.1))
 
+  -- what calls tell where the images agree
+  pub told_agreed : (P : Map → Type 0) → Tells layout old new P → IfSome old.held (λ images. Agreed images layout → P (fate images layout))
+  told_agreed P tells = of old.held refl
+    where
+      of : (held : Option Images) → old.held ≡ held → IfSome held (λ images. Agreed images layout → P (fate images layout))
+      of None is = tt
+      of (Some images) is = λ agreed. subst (λ (o : Option Images). IfSome o (λ i. P (fate i layout))) is (tells.calls.content Any (subst (λ (o : Option Images). IfSome o (λ i. Agreed i layout)) (sym is) agreed))
+
+  told_block : (addr : ℕ) (P : Map → Type 0) → TellsBlock layout addr old new P → IfSome old.held (λ images. Agree images layout (Block addr) → P (fate images layout))
+  told_block addr P tells = of old.held refl
+    where
+      of : (held : Option Images) → old.held ≡ held → IfSome held (λ images. Agree images layout (Block addr) → P (fate images layout))
+      of None is = tt
+      of (Some images) is = λ agree. subst (λ (o : Option Images). IfSome o (λ i. P (fate i layout))) is (tells.calls.content Any (subst (λ (o : Option Images). IfSome o (λ i. Agree i layout (Block addr))) (sym is) agree))
+
+  -- a run up to a block that could not be read
+  breaks_off : {A : Type 0} (r : TextRun A) → HasUnread Is r (BreaksOff r)
+  breaks_off r u upto rest place named = record { unread = u; before = upto; behind = rest; place = place; wanted = of (wants_of upto) named; is = refl }
+    where
+      of : (ws : List Want) → Names Is u ws → Names (λ b want. b.addr ≡ addr_of want) u ws
+      of [] named = named
+      of (w ∷ ws) named = ⊎_elim (λ is. inl is.same_addr) (λ more. inr (of ws more)) named
+
+  none_off : {A : Type 0} (IsOne : Outcome → Type 0) (r : TextRun A) → Steady old.account.faults new.account.faults → HasUnread Is r IsOne
+  none_off IsOne r steady u upto rest place named = absurd (none_unread layout old new steady u (wants_of upto) named)
+
   module _ (text text' : Option Text) (before after : CallAccount) (result : Result (Unit {0}) Stop) (counts : StopCounts before after result) where
     -- what a call comes to that shows the text of a run
     pub run_comes : (run : Map → TextRun (Unit {0})) → Tells layout old new (λ B. Puts Is (run B) text text' result)
@@ -72,21 +101,52 @@ module _ (layout : Layout) (old new : Seen) where
     run_comes run tells =
         when_told old.held (λ images. Steady old.account.faults new.account.faults → Puts Is (run (fate images layout)) text text' result)
         (λ images. Steady old.account.faults new.account.faults → Shows (λ outcome. outcome ≡ showing (shown_by whole_answer (run (fate images layout)))) text text' before after (call_answer result))
-        (λ images puts steady. puts_come Is (run (fate images layout)) text text' before after result (none_unread layout old new steady) (puts steady) counts) (steadily (λ B. Puts Is (run B) text text' result) tells)
+        (λ images puts steady. let IsOne : Outcome → Type 0 = λ outcome. outcome ≡ showing (shown_by whole_answer (run (fate images layout))) in
+        puts_come Is IsOne text text' before after (run (fate images layout)) refl (none_off IsOne (run (fate images layout)) steady) result (puts steady) counts) (steadily (λ B. Puts Is (run B) text text' result) tells)
 
     pub block_comes : (addr : ℕ) (run : Map → TextRun (Unit {0})) → TellsBlock layout addr old new (λ B. Puts Is (run B) text text' result)
         → IfSteady old.held old.account new.account (λ images. Shows (λ outcome. outcome ≡ showing (shown_by whole_answer (run (fate images layout)))) text text' before after (call_answer result))
     block_comes addr run tells =
         when_told old.held (λ images. Steady old.account.faults new.account.faults → Puts Is (run (fate images layout)) text text' result)
         (λ images. Steady old.account.faults new.account.faults → Shows (λ outcome. outcome ≡ showing (shown_by whole_answer (run (fate images layout)))) text text' before after (call_answer result))
-        (λ images puts steady. puts_come Is (run (fate images layout)) text text' before after result (none_unread layout old new steady) (puts steady) counts) (steadily_block addr (λ B. Puts Is (run B) text text' result) tells)
+        (λ images puts steady. let IsOne : Outcome → Type 0 = λ outcome. outcome ≡ showing (shown_by whole_answer (run (fate images layout))) in
+        puts_come Is IsOne text text' before after (run (fate images layout)) refl (none_off IsOne (run (fate images layout)) steady) result (puts steady) counts) (steadily_block addr (λ B. Puts Is (run B) text text' result) tells)
 
     pub tree_comes : (run : Map → TextRun (Option ℕ)) → Tells layout old new (λ B. PutsAsked Is (run B) text text' result)
         → IfSteady old.held old.account new.account (λ images. Shows (λ outcome. outcome ≡ showing (shown_by asked_answer (run (fate images layout)))) text text' before after (call_answer result))
     tree_comes run tells =
         when_told old.held (λ images. Steady old.account.faults new.account.faults → PutsAsked Is (run (fate images layout)) text text' result)
         (λ images. Steady old.account.faults new.account.faults → Shows (λ outcome. outcome ≡ showing (shown_by asked_answer (run (fate images layout)))) text text' before after (call_answer result))
-        (λ images puts steady. asked_come Is (run (fate images layout)) text text' before after result (none_unread layout old new steady) (puts steady) counts) (steadily (λ B. PutsAsked Is (run B) text text' result) tells)
+        (λ images puts steady. let IsOne : Outcome → Type 0 = λ outcome. outcome ≡ showing (shown_by asked_answer (run (fate images layout))) in
+        asked_come Is IsOne text text' before after (run (fate images layout)) refl (none_off IsOne (run (fate images layout)) steady) result (puts steady) counts) (steadily (λ B. PutsAsked Is (run B) text text' result) tells)
+
+    -- .. where the images agree
+    pub run_agreed : (run : Map → TextRun (Unit {0})) → Tells layout old new (λ B. Puts Is (run B) text text' result)
+        → IfSome old.held (λ images. Agreed images layout → Shows (λ outcome. (outcome ≡ showing (shown_by whole_answer (run (fate images layout)))) ⊎ BreaksOff (run (fate images layout)) outcome) text text' before after (call_answer result))
+    run_agreed run tells =
+        when_told old.held (λ images. Agreed images layout → Puts Is (run (fate images layout)) text text' result)
+        (λ images. Agreed images layout → Shows (λ outcome. (outcome ≡ showing (shown_by whole_answer (run (fate images layout)))) ⊎ BreaksOff (run (fate images layout)) outcome) text text' before after (call_answer result))
+        (λ images puts agreed. let r = run (fate images layout) in
+        puts_come Is (λ outcome. (outcome ≡ showing (shown_by whole_answer r)) ⊎ BreaksOff r outcome) text text' before after r (inl refl) (λ u upto rest place named. inr (breaks_off r u upto rest place named)) result (puts agreed) counts)
+        (told_agreed (λ B. Puts Is (run B) text text' result) tells)
+
+    pub block_agreed : (addr : ℕ) (run : Map → TextRun (Unit {0})) → TellsBlock layout addr old new (λ B. Puts Is (run B) text text' result)
+        → IfSome old.held (λ images. Agree images layout (Block addr) → Shows (λ outcome. (outcome ≡ showing (shown_by whole_answer (run (fate images layout)))) ⊎ BreaksOff (run (fate images layout)) outcome) text text' before after (call_answer result))
+    block_agreed addr run tells =
+        when_told old.held (λ images. Agree images layout (Block addr) → Puts Is (run (fate images layout)) text text' result)
+        (λ images. Agree images layout (Block addr) → Shows (λ outcome. (outcome ≡ showing (shown_by whole_answer (run (fate images layout)))) ⊎ BreaksOff (run (fate images layout)) outcome) text text' before after (call_answer result))
+        (λ images puts agree. let r = run (fate images layout) in
+        puts_come Is (λ outcome. (outcome ≡ showing (shown_by whole_answer r)) ⊎ BreaksOff r outcome) text text' before after r (inl refl) (λ u upto rest place named. inr (breaks_off r u upto rest place named)) result (puts agree) counts)
+        (told_block addr (λ B. Puts Is (run B) text text' result) tells)
+
+    pub tree_agreed : (run : Map → TextRun (Option ℕ)) → Tells layout old new (λ B. PutsAsked Is (run B) text text' result)
+        → IfSome old.held (λ images. Agreed images layout → Shows (λ outcome. (outcome ≡ showing (shown_by asked_answer (run (fate images layout)))) ⊎ BreaksOff (run (fate images layout)) outcome) text text' before after (call_answer result))
+    tree_agreed run tells =
+        when_told old.held (λ images. Agreed images layout → PutsAsked Is (run (fate images layout)) text text' result)
+        (λ images. Agreed images layout → Shows (λ outcome. (outcome ≡ showing (shown_by asked_answer (run (fate images layout)))) ⊎ BreaksOff (run (fate images layout)) outcome) text text' before after (call_answer result))
+        (λ images puts agreed. let r = run (fate images layout) in
+        asked_come Is (λ outcome. (outcome ≡ showing (shown_by asked_answer r)) ⊎ BreaksOff r outcome) text text' before after r (inl refl) (λ u upto rest place named. inr (breaks_off r u upto rest place named)) result (puts agreed) counts)
+        (told_agreed (λ B. PutsAsked Is (run B) text text' result) tells)
 
 -- the filesystem isn't opened
 module _ (answer result : Answer) (is : result ≡ answer) (refusal : IsRefusal answer) where

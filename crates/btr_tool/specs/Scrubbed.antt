@@ -5,10 +5,7 @@ use Rattle.btr_chunk.specs.declared.stripe.Stripe.{Stripe}
 use Rattle.btr_mend.specs.Writes.{Write}
 use Rattle.btr_read.specs.Fate.{Fault}
 use Rattle.btr_scrub.specs.Filesystem as scrubbed
-use Rattle.btr_scrub.specs.Gathering.{checked_among, count_met}
-use Rattle.btr_scrub.specs.Repair.{effect, first_missing, meeting, met, writes}
-use Rattle.btr_scrub.specs.Scrubbing.{all_count_for}
-use Rattle.btr_scrub.specs.Whole.{first_tally}
+use Rattle.btr_scrub.specs.Repair.{effect, first_missing, meeting, stood_tally, tally, writes}
 use Rattle.btr_scrub.specs.declared.tally.Tally.{Tally}
 use Rattle.btr_volume.specs.Start.{Images}
 use Rattle.btr_tool.specs.Checked.{found}
@@ -31,9 +28,9 @@ tally_text t =
 abbrev pub tally_shown : Tally → Shown
 tally_shown t = record { answer = found t.lost; text = tally_text t }
 
--- the counts of a scrub, which writes or only reads, by what the images hold
+-- the counts of a scrub, which writes or only reads: the tally of the repair, each of which stands still at its type's end
 abbrev pub counts : Bool → Images → scrubbed.Filesystem → Tally
-counts write images fs = all_count_for fs.layout write fs.layout.chunks (checked_among (met images fs)) images (first_tally (fold count_met 0 (met images fs)))
+counts write images fs = stood_tally (tally images fs write)
 
 -- what a scrub comes to by how the listing of the checked blocks ends
 abbrev pub scrub_ended : Bool → Images → scrubbed.Filesystem → Result (Unit {0}) Fault → Outcome

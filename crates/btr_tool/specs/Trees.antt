@@ -1,19 +1,22 @@
 -- The commands that show trees of a filesystem.
-use Rattle.std.specs.Prelude.{◌≡◌, ◌⊎◌, ℕ, Option, Some, None, Result, Ok, Err}
-use Rattle.btr_dump.specs.Pieces.{all_trees, asked_tree, block_shown, kind_in, roots_shown}
+use Rattle.std.specs.Prelude.{◌≡◌, ◌⊎◌, ℕ, List, ◌++◌, Option, Some, None, Result, Ok, Err}
+use Rattle.btr_dump.specs.Pieces.{Text, all_trees, asked_tree, block_shown, kind_in, roots_shown}
 use Rattle.btr_dump.specs.Showing.{TextRun, whole}
-use Rattle.btr_prog.specs.Prog.{exec, steps_of}
+use Rattle.btr_prog.specs.Answers.{Names}
+use Rattle.btr_prog.specs.Prog.{Mark, exec, steps_of, wants_of}
 use Rattle.btr_read.specs.Fate.{Fault, fate}
+use Rattle.btr_read.specs.Want.{addr_of}
+use Rattle.btr_read.specs.declared.want.Want.{Want}
 use Rattle.btr_super.specs.declared.superblock.Super.{Super}
 use Rattle.btr_volume.specs.Start.{Images}
 use Rattle.btr_volume.specs.declared.stop.Stop.{Stop}
-use Rattle.btr_walk.specs.Reading.{Map}
+use Rattle.btr_walk.specs.Reading.{Map, UnreadBlock}
 use Rattle.btr_walk.specs.declared.fault.TreeFault.{TreeFault}
 use Rattle.btr_tool.specs.Faults.{stop_answer, tree_answer}
 use Rattle.btr_tool.specs.Filesystem.{Filesystem, fault_answer, filesystem_of}
 use Rattle.btr_tool.specs.Outcomes.{Outcome, Shown, refused, showing}
 use Rattle.btr_tool.specs.declared.answer.Answer.{Answer}
-use Rattle.btr_tool.specs.declared.answer.Answer.TheVariants.{Done, NoTree}
+use Rattle.btr_tool.specs.declared.answer.Answer.TheVariants.{Done, NoTree, Unread}
 use Rattle.btr_tool.specs.declared.plan.DumpChoice.{DumpChoice}
 use Rattle.btr_tool.specs.declared.plan.DumpChoice.TheVariants.{All, Block, Tree, RootLines}
 
@@ -40,6 +43,26 @@ trees_shown All blocks s = shown_by whole_answer (exec blocks (all_trees s))
 trees_shown (Block addr) blocks s = shown_by whole_answer (exec blocks (block_shown (kind_in s) addr))
 trees_shown (Tree id) blocks s = shown_by asked_answer (exec blocks (asked_tree s id))
 trees_shown RootLines blocks s = shown_by whole_answer (exec blocks (roots_shown s))
+
+-- a text is shown piece by piece up to a place behind a want of a block that could not be read, which the answer names
+pub record BreaksOff {A : Type 0} (r : TextRun A) (outcome : Outcome) : Type 0 where
+  pub unread : UnreadBlock
+  pub before : List (Mark Want Text)
+  pub behind : List (Mark Want Text)
+  pub place : r.marks ≡ before ++ behind
+  pub wanted : Names (λ u want. u.addr ≡ addr_of want) unread (wants_of before)
+  pub is : outcome ≡ showing (record { answer = Unread unread.addr unread.slot; text = whole (steps_of before) })
+
+-- .. of the trees that are asked for
+abbrev pub BreaksOffIn : DumpChoice → Map → Super → Outcome → Type 0
+BreaksOffIn All blocks s outcome = BreaksOff (exec blocks (all_trees s)) outcome
+BreaksOffIn (Block addr) blocks s outcome = BreaksOff (exec blocks (block_shown (kind_in s) addr)) outcome
+BreaksOffIn (Tree id) blocks s outcome = BreaksOff (exec blocks (asked_tree s id)) outcome
+BreaksOffIn RootLines blocks s outcome = BreaksOff (exec blocks (roots_shown s)) outcome
+
+-- they are shown as far as each block could be read
+abbrev pub ShowsUpTo : DumpChoice → Map → Super → Outcome → Type 0
+ShowsUpTo choice blocks s outcome = (outcome ≡ showing (trees_shown choice blocks s)) ⊎ BreaksOffIn choice blocks s outcome
 
 abbrev pub trees_in : DumpChoice → Images → Result Filesystem Answer → Outcome
 trees_in choice images (Ok fs) = showing (trees_shown choice (fate images fs.layout) fs.sup)

@@ -1,12 +1,12 @@
 // The commands.
-ghost use Rattle.std.specs.Prelude.{◌≡◌, ◌≢◌, ◌<◌, [], ℕ, Bool, true, Some, get_or, length, map, IfSome};
+ghost use Rattle.std.specs.Prelude.{◌≡◌, ◌≢◌, ◌<◌, [], ℕ, true, Some, get_or, length, map, IfSome};
 ghost use Rattle.std.specs.String.{string_bytes};
 ghost use Rattle.btr_files.specs.declared.plan.RestorePlan.{RestorePlan};
 ghost use Rattle.btr_mend.specs.Writes.{AreWritable};
 ghost use Rattle.btr_rack.specs.Rack.{Steady};
 ghost use Rattle.btr_rack.specs.Sink.{NotStarted};
 ghost use Rattle.btr_restore.specs.Running.{outside};
-ghost use Rattle.btr_tool.specs.Agreeing.{AreAgreed, IsCheckOrUnread};
+ghost use Rattle.btr_tool.specs.Agreeing.{AreAgreedFor, ComesAgreed};
 ghost use Rattle.btr_tool.specs.Answers.{answer_of};
 ghost use Rattle.btr_tool.specs.Behind.{IfSteady};
 ghost use Rattle.btr_tool.specs.Commands.{HasWords, IsBehindCommand, MayCome, MayWant, command_outcome, opens_to_write};
@@ -51,8 +51,8 @@ pub(crate) fn perform<R: Rack, T: TreeSink, O: Out>(
         InOrder plan (get_or (map string_bytes words.now) number []) images (R.seen rack.old) (R.seen rack.new)
         (outside (T.sink tree.old) (T.account tree.old) (O.text out.old) (O.account out.old))
         (outside (T.sink tree.new) (T.account tree.new) (O.text out.new) (O.account out.new)) (answer_of result)) }
-    ensures checked { (read_data : Bool) → command ≡ Command.Check read_data → IfSome (R.seen rack.old).held (λ images. AreAgreed images →
-        Comes (MayWant command (O.account out.old)) (IsCheckOrUnread read_data images)
+    ensures agreed { IfSome (R.seen rack.old).held (λ images. AreAgreedFor command images →
+        Comes (MayWant command (O.account out.old)) (ComesAgreed command images)
         (outside (T.sink tree.old) (T.account tree.old) (O.text out.old) (O.account out.old))
         (outside (T.sink tree.new) (T.account tree.new) (O.text out.new) (O.account out.new)) (answer_of result)) }
     ensures repaired { command ≡ Command.Scrub true → IfSteady (R.seen rack.old).held (R.seen rack.old).account (R.seen rack.new).account (λ images.

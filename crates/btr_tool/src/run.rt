@@ -4,7 +4,7 @@ ghost use Rattle.std.specs.String.{string_bytes};
 ghost use Rattle.btr_rack.specs.Rack.{Steady};
 ghost use Rattle.btr_rack.specs.Sink.{NotStarted};
 ghost use Rattle.btr_restore.specs.Running.{outside};
-ghost use Rattle.btr_tool.specs.Agreeing.{FollowsCheck, KeepsCheck};
+ghost use Rattle.btr_tool.specs.Agreeing.{FollowsAgreed, KeepsAgreed};
 ghost use Rattle.btr_tool.specs.Answers.{answer_of, error_line};
 ghost use Rattle.btr_tool.specs.Behind.{IfSteady};
 ghost use Rattle.btr_tool.specs.Causes.{HidesNone, ImageCause, IsBehindWords, IsMissingImage, IsShut, TreeCause, opened_with};
@@ -69,9 +69,10 @@ pub fn run<R: Rack, T: TreeSink, O: Out>(
         (outside (T.sink tree.old) (T.account tree.old) (O.text out.old) (O.account out.old))
         (outside (T.sink tree.new) (T.account tree.new) (O.text out.new) (O.account out.new)) result) }
 
-    // Whatever failed, a check of images whose copies agree comes to the same, or to a block or a superblock that could not be read.
-    ensures checked { IfSome (R.seen rack.old).shelf (λ shelf.
-        KeepsCheck (map string_bytes words.now) shelf
+    // Whatever failed, a check or a scrub of images whose copies agree comes to the same, or to a block or an image that could not be read; so does
+    // showing trees, whose text goes up to that block.
+    ensures agreed { IfSome (R.seen rack.old).shelf (λ shelf.
+        KeepsAgreed (map string_bytes words.now) shelf
         (outside (T.sink tree.old) (T.account tree.old) (O.text out.old) (O.account out.old))
         (outside (T.sink tree.new) (T.account tree.new) (O.text out.new) (O.account out.new)) result) }
 
@@ -151,8 +152,8 @@ fn carry_out<R: Rack, T: TreeSink, O: Out>(
         FollowsOrder (map string_bytes words.now) shelf (opened_with (R.seen rack.old).account (R.seen rack.new)) (R.seen rack.new)
         (outside (T.sink tree.old) (T.account tree.old) (O.text out.old) (O.account out.old))
         (outside (T.sink tree.new) (T.account tree.new) (O.text out.new) (O.account out.new)) (answer_of result)) }
-    ensures checked { IfSome (R.seen rack.old).shelf (λ shelf.
-        FollowsCheck (map string_bytes words.now) shelf
+    ensures agreed { IfSome (R.seen rack.old).shelf (λ shelf.
+        FollowsAgreed (map string_bytes words.now) shelf
         (outside (T.sink tree.old) (T.account tree.old) (O.text out.old) (O.account out.old))
         (outside (T.sink tree.new) (T.account tree.new) (O.text out.new) (O.account out.new)) (answer_of result)) }
     ensures decided { (answer : Answer) → IsDecided (map string_bytes words.now) answer

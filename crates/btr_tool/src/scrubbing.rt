@@ -3,6 +3,7 @@ ghost use Rattle.std.specs.Prelude.{◌≡◌, ◌≢◌, ◌<◌, true, length,
 ghost use Rattle.btr_mend.specs.Writes.{AreWritable};
 ghost use Rattle.btr_rack.specs.Rack.{Steady};
 ghost use Rattle.btr_text.specs.Pieces.{text_of};
+ghost use Rattle.btr_tool.specs.Agreeing.{AreAgreed, IsOrUnread, ScrubsAgreed};
 ghost use Rattle.btr_tool.specs.Answers.{answer_of};
 ghost use Rattle.btr_tool.specs.Behind.{IfSteady};
 ghost use Rattle.btr_tool.specs.Checked.{found};
@@ -15,7 +16,7 @@ use crate::answer::Answer;
 use crate::filesystem::open_filesystem;
 use crate::plan::Command;
 use btr_rack::{Out, Rack};
-use btr_scrub::{Tally, listed_writes, scrub};
+use btr_scrub::{Tally, listed_counts, listed_writes, scrub};
 use btr_text::{Piece, put_pieces};
 use std::alloc::Global;
 
@@ -34,6 +35,9 @@ pub(crate) fn scrub_images<R: Rack, O: Out>(
     ensures effect { IfSteady (R.seen rack.old).held (R.seen rack.old).account (R.seen rack.new).account (λ images.
         Shows (OrMemory (λ outcome. Some (scrub_outcome write images) ≡ Some outcome))
         (O.text out.old) (O.text out.new) (O.account out.old) (O.account out.new) (answer_of result)) }
+    ensures agreed { IfSome (R.seen rack.old).held (λ images. AreAgreed images →
+        Shows (IsOrUnread (scrub_outcome write images))
+        (O.text out.old) (O.text out.new) (O.account out.old) (O.account out.new) (answer_of result)) }
     ensures told { Shows (OrBare IsScrubOutcome)
         (O.text out.old) (O.text out.new) (O.account out.old) (O.account out.new) (answer_of result) }
     ensures repaired { write ≡ true → IfSteady (R.seen rack.old).held (R.seen rack.old).account (R.seen rack.new).account (λ images.
@@ -51,9 +55,11 @@ pub(crate) fn scrub_images<R: Rack, O: Out>(
 fn scrub_filesystem<R: Rack>(alloc: Global, write: bool, rack: &mut R) -> Result<Tally, Answer>
     requires open { 0 < length (R.seen rack.old).slots }
     requires writable { write ≡ true → AreWritable (R.seen rack.old).slots }
-    ensures { Scrubs write (R.seen rack.old) (R.seen rack.new) result }
+    ensures scrubs { Scrubs write (R.seen rack.old) (R.seen rack.new) result }
+    ensures agreed { IfSome (R.seen rack.old).held (λ images. AreAgreed images → ScrubsAgreed write images result) }
 {
     listed_writes();
+    listed_counts();
     let mut volume = open_filesystem(alloc, rack)?;
     Ok(scrub(alloc, write, rack, &mut volume)?)
 }

@@ -6,6 +6,7 @@ mod checking;
 mod dumping;
 mod hostile;
 mod kinds;
+mod mending;
 mod opening;
 mod restoring;
 mod scrubbing;

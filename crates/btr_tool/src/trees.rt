@@ -1,16 +1,17 @@
 // The commands that show trees of a filesystem.
-ghost use Rattle.std.specs.Prelude.{◌≡◌, ◌<◌, ◌≤◌, length, Some};
+ghost use Rattle.std.specs.Prelude.{◌≡◌, ◌<◌, ◌≤◌, length, IfSome, Some};
 ghost use Rattle.btr_dump.specs.Showing.{Grows};
 ghost use Rattle.btr_dump.specs.Stops.{StopCause, StopCounts};
 ghost use Rattle.btr_rack.specs.Rack.{OnlyReads};
-ghost use Rattle.btr_read.specs.Fate.{fate};
+ghost use Rattle.btr_read.specs.Fate.{Agreed, fate};
 ghost use Rattle.btr_read.specs.Serves.{Serves};
 ghost use Rattle.btr_read.specs.Store.{free_count};
+ghost use Rattle.btr_tool.specs.Agreeing.{AgreesOn, AreAgreedOn, IsTreesOrUnread};
 ghost use Rattle.btr_tool.specs.Answers.{answer_of};
 ghost use Rattle.btr_tool.specs.Behind.{AnyFault, IfSteady, IsBehind};
 ghost use Rattle.btr_tool.specs.Filesystem.{MayMend};
 ghost use Rattle.btr_tool.specs.Outcomes.{OrBare, OrMemory, Shows, showing};
-ghost use Rattle.btr_tool.specs.Trees.{IsTreesOutcome, call_answer, trees_outcome, trees_shown};
+ghost use Rattle.btr_tool.specs.Trees.{IsTreesOutcome, ShowsUpTo, call_answer, trees_outcome, trees_shown};
 
 use crate::answer::Answer;
 use crate::filesystem::open_filesystem;
@@ -33,6 +34,9 @@ pub(crate) fn show_trees<R: Rack, O: Out>(
     requires { 0 < length (R.seen rack.old).slots }
     ensures effect { IfSteady (R.seen rack.old).held (R.seen rack.old).account (R.seen rack.new).account (λ images.
         Shows (OrMemory (λ outcome. Some (trees_outcome choice images) ≡ Some outcome))
+        (O.text out.old) (O.text out.new) (O.account out.old) (O.account out.new) (answer_of result)) }
+    ensures agreed { IfSome (R.seen rack.old).held (λ images. AreAgreedOn choice images →
+        Shows (IsTreesOrUnread choice images)
         (O.text out.old) (O.text out.new) (O.account out.old) (O.account out.new) (answer_of result)) }
     ensures told { Shows (OrBare IsTreesOutcome)
         (O.text out.old) (O.text out.new) (O.account out.old) (O.account out.new) (answer_of result) }
@@ -58,6 +62,9 @@ fn show<R: Rack, O: Out>(
     ensures grows { Grows (O.text out.old) (O.text out.new) }
     ensures content { IfSteady (R.seen rack.old).held (R.seen rack.old).account (R.seen rack.new).account (λ images.
         Shows (λ outcome. outcome ≡ showing (trees_shown choice (fate images volume.old.store.layout) volume.old.sup))
+        (O.text out.old) (O.text out.new) (O.account out.old) (O.account out.new) (call_answer result)) }
+    ensures agreed { IfSome (R.seen rack.old).held (λ images. Agreed images volume.old.store.layout → AgreesOn choice images volume.old.store.layout →
+        Shows (ShowsUpTo choice (fate images volume.old.store.layout) volume.old.sup)
         (O.text out.old) (O.text out.new) (O.account out.old) (O.account out.new) (call_answer result)) }
 {
     match choice {

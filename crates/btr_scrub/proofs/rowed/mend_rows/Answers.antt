@@ -14,7 +14,8 @@ use Rattle.btr_scrub.specs.Repair.{row_of}
 use Rattle.btr_scrub.specs.Scrubbing.{BeginsBehind, HasRooms, IsPastChunk, Scrubs, counted_row}
 use Rattle.btr_scrub.proofs.Blockwise.{have_lengths, next_block}
 use Rattle.btr_scrub.proofs.OneRow.{chunk_of}
-use Rattle.btr_scrub.proofs.Rowwise.{is_row_of, next_row, rows_cut, rows_done, rows_first, rows_more, rows_past, rows_short}
+use Rattle.btr_scrub.proofs.NextRow.{is_row_of}
+use Rattle.btr_scrub.proofs.Rowwise.{next_row, rows_cut, rows_done, rows_first, rows_more, rows_past, rows_short}
 use Rattle.btr_scrub.proofs.rowed.mend_rows.Goals as goal
 
 pub loop-first-init : goal.loop-first-init

@@ -1,48 +1,54 @@
-use Rattle.std.proofs.Common.{[], Ok, Err, refl, sym, ap, ◌∙◌, subst, arith}
-use Rattle.btr_prog.specs.Answers.{Follows, no_part}
-use Rattle.btr_prog.specs.Prog.{exec}
-use Rattle.btr_read.specs.Layout.{Layout}
-use Rattle.btr_walk.specs.Reading.{unread_by}
-use Rattle.btr_volume.proofs.Looked.{drawn}
-use Rattle.btr_scrub.specs.Gathering.{checked_among}
-use Rattle.btr_scrub.specs.Judging.{Judged}
-use Rattle.btr_scrub.specs.Order.{AreApart}
-use Rattle.btr_scrub.specs.Units.{units_in}
-use Rattle.btr_scrub.proofs.Unitwise.{units_apart}
-use Rattle.btr_scrub.specs.Whole.{Refused, Stopped}
+use Rattle.std.proofs.Common.{◌≡◌, ◌<◌, All, IfSome, None, Some, arith, refl, sym, subst, ◌∙◌}
+use Rattle.btr_mend.specs.Writes.{Images}
+use Rattle.btr_read.proofs.Serving.{serving}
+use Rattle.btr_scrub.specs.Repair.{first_missing}
+use Rattle.btr_scrub.specs.Scrubbed.{called}
+use Rattle.btr_scrub.proofs.Blockwise.{have_lengths}
+use Rattle.btr_scrub.proofs.Scrubbed.{all_given, is_safe, is_scrubbed, lacks, none_lacks, not_given, slots_stay}
+use Rattle.btr_scrub.proofs.Scrubbing.{told}
 use Rattle.btr_scrub.proofs.whole.scrub.Goals as goal
 
-pub returns-in-Err-clause-scrubs : goal.returns-in-Err-clause-scrubs
-returns-in-Err-clause-scrubs g c none = record {
-  mid = g.R.Rack.seen c.list_blocks.new.rack;
-  reads = c.in-Err.ensures.reads;
-  done = c.in-Err.ensures.lists.done;
-  listing = Stopped c.in-Err.stop;
-  goes = (refl, refl, c.in-Err.ensures.lists.content, c.in-Err.ensures.lists.cause);
-}
-
-pub returns-clause-scrubs : goal.returns-clause-scrubs
-returns-clause-scrubs g c none =
-    let s = c.args.vol.now.sup in
-    let layout = c.args.vol.now.store.layout in
+pub returns-in-Some-clause-scrubbed : goal.returns-in-Some-clause-scrubbed
+returns-in-Some-clause-scrubbed g c =
     let old = g.R.Rack.seen c.args.rack.now in
-    let mid = g.R.Rack.seen c.list_blocks.new.rack in
-    let lists = c.in-Ok.ensures.lists in
-    let listed = lists.lists in
-    let fault = c.in-Err-judge_blocks.fault in
-    let judged = subst (λ (l : Layout). Judged l c.read_all-blocks.result (Err fault)) c.in-Ok.ensures.volume.store.layout c.in-Err-judge_blocks.ensures in
-    record {
-      mid = mid;
-      reads = c.in-Ok.ensures.reads;
-      done = lists.done;
-      listing = Refused fault;
-      goes = (
-        refl,
-        refl,
-        judged.0,
-        drawn layout (λ B. Follows (unread_by layout old mid) no_part [] (exec B (units_in s layout.chunks)) lists.done (Ok tt)) (λ B. ⊥)
-            (λ B f. judged.1 (subst (AreApart layout 0) (ap checked_among (sym f.0) ∙ sym listed.wants ∙ sym c.read_all-blocks.ensures)
-            (units_apart s layout c.missing_device.ensures.table c.requires.nodesize (omega (arith, c.requires.large)) B tt f.1)))
-            lists.content,
-      );
-    }
+    let layout = c.args.vol.now.store.layout in
+    let was = serving old c.args.vol.now.store c.requires.serves in
+    let is = sym c.in-Some.is ∙ c.missing_device.ensures.devid in
+    is_scrubbed (called c.args.vol.now c.args.write old old _) c.missing_device.ensures.table was.own_slots
+    (λ images held. have_lengths old layout images (g.met.R.Rack.sound c.args.rack.now) was.are_open held)
+    (lacks (first_missing layout) c.in-Some.devid old is) (λ given. absurd (not_given (first_missing layout) c.in-Some.devid is given))
+
+pub returns-in-None-clause-scrubbed : goal.returns-in-None-clause-scrubbed
+returns-in-None-clause-scrubbed g c =
+    let old = g.R.Rack.seen c.args.rack.now in
+    let new = g.R.Rack.seen c.scrub_given.new.rack in
+    let layout = c.args.vol.now.store.layout in
+    let was = serving old c.args.vol.now.store c.requires.serves in
+    let given = all_given (first_missing layout) (sym c.in-None.is ∙ c.missing_device.ensures.devid) in
+    let call = called c.args.vol.now c.args.write old new c.scrub_given.result in
+    is_scrubbed call c.missing_device.ensures.table was.own_slots
+    (λ images held. have_lengths old layout images (g.met.R.Rack.sound c.args.rack.now) was.are_open held)
+    (none_lacks call (first_missing layout) given) (λ _. c.scrub_given.ensures.scrubs)
+
+pub returns-in-None-clause-safe : goal.returns-in-None-clause-safe
+returns-in-None-clause-safe g c =
+    let old = g.R.Rack.seen c.args.rack.now in
+    let new = g.R.Rack.seen c.scrub_given.new.rack in
+    let layout = c.args.vol.now.store.layout in
+    let was = serving old c.args.vol.now.store c.requires.serves in
+    is_safe (called c.args.vol.now c.args.write old new c.scrub_given.result) c.missing_device.ensures.table was.own_slots
+    (λ images held. have_lengths old layout images (g.met.R.Rack.sound c.args.rack.now) was.are_open held)
+    (λ images held. told old.held (λ images. All (All (λ b. b < 256)) images) images held (g.met.R.Rack.sound c.args.rack.now).bytes)
+    c.requires.nodesize (omega (arith, c.requires.large)) (returns-in-None-clause-scrubbed g c)
+
+pub returns-in-None-clause-slots : goal.returns-in-None-clause-slots
+returns-in-None-clause-slots g c =
+    let old = g.R.Rack.seen c.args.rack.now in
+    let new = g.R.Rack.seen c.scrub_given.new.rack in
+    let layout = c.args.vol.now.store.layout in
+    let was = serving old c.args.vol.now.store c.requires.serves in
+    let given = all_given (first_missing layout) (sym c.in-None.is ∙ c.missing_device.ensures.devid) in
+    let call = called c.args.vol.now c.args.write old new c.scrub_given.result in
+    slots_stay call c.missing_device.ensures.table was.own_slots
+    (λ images held. have_lengths old layout images (g.met.R.Rack.sound c.args.rack.now) was.are_open held)
+    (none_lacks call (first_missing layout) given) (λ _. c.scrub_given.ensures.scrubs)

@@ -7,7 +7,7 @@ use Rattle.btr_rack.specs.Out.{Puts}
 use Rattle.btr_rack.specs.declared.error.SinkError.{SinkError}
 use Rattle.btr_tool.specs.Answers.{answer_of, output_answer}
 use Rattle.btr_tool.specs.Behind.{IsUnread}
-use Rattle.btr_tool.specs.Checked.{IsCheckOutcome, check_in, found, listing}
+use Rattle.btr_tool.specs.Checked.{IsCheckOutcome, check_in, check_outcome, found, listing}
 use Rattle.btr_tool.specs.Faults.{stop_answer}
 use Rattle.btr_tool.specs.Outcomes.{showing}
 use Rattle.btr_tool.proofs.Agreements.{listed_agreed, stopped_agreed, unopened_agreed}
@@ -42,7 +42,7 @@ returns-in_err-volume-clause-agreed g c =
     let old = g.R.Rack.seen c.args.rack.now in
     let new = g.R.Rack.seen c.open_filesystem.new.rack in
     let answer = c.in_err-volume.field-0.0 in
-    unopened_agreed c.args.read_data old new answer (answer_of c.from_residual.result) (answer_gives c.from_residual.result answer c.from_residual.ensures.1) (g.O.Out.text c.args.out.now) (g.O.Out.account c.args.out.now) c.in_err-volume.ensures.opened
+    unopened_agreed (check_outcome c.args.read_data) (λ images a e. ap (check_in c.args.read_data images) e) old new answer (answer_of c.from_residual.result) (answer_gives c.from_residual.result answer c.from_residual.ensures.1) (g.O.Out.text c.args.out.now) (g.O.Out.account c.args.out.now) c.in_err-volume.ensures.opened
 
 pub returns-in_err-findings-clause-effect : goal.returns-in_err-findings-clause-effect
 returns-in_err-findings-clause-effect g c =

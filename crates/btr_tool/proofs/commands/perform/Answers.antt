@@ -1,16 +1,21 @@
 use Rattle.std.proofs.Common.{◌≡◌, ◌∙◌, inr, length, map, Some, refl, sym, ap, subst}
+use Rattle.std.specs.Option.{IfSome}
 use Rattle.std.specs.String.{string_bytes}
 use Rattle.btr_restore.specs.Running.{outside}
+use Rattle.btr_tool.specs.Agreeing.{AreAgreed, AreAgreedFor, AreAgreedOn, ComesAgreed, IsOrUnread, IsTreesOrUnread}
 use Rattle.btr_tool.specs.Answers.{answer_of}
 use Rattle.btr_tool.specs.Behind.{IfSteady}
+use Rattle.btr_tool.specs.Checked.{check_outcome}
 use Rattle.btr_tool.specs.Commands.{HasWords, IsBehindCommand, command_outcome, MayCome, MayWant, opens_to_write}
 use Rattle.btr_tool.specs.Outcomes.{Comes, OrBare, OrMemory}
 use Rattle.btr_tool.specs.Restored.{IsRestored}
+use Rattle.btr_tool.specs.Scrubbed.{scrub_outcome}
 use Rattle.btr_tool.specs.declared.plan.Command.TheVariants.{Super, Dump, Roots, Check, Scrub, Restore}
+use Rattle.btr_tool.specs.declared.plan.DumpChoice.TheVariants.{RootLines}
 use Rattle.btr_tool.proofs.Causing.{name_at}
 use Rattle.btr_tool.proofs.Coming.{comes_also}
 use Rattle.btr_tool.proofs.Ending.{when_told}
-use Rattle.btr_tool.proofs.Performing.{only_reads, restored_order, scrub_writes, shown_checked, shown_effect, shown_told, writing_comes}
+use Rattle.btr_tool.proofs.Performing.{only_reads, restored_order, scrub_writes, shown_effect, shown_so, shown_told, told_so, writing_comes}
 use Rattle.btr_tool.proofs.commands.perform.Goals as goal
 
 pub returns-in-Super-clause-effect : goal.returns-in-Super-clause-effect
@@ -129,30 +134,52 @@ returns-in-Restore-clause-order g c = λ number plan is.
     (name_at c.args.words.now c.in-Restore.dest c.index-words-dest.result c.as_str.result.now (subst (λ command. HasWords command (length c.args.words.now)) c.in-Restore.is c.requires.words) c.as_str.ensures.value c.index-words-dest.is)
     c.restore_files.ensures.order
 
-pub returns-in-Super-clause-checked : goal.returns-in-Super-clause-checked
-returns-in-Super-clause-checked g c = λ read_data is. absurd (cc (sym c.in-Super.is ∙ is))
+pub returns-in-Super-clause-agreed : goal.returns-in-Super-clause-agreed
+returns-in-Super-clause-agreed g c =
+    let x = outside (g.T.TreeSink.sink c.args.tree.now) (g.T.TreeSink.account c.args.tree.now) (g.O.Out.text c.args.out.now) (g.O.Out.account c.args.out.now) in
+    let y = outside (g.T.TreeSink.sink c.args.tree.now) (g.T.TreeSink.account c.args.tree.now) (g.O.Out.text c.show_newest.new.out) (g.O.Out.account c.show_newest.new.out) in
+    subst (λ command. IfSome (g.R.Rack.seen c.args.rack.now).held (λ images. AreAgreedFor command images → Comes (MayWant command x.out_calls) (ComesAgreed command images) x y (answer_of c.show_newest.result))) (sym c.in-Super.is)
+    (told_so (MayWant (Super) x.out_calls) (AreAgreedFor (Super)) (OrBare (MayCome (Super))) (ComesAgreed (Super)) x y (answer_of c.show_newest.result) (g.R.Rack.seen c.args.rack.now).held (λ images outcome one. one)
+    (shown_told Super x y refl refl (answer_of c.show_newest.result) (MayCome Super) c.show_newest.ensures.told))
 
-pub returns-in-Dump-clause-checked : goal.returns-in-Dump-clause-checked
-returns-in-Dump-clause-checked g c = λ read_data is. absurd (cc (sym c.in-Dump.is ∙ is))
+pub returns-in-Scrub-clause-agreed : goal.returns-in-Scrub-clause-agreed
+returns-in-Scrub-clause-agreed g c =
+    let x = outside (g.T.TreeSink.sink c.args.tree.now) (g.T.TreeSink.account c.args.tree.now) (g.O.Out.text c.args.out.now) (g.O.Out.account c.args.out.now) in
+    let y = outside (g.T.TreeSink.sink c.args.tree.now) (g.T.TreeSink.account c.args.tree.now) (g.O.Out.text c.scrub_images.new.out) (g.O.Out.account c.scrub_images.new.out) in
+    subst (λ command. IfSome (g.R.Rack.seen c.args.rack.now).held (λ images. AreAgreedFor command images → Comes (MayWant command x.out_calls) (ComesAgreed command images) x y (answer_of c.scrub_images.result))) (sym c.in-Scrub.is)
+    (shown_so (Scrub c.in-Scrub.write) x y refl refl (answer_of c.scrub_images.result) AreAgreed (λ images. IsOrUnread (scrub_outcome c.in-Scrub.write images)) (g.R.Rack.seen c.args.rack.now).held c.scrub_images.ensures.agreed)
 
-pub returns-in-Roots-clause-checked : goal.returns-in-Roots-clause-checked
-returns-in-Roots-clause-checked g c = λ read_data is. absurd (cc (sym c.in-Roots.is ∙ is))
+pub returns-in-Restore-clause-agreed : goal.returns-in-Restore-clause-agreed
+returns-in-Restore-clause-agreed g c =
+    let x = outside (g.T.TreeSink.sink c.args.tree.now) (g.T.TreeSink.account c.args.tree.now) (g.O.Out.text c.args.out.now) (g.O.Out.account c.args.out.now) in
+    let y = outside (g.T.TreeSink.sink c.restore_files.new.tree) (g.T.TreeSink.account c.restore_files.new.tree) (g.O.Out.text c.restore_files.new.out) (g.O.Out.account c.restore_files.new.out) in
+    subst (λ command. IfSome (g.R.Rack.seen c.args.rack.now).held (λ images. AreAgreedFor command images → Comes (MayWant command x.out_calls) (ComesAgreed command images) x y (answer_of c.restore_files.result))) (sym c.in-Restore.is)
+    (told_so (MayWant (Restore c.in-Restore.dest c.in-Restore.plan) x.out_calls) (AreAgreedFor (Restore c.in-Restore.dest c.in-Restore.plan)) (OrBare (MayCome (Restore c.in-Restore.dest c.in-Restore.plan))) (ComesAgreed (Restore c.in-Restore.dest c.in-Restore.plan)) x y (answer_of c.restore_files.result) (g.R.Rack.seen c.args.rack.now).held (λ images outcome one. one)
+    (comes_also (Unit {0}) (MayWant (Restore c.in-Restore.dest c.in-Restore.plan) x.out_calls) (OrBare IsRestored) (OrBare (MayCome (Restore c.in-Restore.dest c.in-Restore.plan))) x y (answer_of c.restore_files.result) (λ u. inr u) (λ outcome one. one) c.restore_files.ensures.told))
 
-pub returns-in-Restore-clause-checked : goal.returns-in-Restore-clause-checked
-returns-in-Restore-clause-checked g c = λ read_data is. absurd (cc (sym c.in-Restore.is ∙ is))
+pub returns-in-Dump-clause-agreed : goal.returns-in-Dump-clause-agreed
+returns-in-Dump-clause-agreed g c =
+    let x = outside (g.T.TreeSink.sink c.args.tree.now) (g.T.TreeSink.account c.args.tree.now) (g.O.Out.text c.args.out.now) (g.O.Out.account c.args.out.now) in
+    let y = outside (g.T.TreeSink.sink c.args.tree.now) (g.T.TreeSink.account c.args.tree.now) (g.O.Out.text c.show_trees.new.out) (g.O.Out.account c.show_trees.new.out) in
+    subst (λ command. IfSome (g.R.Rack.seen c.args.rack.now).held (λ images. AreAgreedFor command images → Comes (MayWant command x.out_calls) (ComesAgreed command images) x y (answer_of c.show_trees.result))) (sym c.in-Dump.is)
+    (shown_so (Dump c.in-Dump.choice) x y refl refl (answer_of c.show_trees.result) (AreAgreedOn c.in-Dump.choice) (IsTreesOrUnread c.in-Dump.choice) (g.R.Rack.seen c.args.rack.now).held c.show_trees.ensures.agreed)
 
-pub returns-in-Check-clause-checked : goal.returns-in-Check-clause-checked
-returns-in-Check-clause-checked g c = λ read_data is.
-    shown_checked c.args.command
-    (outside (g.T.TreeSink.sink c.args.tree.now) (g.T.TreeSink.account c.args.tree.now) (g.O.Out.text c.args.out.now) (g.O.Out.account c.args.out.now))
-    (outside (g.T.TreeSink.sink c.args.tree.now) (g.T.TreeSink.account c.args.tree.now) (g.O.Out.text c.show_findings.new.out) (g.O.Out.account c.show_findings.new.out)) refl refl (answer_of c.show_findings.result)
-    c.in-Check.read_data read_data (sym c.in-Check.is ∙ is) (g.R.Rack.seen c.args.rack.now).held c.show_findings.ensures.agreed
+pub returns-in-Roots-clause-agreed : goal.returns-in-Roots-clause-agreed
+returns-in-Roots-clause-agreed g c =
+    let x = outside (g.T.TreeSink.sink c.args.tree.now) (g.T.TreeSink.account c.args.tree.now) (g.O.Out.text c.args.out.now) (g.O.Out.account c.args.out.now) in
+    let y = outside (g.T.TreeSink.sink c.args.tree.now) (g.T.TreeSink.account c.args.tree.now) (g.O.Out.text c.show_trees-in-Roots.new.out) (g.O.Out.account c.show_trees-in-Roots.new.out) in
+    subst (λ command. IfSome (g.R.Rack.seen c.args.rack.now).held (λ images. AreAgreedFor command images → Comes (MayWant command x.out_calls) (ComesAgreed command images) x y (answer_of c.show_trees-in-Roots.result))) (sym c.in-Roots.is)
+    (shown_so Roots x y refl refl (answer_of c.show_trees-in-Roots.result) (AreAgreedOn RootLines) (IsTreesOrUnread RootLines) (g.R.Rack.seen c.args.rack.now).held c.show_trees-in-Roots.ensures.agreed)
+
+pub returns-in-Check-clause-agreed : goal.returns-in-Check-clause-agreed
+returns-in-Check-clause-agreed g c =
+    let x = outside (g.T.TreeSink.sink c.args.tree.now) (g.T.TreeSink.account c.args.tree.now) (g.O.Out.text c.args.out.now) (g.O.Out.account c.args.out.now) in
+    let y = outside (g.T.TreeSink.sink c.args.tree.now) (g.T.TreeSink.account c.args.tree.now) (g.O.Out.text c.show_findings.new.out) (g.O.Out.account c.show_findings.new.out) in
+    subst (λ command. IfSome (g.R.Rack.seen c.args.rack.now).held (λ images. AreAgreedFor command images → Comes (MayWant command x.out_calls) (ComesAgreed command images) x y (answer_of c.show_findings.result))) (sym c.in-Check.is)
+    (shown_so (Check c.in-Check.read_data) x y refl refl (answer_of c.show_findings.result) AreAgreed (λ images. IsOrUnread (check_outcome c.in-Check.read_data images)) (g.R.Rack.seen c.args.rack.now).held c.show_findings.ensures.agreed)
 
 pub returns-in-Scrub-clause-order : goal.returns-in-Scrub-clause-order
 returns-in-Scrub-clause-order g c = λ number plan is. absurd (cc (sym c.in-Scrub.is ∙ is))
-
-pub returns-in-Scrub-clause-checked : goal.returns-in-Scrub-clause-checked
-returns-in-Scrub-clause-checked g c = λ read_data is. absurd (cc (sym c.in-Scrub.is ∙ is))
 
 pub returns-in-Super-clause-cause : goal.returns-in-Super-clause-cause
 returns-in-Super-clause-cause g c =

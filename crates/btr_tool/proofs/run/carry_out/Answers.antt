@@ -13,7 +13,7 @@ use Rattle.btr_tool.specs.Images.{AreOpenedAs}
 use Rattle.btr_tool.specs.Opening.{OpeningCause, opening_answer}
 use Rattle.btr_tool.specs.Words.{Words}
 use Rattle.btr_tool.specs.declared.opening.OpeningFault.{OpeningFault}
-use Rattle.btr_tool.proofs.Carrying.{names_are, usage_checked, usage_effect, usage_order, usage_told, usage_decided, usage_stated, usage_cause, opening_checked, opening_effect, opening_order, opening_told, opening_decided, opening_stated, opening_cause, command_checked, command_effect, command_order, command_told, none_decided, command_stated, command_cause, command_left, command_repaired, command_unchanged, opening_left, opening_repaired, opening_unchanged, usage_left, usage_repaired}
+use Rattle.btr_tool.proofs.Carrying.{names_are, usage_agreed, usage_effect, usage_order, usage_told, usage_decided, usage_stated, usage_cause, opening_agreed, opening_effect, opening_order, opening_told, opening_decided, opening_stated, opening_cause, command_agreed, command_effect, command_order, command_told, none_decided, command_stated, command_cause, command_left, command_repaired, command_unchanged, opening_left, opening_repaired, opening_unchanged, usage_left, usage_repaired}
 use Rattle.btr_tool.proofs.Coming.{answer_gives}
 use Rattle.btr_tool.proofs.Openings.{unopened}
 use Rattle.btr_tool.proofs.run.carry_out.Goals as goal
@@ -119,20 +119,20 @@ returns-clause-order g c =
     (outside (g.T.TreeSink.sink c.args.tree.now) (g.T.TreeSink.account c.args.tree.now) (g.O.Out.text c.args.out.now) (g.O.Out.account c.args.out.now))
     (outside (g.T.TreeSink.sink c.perform.new.tree) (g.T.TreeSink.account c.perform.new.tree) (g.O.Out.text c.perform.new.out) (g.O.Out.account c.perform.new.out)) c.in_ok-open_images.ensures.images c.perform.ensures.order
 
-pub returns-in-Err-clause-checked : goal.returns-in-Err-clause-checked
-returns-in-Err-clause-checked g c =
-    usage_checked (map string_bytes c.args.words.now) c.in-Err.at c.in-Err.ensures.usage (g.R.Rack.seen c.args.rack.now).shelf (outside (g.T.TreeSink.sink c.args.tree.now) (g.T.TreeSink.account c.args.tree.now) (g.O.Out.text c.args.out.now) (g.O.Out.account c.args.out.now))
+pub returns-in-Err-clause-agreed : goal.returns-in-Err-clause-agreed
+returns-in-Err-clause-agreed g c =
+    usage_agreed (map string_bytes c.args.words.now) c.in-Err.at c.in-Err.ensures.usage (g.R.Rack.seen c.args.rack.now).shelf (outside (g.T.TreeSink.sink c.args.tree.now) (g.T.TreeSink.account c.args.tree.now) (g.O.Out.text c.args.out.now) (g.O.Out.account c.args.out.now))
 
-pub returns-in_err-open_images-clause-checked : goal.returns-in_err-open_images-clause-checked
-returns-in_err-open_images-clause-checked g c =
-    opening_checked (map string_bytes c.args.words.now) _ c.in-Ok.plan c.in-Ok.ensures.sentence (names_are c.args.words.now c.in-Ok.plan.images) (g.R.Rack.seen c.args.rack.now) (g.R.Rack.seen c.open_images.new.rack) c.in_err-open_images.field-0.0 c.in_err-open_images.ensures.limit (as_asked c.writes.result (opens_to_write c.in-Ok.plan.command) _ (g.R.Rack.seen c.args.rack.now) (g.R.Rack.seen c.open_images.new.rack) c.in_err-open_images.field-0.0 c.writes.ensures c.in_err-open_images.ensures.cause)
+pub returns-in_err-open_images-clause-agreed : goal.returns-in_err-open_images-clause-agreed
+returns-in_err-open_images-clause-agreed g c =
+    opening_agreed (map string_bytes c.args.words.now) _ c.in-Ok.plan c.in-Ok.ensures.sentence (names_are c.args.words.now c.in-Ok.plan.images) (g.R.Rack.seen c.args.rack.now) (g.R.Rack.seen c.open_images.new.rack) c.in_err-open_images.field-0.0 c.in_err-open_images.ensures.limit (as_asked c.writes.result (opens_to_write c.in-Ok.plan.command) _ (g.R.Rack.seen c.args.rack.now) (g.R.Rack.seen c.open_images.new.rack) c.in_err-open_images.field-0.0 c.writes.ensures c.in_err-open_images.ensures.cause)
     (g.R.Rack.seen c.args.rack.now).shelf (outside (g.T.TreeSink.sink c.args.tree.now) (g.T.TreeSink.account c.args.tree.now) (g.O.Out.text c.args.out.now) (g.O.Out.account c.args.out.now)) (answer_of c.from_residual.result) (answer_gives c.from_residual.result (opening_answer c.in_err-open_images.field-0.0) c.from_residual.ensures.1)
 
-pub returns-clause-checked : goal.returns-clause-checked
-returns-clause-checked g c =
-    command_checked (map string_bytes c.args.words.now) _ c.in-Ok.plan c.in-Ok.ensures.sentence (names_are c.args.words.now c.in-Ok.plan.images) (g.R.Rack.seen c.args.rack.now) (g.R.Rack.seen c.open_images.new.rack) (g.R.Rack.seen c.perform.new.rack) c.in_ok-open_images.ensures.limit c.in_ok-open_images.ensures.cause (answer_of c.perform.result) c.perform.ensures.cause
+pub returns-clause-agreed : goal.returns-clause-agreed
+returns-clause-agreed g c =
+    command_agreed (map string_bytes c.args.words.now) _ c.in-Ok.plan c.in-Ok.ensures.sentence (names_are c.args.words.now c.in-Ok.plan.images) (g.R.Rack.seen c.args.rack.now) (g.R.Rack.seen c.open_images.new.rack) (g.R.Rack.seen c.perform.new.rack) c.in_ok-open_images.ensures.limit c.in_ok-open_images.ensures.cause (answer_of c.perform.result) c.perform.ensures.cause
     (outside (g.T.TreeSink.sink c.args.tree.now) (g.T.TreeSink.account c.args.tree.now) (g.O.Out.text c.args.out.now) (g.O.Out.account c.args.out.now))
-    (outside (g.T.TreeSink.sink c.perform.new.tree) (g.T.TreeSink.account c.perform.new.tree) (g.O.Out.text c.perform.new.out) (g.O.Out.account c.perform.new.out)) c.in_ok-open_images.ensures.images c.perform.ensures.checked
+    (outside (g.T.TreeSink.sink c.perform.new.tree) (g.T.TreeSink.account c.perform.new.tree) (g.O.Out.text c.perform.new.out) (g.O.Out.account c.perform.new.out)) c.in_ok-open_images.ensures.images c.perform.ensures.agreed
 
 pub perform-requires-clause-writable : goal.perform-requires-clause-writable
 perform-requires-clause-writable g c = λ asked.

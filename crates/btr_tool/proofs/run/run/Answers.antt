@@ -7,7 +7,7 @@ use Rattle.btr_tool.specs.Effects.{MayFollow}
 use Rattle.btr_tool.specs.Outcomes.{OrBare}
 use Rattle.btr_tool.specs.Repaired.{KeepsRepair}
 use Rattle.btr_rack.specs.Rack.{Steady}
-use Rattle.btr_tool.proofs.Ending.{when_told, has_effect, has_part, keeps_check, decided, stated, image, shut, out_failed, sink_failed, tree, hidden, left, repaired, sure, is_told}
+use Rattle.btr_tool.proofs.Ending.{when_told, has_effect, has_part, keeps_agreed, decided, stated, image, shut, out_failed, sink_failed, tree, hidden, left, repaired, sure, is_told}
 use Rattle.btr_tool.proofs.Orders.{keeps_committed, keeps_order}
 use Rattle.btr_tool.proofs.Promises.{keeps_outcome, keeps_headline}
 use Rattle.btr_tool.proofs.run.run.Goals as goal
@@ -140,14 +140,14 @@ returns-clause-committed g c =
     (map string_bytes c.args.words.now) shelf (opened_with (g.R.Rack.seen c.args.rack.now).account (g.R.Rack.seen c.carry_out-done.new.rack)) (g.R.Rack.seen c.carry_out-done.new.rack) follows))
     c.carry_out-done.ensures.order
 
-pub returns-clause-checked : goal.returns-clause-checked
-returns-clause-checked g c =
+pub returns-clause-agreed : goal.returns-clause-agreed
+returns-clause-agreed g c =
     when_told (g.R.Rack.seen c.args.rack.now).shelf _ _
     (λ shelf follows.
-    keeps_check (map string_bytes c.args.words.now) (outside (g.T.TreeSink.sink c.args.tree.now) (g.T.TreeSink.account c.args.tree.now) (g.O.Out.text c.args.out.now) (g.O.Out.account c.args.out.now))
+    keeps_agreed (map string_bytes c.args.words.now) (outside (g.T.TreeSink.sink c.args.tree.now) (g.T.TreeSink.account c.args.tree.now) (g.O.Out.text c.args.out.now) (g.O.Out.account c.args.out.now))
     (outside (g.T.TreeSink.sink c.carry_out-done.new.tree) (g.T.TreeSink.account c.carry_out-done.new.tree) (g.O.Out.text c.carry_out-done.new.out) (g.O.Out.account c.carry_out-done.new.out)) (g.O.Out.text c.finish.new.out) (g.O.Out.account c.finish.new.out)
     (answer_of c.carry_out-done.result) c.finish.result c.finish.ensures shelf follows)
-    c.carry_out-done.ensures.checked
+    c.carry_out-done.ensures.agreed
 
 pub returns-clause-repaired : goal.returns-clause-repaired
 returns-clause-repaired g c =

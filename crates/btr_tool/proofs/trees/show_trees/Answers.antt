@@ -1,10 +1,13 @@
-use Rattle.std.proofs.Common.{Ok, Err, refl}
+use Rattle.std.proofs.Common.{inl, inr, ⊎_elim, Ok, Err, refl, ap}
+use Rattle.btr_tool.specs.Agreeing.{IsOrUnread, IsTreesOrUnread}
 use Rattle.btr_tool.specs.Answers.{answer_of}
 use Rattle.btr_tool.specs.Behind.{AnyFault}
 use Rattle.btr_tool.specs.Faults.{stop_answer}
-use Rattle.btr_tool.specs.Trees.{IsTreesOutcome, trees_in}
+use Rattle.btr_tool.specs.Trees.{IsTreesOutcome, trees_in, trees_outcome}
 use Rattle.btr_tool.specs.declared.answer.Answer.TheVariants.{Done}
-use Rattle.btr_tool.proofs.Coming.{answer_gives}
+use Rattle.btr_tool.proofs.Agreements.{shown_agreed, unopened_agreed}
+use Rattle.btr_tool.proofs.Coming.{answer_gives, shows_also}
+use Rattle.btr_tool.proofs.Ending.{when_told}
 use Rattle.btr_tool.proofs.TreesShown.{unopened_effect, unopened_told, unopened_behind, shown_effect, shown_told, shown_behind}
 use Rattle.btr_tool.proofs.trees.show_trees.Goals as goal
 
@@ -74,3 +77,31 @@ returns-clause-cause g c =
     let mid = g.R.Rack.seen c.open_filesystem.new.rack in
     let new = g.R.Rack.seen c.show.new.rack in
     shown_behind old mid new c.in_ok-volume.ensures.reads c.in_ok-show.ensures.reads (g.O.Out.account c.args.out.now) (g.O.Out.account c.show.new.out) (Done 0) (Ok tt) refl c.in_ok-show.ensures.account c.in_ok-volume.volume.store.layout c.in_ok-show.ensures.cause
+
+pub returns-in_err-volume-clause-agreed : goal.returns-in_err-volume-clause-agreed
+returns-in_err-volume-clause-agreed g c =
+    let old = g.R.Rack.seen c.args.rack.now in
+    let new = g.R.Rack.seen c.open_filesystem.new.rack in
+    let answer = c.in_err-volume.field-0.0 in
+    when_told old.held _ _ (λ images shows agreed.
+    shows_also (IsOrUnread (trees_outcome c.args.choice images)) (IsTreesOrUnread c.args.choice images) (g.O.Out.text c.args.out.now) (g.O.Out.text c.args.out.now) (g.O.Out.account c.args.out.now) (g.O.Out.account c.args.out.now) (answer_of c.from_residual.result)
+    (λ outcome o. ⊎_elim (λ is. inl is) (λ unread. inr (inr unread)) o) (shows agreed.0))
+    (unopened_agreed (trees_outcome c.args.choice) (λ images a e. ap (trees_in c.args.choice images) e) old new answer (answer_of c.from_residual.result)
+    (answer_gives c.from_residual.result answer c.from_residual.ensures.1) (g.O.Out.text c.args.out.now) (g.O.Out.account c.args.out.now) c.in_err-volume.ensures.opened)
+
+pub returns-in_err-show-clause-agreed : goal.returns-in_err-show-clause-agreed
+returns-in_err-show-clause-agreed g c =
+    let old = g.R.Rack.seen c.args.rack.now in
+    let mid = g.R.Rack.seen c.open_filesystem.new.rack in
+    let new = g.R.Rack.seen c.show.new.rack in
+    let stop = c.in_err-show.field-0.0 in
+    shown_agreed c.args.choice old mid c.in_ok-volume.ensures.reads c.in_ok-volume.volume c.in_ok-volume.ensures.opened (g.O.Out.text c.args.out.now) (g.O.Out.text c.show.new.out) (g.O.Out.account c.args.out.now) (g.O.Out.account c.show.new.out)
+    (answer_of c.from_residual-in_err-show.result) (Err stop) (answer_gives c.from_residual-in_err-show.result (stop_answer stop) c.from_residual-in_err-show.ensures.1) c.in_err-show.ensures.agreed
+
+pub returns-clause-agreed : goal.returns-clause-agreed
+returns-clause-agreed g c =
+    let old = g.R.Rack.seen c.args.rack.now in
+    let mid = g.R.Rack.seen c.open_filesystem.new.rack in
+    let new = g.R.Rack.seen c.show.new.rack in
+    shown_agreed c.args.choice old mid c.in_ok-volume.ensures.reads c.in_ok-volume.volume c.in_ok-volume.ensures.opened (g.O.Out.text c.args.out.now) (g.O.Out.text c.show.new.out) (g.O.Out.account c.args.out.now) (g.O.Out.account c.show.new.out)
+    (Done 0) (Ok tt) refl c.in_ok-show.ensures.agreed

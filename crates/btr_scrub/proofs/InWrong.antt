@@ -1,0 +1,167 @@
+-- Each range that is written lies in a wrong element, or is a copy that isn't the committed one.
+use Rattle.std.proofs.Common.{◌≡◌, ◌⊎◌, ℕ, ◌+◌, ◌*◌, ◌/◌, ◌<◌, ◌≤◌, Bool, true, false, not, cond, ◌&&◌, List, [], ◌∷◌, map, length, slice_get, Option, Some, None, is_none, IsNone, IfSome, refl, sym, ap, ◌∙◌, subst, inl, inr, arith}
+use Rattle.std.proofs.lemmas.Bool.{false≢true, and_parts}
+use Rattle.std.proofs.lemmas.Option.{same_Some}
+use Rattle.std.specs.List.{cons_option, filter_map, flat_map, range_with_len}
+use Rattle.std.specs.Option.{option_map, option_map_or}
+use Rattle.btr_chunk.specs.Chunk.{mirrors, stripe_length}
+use Rattle.btr_chunk.specs.Mapping.{HasPart}
+use Rattle.btr_chunk.specs.Table.{IsTable}
+use Rattle.btr_chunk.specs.declared.chunk.Chunk.{Chunk}
+use Rattle.btr_chunk.specs.declared.place.Part.{Part}
+use Rattle.btr_chunk.specs.declared.place.Part.TheVariants as part
+use Rattle.btr_rack.specs.Rack.{range_in}
+use Rattle.btr_rack.specs.declared.place.Place.{Place as Range}
+use Rattle.btr_read.specs.Candidates.{Target, element, range_of, size_of}
+use Rattle.btr_read.specs.Cause.{LiesIn}
+use Rattle.btr_read.specs.Layout.{HaveOwnSlots, Layout}
+use Rattle.btr_read.specs.Want.{passes}
+use Rattle.btr_read.specs.declared.want.Want.{Want}
+use Rattle.btr_read.proofs.Ones.{in_below}
+use Rattle.btr_mend.specs.Blocks.{accepted, bad_parts, block_writes, is_good, own_parts, written_over}
+use Rattle.btr_mend.specs.Writes.{Images, Write}
+use Rattle.btr_row.specs.Rows.{Row, column_of, differing, differs, element_with, is_decided, parities, parity_writes, range_in_element, row_writes, sector_write}
+use Rattle.btr_scrub.specs.Devices.{HaveLengths}
+use Rattle.btr_scrub.specs.Glue.{In}
+use Rattle.btr_scrub.specs.Order.{AreApart, IsSought, targets}
+use Rattle.btr_scrub.specs.Repair.{first_missing, is_in_chunk, row_of, rows_in}
+use Rattle.btr_scrub.specs.Right.{Committed, IsOfWrongCopy, LiesInWrong}
+use Rattle.btr_scrub.specs.Scrubbing.{all_writes_for, blocks_in, blocks_writes, chunk_writes_for, rows_writes}
+use Rattle.btr_scrub.specs.Survival.{IsParity}
+use Rattle.btr_scrub.proofs.AcrossChunks.{of_chunk, row_is}
+use Rattle.btr_scrub.proofs.Agreeing.{of_mapped}
+use Rattle.btr_scrub.proofs.Blockwise.{in_append}
+use Rattle.btr_scrub.proofs.Elements.{has_ranges}
+use Rattle.btr_scrub.proofs.Lists.{any_in, at_in, of_flat}
+use Rattle.btr_scrub.proofs.RowAgreeing.{parity_has}
+use Rattle.btr_scrub.proofs.RowWrites.{sector_inside}
+use Rattle.btr_scrub.proofs.SoundRows.{CanBeHad, right_there, sound_row}
+use Rattle.btr_scrub.proofs.Writes.{mapped, passing_filter}
+use Rattle.btr_scrub.proofs.Wrong.{bad_block_is_wrong, differing_parity_is_wrong}
+
+of_filter_map : {X Y : Type 0} (g : X → Option Y) (y : Y) (xs : List X) → In y (filter_map g xs) → (x : X) × In x xs × (g x ≡ Some y)
+of_filter_map g y [] i = absurd i
+of_filter_map g y (x ∷ xs) i = by (g x) refl i (of_filter_map g y xs)
+  where
+    by : (o : Option _) → g x ≡ o → In y (cons_option o (filter_map g xs)) → (In y (filter_map g xs) → (z : _) × In z xs × (g z ≡ Some y)) → (z : _) × In z (x ∷ xs) × (g z ≡ Some y)
+    by None e i rest = let r = rest i in (r.0, inr r.1, r.2)
+    by (Some z) e (inl same) rest = (x, inl refl, e ∙ ap Some same)
+    by (Some z) e (inr j) rest = let r = rest j in (r.0, inr r.1, r.2)
+
+not_bad : (b : Bool) → not b ≡ true → b ≡ false
+not_bad true e = absurd (false≢true e)
+not_bad false e = refl
+
+is_parity : (q : Part) → (q ≡ part.P) ⊎ (q ≡ part.Q) → IsParity q
+is_parity q (inl e) = subst IsParity (sym e) tt
+is_parity q (inr e) = subst IsParity (sym e) tt
+
+-- what a write over a part of a block is
+over_part : (images : Images) (t : Target) (w : Write) → In w (block_writes images t) → (q : Part) × In q (own_parts t) × (is_good images t q ≡ false) × (range_of t q ≡ Some w.range)
+over_part images t w i = by (accepted images t) i
+  where
+    by : (o : Option (List ℕ)) → In w (option_map_or (written_over images t) o []) → (q : Part) × In q (own_parts t) × (is_good images t q ≡ false) × (range_of t q ≡ Some w.range)
+    by None i = absurd i
+    by (Some bytes) i =
+        let f = of_filter_map (λ q. option_map (λ (range : Range). record { range = range; bytes = bytes }) (range_of t q)) w (bad_parts images t) i in
+        let bad = passing_filter (λ q. not (is_good images t q)) f.0 (own_parts t) f.1 in
+        let m = mapped (λ (range : Range). record { range = range; bytes = bytes }) (range_of t f.0) w f.2 in
+        (f.0, bad.0, not_bad (is_good images t f.0) bad.1, m.1 ∙ ap Some (ap (λ (v : Write). v.range) m.2))
+
+module _ (images : Images) (layout : Layout) (C : Committed) (wants : List Want) (table : IsTable layout.chunks) (own : HaveOwnSlots layout.devices) (none : first_missing layout ≡ None) (lengths : HaveLengths images layout)
+    (had : CanBeHad images layout C wants) (apart : AreApart layout 0 wants) where
+  abbrev ts : List Target
+  ts = targets layout wants
+
+  -- a copy that is written isn't the committed one
+  wrong_copy : (t : Target) → IsSought layout t → (w : Write) → In w (block_writes images t) → IsOfWrongCopy images C w.range t
+  wrong_copy t is w i =
+      let o = over_part images t w i in
+      any_in (λ q. (range_of t q ≡ Some w.range) × ((C t.want ≡ Some (element images t q)) → ⊥)) (own_parts t) o.0 o.1 (
+        o.3,
+        λ right. false≢true (sym o.2 ∙ ap (λ s. passes s t.want (element images t o.0)) is.setting ∙ subst (λ c. IfSome c (λ bytes. passes layout.setting t.want bytes ≡ true)) right (had.pass t.want)),
+      )
+
+  -- ---- a full stripe
+
+  module _ (number : ℕ) (chunk : Chunk) (there : slice_get layout.chunks number ≡ Some chunk) (r : ℕ) (parity : mirrors chunk ≡ None) (inside : r * 65536 + 65536 ≤ stripe_length chunk) where
+    abbrev row : Row
+    row = row_of ts chunk r
+
+    own_slice : (t : Target) (q : Part) → mirrors t.chunk ≡ None → In q (own_parts t) → part.Slice t.at.index ≡ q
+    own_slice t q none i = by (subst (λ o. In q (option_map_or (λ copies. map part.Mirror (range_with_len 0 copies)) o (part.Slice t.at.index ∷ []))) none i)
+      where
+        by : In q (part.Slice t.at.index ∷ []) → part.Slice t.at.index ≡ q
+        by (inl e) = e
+        by (inr h) = absurd h
+
+    wrong_block : (t : Target) → In t row.blocks → (w : Write) → In w (block_writes images t) → LiesInWrong images layout C row w.range
+    wrong_block t among w i =
+        let sound = sound_row images layout C wants table own none lengths had apart number chunk there r parity inside in
+        let block = sound.blocks t among in
+        let o = over_part images t w i in
+        let slice = own_slice t o.0 block.in_row.parity o.1 in
+        let mine : HasPart t.chunk.profile (length t.chunk.stripes) (part.Slice t.at.index) = (subst IsNone (sym block.in_row.parity) refl, block.in_row.position.index) in
+        let has : HasPart chunk.profile (length chunk.stripes) (part.Slice t.at.index) = subst (λ c. HasPart c.profile (length c.stripes) (part.Slice t.at.index)) block.lies.chunk mine in
+        let e = has_ranges images layout row t (part.Slice t.at.index) block.in_row block.lies mine (sound.stand (part.Slice t.at.index) has) in
+        let same : w.range ≡ range_in e.slot (e.off + t.at.rest) (size_of t) = same_Some w.range (range_in e.slot (e.off + t.at.rest) (size_of t)) (sym o.3 ∙ ap (range_of t) (sym slice) ∙ e.block) in
+        let off : w.range.off ≡ e.off + t.at.rest = ap (λ (x : Range). x.off) same in
+        let len : w.range.len ≡ size_of t = ap (λ (x : Range). x.len) same in (
+          part.Slice t.at.index,
+          has,
+          bad_block_is_wrong images layout C row t sound among (right_there images layout C wants table own none lengths had apart number chunk there r parity inside t among).0 (ap (is_good images t) slice ∙ o.2),
+          subst (λ x. IfSome x (LiesIn w.range)) (sym e.element) (record { slot = ap (λ (x : Range). x.slot) same; from = omega (arith, off); to = omega (arith, off, len, block.lies.inside) }),
+        )
+
+    wrong_parity : (q : Part) → In q (parities chunk.profile) → (w : Write) → In w (parity_writes images layout row q) → LiesInWrong images layout C row w.range
+    wrong_parity q among w i =
+        let sound = sound_row images layout C wants table own none lengths had apart number chunk there r parity inside in
+        let of = row_is layout table own none number chunk there wants r parity inside in
+        let has = parity_has chunk.profile (length chunk.stripes) q parity among in
+        let f = of_filter_map (sector_write images layout row q) w (differing images layout row q) i in
+        let column = f.0 in
+        let d = passing_filter (λ column. is_decided images layout row column && differs images layout row q column) column (range_with_len 0 16) f.1 in
+        let few : column < 16 = in_below 16 column d.0 in
+        let both = and_parts (is_decided images layout row column) (differs images layout row q column) d.1 in
+        let m = mapped (λ (range : Range). record { range = range; bytes = column_of column (element_with images layout (accepted images) row q) }) (range_in_element layout row q (column * 4096) 4096) w f.2 in
+        let whole : range_in_element layout row q (column * 4096) 4096 ≡ Some w.range = m.1 ∙ ap Some (ap (λ (v : Write). v.range) m.2) in (
+          q,
+          has.0,
+          differing_parity_is_wrong images layout C row q column sound (λ t j. (right_there images layout C wants table own none lengths had apart number chunk there r parity inside t j).1) (is_parity q has.1) few both.0 both.1,
+          sector_inside layout row table of.is q column w.range has.0 few whole,
+        )
+
+    wrong_row : (w : Write) → In w (row_writes images layout row) → LiesInWrong images layout C row w.range
+    wrong_row w i = elim (in_append w (flat_map (block_writes images) row.blocks) (flat_map (parity_writes images layout row) (parities chunk.profile)) i) [
+      | inl j ↦ let f = of_flat (block_writes images) w row.blocks j in wrong_block f.0 f.1 w f.2
+      | inr j ↦ let f = of_flat (parity_writes images layout row) w (parities chunk.profile) j in wrong_parity f.0 f.1 w f.2
+    ]
+
+  -- ---- all writes
+
+  -- a range lies in a wrong element of a full stripe, or is a copy that isn't the committed one
+  abbrev pub IsWrong : Range → Type 0
+  IsWrong range = ((chunk : Chunk) × In chunk layout.chunks × ((row : Row) × In row (rows_in ts chunk) × LiesInWrong images layout C row range)) ⊎ ((t : Target) × In t ts × IsOfWrongCopy images C range t)
+
+  in_chunk : (number : ℕ) (chunk : Chunk) → slice_get layout.chunks number ≡ Some chunk → In chunk layout.chunks → (w : Write) → In w (chunk_writes_for layout chunk wants images) → IsWrong w.range
+  in_chunk number chunk there among w i = by (mirrors chunk) refl i
+    where
+      by : (o : Option ℕ) → mirrors chunk ≡ o → In w (cond (is_none o) (rows_writes layout (rows_in ts chunk) images) (blocks_writes (blocks_in layout chunk wants) images)) → IsWrong w.range
+      by None parity i =
+          let n = stripe_length chunk / 65536 in
+          let f = of_flat (row_writes images layout) w (rows_in ts chunk) i in
+          let listed : rows_in ts chunk ≡ map (row_of ts chunk) (range_with_len 0 n) = ap (λ o. cond (is_none o) (map (row_of ts chunk) (range_with_len 0 n)) []) parity in
+          let r = of_mapped (row_of ts chunk) f.0 (range_with_len 0 n) (subst (In f.0) listed f.1) in
+          let lt = in_below n r.0 r.1 in
+          inl (chunk, among, (f.0, f.1, subst (λ row. LiesInWrong images layout C row w.range) r.2 (wrong_row number chunk there r.0 parity (omega (arith, lt)) w (subst (λ row. In w (row_writes images layout row)) (sym r.2) f.2))))
+      by (Some n) copies i =
+          let f = of_flat (block_writes images) w (blocks_in layout chunk wants) i in
+          let of = of_chunk layout table own none number chunk there wants f.0 f.1 in
+          inr (f.0, (passing_filter (is_in_chunk chunk) f.0 ts f.1).0, wrong_copy f.0 of.is w f.2)
+
+  pub range_is_wrong : (range : Range) → In range (map (λ (w : Write). w.range) (all_writes_for layout layout.chunks wants images)) → IsWrong range
+  range_is_wrong range i =
+      let w = of_mapped (λ (w : Write). w.range) range (all_writes_for layout layout.chunks wants images) i in
+      let f = of_flat (λ c. chunk_writes_for layout c wants images) w.0 layout.chunks w.1 in
+      let j = at_in f.0 layout.chunks f.1 in
+      subst IsWrong w.2 (in_chunk j.0 f.0 j.1 f.1 w.0 f.2)

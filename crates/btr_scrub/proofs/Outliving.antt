@@ -1,0 +1,290 @@
+-- Whatever stands in the ranges of the writes, each checked block can be had.
+use Rattle.std.proofs.Common.{◌≡◌, ◌≢◌, ◌⊎◌, ℕ, zero, suc, ◌+◌, ◌*◌, ◌/◌, ◌<◌, ◌≤◌, Bool, true, false, not, cond, ◌&&◌, eqb, List, [], ◌∷◌, map, slice_get, Option, Some, None, is_none, is_some, IfSome, IsSomeAnd, refl, sym, ap, ◌∙◌, subst, inl, inr, arith, Result, Ok, Err}
+use Rattle.std.proofs.lemmas.Bool.{false≢true, and_from, cases_lt, eq-eqb}
+use Rattle.std.proofs.lemmas.Option.{same_Some}
+use Rattle.std.specs.List.{cons_option, list_any, range_with_len}
+use Rattle.std.specs.Option.{option_map, option_map_or}
+use Rattle.btr_chunk.specs.Apart.{IsOfCopy}
+use Rattle.btr_chunk.specs.Chunk.{mirrors, stripe_length}
+use Rattle.btr_chunk.specs.Mapping.{place_at}
+use Rattle.btr_chunk.specs.Table.{IsTable}
+use Rattle.btr_chunk.specs.declared.chunk.Chunk.{Chunk}
+use Rattle.btr_chunk.specs.declared.place.Part.TheVariants.{Mirror, Slice}
+use Rattle.btr_chunk.specs.declared.position.Elements.{Elements}
+use Rattle.btr_chunk.proofs.Apart.{copies_apart}
+use Rattle.btr_rack.specs.declared.place.Place.{Place as Range}
+use Rattle.btr_read.specs.Candidates.{Target, candidates, copies, element, range_of, rebuilt, size_of, slice_count, stands, value_of}
+use Rattle.btr_read.specs.Fate.{Fault, sought}
+use Rattle.btr_read.specs.Layout.{HaveOwnSlots, Layout}
+use Rattle.btr_read.specs.Want.{addr_of, len_of, passes}
+use Rattle.btr_read.specs.declared.candidate.Candidate.TheVariants.{Stands}
+use Rattle.btr_read.specs.declared.want.Want.{Want}
+use Rattle.btr_read.proofs.Fates.{sought_of}
+use Rattle.btr_read.proofs.Ones.{in_below}
+use Rattle.btr_mend.specs.Blocks.{accepted, bad_parts, block_writes, is_good, own_parts, written_over}
+use Rattle.btr_mend.specs.Writes.{Images, Write}
+use Rattle.btr_mend.proofs.Copied.{has_mirror}
+use Rattle.btr_row.specs.Rows.{row_writes}
+use Rattle.btr_scrub.specs.Devices.{HaveLengths}
+use Rattle.btr_scrub.specs.Glue.{In}
+use Rattle.btr_scrub.specs.Leaves.{KeepsOutside}
+use Rattle.btr_scrub.specs.Order.{AreApart, IsSought, targets}
+use Rattle.btr_scrub.specs.Repair.{covers, first_missing, is_in_chunk, is_in_row, ok_or_none, row_of, rows_in}
+use Rattle.btr_scrub.specs.Right.{Committed, HasFewWrong, StandsFor}
+use Rattle.btr_scrub.specs.Scrubbing.{all_writes_for, blocks_in, blocks_writes, chunk_writes_for, rows_writes}
+use Rattle.btr_scrub.specs.Staying.{AvoidRight, IsInCopies, IsInWrong}
+use Rattle.btr_scrub.proofs.AcrossChunks.{copy_in_chunk, element_in_chunk, of_chunk, one_chunk, row_is}
+use Rattle.btr_scrub.proofs.Agreeing.{of_mapped}
+use Rattle.btr_scrub.proofs.Blockwise.{all_behind, of_targets, part_is_given}
+use Rattle.btr_scrub.proofs.CopyWrites.{same_element, written_byte}
+use Rattle.btr_scrub.proofs.Lists.{any_in, at_in, in_any, in_map}
+use Rattle.btr_scrub.proofs.Positions.{IsCopyByte, copy_of_range, is_of_copy, is_sought, of_range, shares}
+use Rattle.btr_scrub.proofs.RowWrites.{written_row}
+use Rattle.btr_scrub.proofs.RowNumbers.{row_fits}
+use Rattle.btr_scrub.proofs.SoundRows.{CanBeHad, is_row, right_there, sound_row}
+use Rattle.btr_scrub.proofs.Staying.{row_outlives_writes}
+use Rattle.btr_scrub.proofs.Survival.{in_filter, some_of}
+use Rattle.btr_scrub.proofs.Writes.{any_filter_map, any_flat, any_map, mapped, passing_filter, row_writes_are_wrong}
+
+-- blocks that are apart and have an address in common are the same
+pub same_block : (layout : Layout) (wants : List Want) (end : ℕ) (t u : Target) (one other : ℕ) → AreApart layout end wants → In t (targets layout wants) → In u (targets layout wants)
+    → one < size_of t → other < size_of u → addr_of t.want + one ≡ addr_of u.want + other → t ≡ u
+same_block layout [] end t u one other apart i j lt below same = absurd i
+same_block layout (w ∷ ws) end t u one other apart i j lt below same = by (sought layout w) refl i j (λ k l. same_block layout ws (addr_of w + len_of layout.setting w) t u one other apart.2 k l lt below same)
+  where
+    -- the first ends before the others
+    before : (v x : Target) → sought layout w ≡ Ok v → In x (targets layout ws) → addr_of v.want + size_of v ≤ addr_of x.want
+    before v x s k =
+        let o = of_targets layout x ws k in
+        let first = sought_of layout w v s in
+        let begin : addr_of v.want ≡ addr_of w = ap addr_of first.want_is in
+        let size : size_of v ≡ len_of layout.setting w = ap (λ g. len_of g v.want) first.setting_is ∙ ap (len_of layout.setting) first.want_is in
+        omega (arith, begin, size, all_behind layout (addr_of w + len_of layout.setting w) ws apart.2 o.0 o.1, ap addr_of (sought_of layout o.0 x o.2).want_is)
+
+    by : (r : Result Target Fault) → sought layout w ≡ r → In t (cons_option (ok_or_none r) (targets layout ws)) → In u (cons_option (ok_or_none r) (targets layout ws)) → (In t (targets layout ws) → In u (targets layout ws) → t ≡ u) → t ≡ u
+    by (Err f) s i j rest = rest i j
+    by (Ok v) s (inl e) (inl f) rest = sym e ∙ f
+    by (Ok v) s (inl e) (inr j) rest = absurd (omega (arith, same, lt, subst (λ (x : Target). addr_of x.want + size_of x ≤ addr_of u.want) e (before v u s j)))
+    by (Ok v) s (inr i) (inl f) rest = absurd (omega (arith, same, below, subst (λ (x : Target). addr_of x.want + size_of x ≤ addr_of t.want) f (before v t s i)))
+    by (Ok v) s (inr i) (inr j) rest = rest i j
+
+-- a byte of a block is of one copy
+same_copy : (layout : Layout) (t : Target) (slot off : ℕ) → IsTable layout.chunks → HaveOwnSlots layout.devices → (is : IsSought layout t) → (b c : IsCopyByte layout t slot off) → b.copy ≡ c.copy
+same_copy layout t slot off table own is b c =
+    let p = place_at t.chunk (Mirror b.copy) t.at in
+    let q = place_at t.chunk (Mirror c.copy) t.at in
+    let devid : p.devid ≡ q.devid = own p.devid q.devid b.device c.device b.given c.given (b.same_slot ∙ sym c.same_slot) in
+    (copies_apart layout.chunks (record { devid = p.devid; offset = off }) is.number is.number b.copy c.copy (addr_of t.want + b.behind) (addr_of t.want + c.behind) table
+    (is_of_copy layout t slot off table is b)
+    (subst (λ d. IsOfCopy layout.chunks (record { devid = d; offset = off }) is.number c.copy (addr_of t.want + c.behind)) (sym devid) (is_of_copy layout t slot off table is c))).1
+
+-- numbers from one on
+below_in : (a n x : ℕ) → a ≤ x → x < a + n → In x (range_with_len a n)
+below_in a zero x from to = absurd (omega (arith, from, to))
+below_in a (suc n) x from to = elim (cases_lt a x) [
+  | inl lt ↦ inr (below_in (a + 1) n x (omega (arith, lt)) (omega (arith, to)))
+  | inr le ↦ inl (omega (arith, le, from))
+]
+
+at_member : {X : Type 0} (xs : List X) (i : ℕ) (x : X) → slice_get xs i ≡ Some x → In x xs
+at_member [] i x e = cc
+at_member (y ∷ xs) zero x e = inl (same_Some y x e)
+at_member (y ∷ xs) (suc i) x e = inr (at_member xs i x e)
+
+module _ (images : Images) (layout : Layout) (C : Committed) (wants : List Want) (table : IsTable layout.chunks) (own : HaveOwnSlots layout.devices) (none : first_missing layout ≡ None) (lengths : HaveLengths images layout)
+    (had : CanBeHad images layout C wants) (apart : AreApart layout 0 wants) where
+  abbrev ts : List Target
+  ts = targets layout wants
+
+  abbrev ws : List Write
+  ws = all_writes_for layout layout.chunks wants images
+
+  abbrev ranges : List Range
+  ranges = map (λ (w : Write). w.range) ws
+
+  abbrev covered_at : ℕ → ℕ → Write → Bool
+  covered_at slot off w = covers slot off w.range
+
+  -- ---- what a byte is written for
+
+  -- for a block with copies
+  record ForCopies (slot off : ℕ) : Type 0 where
+    block : Target
+    among : In block ts
+    is : IsSought layout block
+    copies : ℕ
+    has : mirrors block.chunk ≡ Some copies
+    written : list_any (covered_at slot off) (block_writes images block) ≡ true
+
+  -- for a full stripe
+  record ForRow (slot off : ℕ) : Type 0 where
+    number : ℕ
+    chunk : Chunk
+    there : slice_get layout.chunks number ≡ Some chunk
+    parity : mirrors chunk ≡ None
+    row : ℕ
+    inside : row * 65536 + 65536 ≤ stripe_length chunk
+    written : list_any (covered_at slot off) (row_writes images layout (row_of ts chunk row)) ≡ true
+
+  for_chunk : (slot off number : ℕ) (chunk : Chunk) → slice_get layout.chunks number ≡ Some chunk → list_any (covered_at slot off) (chunk_writes_for layout chunk wants images) ≡ true → ForCopies slot off ⊎ ForRow slot off
+  for_chunk slot off number chunk there h = by (mirrors chunk) refl h
+    where
+      by : (o : Option ℕ) → mirrors chunk ≡ o → list_any (covered_at slot off) (cond (is_none o) (rows_writes layout (rows_in ts chunk) images) (blocks_writes (blocks_in layout chunk wants) images)) ≡ true → ForCopies slot off ⊎ ForRow slot off
+      by None parity h =
+          let n = stripe_length chunk / 65536 in
+          let f = any_flat (covered_at slot off) (row_writes images layout) (rows_in ts chunk) h in
+          let listed : rows_in ts chunk ≡ map (row_of ts chunk) (range_with_len 0 n) = ap (λ o. cond (is_none o) (map (row_of ts chunk) (range_with_len 0 n)) []) parity in
+          let r = of_mapped (row_of ts chunk) f.0 (range_with_len 0 n) (subst (In f.0) listed f.1) in
+          let lt = in_below n r.0 r.1 in
+          inr (record { number = number; chunk = chunk; there = there; parity = parity; row = r.0; inside = omega (arith, lt); written = subst (λ row. list_any (covered_at slot off) (row_writes images layout row) ≡ true) (sym r.2) f.2 })
+      by (Some n) copies h =
+          let f = any_flat (covered_at slot off) (block_writes images) (blocks_in layout chunk wants) h in
+          let of = of_chunk layout table own none number chunk there wants f.0 f.1 in
+          inl (record { block = f.0; among = (passing_filter (is_in_chunk chunk) f.0 ts f.1).0; is = of.is; copies = n; has = ap mirrors of.chunk_is ∙ copies; written = f.2 })
+
+  for_what : (slot off : ℕ) → list_any (covers slot off) ranges ≡ true → ForCopies slot off ⊎ ForRow slot off
+  for_what slot off h =
+      let any : list_any (covered_at slot off) ws ≡ true = sym (any_map (covers slot off) (λ (w : Write). w.range) ws) ∙ h in
+      let f = any_flat (covered_at slot off) (λ c. chunk_writes_for layout c wants images) layout.chunks any in
+      let j = at_in f.0 layout.chunks f.1 in
+      for_chunk slot off j.0 f.0 j.1 f.2
+
+  -- ---- the writes leave what is right
+
+  in_copies : (slot off : ℕ) → ForCopies slot off → IsInCopies layout slot off
+  in_copies slot off c =
+      let b = copy_in_chunk layout c.block slot off table c.is (written_byte images layout lengths c.block c.is c.copies c.has slot off c.written) in
+      let same : c.block.chunk ≡ b.lies.chunk = same_Some c.block.chunk b.lies.chunk (sym c.is.there ∙ b.lies.there) in
+      record {
+        devid = b.devid;
+        device = b.device;
+        given = b.given;
+        same_slot = b.same_slot;
+        number = c.is.number;
+        stripe = b.stripe;
+        lies = b.lies;
+        copies = ap (λ k. is_some (mirrors k)) (sym same) ∙ ap is_some c.has;
+      }
+
+  in_wrong : (slot off : ℕ) → ForRow slot off → IsInWrong images layout C ts slot off
+  in_wrong slot off f =
+      let row = row_of ts f.chunk f.row in
+      row_writes_are_wrong images layout C ts row slot off table
+      (is_row images layout C wants table own none lengths had apart f.number f.chunk f.there f.row f.parity f.inside)
+      (sound_row images layout C wants table own none lengths had apart f.number f.chunk f.there f.row f.parity f.inside)
+      (right_there images layout C wants table own none lengths had apart f.number f.chunk f.there f.row f.parity f.inside)
+      (any_map (covers slot off) (λ (w : Write). w.range) (row_writes images layout row) ∙ f.written)
+
+  avoid : AvoidRight images layout C ts ranges
+  avoid slot off h = elim (for_what slot off h) [ inl c ↦ inr (in_copies slot off c) | inr f ↦ inl (in_wrong slot off f) ]
+
+  -- ---- blocks of full stripes
+
+  module _ (t : Target) (among : In t ts) (is : IsSought layout t) (parity : mirrors t.chunk ≡ None) where
+    fits : t.at.row * 65536 + 65536 ≤ stripe_length t.chunk
+    fits = omega (arith, row_fits layout table is.number t.chunk is.there parity (addr_of t.want) is.held, ap (λ (e : Elements). e.row) is.at)
+
+    mine : In t (row_of ts t.chunk t.at.row).blocks
+    mine = in_filter (is_in_row t.chunk t.at.row) t ts among (and_from (eqb t.chunk.start t.chunk.start) (eqb t.at.row t.at.row) (eq-eqb t.chunk.start t.chunk.start refl) (eq-eqb t.at.row t.at.row refl))
+
+    some_blocks : (bs : List Target) → In t bs → bs ≢ []
+    some_blocks [] i e = i
+    some_blocks (b ∷ bs) i e = cc
+
+    few : HasFewWrong images layout C (row_of ts t.chunk t.at.row)
+    few =
+        let n = stripe_length t.chunk / 65536 in
+        let listed : rows_in ts t.chunk ≡ map (row_of ts t.chunk) (range_with_len 0 n) = ap (λ o. cond (is_none o) (map (row_of ts t.chunk) (range_with_len 0 n)) []) parity in
+        had.rows t.chunk (row_of ts t.chunk t.at.row) (at_member layout.chunks is.number t.chunk is.there)
+        (subst (In (row_of ts t.chunk t.at.row)) (sym listed) (in_map (row_of ts t.chunk) t.at.row (range_with_len 0 n) (below_in 0 n t.at.row (omega arith) (omega (arith, fits)))))
+        (some_blocks (row_of ts t.chunk t.at.row).blocks mine)
+
+    row_outlives : (left : Images) → KeepsOutside ranges images left → StandsFor left C t
+    row_outlives left keeps =
+        row_outlives_writes images left layout C ts (row_of ts t.chunk t.at.row) ranges t table own lengths
+        (is_row images layout C wants table own none lengths had apart is.number t.chunk is.there t.at.row parity fits) avoid keeps
+        (sound_row images layout C wants table own none lengths had apart is.number t.chunk is.there t.at.row parity fits) few mine
+
+  -- ---- blocks with copies
+
+  module _ (t : Target) (among : In t ts) (is : IsSought layout t) (n : ℕ) (has : mirrors t.chunk ≡ Some n) where
+    own_are : own_parts t ≡ map Mirror (range_with_len 0 n)
+    own_are = ap (λ o. option_map_or (λ copies. map Mirror (range_with_len 0 copies)) o (Slice t.at.index ∷ [])) has
+
+    module _ (k : ℕ) (lt : k < n) (right : C t.want ≡ Some (element images t (Mirror k))) (range : Range) (whole : range_of t (Mirror k) ≡ Some range) where
+      good : is_good images t (Mirror k) ≡ true
+      good = ap (λ s. passes s t.want (element images t (Mirror k))) is.setting ∙ subst (λ o. IfSome o (λ bytes. passes layout.setting t.want bytes ≡ true)) right (had.pass t.want)
+
+      abbrev byte : (slot off : ℕ) → covers slot off range ≡ true → IsCopyByte layout t slot off
+      byte slot off c = of_range layout t k slot off range is (has_mirror t n k has lt) whole c
+
+      not_bad : (b : Bool) → not b ≡ true → b ≡ true → ⊥
+      not_bad true e f = false≢true e
+      not_bad false e f = false≢true f
+
+      -- the block's own writes aren't over a right copy
+      not_own : (slot off : ℕ) → covers slot off range ≡ true → list_any (covered_at slot off) (block_writes images t) ≡ true → ⊥
+      not_own slot off c written = by (accepted images t) written
+        where
+          by : (o : Option (List ℕ)) → list_any (covered_at slot off) (option_map_or (written_over images t) o []) ≡ true → ⊥
+          by None h = false≢true h
+          by (Some bytes) h =
+              let f = any_filter_map (covered_at slot off) (λ part. option_map (λ (range : Range). record { range = range; bytes = bytes }) (range_of t part)) (bad_parts images t) h in
+              let bad = passing_filter (λ part. not (is_good images t part)) f.0 (own_parts t) f.1 in
+              let j = of_mapped Mirror f.0 (range_with_len 0 n) (subst (In f.0) own_are bad.0) in
+              let m = mapped (λ (range : Range). record { range = range; bytes = bytes }) (range_of t f.0) f.2.0 f.2.1 in
+              let mirror = has_mirror t n j.0 has (in_below n j.0 j.1) in
+              let there : range_of t (Mirror j.0) ≡ Some m.0 = ap (range_of t) j.2 ∙ m.1 in
+              let cover : covers slot off m.0 ≡ true = ap (λ (w : Write). covers slot off w.range) m.2 ∙ f.2.2 in
+              let same : j.0 ≡ k =
+              sym (copy_of_range layout t j.0 slot off m.0 is mirror there cover)
+              ∙ same_copy layout t slot off table own is (of_range layout t j.0 slot off m.0 is mirror there cover) (byte slot off c)
+              ∙ copy_of_range layout t k slot off range is (has_mirror t n k has lt) whole c in
+              not_bad (is_good images t f.0) bad.1 (ap (is_good images t) (sym j.2 ∙ ap Mirror same) ∙ good)
+
+      -- nor those of any other
+      not_written : (slot off : ℕ) → covers slot off range ≡ true → ForCopies slot off ⊎ ForRow slot off → ⊥
+      not_written slot off c (inl f) =
+          let s = shares layout t f.block slot off table own is f.is (byte slot off c) (written_byte images layout lengths f.block f.is f.copies f.has slot off f.written) in
+          let same : t ≡ f.block = same_block layout wants 0 t f.block s.one s.other apart among f.among s.below s.under s.same in
+          not_own slot off c (subst (λ u. list_any (covered_at slot off) (block_writes images u) ≡ true) (sym same) f.written)
+      not_written slot off c (inr f) =
+          let of = row_is layout table own none f.number f.chunk f.there wants f.row f.parity f.inside in
+          let w = written_row layout (row_of ts f.chunk f.row) table of.is images slot off of.blocks f.written in
+          let number : is.number ≡ w.1.number = one_chunk layout is.number w.1.number slot off table own (copy_in_chunk layout t slot off table is (byte slot off c)) (element_in_chunk layout (row_of ts f.chunk f.row) w.0 slot off table w.1) in
+          let chunk : t.chunk ≡ f.chunk = same_Some t.chunk f.chunk (sym is.there ∙ ap (slice_get layout.chunks) number ∙ w.1.there) in
+          false≢true (sym (ap is_some f.parity) ∙ ap (λ k. is_some (mirrors k)) (sym chunk) ∙ ap is_some has)
+
+      free : (slot off : ℕ) → covers slot off range ≡ true → list_any (covers slot off) ranges ≡ false
+      free slot off c = by (list_any (covers slot off) ranges) refl
+        where
+          by : (b : Bool) → list_any (covers slot off) ranges ≡ b → list_any (covers slot off) ranges ≡ false
+          by false e = e
+          by true e = absurd (not_written slot off c (for_what slot off e))
+
+      stays : (left : Images) → KeepsOutside ranges images left → element left t (Mirror k) ≡ element images t (Mirror k)
+      stays left keeps = same_element images left layout ranges t (Mirror k) lengths is keeps (λ slot off c. free slot off (subst (λ o. IsSomeAnd o (λ range. covers slot off range ≡ true)) whole c))
+
+    copies_outlive : (left : Images) → KeepsOutside ranges images left → StandsFor left C t
+    copies_outlive left keeps =
+        let a = in_any (λ part. C t.want ≡ Some (element images t part)) (own_parts t) (had.copies t among (ap is_some has)) in
+        let j = of_mapped Mirror a.0 (range_with_len 0 n) (subst (In a.0) own_are a.1) in
+        let lt = in_below n j.0 j.1 in
+        let right : C t.want ≡ Some (element images t (Mirror j.0)) = a.2 ∙ ap (λ part. Some (element images t part)) (sym j.2) in
+        let given = part_is_given layout t (Mirror j.0) table is (has_mirror t n j.0 has lt) none in
+        let r = some_of (range_of t (Mirror j.0)) given in
+        let all : candidates t ≡ copies n = ap (λ o. option_map_or copies o (rebuilt t.chunk.profile (slice_count t) t.at.index)) has in
+        any_in (λ c. (stands t c ≡ true) × (C t.want ≡ Some (value_of left t c))) (candidates t) (Stands (Mirror j.0)) (subst (In (Stands (Mirror j.0))) (sym all) (in_map (λ copy. Stands (Mirror copy)) j.0 (range_with_len 0 n) j.1))
+        (ap (λ b. b && true) given, right ∙ ap Some (sym (stays j.0 lt right r.0 r.1 left keeps)))
+
+  -- ---- all blocks
+
+  pub block_outlives : (left : Images) (t : Target) → In t ts → KeepsOutside ranges images left → StandsFor left C t
+  block_outlives left t among keeps = by (mirrors t.chunk) refl
+    where
+      is : IsSought layout t
+      is = let w = of_targets layout t wants among in is_sought layout w.0 t w.2
+
+      by : (o : Option ℕ) → mirrors t.chunk ≡ o → StandsFor left C t
+      by None parity = row_outlives t among is parity left keeps
+      by (Some n) has = copies_outlive t among is n has left keeps

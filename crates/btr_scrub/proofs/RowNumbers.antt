@@ -1,0 +1,166 @@
+-- Which rows a chunk with parity has, and in which one a block lies.
+use Rattle.std.proofs.Common.{◌≡◌, ◌⊎◌, ℕ, zero, suc, ◌+◌, ◌-◌, ◌*◌, ◌/◌, ◌%◌, ◌<◌, ◌≤◌, Bool, true, false, cond, ◌&&◌, eqb, leb, ltb, List, [], ◌∷◌, ◌++◌, map, length, slice_get, Some, None, is_none, Ok, refl, sym, ap, ◌∙◌, subst, inl, inr, arith}
+use Rattle.std.proofs.lemmas.Bool.{and_parts, cases_order, eqb-true, leb-true, ltb-true, and_from, le-leb, lt-ltb}
+use Rattle.std.proofs.lemmas.Nat.{le-div}
+use Rattle.std.proofs.Math.Nat.{div-mul-le_self}
+use Rattle.std.proofs.lemmas.Option.{same_Some}
+use Rattle.std.specs.List.{range_with_len}
+use Rattle.btr_chunk.specs.Chunk.{data_count, is_striped, mirrors, stripe_length}
+use Rattle.btr_chunk.specs.Mapping.{holds, position}
+use Rattle.btr_chunk.specs.Table.{IsTable, chunk_at}
+use Rattle.btr_chunk.specs.declared.chunk.Chunk.{Chunk}
+use Rattle.btr_chunk.specs.declared.position.Elements.{Elements}
+use Rattle.btr_chunk.proofs.Rows.{without_copies}
+use Rattle.btr_chunk.proofs.Rule.{data_count-some, element_inside, facts}
+use Rattle.btr_chunk.proofs.Searches.{find-first}
+use Rattle.btr_read.specs.Candidates.{Target}
+use Rattle.btr_read.specs.Fate.{sought}
+use Rattle.btr_read.specs.Layout.{Layout}
+use Rattle.btr_read.specs.Want.{addr_of, len_of}
+use Rattle.btr_read.specs.declared.want.Want.{Want}
+use Rattle.btr_read.proofs.Fates.{sought_of}
+use Rattle.btr_row.specs.Rows.{Row}
+use Rattle.btr_scrub.specs.Glue.{In}
+use Rattle.btr_scrub.specs.Order.{AreApart, IsSought}
+use Rattle.btr_scrub.specs.Repair.{is_in_chunk, is_in_row, row_of, rows_in}
+use Rattle.btr_scrub.specs.Rowing.{row_in}
+use Rattle.btr_scrub.proofs.Blockwise.{chunk_same, ok_of}
+use Rattle.btr_scrub.proofs.Positions.{is_sought, striped_position}
+
+-- ---- numbers from one on
+
+pub range_split : (a m n : ℕ) → range_with_len a (m + n) ≡ range_with_len a m ++ range_with_len (a + m) n
+range_split a zero n =
+    let e : 0 + n ≡ n = omega arith in
+    let f : a ≡ a + 0 = omega arith in
+    ap (range_with_len a) e ∙ ap (λ b. range_with_len b n) f
+range_split a (suc m) n =
+    let e : suc m + n ≡ suc (m + n) = omega arith in
+    let f : a + 1 + m ≡ a + suc m = omega arith in
+    ap (range_with_len a) e ∙ ap (λ xs. a ∷ xs) (range_split (a + 1) m n ∙ ap (λ b. range_with_len (a + 1) m ++ range_with_len b n) f)
+
+pub in_range : (a n x : ℕ) → In x (range_with_len a n) → (a ≤ x) × (x < a + n)
+in_range a zero x i = absurd i
+in_range a (suc n) x (inl e) = (omega (arith, e), omega (arith, e))
+in_range a (suc n) x (inr i) = let r = in_range (a + 1) n x i in (omega (arith, r.0), omega (arith, r.1))
+
+-- blocks that are apart, behind some of them
+pub tail_apart : (layout : Layout) (end : ℕ) (xs ys : List Want) → AreApart layout end (xs ++ ys) → (e : ℕ) × (end ≤ e) × AreApart layout e ys × ((x : Want) → In x xs → addr_of x ≤ e)
+tail_apart layout end [] ys apart = (end, omega arith, apart, λ x i. absurd i)
+tail_apart layout end (x ∷ xs) ys apart =
+    let r = tail_apart layout (addr_of x + len_of layout.setting x) xs ys apart.2 in
+    (r.0, omega (arith, apart.0, r.1), r.2, λ y i. by r.0 y i r.3 r.1)
+  where
+    by : (e : ℕ) (y : Want) → In y (x ∷ xs) → ((z : Want) → In z xs → addr_of z ≤ e) → addr_of x + len_of layout.setting x ≤ e → addr_of y ≤ e
+    by e y (inl same) rest le = subst (λ w. addr_of w ≤ e) same (omega (arith, le))
+    by e y (inr i) rest le = rest y i
+
+pub sought_each : (layout : Layout) (end : ℕ) (ws : List Want) → AreApart layout end ws → (w : Want) → In w ws → (t : Target) × (sought layout w ≡ Ok t)
+sought_each layout end [] apart w i = absurd i
+sought_each layout end (v ∷ ws) apart w (inl e) = subst (λ x. (t : Target) × (sought layout x ≡ Ok t)) e (ok_of (sought layout v) apart.1)
+sought_each layout end (v ∷ ws) apart w (inr i) = sought_each layout (addr_of v + len_of layout.setting v) ws apart.2 w i
+
+-- ---- one chunk with parity
+
+-- the row of an address
+pub row_there : (chunk : Chunk) (addr r : ℕ) → row_in chunk addr ≡ Some r → (holds chunk addr ≡ true) × ((position chunk addr).row ≡ r)
+row_there chunk addr r e = by (holds chunk addr) refl e
+  where
+    by : (b : Bool) → holds chunk addr ≡ b → cond b (Some (position chunk addr).row) None ≡ Some r → (holds chunk addr ≡ true) × ((position chunk addr).row ≡ r)
+    by true q e = (q, same_Some (position chunk addr).row r e)
+    by false q e = cc
+
+pub held_row : (chunk : Chunk) (addr : ℕ) → holds chunk addr ≡ true → row_in chunk addr ≡ Some (position chunk addr).row
+held_row chunk addr e = ap (λ b. cond b (Some (position chunk addr).row) None) e
+
+div_mono : (a b k : ℕ) → 0 < k → a ≤ b → a / k ≤ b / k
+div_mono a b k pos le = le-div (a / k) b k pos (omega (arith, div-mul-le_self a k, le))
+
+-- the rows of a chunk below one
+abbrev pub rows_to : List Target → Chunk → ℕ → List Row
+rows_to ts chunk n = map (row_of ts chunk) (range_with_len 0 n)
+
+pub all_rows : (ts : List Target) (chunk : Chunk) → mirrors chunk ≡ None → rows_in ts chunk ≡ rows_to ts chunk (stripe_length chunk / 65536)
+all_rows ts chunk parity = ap (λ o. cond (is_none o) (rows_to ts chunk (stripe_length chunk / 65536)) []) parity
+
+module _ (layout : Layout) (table : IsTable layout.chunks) (number : ℕ) (chunk : Chunk) (there : slice_get layout.chunks number ≡ Some chunk) (parity : mirrors chunk ≡ None) where
+  striped : is_striped chunk.profile ≡ true
+  striped = elim (without_copies chunk.profile (length chunk.stripes) parity) [ inl five ↦ ap is_striped five | inr six ↦ ap is_striped six ]
+
+  some : 0 < data_count chunk.profile (length chunk.stripes)
+  some = data_count-some chunk.profile (length chunk.stripes) (facts chunk (table.sound number chunk there).0).count
+
+  row_at : (addr : ℕ) → (position chunk addr).row ≡ (addr - chunk.start) / 65536 / data_count chunk.profile (length chunk.stripes)
+  row_at addr = ap (λ (e : Elements). e.row) (striped_position chunk addr striped)
+
+  pub rows_rise : (a b : ℕ) → a ≤ b → (position chunk a).row ≤ (position chunk b).row
+  rows_rise a b le =
+      let inner = div_mono (a - chunk.start) (b - chunk.start) 65536 (omega arith) (omega (arith, le)) in
+      let outer = div_mono ((a - chunk.start) / 65536) ((b - chunk.start) / 65536) (data_count chunk.profile (length chunk.stripes)) some inner in
+      omega (arith, row_at a, row_at b, outer)
+
+  -- a row that holds an address lies in the chunk's stripes
+  pub row_fits : (addr : ℕ) → holds chunk addr ≡ true → (position chunk addr).row * 65536 + 65536 ≤ stripe_length chunk
+  row_fits addr held =
+      let d = data_count chunk.profile (length chunk.stripes) in
+      let h = and_parts (leb chunk.start addr) (ltb addr (chunk.start + chunk.length)) held in
+      let from = leb-true chunk.start addr h.0 in
+      let to = ltb-true addr (chunk.start + chunk.length) h.1 in
+      let whole : chunk.length % (d * 65536) ≡ 0 = ap (λ b. chunk.length % cond b (d * 65536) 4096) (sym striped) ∙ (facts chunk (table.sound number chunk there).0).whole in
+      let fits = element_inside (addr - chunk.start) d chunk.length some whole (omega (arith, from, to)) in
+      omega (arith, row_at addr, fits)
+
+  -- the chunk is the one that holds its start
+  pub start_there : chunk_at layout.chunks chunk.start ≡ Some chunk
+  start_there =
+      find-first (λ c. holds c chunk.start) layout.chunks number chunk there
+      (and_from (leb chunk.start chunk.start) (ltb chunk.start (chunk.start + chunk.length)) (le-leb chunk.start chunk.start (omega arith)) (lt-ltb chunk.start (chunk.start + chunk.length) (omega (arith, (facts chunk (table.sound number chunk there).0).some))))
+      (λ j c lt e. before j c lt e)
+    where
+      before : (j : ℕ) (c : Chunk) → j < number → slice_get layout.chunks j ≡ Some c → holds c chunk.start ≡ false
+      before j c lt e = by (holds c chunk.start) refl
+        where
+          by : (b : Bool) → holds c chunk.start ≡ b → holds c chunk.start ≡ false
+          by false h = h
+          by true h = absurd (omega (arith, ltb-true chunk.start (c.start + c.length) (and_parts (leb c.start chunk.start) (ltb chunk.start (c.start + c.length)) h).1, (table.apart j number c chunk lt e there).0))
+
+  -- ---- the row of a block
+
+  -- a block in a row of the chunk
+  pub at_row : (w : Want) (t : Target) (k : ℕ) → sought layout w ≡ Ok t → row_in chunk (addr_of w) ≡ Some k → (t.chunk ≡ chunk) × (t.at.row ≡ k)
+  at_row w t k e in_row =
+      let is = is_sought layout w t e in
+      let addr : addr_of t.want ≡ addr_of w = ap addr_of (sought_of layout w t e).want_is in
+      let r = row_there chunk (addr_of w) k in_row in
+      let h = and_parts (leb chunk.start (addr_of w)) (ltb (addr_of w) (chunk.start + chunk.length)) r.0 in
+      let same = chunk_same layout table number chunk there t is (omega (arith, addr, leb-true chunk.start (addr_of w) h.0)) (omega (arith, addr, ltb-true (addr_of w) (chunk.start + chunk.length) h.1)) in
+      let row : t.at.row ≡ (position chunk (addr_of w)).row = ap (λ (x : Elements). x.row) is.at ∙ ap (λ c. (position c (addr_of t.want)).row) same ∙ ap (λ a. (position chunk a).row) addr in
+      (same, row ∙ r.1)
+
+  -- .. has the row of its address
+  pub row_of_block : (w : Want) (t : Target) → sought layout w ≡ Ok t → t.chunk ≡ chunk → (holds chunk (addr_of w) ≡ true) × ((position chunk (addr_of w)).row ≡ t.at.row)
+  row_of_block w t e mine =
+      let is = is_sought layout w t e in
+      let addr : addr_of t.want ≡ addr_of w = ap addr_of (sought_of layout w t e).want_is in
+      let held : holds chunk (addr_of w) ≡ true = ap (holds chunk) (sym addr) ∙ ap (λ c. holds c (addr_of t.want)) (sym mine) ∙ is.held in
+      (held, sym (ap (λ (x : Elements). x.row) is.at ∙ ap (λ c. (position c (addr_of t.want)).row) mine ∙ ap (λ a. (position chunk a).row) addr))
+
+  pub same_start : (t : Target) → IsSought layout t → is_in_chunk chunk t ≡ true → t.chunk ≡ chunk
+  same_start t is e = by (cases_order is.number number)
+    where
+      start : t.chunk.start ≡ chunk.start
+      start = eqb-true t.chunk.start chunk.start e
+
+      by : (is.number ≡ number) ⊎ ((is.number < number) ⊎ (number < is.number)) → t.chunk ≡ chunk
+      by (inl same) = same_Some t.chunk chunk (sym is.there ∙ ap (slice_get layout.chunks) same ∙ there)
+      by (inr (inl lt)) = absurd (omega (arith, (table.apart is.number number t.chunk chunk lt is.there there).0, start, (facts t.chunk (table.sound is.number t.chunk is.there).0).some))
+      by (inr (inr lt)) = absurd (omega (arith, (table.apart number is.number chunk t.chunk lt there is.there).0, start, (facts chunk (table.sound number chunk there).0).some))
+
+  -- whether a block with a position lies in a row
+  pub row_is_not : (k : ℕ) (t : Target) → IsSought layout t → (t.chunk ≡ chunk → t.at.row ≡ k → ⊥) → is_in_row chunk k t ≡ false
+  row_is_not k t is h = by (is_in_chunk chunk t) (eqb t.at.row k) refl refl
+    where
+      by : (b c : Bool) → is_in_chunk chunk t ≡ b → eqb t.at.row k ≡ c → is_in_row chunk k t ≡ false
+      by true true p q = absurd (h (same_start t is p) (eqb-true t.at.row k q))
+      by true false p q = ap (λ x. is_in_chunk chunk t && x) q ∙ ap (λ x. x && false) p
+      by false c p q = ap (λ x. x && eqb t.at.row k) p

@@ -1,0 +1,177 @@
+-- The full stripes of a filesystem whose blocks can all be had: their blocks are apart, and what is accepted for them is committed.
+use Rattle.std.proofs.Common.{◌≡◌, ◌≢◌, ◌⊎◌, ℕ, ◌+◌, ◌-◌, ◌*◌, ◌/◌, ◌%◌, ◌≤◌, Bool, true, false, cond, eqb, leb, ltb, List, [], ◌∷◌, length, slice_get, All, Option, Some, None, IsSome, IfSome, Result, Ok, Err, IsOk, refl, sym, ap, ◌∙◌, subst, inl, inr, arith}
+use Rattle.std.proofs.lemmas.Bool.{false≢true, and_parts, eqb-true, leb-true}
+use Rattle.std.proofs.lemmas.Option.{same_Some}
+use Rattle.std.proofs.Math.Nat.{div-add-mod}
+use Rattle.std.specs.List.{cons_option, filter}
+use Rattle.btr_chunk.specs.Chunk.{data_count, is_striped, mirrors, stripe_length}
+use Rattle.btr_chunk.specs.Mapping.{IsPosition}
+use Rattle.btr_chunk.specs.Table.{IsTable}
+use Rattle.btr_chunk.specs.declared.chunk.Chunk.{Chunk}
+use Rattle.btr_chunk.specs.declared.position.Elements.{Elements}
+use Rattle.btr_chunk.proofs.Bytes.{IsPosition-position}
+use Rattle.btr_chunk.proofs.Rows.{without_copies}
+use Rattle.btr_parity.specs.Slices.{IsSlice}
+use Rattle.btr_read.specs.Candidates.{Target, size_of}
+use Rattle.btr_read.specs.Fate.{Fault, passing, passing_for, sought}
+use Rattle.btr_read.specs.Layout.{HaveOwnSlots, Layout}
+use Rattle.btr_read.specs.Want.{addr_of, len_of, passes}
+use Rattle.btr_read.specs.declared.want.Want.{Want}
+use Rattle.btr_read.proofs.Fates.{sought_of}
+use Rattle.btr_mend.specs.Blocks.{accepted}
+use Rattle.btr_mend.specs.Writes.{Images}
+use Rattle.btr_row.specs.Rows.{Row, blocks_at}
+use Rattle.btr_scrub.specs.Devices.{HaveLengths}
+use Rattle.btr_scrub.specs.Glue.{In}
+use Rattle.btr_scrub.specs.Order.{AreApart, IsSought, targets}
+use Rattle.btr_scrub.specs.Repair.{first_missing, is_in_row, ok_or_none, row_of, rows_in}
+use Rattle.btr_scrub.specs.Right.{AllPass, AreBytes, Committed, HasFewWrong, HasRightCopy, IsHonest}
+use Rattle.btr_scrub.specs.Staying.{IsRowOf}
+use Rattle.btr_scrub.specs.Survival.{AcceptsRight, AreBehind, IsSoundRow, RightPasses}
+use Rattle.btr_scrub.proofs.AcrossChunks.{OfRows, row_is}
+use Rattle.btr_scrub.proofs.Blockwise.{of_targets}
+use Rattle.btr_scrub.proofs.Lists.{all_in}
+use Rattle.btr_scrub.proofs.Positions.{striped_position}
+use Rattle.btr_scrub.proofs.RowWrites.{IsBlockOf, in_one_element}
+use Rattle.btr_scrub.proofs.Survival.{elements_are_slices, in_filter, of_filter, some_of}
+
+-- what is known of the blocks of some wants, which can all be had
+pub record CanBeHad (images : Images) (layout : Layout) (C : Committed) (wants : List Want) : Type 0 where
+  pub bytes : AreBytes images
+  pub pass : AllPass layout C
+  pub honest : IsHonest images layout C
+  pub committed : (t : Target) → In t (targets layout wants) → IsSome (C t.want)
+  pub slices : (t : Target) → In t (targets layout wants) → IfSome (C t.want) (IsSlice (size_of t))
+  pub copies : (t : Target) → In t (targets layout wants) → HasRightCopy images C t
+  pub rows : (chunk : Chunk) (row : Row) → In chunk layout.chunks → In row (rows_in (targets layout wants) chunk) → (row.blocks ≢ []) → HasFewWrong images layout C row
+
+-- ---- the blocks of a slice
+
+-- where a chunk with parity has a block: behind the slices before its own
+pub address_is : (layout : Layout) (t : Target) → IsSought layout t → mirrors t.chunk ≡ None
+    → addr_of t.want ≡ t.chunk.start + (data_count t.chunk.profile (length t.chunk.stripes) * t.at.row + t.at.index) * 65536 + t.at.rest
+address_is layout t is parity =
+    let k = data_count t.chunk.profile (length t.chunk.stripes) in
+    let o = addr_of t.want - t.chunk.start in
+    let striped : is_striped t.chunk.profile ≡ true = elim (without_copies t.chunk.profile (length t.chunk.stripes) parity) [ inl five ↦ ap is_striped five | inr six ↦ ap is_striped six ] in
+    let at = is.at ∙ striped_position t.chunk (addr_of t.want) striped in
+    let from = leb-true t.chunk.start (addr_of t.want) (and_parts (leb t.chunk.start (addr_of t.want)) (ltb (addr_of t.want) (t.chunk.start + t.chunk.length)) is.held).0 in
+    let whole : k * t.at.row + t.at.index ≡ o / 65536 = ap (λ (e : Elements). k * e.row + e.index) at ∙ div-add-mod (o / 65536) k in
+    let rest : t.at.rest ≡ o % 65536 = ap (λ (e : Elements). e.rest) at in
+    omega (arith, whole, rest, from)
+
+in_more : {X : Type 0} (o : Option X) (x : X) (xs : List X) → In x xs → In x (cons_option o xs)
+in_more None x xs i = i
+in_more (Some y) x xs i = inr i
+
+-- those of blocks that are apart which pass two tests, and lie in one slice, are apart there
+module _ (layout : Layout) (p q : Target → Bool) (base : ℕ) where
+  abbrev AreAt : List Target → Type 0
+  AreAt ts = (t : Target) → In t ts → p t ≡ true → q t ≡ true → addr_of t.want ≡ base + t.at.rest
+
+  -- one more, before others
+  module _ (w : Want) (ws : List Want) (end e : ℕ) (apart : AreApart layout end (w ∷ ws)) (from : (e ≡ 0) ⊎ (base + e ≤ end)) (at : AreAt (targets layout (w ∷ ws)))
+      (rest : (f : ℕ) → (f ≡ 0) ⊎ (base + f ≤ addr_of w + len_of layout.setting w) → AreBehind f (filter q (filter p (targets layout ws)))) where
+    past : (e ≡ 0) ⊎ (base + e ≤ end) → (e ≡ 0) ⊎ (base + e ≤ addr_of w + len_of layout.setting w)
+    past (inl z) = inl z
+    past (inr le) = inr (omega (arith, le, apart.0))
+
+    module _ (t : Target) (s : sought layout w ≡ Ok t) where
+      begins : (e ≡ 0) ⊎ (base + e ≤ end) → addr_of t.want ≡ base + t.at.rest → e ≤ t.at.rest
+      begins (inl z) a = omega (arith, z)
+      begins (inr le) a = omega (arith, le, apart.0, a, ap addr_of (sought_of layout w t s).want_is)
+
+      and : (c : Bool) → p t ≡ true → q t ≡ c → AreBehind e (cond c (t ∷ filter q (filter p (targets layout ws))) (filter q (filter p (targets layout ws))))
+      and true pe qe =
+          let o = sought_of layout w t s in
+          let size : size_of t ≡ len_of layout.setting w = ap (λ g. len_of g t.want) o.setting_is ∙ ap (len_of layout.setting) o.want_is in
+          let a = at t (subst (λ r. In t (cons_option (ok_or_none r) (targets layout ws))) (sym s) (inl refl)) pe qe in
+          (begins from a, rest (t.at.rest + size_of t) (inr (omega (arith, a, size, ap addr_of o.want_is))))
+      and false pe qe = rest e (past from)
+
+      or : (b : Bool) → p t ≡ b → AreBehind e (filter q (cond b (t ∷ filter p (targets layout ws)) (filter p (targets layout ws))))
+      or true pe = and (q t) pe refl
+      or false pe = rest e (past from)
+
+    of_sought : (r : Result Target Fault) → sought layout w ≡ r → AreBehind e (filter q (filter p (cons_option (ok_or_none r) (targets layout ws))))
+    of_sought (Err f) s = absurd (false≢true (subst IsOk s apart.1))
+    of_sought (Ok t) s = or t s (p t) refl
+
+  pub apart_behind : (wants : List Want) (end e : ℕ) → AreApart layout end wants → (e ≡ 0) ⊎ (base + e ≤ end) → AreAt (targets layout wants) → AreBehind e (filter q (filter p (targets layout wants)))
+  apart_behind [] end e apart from at = tt
+  apart_behind (w ∷ ws) end e apart from at =
+      of_sought w ws end e apart from at (λ f g. apart_behind ws (addr_of w + len_of layout.setting w) f apart.2 g (λ u i pe qe. at u (in_more (ok_or_none (sought layout w)) u (targets layout ws) i) pe qe)) (sought layout w) refl
+
+-- ---- the row of a number
+
+module _ (images : Images) (layout : Layout) (C : Committed) (wants : List Want) (table : IsTable layout.chunks) (own : HaveOwnSlots layout.devices) (none : first_missing layout ≡ None) (lengths : HaveLengths images layout) (had : CanBeHad images layout C wants) where
+  -- committed bytes of a block pass
+  pub right_passes : (t : Target) → IsSought layout t → RightPasses C t
+  right_passes t is = subst (λ s. IfSome (C t.want) (λ bytes. passes s t.want bytes ≡ true)) (sym is.setting) (had.pass t.want)
+
+  first_in : (xs : List (List ℕ)) (x : List ℕ) → slice_get xs 0 ≡ Some x → In x xs
+  first_in [] x e = cc
+  first_in (y ∷ xs) x e = inl (same_Some y x e)
+
+  -- what is accepted for a block is committed
+  pub accepts_right : (t : Target) → In t (targets layout wants) → AcceptsRight images C t
+  accepts_right t among = by (accepted images t) refl
+    where
+      by : (o : Option (List ℕ)) → accepted images t ≡ o → IfSome o (λ bytes. C t.want ≡ Some bytes)
+      by None e = tt
+      by (Some x) e =
+          let b = some_of (C t.want) (had.committed t among) in
+          let w = of_targets layout t wants among in
+          let of = sought_of layout w.0 t w.2 in
+          let same : C w.0 ≡ Some b.0 = ap C (sym of.want_is) ∙ b.1 in
+          let all : All (λ other. other ≡ b.0) (passing_for images (sought layout w.0)) = subst (λ o. IfSome o (λ bytes. All (λ other. other ≡ bytes) (passing_for images (sought layout w.0)))) same (had.honest w.0) in
+          let mine : All (λ other. other ≡ b.0) (passing images t) = subst (λ r. All (λ other. other ≡ b.0) (passing_for images r)) w.2 all in
+          b.1 ∙ ap Some (sym (all_in (λ other. other ≡ b.0) (passing images t) x mine (first_in (passing images t) x e)))
+
+  module _ (apart : AreApart layout 0 wants) (number : ℕ) (chunk : Chunk) (there : slice_get layout.chunks number ≡ Some chunk) (r : ℕ) (parity : mirrors chunk ≡ None) (inside : r * 65536 + 65536 ≤ stripe_length chunk) where
+    abbrev row : Row
+    row = row_of (targets layout wants) chunk r
+
+    of : OfRows layout table own none number chunk there wants row
+    of = row_is layout table own none number chunk there wants r parity inside
+
+    pub is_row : IsRowOf layout (targets layout wants) row
+    is_row = record { number = of.is.chunk_number; there = of.is.there; parity = of.is.parity; position = of.is.position; made = refl }
+
+    block_parity : (t : Target) → IsBlockOf layout row t → mirrors t.chunk ≡ None
+    block_parity t b = ap mirrors b.chunk ∙ parity
+
+    spaced : (i : ℕ) → AreBehind 0 (blocks_at row i)
+    spaced i =
+        let k = data_count chunk.profile (length chunk.stripes) in
+        apart_behind layout (is_in_row chunk r) (λ t. eqb t.at.index i) (chunk.start + (k * r + i) * 65536) wants 0 0 apart (inl refl) (λ t among mine at.
+        let b = of.blocks t (in_it t among mine) in
+        address_is layout t b.is (block_parity t b)
+        ∙ ap (λ (c : Chunk). c.start + (data_count c.profile (length c.stripes) * t.at.row + t.at.index) * 65536 + t.at.rest) b.chunk
+        ∙ ap (λ n. chunk.start + (k * n + t.at.index) * 65536 + t.at.rest) b.number
+        ∙ ap (λ n. chunk.start + (k * r + n) * 65536 + t.at.rest) (eqb-true t.at.index i at))
+      where
+        in_it : (t : Target) → In t (targets layout wants) → is_in_row chunk r t ≡ true → In t row.blocks
+        in_it t among mine = in_filter (is_in_row chunk r) t (targets layout wants) among mine
+
+    pub sound_row : IsSoundRow images layout C row
+    sound_row = record {
+      parity = parity;
+      blocks = λ t i.
+          let b = of.blocks t i in
+          let among = of_filter (is_in_row chunk r) t (targets layout wants) i in
+          let rule = (table.sound b.is.number t.chunk b.is.there).0 in
+          record {
+            in_row = record { keeps_rule = rule; position = subst (IsPosition t.chunk) (sym b.is.at) (IsPosition-position t.chunk (addr_of t.want) rule b.is.held); parity = block_parity t b };
+            lies = record { chunk = b.chunk; number = b.number; devices = b.is.devices; inside = in_one_element layout t b.is (block_parity t b) };
+            committed = had.committed t among;
+            bytes = had.slices t among;
+          };
+      spaced = spaced;
+      stand = of.is.stand;
+      bytes = λ q has. elements_are_slices images layout row q had.bytes lengths (of.is.stand q has);
+    }
+
+    -- committed bytes of its blocks pass, and are what is accepted
+    pub right_there : (t : Target) → In t row.blocks → RightPasses C t × AcceptsRight images C t
+    right_there t i = (right_passes t (of.blocks t i).is, accepts_right t (of_filter (is_in_row chunk r) t (targets layout wants) i))
