@@ -158,7 +158,7 @@ module _ (write : Bool) (old mid : Seen) (first : OnlyReads old mid) (volume : V
       ⊎_elim (λ steady. (
         told_at old.held (λ i. Steady old.account.faults mid.account.faults → OpensFilesystem i (Ok volume)) images told content (omega (arith, steady.0, second.later), omega (arith, steady.1, second.later)),
         told_at mid.held (λ i. Steady mid.account.faults at.account.faults → P (fate i layout)) images (ap (λ (s : Seen). s.held) first.same ∙ told) (steadily layout mid at P tells) (omega (arith, steady.0, first.later), steady.1),
-      )) (λ agreed. told_at old.held (λ i. AreAgreed i → Both P i) images told (agreeing old mid at first volume opened P (Both P) (λ i o p. (o, p)) tells) agreed) sure
+      )) (λ agreed. told_at old.held (λ i. AreAgreed i → Both P i) images told (agreeing true old mid at first volume opened P (Both P) (λ i o p. (o, p)) tells) agreed) sure
 
   -- a device isn't given
   module _ (stripe : Stripe) (missing : first_missing layout ≡ Some stripe) where
