@@ -1,6 +1,6 @@
 // Extents and what uses them.
 ghost use Rattle.std.specs.Prelude.{◌≡◌, []};
-ghost use Rattle.btr_check.specs.Counting.{Unless};
+ghost use Rattle.btr_check.specs.Counting.{Unless, UsesCount};
 ghost use Rattle.btr_check.specs.ExtentTree.{IsStoredOf};
 ghost use Rattle.btr_check.specs.Passes.{AreAll, Lists, Puts};
 ghost use Rattle.btr_check.specs.Running.{world, IsReady, Ran};
@@ -15,7 +15,7 @@ use crate::misusing::put_reference_findings;
 use crate::refusing::{EXTENT_TREE, last_of};
 use crate::walk::Walk;
 use btr_rack::Rack;
-use btr_refs::{Finding, Stored};
+use btr_refs::{Extent, Finding, Forward, Stored};
 use btr_volume::{Stop, TreeRoot, Volume};
 use std::alloc::Global;
 use std::collections::BTreeSet;
@@ -39,6 +39,21 @@ pub(crate) fn read_extents<R: Rack>(
     }
 }
 
+// Counts what uses extents, by the blocks that were met, which are let go behind it.
+fn count_walked<R: Rack>(
+    alloc: Global,
+    trees: &[TreeRoot],
+    walk: Walk,
+    extents: &[Extent],
+    rack: &mut R,
+    vol: &mut Volume,
+) -> Result<Forward, Stop>
+    requires ready { IsReady (world (R.seen rack.old) vol.old) }
+    ensures ran { Ran (λ fs. UsesCount fs.blocks trees.now walk.places.list extents.now result) (world (R.seen rack.old) vol.old) (world (R.seen rack.new) vol.new) result }
+{
+    count_uses(alloc, trees, walk.places(), extents, rack, vol)
+}
+
 /// Puts what is wrong with extents and with the references to them, kinds 7 to 11. These are all trees, and what was walked of them;
 /// the blocks that were met are read again.
 ///
@@ -56,7 +71,7 @@ pub(crate) fn put_references<R: Rack>(
     ensures ran { Ran (Puts (λ fs. AreAll trees.now fs × IsWalkOf fs trees.now walk × IsStoredOf fs stored.now) reference_findings found.old found.new result) (world (R.seen rack.old) vol.old) (world (R.seen rack.new) vol.new) result }
 {
     let nodesize = u64::from(vol.sup.nodesize);
-    match count_uses(alloc, trees, walk.places(), stored.extents(), rack, vol) {
+    match count_walked(alloc, trees, walk, stored.extents(), rack, vol) {
         Err(stop) => Err(stop),
         Ok(forward) => or_memory(put_reference_findings(alloc, found, nodesize, &forward, stored)),
     }
