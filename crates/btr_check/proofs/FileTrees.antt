@@ -1,5 +1,5 @@
 -- Trees of files, one after another.
-use Rattle.std.proofs.Common.{◌≡◌, ℕ, Bool, true, cond, map, filter_map, ◌+◌, ◌<◌, ◌≤◌, List, [], ◌∷◌, ◌++◌, length, take, get_or, filter, flat_map, fold, Result, Ok, Err, refl, sym, ap, ◌∙◌, subst, append_assoc, append-nil}
+use Rattle.std.proofs.Common.{◌≡◌, ℕ, Bool, true, false, cond, map, filter_map, ◌+◌, ◌<◌, ◌≤◌, List, [], ◌∷◌, ◌++◌, length, take, get_or, filter, flat_map, fold, Result, Ok, Err, refl, sym, ap, ◌∙◌, subst, append_assoc, append-nil}
 use Rattle.std.proofs.lemmas.Grind.{flat_map-append}
 use Rattle.std.proofs.lemmas.List.{take_more, take_all}
 use Rattle.std.specs.BTreeSet.{BTreeSet}
@@ -38,13 +38,13 @@ file_folded : (marks : List Mark) (met : FileTree) → fold file_step met marks 
 file_folded [] met = refl
 file_folded (mark ∷ marks) met = file_folded marks (file_step met mark)
 
+filter_by : {X : Type 0} (p : X → Bool) (x : X) (xs : List X) (b : Bool) → p x ≡ b → filter p (filter p xs) ≡ filter p xs → filter p (cond b (x ∷ filter p xs) (filter p xs)) ≡ cond b (x ∷ filter p xs) (filter p xs)
+filter_by p x xs true is rest = ap (λ b. cond b (x ∷ filter p (filter p xs)) (filter p (filter p xs))) is ∙ ap (λ l. x ∷ l) rest
+filter_by p x xs false is rest = rest
+
 filter_twice : {X : Type 0} (p : X → Bool) (xs : List X) → filter p (filter p xs) ≡ filter p xs
 filter_twice p [] = refl
-filter_twice {X} p (x ∷ xs) = by (p x) refl
-  where
-    by : (b : Bool) → p x ≡ b → filter p (cond b (x ∷ filter p xs) (filter p xs)) ≡ cond b (x ∷ filter p xs) (filter p xs)
-    by true is = ap (λ b. cond b (x ∷ filter p (filter p xs)) (filter p (filter p xs))) is ∙ ap (λ l. x ∷ l) (filter_twice p xs)
-    by false is = filter_twice p xs
+filter_twice p (x ∷ xs) = filter_by p x xs (p x) refl (filter_twice p xs)
 
 module _ (B : Map) where
   -- what was met of a tree

@@ -51,7 +51,8 @@ fn count_walked<R: Rack>(
     requires ready { IsReady (world (R.seen rack.old) vol.old) }
     ensures ran { Ran (λ fs. UsesCount fs.blocks trees.now walk.places.list extents.now result) (world (R.seen rack.old) vol.old) (world (R.seen rack.new) vol.new) result }
 {
-    count_uses(alloc, trees, walk.places(), extents, rack, vol)
+    let places = walk.into_places();
+    count_uses(alloc, trees, places.as_slice(), extents, rack, vol)
 }
 
 /// Puts what is wrong with extents and with the references to them, kinds 7 to 11. These are all trees, and what was walked of them;

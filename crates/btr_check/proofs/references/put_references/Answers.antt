@@ -22,8 +22,8 @@ returns-in-Err g c =
           (λ B h known. uses_stop_here (filesystem c.args.vol.now B) c.args.trees.now c.args.walk c.args.walk.places.list c.extents.result.now stop known.1 refl h);
     }
 
-pub returns : goal.returns
-returns g c =
+pub returns-in-Ok : goal.returns-in-Ok
+returns-in-Ok g c =
     let x = world (g.R.Rack.seen c.args.rack.now) c.args.vol.now in
     let y = world (g.R.Rack.seen c.count_walked.new.rack) c.count_walked.new.vol in
     record {
