@@ -14,11 +14,28 @@ use crate::extent_tree::read_stored;
 use crate::misusing::put_reference_findings;
 use crate::refusing::{EXTENT_TREE, last_of};
 use crate::walk::Walk;
+use btr_base::Memory;
 use btr_rack::Rack;
 use btr_refs::{Extent, Finding, Forward, Stored};
 use btr_volume::{Stop, TreeRoot, Volume};
 use std::alloc::Global;
 use std::collections::BTreeSet;
+
+// What the extent tree says of extents.
+fn read_unpacked<R: Rack>(
+    alloc: Global,
+    listed: &[TreeRoot],
+    rack: &mut R,
+    vol: &mut Volume,
+) -> Result<Stored, Stop>
+    requires ready { IsReady (world (R.seen rack.old) vol.old) }
+    ensures ran { Ran (λ fs. Lists listed.now fs → walk_findings fs ≡ [] → Unless (IsStoredOf fs) result) (world (R.seen rack.old) vol.old) (world (R.seen rack.new) vol.new) result }
+{
+    match last_of(listed, EXTENT_TREE) {
+        None => Ok(Stored::new(alloc, u64::from(vol.sup.nodesize))),
+        Some(tree) => read_stored(alloc, &tree, rack, vol),
+    }
+}
 
 /// What the extent tree says of extents, behind a walk of all trees that found nothing. Four slots are free.
 ///
@@ -33,9 +50,12 @@ pub(crate) fn read_extents<R: Rack>(
     requires ready { IsReady (world (R.seen rack.old) vol.old) }
     ensures ran { Ran (λ fs. Lists listed.now fs → walk_findings fs ≡ [] → Unless (IsStoredOf fs) result) (world (R.seen rack.old) vol.old) (world (R.seen rack.new) vol.new) result }
 {
-    match last_of(listed, EXTENT_TREE) {
-        None => Ok(Stored::new(alloc, u64::from(vol.sup.nodesize))),
-        Some(tree) => read_stored(alloc, &tree, rack, vol),
+    match read_unpacked(alloc, listed, rack, vol) {
+        Err(stop) => Err(stop),
+        Ok(stored) => match stored.packed(alloc) {
+            Ok(all) => Ok(all),
+            Err(Memory) => Err(Stop::Memory),
+        },
     }
 }
 
