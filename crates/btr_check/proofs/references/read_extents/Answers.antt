@@ -18,8 +18,8 @@ returns-in-Ok-packed g c =
           (λ B h lists sound. subst (IsStoredOf (filesystem c.args.vol.now B)) (sym c.in-Ok-packed.ensures) (h lists sound));
     }
 
-pub returns : goal.returns
-returns g c =
+pub returns-in-Err-packed : goal.returns-in-Err-packed
+returns-in-Err-packed g c =
     let x = world (g.R.Rack.seen c.args.rack.now) c.args.vol.now in
     let y = world (g.R.Rack.seen c.read_unpacked.new.rack) c.read_unpacked.new.vol in
     record {
