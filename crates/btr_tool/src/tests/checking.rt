@@ -88,8 +88,7 @@ fn calls_that_fail(rt: HostRuntime) -> Result<(), Fail> {
     Ok(())
 }
 
-const FINDINGS: &[u8] =
-    b"sum-missing 5 260 16777216\nsum-missing 5 260 16781312\nfindings 2\n";
+const FINDINGS: &[u8] = b"sum-missing 5 260 16777216\nsum-missing 5 260 16781312\nfindings 2\n";
 
 // The output refuses one of its calls, if there are so many: then a first part of the lines stands there.
 fn is_refused(rt: &impl Abort, alloc: Global, n: u64) -> Result<bool, Fail> {
