@@ -1,16 +1,19 @@
 -- Trees of files, one after another.
-use Rattle.std.proofs.Common.{◌≡◌, ℕ, ◌+◌, ◌<◌, ◌≤◌, List, [], ◌∷◌, ◌++◌, length, take, get_or, filter, flat_map, fold, Result, Ok, Err, refl, sym, ap, ◌∙◌, subst, append_assoc, append-nil}
+use Rattle.std.proofs.Common.{◌≡◌, ℕ, Bool, true, false, cond, map, filter_map, ◌+◌, ◌<◌, ◌≤◌, List, [], ◌∷◌, ◌++◌, length, take, get_or, filter, flat_map, fold, Result, Ok, Err, refl, sym, ap, ◌∙◌, subst, append_assoc, append-nil}
 use Rattle.std.proofs.lemmas.Grind.{flat_map-append}
 use Rattle.std.proofs.lemmas.List.{take_more, take_all}
 use Rattle.std.specs.BTreeSet.{BTreeSet}
 use Rattle.btr_base.specs.declared.memory.Memory.{Memory}
 use Rattle.btr_items.specs.declared.sum_run.SumRun.{SumRun}
-use Rattle.btr_names.specs.Names.{Names, NamesLaw, names_step}
-use Rattle.btr_names.specs.Subvolumes.{Subvolumes, subvolumes_at, subvolumes_in, subvolume_findings}
+use Rattle.btr_names.specs.Names.{Names, NamesLaw, no_names, names_step, names_findings}
+use Rattle.btr_names.specs.Subvolumes.{Subvolumes, leads_to_root, name_at, subvolumes_at, subvolumes_in, subvolume_findings}
+use Rattle.btr_names.specs.Unpaired.{UnpairedLaw, are_paired, nothing_unpaired, unpaired_step}
+use Rattle.btr_names.specs.declared.unpaired.Unpaired.{Unpaired}
 use Rattle.btr_refs.proofs.Adding.{adds_none, adds_as, adds_then}
 use Rattle.btr_refs.specs.declared.finding.Finding.{Finding}
 use Rattle.btr_refs.specs.Findings.{Adds}
-use Rattle.btr_sums.specs.Items.{UsesMet, KeepsUses, uses_step}
+use Rattle.btr_sums.specs.Items.{UsesMet, KeepsUses, uses_step, loose_in, used_in}
+use Rattle.btr_sums.specs.Sums.{tree_missing}
 use Rattle.btr_tour.specs.Tour.{Mark, whole}
 use Rattle.btr_tour.specs.Visits.{Takes, Shows}
 use Rattle.btr_tour.specs.declared.met.Met.{Met}
@@ -19,27 +22,58 @@ use Rattle.btr_walk.specs.Reading.{Map}
 use Rattle.btr_check.specs.Data.{sum_runs}
 use Rattle.btr_check.specs.Families.{subvolumes, found_on_files}
 use Rattle.btr_check.specs.Filesystem.{Filesystem, file_trees, is_file_tree, root_items}
-use Rattle.btr_check.specs.FileTrees.{nothing_met, file_step, met_findings, met_in, file_tree_findings, root_entries, with_entries, Treats}
+use Rattle.btr_check.specs.FileTrees.{nothing_met, file_step, names_of, missing_findings, file_tree_findings, root_entries, with_entries, Treats, TreatsNames}
 use Rattle.btr_check.specs.Passes.{Lists}
+use Rattle.btr_check.specs.Trees.{items_in}
 use Rattle.btr_check.specs.declared.file_tree.FileTree.{FileTree}
 
 -- names and uses were kept
-pub both_taken : (old : FileTree) (names : Names) (uses : UsesMet) (met : Met) (result : Result (Unit {0}) Memory) → ((mark : Mark) → Shows met mark → names ≡ names_step old.names mark) → Takes uses_step old.uses met uses result
+pub both_taken : (old : FileTree) (names : Unpaired) (uses : UsesMet) (met : Met) (result : Result (Unit {0}) Memory) → ((mark : Mark) → Shows met mark → names ≡ unpaired_step old.names mark) → Takes uses_step old.uses met uses result
     → Takes file_step old met (record { names = names; uses = uses }) result
 both_taken old names uses met (Ok u) one two = λ mark shows. λ i. record { names = one mark shows i; uses = two mark shows i }
 both_taken old names uses met (Err e) one two = tt
 
--- what a visit leaves are the names and the uses that it leaves
-file_folded : (marks : List Mark) (met : FileTree) → fold file_step met marks ≡ record { names = fold names_step met.names marks; uses = fold uses_step met.uses marks }
+-- what a visit leaves is what it leaves of names and of uses
+file_folded : (marks : List Mark) (met : FileTree) → fold file_step met marks ≡ record { names = fold unpaired_step met.names marks; uses = fold uses_step met.uses marks }
 file_folded [] met = refl
 file_folded (mark ∷ marks) met = file_folded marks (file_step met mark)
 
+filter_by : {X : Type 0} (p : X → Bool) (x : X) (xs : List X) (b : Bool) → p x ≡ b → filter p (filter p xs) ≡ filter p xs → filter p (cond b (x ∷ filter p xs) (filter p xs)) ≡ cond b (x ∷ filter p xs) (filter p xs)
+filter_by p x xs true is rest = ap (λ b. cond b (x ∷ filter p (filter p xs)) (filter p (filter p xs))) is ∙ ap (λ l. x ∷ l) rest
+filter_by p x xs false is rest = rest
+
+filter_twice : {X : Type 0} (p : X → Bool) (xs : List X) → filter p (filter p xs) ≡ filter p xs
+filter_twice p [] = refl
+filter_twice p (x ∷ xs) = filter_by p x xs (p x) refl (filter_twice p xs)
+
 module _ (B : Map) where
-  -- .. and these are what the tree holds
-  pub file_tree_met : NamesLaw → KeepsUses → (tree : TreeRoot) (none met : FileTree) → none ≡ nothing_met tree.id tree.dirid → met ≡ fold file_step none (whole B tree.place) → met ≡ met_in B tree
+  -- what was met of a tree
+  pub record IsMetOf (tree : TreeRoot) (met : FileTree) : Type 0 where
+    pub sound : are_paired met.names ≡ true → names_findings (names_of B tree) ≡ []
+    pub subvolumes : met.names.subvolumes ≡ filter leads_to_root (names_of B tree).indexed
+    pub uses : met.uses ≡ record { loose = filter_map loose_in (items_in B tree); used = filter_map used_in (items_in B tree) }
+
+  pub file_tree_met : UnpairedLaw → KeepsUses → (tree : TreeRoot) (none met : FileTree) → none ≡ nothing_met tree.dirid → met ≡ fold file_step none (whole B tree.place) → IsMetOf tree met
   file_tree_met names uses tree none met empty is =
-      is ∙ ap (λ m. fold file_step m (whole B tree.place)) empty ∙ file_folded (whole B tree.place) (nothing_met tree.id tree.dirid)
-      ∙ (λ i. record { names = names tree.id tree.dirid (whole B tree.place) i; uses = uses (whole B tree.place) i })
+      let marks = whole B tree.place in
+      let all : met ≡ record { names = fold unpaired_step (nothing_unpaired tree.dirid) marks; uses = fold uses_step (record { loose = []; used = [] }) marks } =
+      is ∙ ap (λ m. fold file_step m (whole B tree.place)) empty ∙ file_folded (whole B tree.place) (nothing_met tree.dirid) in
+      let tells = names tree.id tree.dirid (whole B tree.place) in
+      record {
+        sound = λ h. tells.sound (sym (ap (λ (m : FileTree). are_paired m.names) all) ∙ h);
+        subvolumes = ap (λ (m : FileTree). m.names.subvolumes) all ∙ tells.subvolumes;
+        uses = ap (λ (m : FileTree). m.uses) all ∙ uses (whole B tree.place);
+      }
+
+  -- the names of a tree, where all were kept
+  pub all_names_met : NamesLaw → (tree : TreeRoot) (none all : Names) → none ≡ no_names tree.id tree.dirid → all ≡ fold names_step none (whole B tree.place) → all ≡ names_of B tree
+  all_names_met names tree none all empty is = is ∙ ap (λ n. fold names_step n (whole B tree.place)) empty ∙ names tree.id tree.dirid (whole B tree.place)
+
+  pub treats_names : (tree : TreeRoot) (all : Names) (a b : BTreeSet Finding) (names names' : Subvolumes) → all ≡ names_of B tree → Adds (names_findings all) a b → names' ≡ subvolumes_at names all.tree all.indexed → TreatsNames B tree a b names names'
+  treats_names tree all a b names names' is adds at = record {
+    found = adds_as (names_findings all) (names_findings (names_of B tree)) a b (ap names_findings is) adds;
+    entries = at ∙ ap (λ (n : Names). subvolumes_at names n.tree n.indexed) is;
+  }
 
   module _ (runs : List SumRun) where
     pub treats_none : (set : BTreeSet Finding) (names : Subvolumes) → Treats B runs [] set set names names
@@ -48,11 +82,31 @@ module _ (B : Map) where
       entries = λ i. record { refs = names.refs; backrefs = names.backrefs; entries = sym (append-nil names.entries) i };
     }
 
-    pub treats_one : (tree : TreeRoot) (met : FileTree) (a b : BTreeSet Finding) (names names' : Subvolumes) → met ≡ met_in B tree → Adds (met_findings runs met) a b → names' ≡ subvolumes_at names met.names.tree met.names.indexed
-        → Treats B runs (tree ∷ []) a b names names'
-    treats_one tree met a b names names' is adds at = record {
-      found = adds_as (met_findings runs met) (flat_map (file_tree_findings B runs) (tree ∷ [])) a b (ap (met_findings runs) is ∙ sym (append-nil (file_tree_findings B runs tree))) adds;
-      entries = at ∙ ap (λ (m : FileTree). subvolumes_at names m.names.tree m.names.indexed) is ∙ ap (with_entries names) (sym (append-nil (root_entries B tree)));
+    -- what is missing of checksums
+    missing_added : (tree : TreeRoot) (met : FileTree) (a b : BTreeSet Finding) → IsMetOf tree met → Adds (tree_missing runs tree.id met.uses.loose met.uses.used) a b → Adds (missing_findings B runs tree) a b
+    missing_added tree met a b is adds = adds_as (tree_missing runs tree.id met.uses.loose met.uses.used) (missing_findings B runs tree) a b (ap (λ (u : UsesMet). tree_missing runs tree.id u.loose u.used) is.uses) adds
+
+    -- a tree whose names are all paired
+    pub treats_paired : (tree : TreeRoot) (met : FileTree) (a b : BTreeSet Finding) (names names' : Subvolumes) → IsMetOf tree met → are_paired met.names ≡ true → Adds (tree_missing runs tree.id met.uses.loose met.uses.used) a b
+        → names' ≡ subvolumes_at names tree.id met.names.subvolumes → Treats B runs (tree ∷ []) a b names names'
+    treats_paired tree met a b names names' is paired adds at =
+        let missing : List Finding = missing_findings B runs tree in
+        let nothing = is.sound paired in
+        record {
+          found = adds_as missing (flat_map (file_tree_findings B runs) (tree ∷ [])) a b
+              (sym (append-nil (missing_findings B runs tree)) ∙ ap (λ l. missing_findings B runs tree ++ l) (sym nothing) ∙ sym (append-nil (file_tree_findings B runs tree))) (missing_added tree met a b is adds);
+          entries = at ∙ ap (λ l. subvolumes_at names tree.id l) is.subvolumes
+              ∙ ap (λ l. with_entries names (map (name_at tree.id) l)) (filter_twice leads_to_root (names_of B tree).indexed)
+              ∙ ap (with_entries names) (sym (append-nil (root_entries B tree)));
+        }
+
+    -- .. and one whose names were all looked at
+    pub treats_looked : (tree : TreeRoot) (met : FileTree) (a b c : BTreeSet Finding) (names names' names'' : Subvolumes) → IsMetOf tree met → Adds (tree_missing runs tree.id met.uses.loose met.uses.used) a b → names' ≡ names
+        → TreatsNames B tree b c names' names'' → Treats B runs (tree ∷ []) a c names names''
+    treats_looked tree met a b c names names' names'' is adds same treats = record {
+      found = adds_as (missing_findings B runs tree ++ names_findings (names_of B tree)) (flat_map (file_tree_findings B runs) (tree ∷ [])) a c (sym (append-nil (file_tree_findings B runs tree)))
+          (adds_then (missing_findings B runs tree) (names_findings (names_of B tree)) a b c (missing_added tree met a b is adds) treats.found);
+      entries = treats.entries ∙ ap (λ n. subvolumes_at n tree.id (names_of B tree).indexed) same ∙ ap (with_entries names) (sym (append-nil (root_entries B tree)));
     }
 
     pub treats_then : (xs ys : List TreeRoot) (a b c : BTreeSet Finding) (m n o : Subvolumes) → Treats B runs xs a b m n → Treats B runs ys b c n o → Treats B runs (xs ++ ys) a c m o

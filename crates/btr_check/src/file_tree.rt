@@ -1,14 +1,14 @@
 use btr_base::Memory;
-use btr_names::TreeNames;
+use btr_names::Unpaired;
 use btr_sums::Uses;
 use btr_tour::{Met, Visitor};
 use btr_volume::TreeRoot;
 use std::alloc::Global;
 
-/// What a visit of a tree of files meets: what its items say of names, and of the sectors that its files use.
+/// What a visit of a tree of files meets: what of its names has not met its counterpart yet, and the sectors that its files use.
 #[derive(Drop)]
 pub(crate) struct FileTree {
-    pub(crate) names: TreeNames,
+    pub(crate) names: Unpaired,
     pub(crate) uses: Uses,
 }
 
@@ -18,10 +18,10 @@ impl FileTree {
 
     /// Nothing of the tree is met yet.
     pub(crate) fn new(alloc: Global, tree: &TreeRoot) -> FileTree
-        ensures { result ≡ nothing_met tree.now.id tree.now.dirid }
+        ensures { result ≡ nothing_met tree.now.dirid }
     {
         FileTree {
-            names: TreeNames::new(alloc, tree.id, tree.dirid),
+            names: Unpaired::new(alloc, tree.dirid),
             uses: Uses::new(alloc),
         }
     }

@@ -2,15 +2,17 @@
 ghost use Rattle.std.specs.Prelude.{◌≡◌, ◌++◌, List, ◌∷◌, [], OnOk, IfOk, filter, map};
 ghost use Rattle.std.specs.List.Sorted.{IsPermutation};
 ghost use Rattle.btr_items.specs.declared.sum_run.SumRun.{SumRun};
+ghost use Rattle.btr_names.specs.Names.{names_findings};
 ghost use Rattle.btr_names.specs.Subvolumes.{subvolumes_in};
 ghost use Rattle.btr_names.specs.Subvolumes as names;
+ghost use Rattle.btr_names.specs.Unpaired.{are_paired};
 ghost use Rattle.btr_refs.specs.Findings.{Adds};
-ghost use Rattle.btr_sums.specs.Sums.{run_stretch};
+ghost use Rattle.btr_sums.specs.Sums.{run_stretch, tree_missing};
 ghost use Rattle.btr_check.specs.Counting.{Unless};
 ghost use Rattle.btr_check.specs.Filesystem.{is_file_tree, root_items};
 ghost use Rattle.btr_check.specs.Data.{sum_runs};
 ghost use Rattle.btr_check.specs.Families.{IsCoverOf, found_on_files};
-ghost use Rattle.btr_check.specs.FileTrees.{met_findings, Treats};
+ghost use Rattle.btr_check.specs.FileTrees.{entries_if, Treats, TreatsNames};
 ghost use Rattle.btr_check.specs.Passes.{Lists, Puts};
 ghost use Rattle.btr_check.specs.Running.{world, IsReady, Ran};
 
@@ -20,7 +22,8 @@ use crate::refusing::is_file_tree;
 use crate::trees::{ROOT_TREE, push_tree};
 use btr_base::Memory;
 use btr_names::{
-    SubvolumeNames, names_law, put_name_findings, put_subvolume_findings, subvolumes_law,
+    SubvolumeNames, TreeNames, names_law, put_name_findings, put_subvolume_findings,
+    subvolumes_law, unpaired_law,
 };
 use btr_rack::Rack;
 use btr_refs::Finding;
@@ -43,21 +46,61 @@ fn file_trees(alloc: Global, trees: &[TreeRoot]) -> Result<Vec<TreeRoot>, Memory
     Ok(files)
 }
 
-// Puts what is wrong with what was met of a tree of files, and keeps its names of subvolumes.
+// Puts what is missing of the checksums of what was met of a tree of files, and keeps its names of subvolumes where all names are paired. The
+// answer is whether they are.
 fn put_met(
     alloc: Global,
     found: &mut BTreeSet<Finding>,
     subvolumes: &mut SubvolumeNames,
     tree: u64,
-    met: &FileTree,
+    met: FileTree,
     sums: &Cover,
-) -> Result<(), Memory>
-    ensures found { (runs : List SumRun) → IsPermutation (map run_stretch runs) sums.now → tree ≡ met.now.names.tree → OnOk result (Adds (met_findings runs met.now) found.old found.new) }
-    ensures entries { OnOk result (subvolumes.new ≡ names.subvolumes_at subvolumes.old met.now.names.tree met.now.names.indexed) }
+) -> Result<bool, Memory>
+    ensures found { (runs : List SumRun) → IsPermutation (map run_stretch runs) sums.now → IfOk result (λ paired. Adds (tree_missing runs tree met.uses.loose met.uses.used) found.old found.new) }
+    ensures paired { IfOk result (λ paired. paired ≡ are_paired met.names) }
+    ensures entries { IfOk result (λ paired. subvolumes.new ≡ entries_if paired tree met.names.subvolumes subvolumes.old) }
 {
     put_missing_sums(alloc, found, tree, met.uses.loose(), met.uses.used(), sums)?;
-    put_name_findings(alloc, found, &met.names)?;
-    subvolumes.take_entries(&met.names)
+    if met.names.are_paired() {
+        subvolumes.take_kept(tree, &met.names)?;
+        Ok(true)
+    } else {
+        Ok(false)
+    }
+}
+
+// Puts what is wrong with the names in a tree of files, and keeps its names of subvolumes.
+fn put_all_names(
+    alloc: Global,
+    found: &mut BTreeSet<Finding>,
+    subvolumes: &mut SubvolumeNames,
+    all: &TreeNames,
+) -> Result<(), Memory>
+    ensures found { OnOk result (Adds (names_findings all.now) found.old found.new) }
+    ensures entries { OnOk result (subvolumes.new ≡ names.subvolumes_at subvolumes.old all.now.tree all.now.indexed) }
+{
+    put_name_findings(alloc, found, all)?;
+    subvolumes.take_entries(all)
+}
+
+// Visits a tree of files once more where something is wrong with its names: all of them are kept, and what is wrong is put.
+fn put_names<R: Rack>(
+    alloc: Global,
+    found: &mut BTreeSet<Finding>,
+    subvolumes: &mut SubvolumeNames,
+    tree: &TreeRoot,
+    rack: &mut R,
+    vol: &mut Volume,
+) -> Result<(), Stop>
+    requires ready { IsReady (world (R.seen rack.old) vol.old) }
+    ensures ran { Ran (λ fs. Unless (λ u. TreatsNames fs.blocks tree.now found.old found.new subvolumes.old subvolumes.new) result) (world (R.seen rack.old) vol.old) (world (R.seen rack.new) vol.new) result }
+{
+    names_law();
+    let nothing = TreeNames::new(alloc, tree.id, tree.dirid);
+    match collect(Some(*tree), nothing, rack, vol) {
+        Err(stop) => Err(stop),
+        Ok(all) => or_memory(put_all_names(alloc, found, subvolumes, &all)),
+    }
 }
 
 // Visits a tree of files, puts what is wrong with it, and keeps its names of subvolumes.
@@ -73,11 +116,20 @@ fn put_file_tree<R: Rack>(
     requires ready { IsReady (world (R.seen rack.old) vol.old) }
     ensures ran { Ran (λ fs. IsCoverOf fs sums.now → Unless (λ u. Treats fs.blocks (sum_runs fs) (tree.now ∷ []) found.old found.new subvolumes.old subvolumes.new) result) (world (R.seen rack.old) vol.old) (world (R.seen rack.new) vol.new) result }
 {
-    names_law();
+    unpaired_law();
     keeps_law();
-    match collect(Some(*tree), FileTree::new(alloc, tree), rack, vol) {
-        Err(stop) => Err(stop),
-        Ok(met) => or_memory(put_met(alloc, found, subvolumes, tree.id, &met, sums)),
+    let met = match collect(Some(*tree), FileTree::new(alloc, tree), rack, vol) {
+        Ok(met) => met,
+        Err(stop) => return Err(stop),
+    };
+    let paired = match put_met(alloc, found, subvolumes, tree.id, met, sums) {
+        Ok(paired) => paired,
+        Err(Memory) => return Err(Stop::Memory),
+    };
+    if paired {
+        Ok(())
+    } else {
+        put_names(alloc, found, subvolumes, tree, rack, vol)
     }
 }
 
@@ -117,8 +169,8 @@ fn read_subvolumes<R: Rack>(
     collect(Some(tree), SubvolumeNames::new(alloc), rack, vol)
 }
 
-/// Puts what is wrong with the trees of files among those that are listed, kinds 12 and 15 to 23: each is visited once, and the root
-/// tree for the names of subvolumes. The addresses that have checksums are `sums`.
+/// Puts what is wrong with the trees of files among those that are listed, kinds 12 and 15 to 23: each is visited once, and once more where
+/// something is wrong with its names; and the root tree for the names of subvolumes. The addresses that have checksums are `sums`.
 ///
 /// `Tree`: a block could not be read, which is `Unread`. `Memory`: there is no memory for what is kept.
 pub(crate) fn put_files<R: Rack>(

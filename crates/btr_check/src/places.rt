@@ -70,4 +70,11 @@ impl PlaceList {
     {
         self.list.as_slice()
     }
+
+    /// The blocks alone, in their order.
+    pub(crate) fn into_list(self) -> Vec<RootPlace>
+        ensures { result.items ≡ self.list }
+    {
+        self.list
+    }
 }

@@ -96,6 +96,13 @@ impl Walk {
     {
         self.places.list()
     }
+
+    /// The same, where nothing else is asked of the walk any more.
+    pub(crate) fn into_places(self) -> Vec<RootPlace>
+        ensures { result.items ≡ self.places.list }
+    {
+        self.places.into_list()
+    }
 }
 
 // Whether nothing was found.

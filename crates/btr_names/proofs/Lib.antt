@@ -1,6 +1,11 @@
+pub mod Claims
+pub mod Pairing
 pub mod Packing
 pub mod Reading
 pub mod Looking
+pub mod MetEntries
+pub mod MetInodes
+pub mod MetNames
 pub mod Rules
 pub mod Meeting
 pub mod Together

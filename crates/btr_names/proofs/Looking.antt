@@ -50,7 +50,7 @@ module _ {K X : Type 0} (cmp : K → K → Ordering) (is : K → X → Bool) whe
       put q ∙ or_last (is_eq (cmp key q)) (contains cmp old q) ∙ ap (λ b. b || is_eq (cmp key q)) (before q) ∙ ap (λ b. list_any (is q) (take n xs) || b) (alike q) ∙ sym (list_any_more (is q) xs n d below)
 
 -- keys that compare as equal say the same
-is_eq-then : (a b : Ordering) → is_eq (ordering_then a b) ≡ (is_eq a && is_eq b)
+pub is_eq-then : (a b : Ordering) → is_eq (ordering_then a b) ≡ (is_eq a && is_eq b)
 is_eq-then Less b = refl
 is_eq-then Equal b = refl
 is_eq-then Greater b = refl

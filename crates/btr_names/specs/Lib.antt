@@ -1,9 +1,12 @@
 pub mod Entry
+pub mod Inodes
 pub mod Items
 pub mod Names
 pub mod Packed
+pub mod Pairs
 pub mod Sets
 pub mod Shown
 pub mod ShownNames
 pub mod Subvolume
 pub mod Subvolumes
+pub mod Unpaired

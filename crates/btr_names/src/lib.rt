@@ -10,14 +10,20 @@
 //! and `ShownNames` say how names lie in a buffer, and `Sets` what the sets and sums have.
 #![tactic(auto)]
 
+mod claim;
+mod current;
 mod dir_entry;
 mod entry_list;
 mod findings;
+mod half;
 mod inode_at;
+mod inode_run;
 mod link_list;
 mod link_name;
 mod mode_at;
 mod name_place;
+mod pairs;
+mod parts;
 mod put_entries;
 mod put_inodes;
 mod put_subvolumes;
@@ -30,6 +36,7 @@ mod taking;
 #[cfg(test)]
 mod tests;
 mod tree_names;
+mod unpaired;
 
 use dir_entry::{DirEntry, Target};
 use entry_list::EntryList;
@@ -42,3 +49,4 @@ use subvolume_list::SubvolumeList;
 use subvolume_name::SubvolumeName;
 pub use subvolume_names::{SubvolumeNames, subvolumes_law};
 pub use tree_names::{TreeNames, names_law};
+pub use unpaired::{Unpaired, unpaired_law};

@@ -77,8 +77,8 @@ pub(crate) fn put_entry_refs(
     Ok(())
 }
 
-// Whether a reference is that of the first directory to itself.
-fn is_free(dirid: u64, link: &LinkName<'_>) -> bool
+/// Whether a reference is that of the first directory to itself.
+pub(crate) fn is_free(dirid: u64, link: &LinkName<'_>) -> bool
     ensures { result ≡ words.is_free dirid (ref_of link.now) }
 {
     link.inode == dirid && link.parent == dirid && link.name == b"..".as_slice()

@@ -3,7 +3,7 @@ ghost use Rattle.std.specs.Prelude.{◌≡◌, ◌∷◌, ◌++◌, [], OnOk};
 ghost use Rattle.btr_items.specs.RootRef.{root_ref_of};
 ghost use Rattle.btr_names.specs.Subvolumes.{names_read, root_refs_in, root_backrefs_in, names_at, SubvolumesLaw};
 
-use crate::{EntryList, SubvolumeList, SubvolumeName, TreeNames};
+use crate::{EntryList, SubvolumeList, SubvolumeName, TreeNames, Unpaired};
 use btr_base::{Key, Memory};
 use btr_items::{RootRef, item};
 use btr_tour::{Met, Visitor};
@@ -56,6 +56,14 @@ impl SubvolumeNames {
         ensures { OnOk result (self.new ≡ subvolumes_at self.old names.now.tree names.now.indexed) }
     {
         push_entries(&mut self.entries, names.tree, &names.indexed)
+    }
+
+    /// Keeps the entries that lead to subvolumes of a tree of files whose names are paired. `Memory`: there is no memory for them; then
+    /// nothing is said of what was kept.
+    pub fn take_kept(&mut self, tree: u64, names: &Unpaired) -> Result<(), Memory>
+        ensures { OnOk result (self.new ≡ subvolumes_at self.old tree names.now.subvolumes) }
+    {
+        push_entries(&mut self.entries, tree, &names.subvolumes)
     }
 }
 

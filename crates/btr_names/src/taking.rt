@@ -7,7 +7,8 @@ ghost use Rattle.btr_items.specs.Inode.{inode_of};
 ghost use Rattle.btr_items.specs.InodeRef.{inode_refs_of};
 ghost use Rattle.btr_names.specs.Items.{entry_with, entries_read, ref_with, refs_read, ext_ref_with, ext_refs_read, inodes_read, indexed_in, hashed_in, refs_in, inodes_in, orphans_in};
 
-use crate::{DirEntry, EntryList, InodeAt, LinkList, LinkName, Target};
+use crate::parts::{entry_in, ext_ref_in, ref_in};
+use crate::{EntryList, InodeAt, LinkList};
 use btr_base::{Key, Memory};
 use btr_items::{Entry, ExtRef, Inode, InodeRef, entries, ext_refs, inode_refs, item};
 
@@ -16,13 +17,7 @@ fn push_entry(list: &mut EntryList, key: Key, body: &[u8], entry: &Entry) -> Res
     requires { HasName body.now entry.now.name_at entry.now.name_len }
     ensures { OnOk result (list.new ≡ list.old ++ entry_with key body.now entry.now ∷ []) }
 {
-    list.push(&DirEntry {
-        dir: key.objectid,
-        offset: key.offset,
-        target: Target::of(entry.location),
-        kind: entry.kind,
-        name: entry.name(body),
-    })
+    list.push(&entry_in(key, body, entry))
 }
 
 // Keeps the entry in the body of a DIR_INDEX.
@@ -53,12 +48,7 @@ fn push_ref(list: &mut LinkList, key: Key, body: &[u8], part: &InodeRef) -> Resu
     requires { HasName body.now part.now.name_at part.now.name_len }
     ensures { OnOk result (list.new ≡ list.old ++ ref_with key body.now part.now ∷ []) }
 {
-    list.push(&LinkName {
-        inode: key.objectid,
-        parent: key.offset,
-        index: part.index,
-        name: part.name(body),
-    })
+    list.push(&ref_in(key, body, part))
 }
 
 // Keeps the references in the body of an INODE_REF.
@@ -79,12 +69,7 @@ fn push_ext_ref(list: &mut LinkList, key: Key, body: &[u8], part: &ExtRef) -> Re
     requires { HasName body.now part.now.name_at part.now.name_len }
     ensures { OnOk result (list.new ≡ list.old ++ ext_ref_with key body.now part.now ∷ []) }
 {
-    list.push(&LinkName {
-        inode: key.objectid,
-        parent: part.parent,
-        index: part.index,
-        name: part.name(body),
-    })
+    list.push(&ext_ref_in(key, body, part))
 }
 
 // Keeps the references in the body of an INODE_EXTREF.

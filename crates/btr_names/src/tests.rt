@@ -2,3 +2,4 @@ mod files;
 mod rows;
 mod subvolumes;
 mod trees;
+mod unpaired;

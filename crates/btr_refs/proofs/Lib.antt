@@ -5,3 +5,5 @@ mod Rows
 pub mod Sets
 pub mod Used
 mod Using
+pub mod Totals
+pub mod Packed

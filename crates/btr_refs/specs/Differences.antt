@@ -1,6 +1,5 @@
 -- Where the references that are counted and those that are stored differ.
-use Rattle.std.specs.Prelude.{◌≡◌, ℕ, ◌==◌, Bool, false, cond, List, [], ◌∷◌, ◌++◌, sum_by, unwrap_or, Option, Some, None, filter_map}
-use Rattle.std.specs.BTreeMap.{BTreeMap, get}
+use Rattle.std.specs.Prelude.{◌≡◌, ℕ, ◌==◌, Bool, false, cond, List, [], ◌∷◌, ◌++◌, sum_by, Option, Some, None, filter_map}
 use Rattle.std.specs.BTreeSet.{BTreeSet, contains}
 use Rattle.std.specs.List.{list_any}
 use Rattle.std.specs.Map.{keys_of}
@@ -52,13 +51,6 @@ is_shown one (Some finding) = is_same one finding
 
 abbrev pub is_row : {X : Type 0} → (X → Option Finding) → Finding → X → Bool
 is_row rule one x = is_shown one (rule x)
-
--- a map has the sums at all addresses
-abbrev pub total_in : BTreeMap ℕ ℕ → ℕ → ℕ
-total_in totals addr = unwrap_or (get nat_cmp totals addr) 0
-
-abbrev pub Totals : RefCounts → BTreeMap ℕ ℕ → Type 0
-Totals stored totals = (addr : ℕ) → total_in totals addr ≡ total_at stored addr
 
 -- a set has the addresses of extents
 abbrev pub Addresses : List Extent → BTreeSet ℕ → Type 0

@@ -1,12 +1,11 @@
 // Where the references that are counted and those that are stored differ.
-ghost use Rattle.std.specs.Prelude.{◌≡◌, ℕ, ◌+◌, ◌==◌, ◌||◌, cond, List, OnOk, IfOk};
+ghost use Rattle.std.specs.Prelude.{◌≡◌, ◌+◌, ◌==◌, ◌||◌, cond, List, OnOk, IfOk};
 ghost use Rattle.std.specs.Map.{keys_of};
 ghost use Rattle.std.specs.List.{list_any};
 ghost use Rattle.btr_refs.specs.declared.extent.Extent.{Extent};
 ghost use Rattle.btr_refs.specs.declared.finding.Finding.{Finding};
-ghost use Rattle.btr_refs.specs.Counts.{RefCounts};
 ghost use Rattle.btr_refs.specs.Findings.{has, shown_sum};
-ghost use Rattle.btr_refs.specs.Differences.{ref_count, ref_total, ref_alone, is_row, Totals, Addresses};
+ghost use Rattle.btr_refs.specs.Differences.{ref_count, ref_total, ref_alone, is_row, Addresses};
 ghost use Rattle.btr_refs.specs.Differences as rows;
 
 use crate::counts::count_in;
@@ -14,6 +13,7 @@ use crate::found::{insert, listed};
 use crate::{Extent, Finding, Forward, RefKey, Stored};
 use btr_base::Memory;
 use std::alloc::Global;
+use std::collections::btree_map::Range;
 use std::collections::{BTreeMap, BTreeSet};
 
 // A reference that is counted and stored differently.
@@ -67,38 +67,46 @@ fn shown(sum: u128) -> u64
     }
 }
 
-// The sum at an address.
-fn total_at(totals: &BTreeMap<u64, u128>, addr: u64) -> u128
-    ensures { result ≡ rows.total_in totals.now addr }
+// The references to the extent at an address, and maybe others.
+fn refs_at(refs: &BTreeMap<RefKey, u64>, addr: u64) -> Range<'_, RefKey, u64>
+    ensures { rows.total_at result addr ≡ rows.total_at refs.now.entries addr }
 {
-    match totals.get(&addr) {
-        Some(total) => *total,
-        None => 0,
-    }
-}
-
-// Adds to the sum at an address. Where it would pass the greatest number there is, that is want of memory too.
-fn add_total(totals: &mut BTreeMap<u64, u128>, addr: u64, count: u64) -> Result<(), Memory>
-    ensures { OnOk result ((one : ℕ) → rows.total_in totals.new one ≡ rows.total_in totals.old one + cond (addr == one) count 0) }
-{
-    let Some(total) = total_at(totals, addr).checked_add(u128::from(count)) else {
-        return Err(Memory);
+    let first = RefKey {
+        addr,
+        kind: 0,
+        root: 0,
+        objectid: 0,
+        offset: 0,
     };
-    match totals.insert(addr, total) {
-        Ok(_) => Ok(()),
-        Err(_) => Err(Memory),
+    match addr.checked_add(1) {
+        Some(addr) => refs.range(first..RefKey { addr, ..first }),
+        None => refs.range(first..),
     }
 }
 
-// How often the extent at each address is referred to, in all.
-fn totals_of(alloc: Global, refs: &BTreeMap<RefKey, u64>) -> Result<BTreeMap<u64, u128>, Memory>
-    ensures { IfOk result (Totals refs.now.entries) }
+// A sum of counts, with that of a reference more if it is one to the extent at an address. Where it would pass the greatest number there is, that
+// is want of memory too.
+fn add_at(total: u128, addr: u64, key: &RefKey, count: u64) -> Result<u128, Memory>
+    ensures { IfOk result (λ sum. sum ≡ total + cond (key.now.addr == addr) count 0) }
 {
-    let mut totals = BTreeMap::new(alloc);
-    for (key, count) in refs.iter() {
-        add_total(&mut totals, key.addr, *count)?;
+    if key.addr != addr {
+        return Ok(total);
     }
-    Ok(totals)
+    match total.checked_add(u128::from(count)) {
+        Some(sum) => Ok(sum),
+        None => Err(Memory),
+    }
+}
+
+// How often the extent at an address is referred to, in all.
+fn total_at(refs: &BTreeMap<RefKey, u64>, addr: u64) -> Result<u128, Memory>
+    ensures { IfOk result (λ total. total ≡ rows.total_at refs.now.entries addr) }
+{
+    let mut total = 0;
+    for (key, count) in refs_at(refs, addr) {
+        total = add_at(total, addr, key, *count)?;
+    }
+    Ok(total)
 }
 
 // The addresses of extents.
@@ -125,19 +133,31 @@ fn ref_total(addr: u64, refs: u64, sum: u128) -> Finding
     }
 }
 
-// The extents that state another sum than the one of the stored references.
+// An extent that states another sum than the one of the stored references.
+fn put_ref_total(
+    found: &mut BTreeSet<Finding>,
+    extent: &Extent,
+    refs: &BTreeMap<RefKey, u64>,
+) -> Result<(), Memory>
+    ensures { OnOk result ((one : Finding) → has found.new one ≡ (is_row (ref_total refs.now.entries) one extent.now || has found.old one)) }
+{
+    let sum = total_at(refs, extent.addr)?;
+    if u128::from(extent.refs) == sum {
+        return Ok(());
+    }
+    insert(found, ref_total(extent.addr, extent.refs, sum))
+}
+
+// The extents that do.
 fn put_ref_totals(
     found: &mut BTreeSet<Finding>,
     extents: &[Extent],
-    totals: &BTreeMap<u64, u128>,
+    refs: &BTreeMap<RefKey, u64>,
 ) -> Result<(), Memory>
-    ensures { (stored : RefCounts) → Totals stored totals.now → OnOk result ((one : Finding) → has found.new one ≡ (list_any (is_row (ref_total stored) one) extents.now || has found.old one)) }
+    ensures { OnOk result ((one : Finding) → has found.new one ≡ (list_any (is_row (ref_total refs.now.entries) one) extents.now || has found.old one)) }
 {
     for extent in extents {
-        let sum = total_at(totals, extent.addr);
-        if u128::from(extent.refs) != sum {
-            insert(found, ref_total(extent.addr, extent.refs, sum))?;
-        }
+        put_ref_total(found, extent, refs)?;
     }
     Ok(())
 }
@@ -147,13 +167,13 @@ fn put_ref_alone(
     found: &mut BTreeSet<Finding>,
     refs: &BTreeMap<RefKey, u64>,
     addresses: &BTreeSet<u64>,
-    totals: &BTreeMap<u64, u128>,
 ) -> Result<(), Memory>
-    ensures { (extents : List Extent) → Addresses extents addresses.now → Totals refs.now.entries totals.now → OnOk result ((one : Finding) → has found.new one ≡ (list_any (is_row (ref_alone extents refs.now.entries) one) (keys_of refs.now.entries) || has found.old one)) }
+    ensures { (extents : List Extent) → Addresses extents addresses.now → OnOk result ((one : Finding) → has found.new one ≡ (list_any (is_row (ref_alone extents refs.now.entries) one) (keys_of refs.now.entries) || has found.old one)) }
 {
     for key in refs.keys() {
         if !addresses.contains(&key.addr) {
-            insert(found, ref_total(key.addr, 0, total_at(totals, key.addr)))?;
+            let sum = total_at(refs, key.addr)?;
+            insert(found, ref_total(key.addr, 0, sum))?;
         }
     }
     Ok(())
@@ -175,9 +195,8 @@ pub fn differences(
     let mut found = BTreeSet::new(alloc);
     put_ref_counts(&mut found, counted, counted, refs)?;
     put_ref_counts(&mut found, refs, counted, refs)?;
-    let totals = totals_of(alloc, refs)?;
-    put_ref_totals(&mut found, extents, &totals)?;
+    put_ref_totals(&mut found, extents, refs)?;
     let addresses = addresses_of(alloc, extents)?;
-    put_ref_alone(&mut found, refs, &addresses, &totals)?;
+    put_ref_alone(&mut found, refs, &addresses)?;
     listed(alloc, &found)
 }

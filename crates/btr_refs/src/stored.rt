@@ -1,5 +1,5 @@
 // What the extent tree says of extents.
-ghost use Rattle.std.specs.Prelude.{◌≡◌, ◌≤◌, ◌&&◌, is_ok, length, IsTrue};
+ghost use Rattle.std.specs.Prelude.{◌≡◌, ◌≤◌, ◌&&◌, is_ok, length, IfOk, IsTrue};
 ghost use Rattle.std.specs.List.{list_all};
 ghost use Rattle.btr_items.specs.InlineRef as inline;
 ghost use Rattle.btr_items.specs.Key as key_rules;
@@ -36,7 +36,7 @@ impl Model for Stored {
 }
 
 impl Stored {
-    ghost use Rattle.std.specs.Prelude.{◌≡◌};
+    ghost use Rattle.std.specs.Prelude.{◌≡◌, IfOk};
     ghost use Rattle.btr_refs.specs.Extents.{nothing_kept};
 
     /// Nothing is stored yet. A node has `nodesize` bytes.
@@ -48,6 +48,18 @@ impl Stored {
             refs: BTreeMap::new(alloc),
             extents: Vec::new(alloc),
         }
+    }
+
+    /// The same in as little memory as it takes: a map that grew in the order of its keys has nodes that are half full. `Memory`: there is no
+    /// memory for it.
+    pub fn packed(self, alloc: Global) -> Result<Stored, Memory>
+        ensures { IfOk result (λ all. all ≡ self) }
+    {
+        Ok(Stored {
+            nodesize: self.nodesize,
+            refs: packed(alloc, self.refs)?,
+            extents: self.extents,
+        })
     }
 
     /// How often each reference is stored.
@@ -62,6 +74,16 @@ impl Stored {
         ensures { result.now ≡ self.now.extents }
     {
         self.extents.as_slice()
+    }
+}
+
+// The same counts in a map that was made at once.
+fn packed(alloc: Global, refs: BTreeMap<RefKey, u64>) -> Result<BTreeMap<RefKey, u64>, Memory>
+    ensures { IfOk result (λ all. all.entries ≡ refs.entries) }
+{
+    match refs.into_iter().collect(alloc) {
+        Ok(all) => Ok(all),
+        Err(_) => Err(Memory),
     }
 }
 

@@ -1,8 +1,10 @@
 // A small tree of files, in which one rule is broken.
 use super::trees::{ext_ref, file_entry, inode, inode_ref, key, meet};
-use crate::TreeNames;
+use crate::{TreeNames, Unpaired};
+use btr_base::Memory;
 use btr_blocks::Body;
 use btr_items::item;
+use btr_tour::Visitor;
 use std::alloc::Global;
 use std::test::Fail;
 
@@ -18,7 +20,7 @@ pub(super) const HASH_G: u64 = 3940931620;
 const ORPHANS: u64 = 0xffff_ffff_ffff_fffb;
 
 // The first directory, which has the file `f` at index 2.
-fn put_directory(names: &mut TreeNames, alloc: Global, broken: u8) -> Result<(), Fail> {
+fn put_directory<V: Visitor<Memory>>(names: &mut V, alloc: Global, broken: u8) -> Result<(), Fail> {
     let size = if broken == 21 { 4 } else { 2 };
     let directory = inode(alloc, size, 1, DIRECTORY)?;
     meet(names, key(256, item::INODE_ITEM, 0), &directory)?;
@@ -36,7 +38,7 @@ fn put_directory(names: &mut TreeNames, alloc: Global, broken: u8) -> Result<(),
 }
 
 // The file 257.
-fn put_file(names: &mut TreeNames, alloc: Global, broken: u8) -> Result<(), Fail> {
+fn put_file<V: Visitor<Memory>>(names: &mut V, alloc: Global, broken: u8) -> Result<(), Fail> {
     let nlink = match broken {
         17 => 0,
         18 | 20 => 2,
@@ -59,16 +61,29 @@ fn put_file(names: &mut TreeNames, alloc: Global, broken: u8) -> Result<(), Fail
     Ok(())
 }
 
-/// A tree whose names break the rule of this kind, or none of 15 to 22.
-pub(super) fn tree_with(alloc: Global, broken: u8) -> Result<TreeNames, Fail> {
-    let mut names = TreeNames::new(alloc, 5, 256);
-    put_directory(&mut names, alloc, broken)?;
-    put_file(&mut names, alloc, broken)?;
+// A tree whose names break the rule of a kind, or none of 15 to 22.
+fn put_tree<V: Visitor<Memory>>(names: &mut V, alloc: Global, broken: u8) -> Result<(), Fail> {
+    put_directory(names, alloc, broken)?;
+    put_file(names, alloc, broken)?;
     let nameless = inode(alloc, 0, 0, FILE)?;
-    meet(&mut names, key(258, item::INODE_ITEM, 0), &nameless)?;
+    meet(names, key(258, item::INODE_ITEM, 0), &nameless)?;
     if broken != 22 {
         let empty = Body::new(alloc);
-        meet(&mut names, key(ORPHANS, item::ORPHAN_ITEM, 258), &empty)?;
+        meet(names, key(ORPHANS, item::ORPHAN_ITEM, 258), &empty)?;
     }
+    Ok(())
+}
+
+/// The names of a tree that break the rule of this kind, or none of 15 to 22.
+pub(super) fn tree_with(alloc: Global, broken: u8) -> Result<TreeNames, Fail> {
+    let mut names = TreeNames::new(alloc, 5, 256);
+    put_tree(&mut names, alloc, broken)?;
+    Ok(names)
+}
+
+/// What of the names of such a tree has not met its counterpart.
+pub(super) fn unpaired_with(alloc: Global, broken: u8) -> Result<Unpaired, Fail> {
+    let mut names = Unpaired::new(alloc, 256);
+    put_tree(&mut names, alloc, broken)?;
     Ok(names)
 }

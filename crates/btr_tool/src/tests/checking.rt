@@ -1,5 +1,6 @@
 // Words that begin as `check` does, and images that aren't checked.
 use super::{answers, called, words};
+use crate::answer::Answer;
 use btr_make::{RowVolume, put_super, row};
 use btr_rack::{MemOut, MemRack, MemTree, Rack, RackError};
 use btr_super::{Super, read_slot};
@@ -84,5 +85,30 @@ fn calls_that_fail(rt: HostRuntime) -> Result<(), Fail> {
     for n in 3..=30u64 {
         mends_or_names(&rt, alloc, n)?;
     }
+    Ok(())
+}
+
+const FINDINGS: &[u8] = b"sum-missing 5 260 16777216\nsum-missing 5 260 16781312\nfindings 2\n";
+
+// The output refuses one of its calls, if there are so many: then a first part of the lines stands there.
+fn is_refused(rt: &impl Abort, alloc: Global, n: u64) -> Result<bool, Fail> {
+    let mut rack = row(alloc, RowVolume::N)?;
+    let mut out = MemOut::new(alloc);
+    out.fail_call(n)?;
+    let words = words(alloc, &["check", "a"])?;
+    assert_eq!(rt; rack.count(), 0);
+    let answer = called(alloc, &words, &mut rack, &mut MemTree::new(alloc), &mut out);
+    let refused = answer == Answer::OutFault;
+    assert_eq!(rt; answer.code(), if refused { 4 } else { 1 });
+    assert!(rt; FINDINGS.starts_with(out.text()));
+    assert_eq!(rt; out.text().len() < FINDINGS.len(), refused);
+    Ok(refused)
+}
+
+#[test]
+fn each_failing_put(rt: HostRuntime) -> Result<(), Fail> {
+    let alloc = rt.alloc();
+    assert!(rt; is_refused(&rt, alloc, 1)?);
+    assert!(rt; !is_refused(&rt, alloc, 2)?);
     Ok(())
 }

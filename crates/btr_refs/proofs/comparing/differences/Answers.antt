@@ -19,8 +19,8 @@ returns c =
     (ap (list_any (is_same one)) c.new-found.ensures.empty)
     (c.in_ok-put_ref_counts.ensures one)
     (c.in_ok-put_ref_counts-2.ensures one)
-    (c.in_ok-put_ref_totals.ensures stored c.in_ok-totals.ensures one)
-    (c.in_ok-put_ref_alone.ensures extents c.in_ok-addresses.ensures c.in_ok-totals.ensures one)) in
+    (c.in_ok-put_ref_totals.ensures one)
+    (c.in_ok-put_ref_alone.ensures extents c.in_ok-addresses.ensures one)) in
     subst (λ counts. IfOk c.listed.result (λ findings. findings.items ≡ differences counts c.args.stored.now.extents c.args.stored.now.refs)) c.refs-counted.ensures
     (subst (λ xs. IfOk c.listed.result (λ findings. findings.items ≡ differences forward xs c.args.stored.now.refs)) c.extents-extents.ensures
     (subst (λ refs. IfOk c.listed.result (λ findings. findings.items ≡ differences forward extents refs)) c.refs-refs.ensures all))

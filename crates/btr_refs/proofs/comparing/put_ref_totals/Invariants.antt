@@ -1,11 +1,10 @@
 use Rattle.std.proofs.Common.{◌≡◌, ◌||◌, take}
 use Rattle.std.specs.List.{list_any}
 use Rattle.btr_refs.specs.declared.finding.Finding.{Finding}
-use Rattle.btr_refs.specs.Differences.{is_row, ref_total, Totals}
-use Rattle.btr_refs.specs.Counts.{RefCounts}
+use Rattle.btr_refs.specs.Differences.{is_row, ref_total}
 use Rattle.btr_refs.specs.Findings.{has}
 use Rattle.btr_refs.proofs.comparing.put_ref_totals.Given as goal
 
 -- the rows of the extents so far
 abbrev pub invariant-loop-extent : goal.invariant-loop-extent
-invariant-loop-extent l = (stored : RefCounts) → Totals stored l.totals → (one : Finding) → has l.found one ≡ (list_any (is_row (ref_total stored) one) (take l.extent-index l.extents) || has l.fn.found one)
+invariant-loop-extent l = (one : Finding) → has l.found one ≡ (list_any (is_row (ref_total l.refs.entries) one) (take l.extent-index l.extents) || has l.fn.found one)

@@ -1,0 +1,40 @@
+use Rattle.std.proofs.Common.{◌≡◌, true, fold, Some}
+use Rattle.btr_names.specs.Names.{names_findings, names_step}
+use Rattle.btr_names.specs.Subvolumes.{subvolumes_at}
+use Rattle.btr_refs.specs.Findings.{Adds}
+use Rattle.btr_check.specs.FileTrees.{TreatsNames}
+use Rattle.btr_check.specs.Counting.{Unless}
+use Rattle.std.specs.Bool.{⊤}
+use Rattle.btr_check.specs.Passes.{marks_if}
+use Rattle.btr_check.specs.Running.{world, is_outside}
+use Rattle.btr_check.proofs.FileTrees.{all_names_met, treats_names}
+use Rattle.btr_check.proofs.Passes.{on_both, ran_put}
+use Rattle.btr_check.proofs.Runs.{ran_more, ran_stop}
+use Rattle.btr_check.proofs.file_trees.put_names.Goals as goal
+
+pub returns-in-Err : goal.returns-in-Err
+returns-in-Err g c =
+    let x = world (g.R.Rack.seen c.args.rack.now) c.args.vol.now in
+    let y = world (g.R.Rack.seen c.collect.new.rack) c.collect.new.vol in
+    record {
+      ran = ran_stop (λ fs. is_outside c.in-Err.stop ≡ true) (λ fs. is_outside c.in-Err.stop ≡ true) x y c.in-Err.stop c.in-Err.ensures.ran (λ B h. h);
+    }
+
+pub returns-in-Ok : goal.returns-in-Ok
+returns-in-Ok g c =
+    let x = world (g.R.Rack.seen c.args.rack.now) c.args.vol.now in
+    let y = world (g.R.Rack.seen c.collect.new.rack) c.collect.new.vol in
+    let tree = c.args.tree.now in
+    let all = c.in-Ok.all in
+    let found = c.args.found.now in
+    let found' = c.put_all_names.new.found in
+    let names = c.args.subvolumes.now in
+    let names' = c.put_all_names.new.subvolumes in
+    let put = ran_put (λ fs. all ≡ fold names_step c.new-nothing.result (marks_if fs.blocks (Some tree))) (λ fs. ⊤) (λ fs. TreatsNames fs.blocks tree found found' names names') x y all c.put_all_names.result c.or_memory.result c.in-Ok.ensures.ran c.or_memory.ensures
+    (λ B h known.
+    let is = all_names_met B c.names_law.ensures tree c.new-nothing.result all c.new-nothing.ensures h in
+    on_both (Adds (names_findings all) found found') (names' ≡ subvolumes_at names all.tree all.indexed) (TreatsNames B tree found found' names names') c.put_all_names.result
+    (λ adds at. treats_names B tree all found found' names names' is adds at) c.put_all_names.ensures.found c.put_all_names.ensures.entries) in
+    record {
+      ran = ran_more (λ fs. ⊤ → Unless (λ u. TreatsNames fs.blocks tree found found' names names') c.or_memory.result) (λ fs. Unless (λ u. TreatsNames fs.blocks tree found found' names names') c.or_memory.result) x y c.or_memory.result put (λ B h. h tt);
+    }

@@ -1,0 +1,368 @@
+-- Where all names of a tree have met their counterparts, nothing is wrong with them.
+use Rattle.std.proofs.Common.{◌≡◌, ℕ, Bool, true, false, not, cond, if◌then◌else◌, ◌==◌, ◌&&◌, ◌||◌, ◌⊎◌, List, [], ◌∷◌, ◌++◌, map, filter, filter_map, flat_map, fold, All, Option, Some, None, inl, inr, refl, sym, ap, ◌∙◌, subst, true≢false, append_assoc, append-nil}
+use Rattle.std.proofs.lemmas.List.Elements.{All-nil, All-weaker, recursion_from_All, filter-append}
+use Rattle.std.specs.List.{AllByRecursion, cons_option, list_any}
+use Rattle.btr_base.specs.declared.key.Key.{Key}
+use Rattle.btr_refs.specs.declared.finding.Finding.{Finding}
+use Rattle.btr_refs.specs.Findings.{found, unless, shown_sum}
+use Rattle.btr_tour.specs.Tour.{Mark, Block, Child, Item, Left, items_met}
+use Rattle.btr_names.specs.declared.claim.Claim.{Claim}
+use Rattle.btr_names.specs.declared.inode_at.InodeAt.{InodeAt}
+use Rattle.btr_names.specs.declared.unpaired.Unpaired.{Unpaired}
+use Rattle.btr_names.specs.Entry.{Entry, NameRef}
+use Rattle.btr_names.specs.Inodes.{last_format, may_follow, is_last, are_settled}
+use Rattle.btr_names.specs.Items.{inodes_in, indexed_in, hashed_in, refs_in, orphans_in}
+use Rattle.btr_names.specs.Names.{Names, NamesLaw, no_names, names_in, names_with, names_step, names_findings, entry_item, entry_index, entry_ref, ref_entry, entry_mode, link_count, dir_size, orphan, is_entry, is_free, leads_to_inode, ref_to, same_ref, asked, fits_mode, format_of, links_of, names_size, under_hash}
+use Rattle.btr_names.specs.Pairs.{Pairs, met, met_fits, waiting_at, entry_claim, link_claim, ref_claim, are_met}
+use Rattle.btr_names.specs.Subvolumes.{leads_to_root}
+use Rattle.btr_names.specs.Unpaired.{nothing_unpaired, link_asked, link_met, with_inode, with_indexed, with_hashed, with_ref, with_orphan, unpaired_with, unpaired_step, are_paired, Tells, UnpairedLaw}
+use Rattle.btr_names.proofs.Meeting as meeting
+use Rattle.btr_names.proofs.MetEntries.{EntriesMet, LinksMet, IsAsked, IsMet, no_entries, no_links, indexed_more, hashed_more, inode_more, entry_aside, entry_more, ref_free, ref_more}
+use Rattle.btr_names.proofs.MetInodes.{IsCounted, IsKept, LastMet, no_last, inode_comes, ref_comes, name_comes, all_counted, last_fits, kept_more, orphan_comes, AreSettled, all_settled}
+use Rattle.btr_names.proofs.Pairing.{Item as Arrival, Came as HasCome, neither, holds_not, both, other_came, AreMet, met_all}
+
+-- what is kept of some names, where nothing differs
+pub record Follows (u : Unpaired) (names : Names) : Type 0 where
+  pub entries_came : List Arrival
+  pub links_came : List Arrival
+  pub entries : EntriesMet u.entries entries_came names.indexed names.hashed
+  pub links : LinksMet names.dirid u.links links_came names.inodes names.indexed names.refs
+  pub last : LastMet u.inodes.last names.inodes names.indexed names.refs
+  pub kept : All (IsKept u.inodes.unlinked names.orphans) names.inodes
+
+pub record NothingDiffers (u : Unpaired) : Type 0 where
+  pub inodes : u.inodes.is_wrong ≡ false
+  pub entries : u.entries.differ ≡ false
+  pub links : u.links.differ ≡ false
+
+pub record Holds (u : Unpaired) (names : Names) : Type 0 where
+  pub dirid : u.dirid ≡ names.dirid
+  pub subvolumes : u.subvolumes ≡ filter leads_to_root names.indexed
+  pub follows : NothingDiffers u → Follows u names
+
+-- names with some more of each
+abbrev add_inodes : Names → List InodeAt → Names
+add_inodes n more = record { tree = n.tree; dirid = n.dirid; inodes = n.inodes ++ more; indexed = n.indexed; hashed = n.hashed; refs = n.refs; orphans = n.orphans }
+
+abbrev add_indexed : Names → List Entry → Names
+add_indexed n more = record { tree = n.tree; dirid = n.dirid; inodes = n.inodes; indexed = n.indexed ++ more; hashed = n.hashed; refs = n.refs; orphans = n.orphans }
+
+abbrev add_hashed : Names → List Entry → Names
+add_hashed n more = record { tree = n.tree; dirid = n.dirid; inodes = n.inodes; indexed = n.indexed; hashed = n.hashed ++ more; refs = n.refs; orphans = n.orphans }
+
+abbrev add_refs : Names → List NameRef → Names
+add_refs n more = record { tree = n.tree; dirid = n.dirid; inodes = n.inodes; indexed = n.indexed; hashed = n.hashed; refs = n.refs ++ more; orphans = n.orphans }
+
+abbrev add_orphans : Names → List ℕ → Names
+add_orphans n more = record { tree = n.tree; dirid = n.dirid; inodes = n.inodes; indexed = n.indexed; hashed = n.hashed; refs = n.refs; orphans = n.orphans ++ more }
+
+inode_holds : (u : Unpaired) (n : Names) (at : InodeAt) → Holds u n → Holds (with_inode u at) (add_inodes n (at ∷ []))
+inode_holds u n at h = record {
+  dirid = h.dirid;
+  subvolumes = h.subvolumes;
+  follows = λ fine.
+      let right = neither u.inodes.is_wrong (not (may_follow u.inodes.last at.number)) fine.inodes in
+      let f = h.follows (record { inodes = right.0; entries = fine.entries; links = fine.links }) in
+      record {
+        entries_came = f.entries_came;
+        links_came = f.links_came;
+        entries = f.entries;
+        links = inode_more n.dirid u.links f.links_came n.inodes n.indexed n.refs f.links at;
+        last = inode_comes u.inodes.last at n.inodes n.indexed n.refs (holds_not (may_follow u.inodes.last at.number) right.1) f.last;
+        kept = kept_more at u.inodes.unlinked n.orphans n.inodes f.kept;
+      };
+}
+
+-- an entry's inode is asked for, if it leads to one
+pub record Asks (dirid : ℕ) (links : Pairs) (inodes : List InodeAt) (indexed : List Entry) (refs : List NameRef) : Type 0 where
+  pub came : List Arrival
+  pub met : LinksMet dirid links came inodes indexed refs
+
+asks_if : (dirid : ℕ) (links : Pairs) (came : List Arrival) (inodes : List InodeAt) (indexed : List Entry) (refs : List NameRef) (entry : Entry) (b : Bool) → leads_to_inode entry ≡ b → LinksMet dirid links came inodes indexed refs
+    → (if b then met links (link_claim entry) true entry.name else links).differ ≡ false → Asks dirid (if b then met links (link_claim entry) true entry.name else links) inodes (indexed ++ entry ∷ []) refs
+asks_if dirid links came inodes indexed refs entry true leads before same =
+    let two = neither links.differ (not (met_fits (waiting_at links.waiting (link_claim entry)) true entry.name)) same in
+    record {
+      came = record { is_first = true; claim = link_claim entry; name = entry.name } ∷ came;
+      met = entry_more dirid links came inodes indexed refs before entry leads (holds_not (met_fits (waiting_at links.waiting (link_claim entry)) true entry.name) two.1);
+    }
+asks_if dirid links came inodes indexed refs entry false leads before same = record { came = came; met = entry_aside dirid links came inodes indexed refs before entry leads }
+
+-- where nothing differs then, nothing differed before
+differs_if : (links : Pairs) (entry : Entry) (b : Bool) → (if b then met links (link_claim entry) true entry.name else links).differ ≡ false → links.differ ≡ false
+differs_if links entry true same = (neither links.differ (not (met_fits (waiting_at links.waiting (link_claim entry)) true entry.name)) same).0
+differs_if links entry false same = same
+
+indexed_holds : (u : Unpaired) (n : Names) (entry : Entry) → Holds u n → Holds (with_indexed u entry) (add_indexed n (entry ∷ []))
+indexed_holds u n entry h = record {
+  dirid = h.dirid;
+  subvolumes = ap (λ l. l ++ filter leads_to_root (entry ∷ [])) h.subvolumes ∙ sym (filter-append leads_to_root n.indexed (entry ∷ []));
+  follows = λ fine.
+      let right = neither u.inodes.is_wrong (not (is_last entry.dir u.inodes.last)) fine.inodes in
+      let same = neither u.entries.differ (not (met_fits (waiting_at u.entries.waiting (entry_claim (under_hash entry))) true entry.name)) fine.entries in
+      let f = h.follows (record { inodes = right.0; entries = same.0; links = differs_if u.links entry (leads_to_inode entry) fine.links }) in
+      let links = asks_if n.dirid u.links f.links_came n.inodes n.indexed n.refs entry (leads_to_inode entry) refl f.links fine.links in
+      record {
+        entries_came = record { is_first = true; claim = entry_claim (under_hash entry); name = entry.name } ∷ f.entries_came;
+        links_came = links.came;
+        entries = indexed_more u.entries f.entries_came n.indexed n.hashed entry f.entries (holds_not (met_fits (waiting_at u.entries.waiting (entry_claim (under_hash entry))) true entry.name) same.1);
+        links = links.met;
+        last = name_comes u.inodes.last entry n.inodes n.indexed n.refs (holds_not (is_last entry.dir u.inodes.last) right.1) f.last;
+        kept = f.kept;
+      };
+}
+
+hashed_holds : (u : Unpaired) (n : Names) (entry : Entry) → Holds u n → Holds (with_hashed u entry) (add_hashed n (entry ∷ []))
+hashed_holds u n entry h = record {
+  dirid = h.dirid;
+  subvolumes = h.subvolumes;
+  follows = λ fine.
+      let same = neither u.entries.differ (not (met_fits (waiting_at u.entries.waiting (entry_claim entry)) false entry.name)) fine.entries in
+      let f = h.follows (record { inodes = fine.inodes; entries = same.0; links = fine.links }) in
+      record {
+        entries_came = record { is_first = false; claim = entry_claim entry; name = entry.name } ∷ f.entries_came;
+        links_came = f.links_came;
+        entries = hashed_more u.entries f.entries_came n.indexed n.hashed entry f.entries (holds_not (met_fits (waiting_at u.entries.waiting (entry_claim entry)) false entry.name) same.1);
+        links = f.links;
+        last = f.last;
+        kept = f.kept;
+      };
+}
+
+-- a reference meets its entry, if it needs one
+meets_if : (dirid format : ℕ) (links : Pairs) (came : List Arrival) (inodes : List InodeAt) (indexed : List Entry) (refs : List NameRef) (ref : NameRef) (b : Bool) → is_free dirid ref ≡ b
+    → ((e : Entry) → ref_claim format ref ≡ link_claim e → list_any (fits_mode e) inodes ≡ true) → LinksMet dirid links came inodes indexed refs
+    → (if b then links else met links (ref_claim format ref) false ref.name).differ ≡ false → Asks dirid (if b then links else met links (ref_claim format ref) false ref.name) inodes indexed (refs ++ ref ∷ [])
+meets_if dirid format links came inodes indexed refs ref true free has before same = record { came = came; met = ref_free dirid links came inodes indexed refs before ref free }
+meets_if dirid format links came inodes indexed refs ref false free has before same =
+    let two = neither links.differ (not (met_fits (waiting_at links.waiting (ref_claim format ref)) false ref.name)) same in
+    record {
+      came = record { is_first = false; claim = ref_claim format ref; name = ref.name } ∷ came;
+      met = ref_more dirid links came inodes indexed refs before format ref has (holds_not (met_fits (waiting_at links.waiting (ref_claim format ref)) false ref.name) two.1);
+    }
+
+met_if : (links : Pairs) (format : ℕ) (ref : NameRef) (b : Bool) → (if b then links else met links (ref_claim format ref) false ref.name).differ ≡ false → links.differ ≡ false
+met_if links format ref true same = same
+met_if links format ref false same = (neither links.differ (not (met_fits (waiting_at links.waiting (ref_claim format ref)) false ref.name)) same).0
+
+ref_holds : (u : Unpaired) (n : Names) (ref : NameRef) → Holds u n → Holds (with_ref u ref) (add_refs n (ref ∷ []))
+ref_holds u n ref h = record {
+  dirid = h.dirid;
+  subvolumes = h.subvolumes;
+  follows = λ fine.
+      let format = last_format u.inodes.last in
+      let right = neither u.inodes.is_wrong (not (is_last ref.inode u.inodes.last)) fine.inodes in
+      let is = holds_not (is_last ref.inode u.inodes.last) right.1 in
+      let same : (link_met n.dirid format u.links ref).differ ≡ false = subst (λ d. (link_met d format u.links ref).differ ≡ false) h.dirid fine.links in
+      let f = h.follows (record { inodes = right.0; entries = fine.entries; links = met_if u.links format ref (is_free u.dirid ref) fine.links }) in
+      let links = meets_if n.dirid format u.links f.links_came n.inodes n.indexed n.refs ref (is_free n.dirid ref) refl
+      (λ e claim. last_fits u.inodes.last ref n.inodes n.indexed n.refs is f.last e (sym (ap (λ (k : Claim). k.target.objectid) claim)) (sym (ap (λ (k : Claim). k.kind) claim)))
+      f.links same in
+      record {
+        entries_came = f.entries_came;
+        links_came = links.came;
+        entries = f.entries;
+        links = subst (λ d. LinksMet n.dirid (link_met d format u.links ref) links.came n.inodes n.indexed (n.refs ++ ref ∷ [])) (sym h.dirid) links.met;
+        last = ref_comes u.inodes.last ref n.inodes n.indexed n.refs is f.last;
+        kept = f.kept;
+      };
+}
+
+orphan_holds : (u : Unpaired) (n : Names) (number : ℕ) → Holds u n → Holds (with_orphan u number) (add_orphans n (number ∷ []))
+orphan_holds u n number h = record {
+  dirid = h.dirid;
+  subvolumes = h.subvolumes;
+  follows = λ fine.
+      let f = h.follows (record { inodes = fine.inodes; entries = fine.entries; links = fine.links }) in
+      record {
+        entries_came = f.entries_came;
+        links_came = f.links_came;
+        entries = f.entries;
+        links = f.links;
+        last = f.last;
+        kept = orphan_comes number u.inodes.unlinked n.orphans n.inodes f.kept;
+      };
+}
+
+-- some things, one after another
+module _ {X : Type 0} (step : Unpaired → X → Unpaired) (add : Names → List X → Names) (none : (n : Names) → add n [] ≡ n) (more : (n : Names) (x : X) (xs : List X) → add (add n (x ∷ [])) xs ≡ add n (x ∷ xs))
+    (one : (u : Unpaired) (n : Names) (x : X) → Holds u n → Holds (step u x) (add n (x ∷ []))) where
+  some_hold : (xs : List X) (u : Unpaired) (n : Names) → Holds u n → Holds (fold step u xs) (add n xs)
+  some_hold [] u n h = subst (Holds u) (sym (none n)) h
+  some_hold (x ∷ xs) u n h = subst (Holds (fold step (step u x) xs)) (more n x xs) (some_hold xs (step u x) (add n (x ∷ [])) (one u n x h))
+
+item_holds : (u : Unpaired) (n : Names) (key : Key) (body : List ℕ) → Holds u n → Holds (unpaired_with u key body) (names_with n key body)
+item_holds u n key body h =
+    let a = inodes_in key body in
+    let b = indexed_in key body in
+    let c = hashed_in key body in
+    let d = refs_in key body in
+    let e = orphans_in key in
+    let u1 = fold with_inode u a in
+    let u2 = fold with_indexed u1 b in
+    let u3 = fold with_hashed u2 c in
+    let u4 = fold with_ref u3 d in
+    let n1 = add_inodes n a in
+    let n2 = add_indexed n1 b in
+    let n3 = add_hashed n2 c in
+    let n4 = add_refs n3 d in
+    let h1 : Holds u1 n1 = some_hold with_inode add_inodes
+    (λ m. λ i. record { tree = m.tree; dirid = m.dirid; inodes = append-nil m.inodes i; indexed = m.indexed; hashed = m.hashed; refs = m.refs; orphans = m.orphans })
+    (λ m x xs. λ i. record { tree = m.tree; dirid = m.dirid; inodes = append_assoc m.inodes (x ∷ []) xs i; indexed = m.indexed; hashed = m.hashed; refs = m.refs; orphans = m.orphans })
+    inode_holds a u n h in
+    let h2 : Holds u2 n2 = some_hold with_indexed add_indexed
+    (λ m. λ i. record { tree = m.tree; dirid = m.dirid; inodes = m.inodes; indexed = append-nil m.indexed i; hashed = m.hashed; refs = m.refs; orphans = m.orphans })
+    (λ m x xs. λ i. record { tree = m.tree; dirid = m.dirid; inodes = m.inodes; indexed = append_assoc m.indexed (x ∷ []) xs i; hashed = m.hashed; refs = m.refs; orphans = m.orphans })
+    indexed_holds b u1 n1 h1 in
+    let h3 : Holds u3 n3 = some_hold with_hashed add_hashed
+    (λ m. λ i. record { tree = m.tree; dirid = m.dirid; inodes = m.inodes; indexed = m.indexed; hashed = append-nil m.hashed i; refs = m.refs; orphans = m.orphans })
+    (λ m x xs. λ i. record { tree = m.tree; dirid = m.dirid; inodes = m.inodes; indexed = m.indexed; hashed = append_assoc m.hashed (x ∷ []) xs i; refs = m.refs; orphans = m.orphans })
+    hashed_holds c u2 n2 h2 in
+    let h4 : Holds u4 n4 = some_hold with_ref add_refs
+    (λ m. λ i. record { tree = m.tree; dirid = m.dirid; inodes = m.inodes; indexed = m.indexed; hashed = m.hashed; refs = append-nil m.refs i; orphans = m.orphans })
+    (λ m x xs. λ i. record { tree = m.tree; dirid = m.dirid; inodes = m.inodes; indexed = m.indexed; hashed = m.hashed; refs = append_assoc m.refs (x ∷ []) xs i; orphans = m.orphans })
+    ref_holds d u3 n3 h3 in
+    some_hold with_orphan add_orphans
+    (λ m. λ i. record { tree = m.tree; dirid = m.dirid; inodes = m.inodes; indexed = m.indexed; hashed = m.hashed; refs = m.refs; orphans = append-nil m.orphans i })
+    (λ m x xs. λ i. record { tree = m.tree; dirid = m.dirid; inodes = m.inodes; indexed = m.indexed; hashed = m.hashed; refs = m.refs; orphans = append_assoc m.orphans (x ∷ []) xs i })
+    orphan_holds e u4 n4 h4
+
+marks_hold : (marks : List Mark) (u : Unpaired) (n : Names) → Holds u n → Holds (fold unpaired_step u marks) (fold names_step n marks)
+marks_hold [] u n h = h
+marks_hold (Block place block ∷ marks) u n h = marks_hold marks u n h
+marks_hold (Child addr place ∷ marks) u n h = marks_hold marks u n h
+marks_hold (Item item ∷ marks) u n h = marks_hold marks (unpaired_with u item.key item.body) (names_with n item.key item.body) (item_holds u n item.key item.body h)
+marks_hold (Left fault ∷ marks) u n h = marks_hold marks u n h
+
+nothing_holds : (tree dirid : ℕ) → Holds (nothing_unpaired dirid) (no_names tree dirid)
+nothing_holds tree dirid = record {
+  dirid = refl;
+  subvolumes = refl;
+  follows = λ fine. record {
+    entries_came = [];
+    links_came = [];
+    entries = no_entries;
+    links = no_links dirid;
+    last = no_last;
+    kept = All-nil (IsKept [] []);
+  };
+}
+
+-- a rule that finds nothing on each of some things finds nothing on all of them
+module _ {X : Type 0} (rule : X → Option Finding) where
+  nothing_found : (xs : List X) → AllByRecursion (λ x. rule x ≡ None) xs → filter_map rule xs ≡ []
+  nothing_found [] all = refl
+  nothing_found (x ∷ xs) all = ap (λ o. cons_option o (filter_map rule xs)) all.0 ∙ nothing_found xs all.1
+
+  none_found : (xs : List X) → All (λ x. rule x ≡ None) xs → filter_map rule xs ≡ []
+  none_found xs all = nothing_found xs (recursion_from_All (λ x. rule x ≡ None) xs all)
+
+kept_rule : (b : Bool) (finding : Finding) → b ≡ true → unless b finding ≡ None
+kept_rule b finding is = ap (λ k. unless k finding) is
+
+or_right : (a b : Bool) → b ≡ true → (a || b) ≡ true
+or_right true b h = refl
+or_right false b h = h
+
+or_left : (a b : Bool) → a ≡ true → (a || b) ≡ true
+or_left a b h = ap (λ k. k || b) h
+
+-- what it is that all are paired
+record ArePaired (u : Unpaired) : Type 0 where
+  pub settled : AreSettled u.inodes
+  pub entries : AreMet u.entries
+  pub links : AreMet u.links
+
+paired_all : (u : Unpaired) → are_paired u ≡ true → ArePaired u
+paired_all u h =
+    let one = both (are_settled u.inodes && are_met u.entries) (are_met u.links) h in
+    let two = both (are_settled u.inodes) (are_met u.entries) one.0 in
+    record { settled = all_settled u.inodes two.0; entries = met_all u.entries two.1; links = met_all u.links one.1 }
+
+module _ (u : Unpaired) (names : Names) (paired : ArePaired u) (f : Follows u names) where
+  items_kept : filter_map (entry_item names.tree names.hashed) names.indexed ≡ []
+  items_kept = none_found (entry_item names.tree names.hashed) names.indexed
+      (All-weaker (λ e. HasCome f.entries_came true (entry_claim (under_hash e)) e.name) (λ e. entry_item names.tree names.hashed e ≡ None)
+      (λ e came. kept_rule (list_any (is_entry (under_hash e)) names.hashed) (found 15 (names.tree ∷ e.dir ∷ e.offset ∷ []))
+      (f.entries.of_seconds (under_hash e) (other_came u.entries f.entries_came paired.entries f.entries.paired true (entry_claim (under_hash e)) e.name came)))
+      names.indexed f.entries.firsts)
+
+  indexes_kept : filter_map (entry_index names.tree names.indexed) names.hashed ≡ []
+  indexes_kept = none_found (entry_index names.tree names.indexed) names.hashed
+      (All-weaker (λ e. HasCome f.entries_came false (entry_claim e) e.name) (λ e. entry_index names.tree names.indexed e ≡ None)
+      (λ e came. kept_rule (list_any (is_entry e) (map under_hash names.indexed)) (found 16 (names.tree ∷ e.dir ∷ e.offset ∷ []))
+      (f.entries.of_firsts e (other_came u.entries f.entries_came paired.entries f.entries.paired false (entry_claim e) e.name came)))
+      names.hashed f.entries.seconds)
+
+  -- what an entry asks of an inode is there, if it asks
+  asked_there : (e : Entry) → IsAsked f.links_came e → (b : Bool) → leads_to_inode e ≡ b → (not b || list_any (same_ref (ref_to e)) names.refs ≡ true) × (not b || list_any (fits_mode e) names.inodes ≡ true)
+  asked_there e asked true leads = f.links.of_seconds e (other_came u.links f.links_came paired.links f.links.paired true (link_claim e) e.name (asked leads))
+  asked_there e asked false leads = (refl, refl)
+
+  refs_kept : filter_map (entry_ref names.tree names.refs) names.indexed ≡ []
+  refs_kept = none_found (entry_ref names.tree names.refs) names.indexed
+      (All-weaker (IsAsked f.links_came) (λ e. entry_ref names.tree names.refs e ≡ None)
+      (λ e asked. kept_rule (not (leads_to_inode e) || list_any (same_ref (ref_to e)) names.refs) (found 17 (names.tree ∷ e.dir ∷ e.offset ∷ [])) (asked_there e asked (leads_to_inode e) refl).0)
+      names.indexed f.links.firsts)
+
+  modes_kept : filter_map (entry_mode names.tree names.inodes) names.indexed ≡ []
+  modes_kept = none_found (entry_mode names.tree names.inodes) names.indexed
+      (All-weaker (IsAsked f.links_came) (λ e. entry_mode names.tree names.inodes e ≡ None)
+      (λ e asked. kept_rule (not (leads_to_inode e) || list_any (fits_mode e) names.inodes) (found 19 (names.tree ∷ e.dir ∷ e.offset ∷ [])) (asked_there e asked (leads_to_inode e) refl).1)
+      names.indexed f.links.firsts)
+
+  met_there : (r : NameRef) → IsMet names.dirid f.links_came r → (is_free names.dirid r || list_any (same_ref r) (asked names.indexed)) ≡ true
+  met_there r (inl free) = or_left (is_free names.dirid r) (list_any (same_ref r) (asked names.indexed)) free
+  met_there r (inr it) = or_right (is_free names.dirid r) (list_any (same_ref r) (asked names.indexed)) (f.links.of_firsts it.0 r (other_came u.links f.links_came paired.links f.links.paired false (ref_claim it.0 r) r.name it.1))
+
+  entries_kept : filter_map (ref_entry names.tree names.dirid names.indexed) names.refs ≡ []
+  entries_kept = none_found (ref_entry names.tree names.dirid names.indexed) names.refs
+      (All-weaker (IsMet names.dirid f.links_came) (λ r. ref_entry names.tree names.dirid names.indexed r ≡ None)
+      (λ r met. kept_rule (is_free names.dirid r || list_any (same_ref r) (asked names.indexed)) (found 18 (names.tree ∷ r.inode ∷ r.parent ∷ r.index ∷ [])) (met_there r met))
+      names.refs f.links.seconds)
+
+  counted : All (IsCounted names.indexed names.refs) names.inodes
+  counted = all_counted u.inodes.last names.inodes names.indexed names.refs paired.settled.counted f.last
+
+  links_kept : filter_map (link_count names.tree names.refs) names.inodes ≡ []
+  links_kept = none_found (link_count names.tree names.refs) names.inodes
+      (All-weaker (IsCounted names.indexed names.refs) (λ at. link_count names.tree names.refs at ≡ None)
+      (λ at is. kept_rule (at.inode.nlink == links_of names.refs at.number) (found 20 (names.tree ∷ at.number ∷ at.inode.nlink ∷ shown_sum (links_of names.refs at.number) ∷ []))
+      (both (at.inode.nlink == links_of names.refs at.number) (not (format_of at.inode == 0o040000) || (at.inode.size == names_size names.indexed at.number)) is).0)
+      names.inodes counted)
+
+  sizes_kept : filter_map (dir_size names.tree names.indexed) names.inodes ≡ []
+  sizes_kept = none_found (dir_size names.tree names.indexed) names.inodes
+      (All-weaker (IsCounted names.indexed names.refs) (λ at. dir_size names.tree names.indexed at ≡ None)
+      (λ at is. kept_rule (not (format_of at.inode == 0o040000) || (at.inode.size == names_size names.indexed at.number)) (found 21 (names.tree ∷ at.number ∷ at.inode.size ∷ shown_sum (names_size names.indexed at.number) ∷ []))
+      (both (at.inode.nlink == links_of names.refs at.number) (not (format_of at.inode == 0o040000) || (at.inode.size == names_size names.indexed at.number)) is).1)
+      names.inodes counted)
+
+  named_there : (at : InodeAt) → IsKept u.inodes.unlinked names.orphans at → (not (at.inode.nlink == 0) || list_any (λ number. at.number == number) names.orphans) ≡ true
+  named_there at (inl linked) = or_left (not (at.inode.nlink == 0)) (list_any (λ number. at.number == number) names.orphans) (ap not linked)
+  named_there at (inr (inl waits)) = absurd (paired.settled.none at.number waits)
+  named_there at (inr (inr named)) = or_right (not (at.inode.nlink == 0)) (list_any (λ number. at.number == number) names.orphans) named
+
+  orphans_kept : filter_map (orphan names.tree names.orphans) names.inodes ≡ []
+  orphans_kept = none_found (orphan names.tree names.orphans) names.inodes
+      (All-weaker (IsKept u.inodes.unlinked names.orphans) (λ at. orphan names.tree names.orphans at ≡ None)
+      (λ at kept. kept_rule (not (at.inode.nlink == 0) || list_any (λ number. at.number == number) names.orphans) (found 22 (names.tree ∷ at.number ∷ [])) (named_there at kept))
+      names.inodes f.kept)
+
+  all_kept : names_findings names ≡ []
+  all_kept = λ i. items_kept i ++ indexes_kept i ++ refs_kept i ++ entries_kept i ++ modes_kept i ++ links_kept i ++ sizes_kept i ++ orphans_kept i
+
+-- where all are paired nothing differs
+fine_of : (u : Unpaired) → ArePaired u → NothingDiffers u
+fine_of u paired = record { inodes = paired.settled.right; entries = paired.entries.same; links = paired.links.same }
+
+pub unpaired_law : UnpairedLaw
+unpaired_law tree dirid marks =
+    let u = fold unpaired_step (nothing_unpaired dirid) marks in
+    let h : Holds u (fold names_step (no_names tree dirid) marks) = marks_hold marks (nothing_unpaired dirid) (no_names tree dirid) (nothing_holds tree dirid) in
+    let is : fold names_step (no_names tree dirid) marks ≡ names_in tree dirid (items_met marks) = meeting.names_law tree dirid marks in
+    let there : Holds u (names_in tree dirid (items_met marks)) = subst (Holds u) is h in
+    record {
+      sound = λ h. let paired = paired_all u h in all_kept u (names_in tree dirid (items_met marks)) paired (there.follows (fine_of u paired));
+      subvolumes = there.subvolumes;
+    }
