@@ -13,7 +13,7 @@ use Rattle.btr_tool.specs.Restored.{restored}
 use Rattle.btr_tool.specs.Words.{Words}
 use Rattle.btr_tool.specs.declared.answer.Answer.{Answer}
 use Rattle.btr_tool.specs.declared.plan.Command.{Command}
-use Rattle.btr_tool.specs.declared.plan.Command.TheVariants.{Check, Restore, Scrub}
+use Rattle.btr_tool.specs.declared.plan.Command.TheVariants.{Restore, Scrub}
 use Rattle.btr_tool.proofs.Coming.{comes_also, comes_shown}
 use Rattle.btr_tool.proofs.Ending.{map_agreeing, when_told}
 use Rattle.btr_tool.proofs.Openings.{Images}
