@@ -1,11 +1,10 @@
 -- Whatever failed, nothing changes but the ranges of the writes.
-use Rattle.std.proofs.Common.{◌≡◌, ℕ, zero, suc, Bool, true, false, ◌||◌, List, [], ◌∷◌, ◌++◌, map, All, slice_get, Some, IsSomeAnd, Result, Ok, Err, refl, sym, ap, ◌∙◌, subst, inl, inr, arith}
+use Rattle.std.proofs.Common.{◌≡◌, ℕ, zero, suc, Bool, true, false, ◌||◌, List, [], ◌∷◌, ◌++◌, map, All, Some, IsSomeAnd, Result, Ok, Err, refl, sym, ◌∙◌, subst, inl, inr, arith}
 use Rattle.std.proofs.lemmas.Option.{same_Some}
 use Rattle.std.specs.List.{fold, list_any}
 use Rattle.btr_rack.specs.declared.place.Place.{Place as Range}
 use Rattle.btr_mend.specs.Writes.{Images, IsStopped, IsTorn, Leaves, Write, write_on, writes_if}
 use Rattle.btr_mend.specs.declared.mended.MendFault.{MendFault}
-use Rattle.btr_scrub.specs.Glue.{In}
 use Rattle.btr_scrub.specs.Leaves.{KeepsOutside}
 use Rattle.btr_scrub.specs.Repair.{covers}
 use Rattle.btr_scrub.specs.Scrubbing.{all_writes_for, chunk_writes_for}

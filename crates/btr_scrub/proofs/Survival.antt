@@ -20,7 +20,7 @@ use Rattle.btr_read.proofs.Pieces.{length-slice_range}
 use Rattle.btr_scrub.specs.Glue.{In, IsNearly, right_bytes}
 use Rattle.btr_scrub.specs.Right.{Committed, HasFewWrong, committed_for}
 use Rattle.btr_row.specs.Rows as rows
-use Rattle.btr_row.specs.Rows.{Row, blocks_at, element, element_with, parities, range_in_element, slice_with, slices_with, with_block}
+use Rattle.btr_row.specs.Rows.{Row, blocks_at, element, element_with, slice_with, slices_with, with_block}
 use Rattle.btr_scrub.specs.Survival.{AreBehind, ElementsAreSlices, IsSoundRow, KeepsRight, RowSurvives}
 use Rattle.btr_row.proofs.Elements.{range_stands, stands_on}
 use Rattle.btr_row.proofs.Pasted.{length-pasted, pasted-below, pasted-within}

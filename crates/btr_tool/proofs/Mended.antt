@@ -5,23 +5,20 @@ use Rattle.btr_chunk.specs.declared.stripe.Stripe.{Stripe}
 use Rattle.btr_rack.specs.Rack.{OnlyReads, Seen}
 use Rattle.btr_read.specs.Fate.{Agreed, Fault}
 use Rattle.btr_read.specs.Fate as fault
-use Rattle.btr_read.specs.Layout.{Layout}
 use Rattle.btr_scrub.specs.Filesystem as scrubbed
 use Rattle.btr_scrub.specs.Repair.{effect, effect_of_ending, effect_unless, first_missing, meeting}
 use Rattle.btr_scrub.specs.Scrubbed.{AnswersAs, HasEffect, IsScrubbed, called}
 use Rattle.btr_scrub.specs.declared.tally.Tally.{Tally}
-use Rattle.btr_volume.specs.Opening.{Opened, Opens}
 use Rattle.btr_volume.specs.Start.{Images}
 use Rattle.btr_volume.specs.declared.stop.Stop.{Stop}
 use Rattle.btr_volume.specs.declared.stop.Stop.TheVariants as stop
 use Rattle.btr_volume.specs.declared.volume.Volume.{Volume}
 use Rattle.btr_walk.specs.declared.fault.TreeFault.TheVariants as tree
-use Rattle.btr_tool.specs.Agreeing.{AreAgreed, IsOrUnread, ScrubsAgreed}
+use Rattle.btr_tool.specs.Agreeing.{AreAgreed, ScrubsAgreed}
 use Rattle.btr_tool.specs.Faults.{stop_answer}
 use Rattle.btr_tool.specs.Filesystem.{OpensAs, filesystem_in, filesystem_of}
 use Rattle.btr_tool.specs.Outcomes.{Outcome, refused, showing}
 use Rattle.btr_tool.specs.Scrubbed.{filesystem_as, scrub_ended, scrub_in, scrub_outcome, scrub_unless, tally_shown}
-use Rattle.btr_tool.specs.declared.answer.Answer.{Answer}
 use Rattle.btr_tool.proofs.Agreements.{agreeing_opened}
 use Rattle.btr_tool.proofs.Mendings.{answered, outcome_by}
 

@@ -8,7 +8,7 @@ use Rattle.btr_mend.specs.Writes.{AccountsMend, FailsAt, IsStopped, IsTorn, Leav
 use Rattle.btr_mend.specs.declared.mended.MendFault.{MendFault}
 use Rattle.btr_mend.specs.declared.mended.MendFault.TheVariants as mend
 use Rattle.btr_prog.specs.Answers.{Follows, no_part}
-use Rattle.btr_prog.specs.Prog.{exec, steps_of, wants_of}
+use Rattle.btr_prog.specs.Prog.{exec, wants_of}
 use Rattle.btr_rack.specs.Out.{CallAccount, Counts, Puts}
 use Rattle.btr_rack.specs.declared.error.SinkError.{SinkError}
 use Rattle.btr_rack.specs.declared.error.SinkError.TheVariants.{Failed, Memory as memory_fault}
@@ -46,10 +46,10 @@ use Rattle.btr_tool.specs.Commands.{IsBehindCommand, IsUnmended, KeepsRack}
 use Rattle.btr_tool.specs.Faults.{stop_answer, tree_answer}
 use Rattle.btr_tool.specs.Filesystem.{IsRefusal, MayMend, OpensAs, OpensFilesystem, fault_answer, filesystem_in, filesystem_of}
 use Rattle.btr_tool.specs.Outcomes.{IsNoFault, OrBare, OrMemory, Outcome, Shows, due_after, refused, showing}
-use Rattle.btr_tool.specs.Repaired.{IsBare, LeavesImages, MayWrite, Scrubs, ScrubsTo, tally_answer}
+use Rattle.btr_tool.specs.Repaired.{IsBare, LeavesImages, MayWrite, Scrubs, ScrubsTo}
 use Rattle.btr_tool.specs.Scrubbed.{IsScrubOutcome, counts, filesystem_as, mending_writes, scrub_ended, scrub_in, scrub_outcome, scrub_unless, scrubbed_images, scrubbed_in, tally_shown, tally_text, writes_in}
 use Rattle.btr_tool.specs.declared.answer.Answer.{Answer}
-use Rattle.btr_tool.specs.declared.answer.Answer.TheVariants.{Done, Found, ImageFault, Memory, MissingDevice, Limit, Usage}
+use Rattle.btr_tool.specs.declared.answer.Answer.TheVariants.{Done, Found, ImageFault, Memory, MissingDevice, Limit}
 use Rattle.btr_tool.specs.declared.plan.Command.TheVariants.{Scrub}
 use Rattle.btr_tool.proofs.Agreements.{agreeing}
 use Rattle.btr_tool.proofs.Carrying.{as_they_were}

@@ -1,5 +1,4 @@
-use Rattle.std.proofs.Common.{◌≡◌, ◌<◌, All, IfSome, None, Some, arith, refl, sym, subst, ◌∙◌}
-use Rattle.btr_mend.specs.Writes.{Images}
+use Rattle.std.proofs.Common.{◌<◌, All, arith, sym, ◌∙◌}
 use Rattle.btr_read.proofs.Serving.{serving}
 use Rattle.btr_scrub.specs.Repair.{first_missing}
 use Rattle.btr_scrub.specs.Scrubbed.{called}

@@ -1,4 +1,4 @@
-use Rattle.std.proofs.Common.{◌≡◌, ◌∙◌, ℕ, ◌<◌, ◌-◌, Bool, true, false, List, String, length, map, take, drop, Err, refl, subst, arith}
+use Rattle.std.proofs.Common.{◌≡◌, ◌∙◌, ℕ, ◌<◌, ◌-◌, Bool, false, List, String, length, map, take, drop, Err, refl, subst, arith}
 use Rattle.std.specs.List.{All}
 use Rattle.std.specs.String.{string_bytes}
 use Rattle.std.specs.declared.alloc.Global.{Global}
@@ -6,7 +6,6 @@ use Rattle.std.proofs.lemmas.List.{length-map}
 use Rattle.btr_restore.specs.Running.{outside}
 use Rattle.btr_tool.specs.Answers.{answer_of}
 use Rattle.btr_tool.specs.Causes.{opened_with}
-use Rattle.btr_mend.specs.Writes.{AreWritable}
 use Rattle.btr_rack.specs.Rack.{Seen, Slot, Steady}
 use Rattle.btr_tool.specs.Commands.{opens_to_write}
 use Rattle.btr_tool.specs.Images.{AreOpenedAs}

@@ -1,9 +1,7 @@
-use Rattle.std.proofs.Common.{◌≡◌, Ok, Err, refl, sym, ap, ◌∙◌, subst}
+use Rattle.std.proofs.Common.{Ok, Err, sym, ap, ◌∙◌, subst}
 use Rattle.std.proofs.lemmas.Result.{err_from_is_err_and}
 use Rattle.std.specs.Option.{IfSome}
 use Rattle.btr_tool.specs.Agreeing.{AreAgreed, ScrubsAgreed}
-use Rattle.btr_tool.specs.Behind.{IsNoCrossing}
-use Rattle.btr_tool.specs.Faults.{stop_answer}
 use Rattle.btr_tool.specs.Repaired.{Scrubs}
 use Rattle.btr_tool.specs.Scrubbed.{scrub_in, scrub_outcome}
 use Rattle.btr_tool.proofs.Agreements.{unopened_to}
