@@ -1,7 +1,7 @@
 // The worked rows of the commands that show trees, over small volumes.
 use super::{answers, called, words};
 use crate::answer::Answer;
-use btr_make::{RowVolume, row};
+use btr_make::{RowVolume, make, row, seal};
 use btr_rack::{MemOut, MemRack, MemTree, Rack};
 use std::alloc::Global;
 use std::process::Abort;
@@ -229,6 +229,35 @@ fn calls_that_fail(rt: HostRuntime) -> Result<(), Fail> {
         )?;
     }
     Ok(())
+}
+
+// What stands before a line, which stands in the text.
+fn text_before<'a>(rt: &impl Abort, text: &'a [u8], line: &[u8]) -> &'a [u8] {
+    for at in 0..text.len() {
+        if text[at..].starts_with(line) {
+            return &text[..at];
+        }
+    }
+    assert!(rt; false, "no such line");
+    text
+}
+
+// A volume whose tree of files has two leaves, the second at 20987904 on the first two images, whose first key is another than its pointer's. The text goes up to that leaf.
+#[test]
+fn a_leaf_with_another_first_key(rt: HostRuntime) -> Result<(), Fail> {
+    let alloc = rt.alloc();
+    let all = [INSPECT, DUMP, "-t", "5", "a", "b", "c"];
+    let rack = &mut make(alloc, 10)?;
+    let whole = text_of(&rt, alloc, rack, &all)?;
+    let rack = &mut make(alloc, 10)?;
+    for name in ["a", "b"] {
+        rack.poke(name, 20988014, &[5])?;
+        seal(rack, name, 20987904, 16384)?;
+    }
+    let begins = text_before(&rt, whole.text(), b"leaf 20987904 ");
+    let mut expected = Vec::from_slice(alloc, begins)?;
+    expected.extend_from_slice(b"error: malformed block 20987904\n")?;
+    answers(&rt, alloc, rack, &all, expected.as_slice(), 3)
 }
 
 // The output refuses one of its calls: a first part of the text stands there, and no line of an error.
