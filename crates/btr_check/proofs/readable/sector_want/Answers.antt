@@ -21,7 +21,7 @@ use Rattle.btr_check.proofs.readable.sector_want.Goals as goal
 pub returns-in-Some : goal.returns-in-Some
 returns-in-Some g c =
     let sums : Option TreeRoot = tree_behind c.args.sums in
-    let kept = c.get.ensures c.in-Some.sum c.in-Some.is in
+    let kept = c.get.ensures.found c.in-Some.sum c.in-Some.is in
     record {
       ran = ran_none (λ fs. KeepsSums fs sums c.args.ahead.now c.args.ahead.now (ReadsBy fs sums c.args.sector (Some (want_by c.args.sector (Some c.in-Some.sum))))) (world (g.R.Rack.seen c.args.rack.now) c.args.vol.now) (Some (want_by c.args.sector (Some c.in-Some.sum))) c.requires.ready
           (λ B summed. (summed, kept_by (filesystem c.args.vol.now B) sums c.args.sector c.args.ahead.now c.in-Some.sum (kept.0 ∙ c.kind_of.ensures) kept.1 summed));
