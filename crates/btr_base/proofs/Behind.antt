@@ -1,11 +1,11 @@
 -- A piece whose first words are dropped, as lists.
-use Rattle.std.proofs.Common.{◌≡◌, ℕ, zero, suc, ◌+◌, ◌*◌, ◌-◌, ◌/◌, ◌^◌, ◌<◌, ◌≤◌, ◌≢◌, inl, inr, Bool, true, false, cond, ltb, List, length, get_or, take, drop, replicate, refl, sym, ap, ◌∙◌, arith, length-drop}
+use Rattle.std.proofs.Common.{◌≡◌, ℕ, zero, suc, ◌+◌, ◌*◌, ◌-◌, ◌/◌, ◌^◌, ◌<◌, ◌≤◌, ◌≢◌, inl, inr, Bool, true, false, cond, ltb, List, length, get_or, take, drop, replicate, refl, sym, ap, subst, ◌∙◌, arith, length-drop}
 use Rattle.std.specs.Int.Bits.{bit_xor, xor_assoc, xor_zero_l, xor_zero_r}
 use Rattle.std.proofs.Math.ListN.{set}
 use Rattle.std.proofs.lemmas.Nat.{xor_comm}
 use Rattle.std.proofs.lemmas.Bool.{cases_lt, cases_eq}
 use Rattle.std.proofs.lemmas.Bool.Decides.{nat_tests}
-use Rattle.std.proofs.lemmas.List.{drop-drop, get_or-take, get_or-drop, get_or_past, get_or-set_same, get_or-set_other, length-set, length-take, ext_get_or}
+use Rattle.std.proofs.lemmas.List.{drop-drop, get_or-take, get_or-drop, get_or_past, get_or-set_same, get_or-set_other, length-set, length-take, take-set-le, ext_get_or}
 use Rattle.byteorder.specs.Endian.{little_number}
 use Rattle.btr_base.specs.Field.{number_at}
 use Rattle.btr_base.specs.Crc.{register, shifted_by}
@@ -79,6 +79,32 @@ set_fits xs i x lt fits k = elim (cases_eq k i) [
   ]
   | inr other ↦ omega (arith, get_or-set_other xs i k x 0 other, fits k)
 ]
+
+-- the first n words of a piece are as they are when they are dropped, behind the words that were dropped before
+abbrev pub AreSent : List ℕ → List ℕ → List ℕ → ℕ → Type 0
+AreSent before xs bytes n = (length xs ≡ 591) × (take 79 xs ≡ take 79 before) × ((j : ℕ) → j < n → at xs (j + 79) ≡ received xs bytes j)
+
+-- and so is the next one
+pub one_more : (before xs bytes : List ℕ) (n x : ℕ) → n < 512 → x ≡ received xs bytes n → AreSent before xs bytes n → AreSent before (set xs (79 + n) x) bytes (n + 1)
+one_more before xs bytes n x room e so_far =
+    let sized = so_far.0 in (
+      length-set xs (79 + n) x ∙ sized,
+      take-set-le 79 xs (79 + n) x (omega arith) ∙ so_far.1,
+      send_more xs bytes n x (omega (arith, sized)) e so_far.2,
+    )
+
+-- and so are the next two, as neither sends to the other
+pub two_more : (before xs bytes : List ℕ) (n : ℕ) → n + 1 < 512 → AreSent before xs bytes n
+    → AreSent before (set (set xs (79 + n) (received xs bytes n)) (79 + n + 1) (received xs bytes (n + 1))) bytes (n + 2)
+two_more before xs bytes n room so_far =
+    let x = received xs bytes n in
+    let apart : received xs bytes (n + 1) ≡ received (set xs (79 + n) x) bytes (n + 1) = ap (bit_xor (number_at 8 (8 * (n + 1)) bytes)) (sym (sent-set xs (79 + n) x (n + 1) (omega arith))) in
+    let place : 79 + (n + 1) ≡ 79 + n + 1 = omega arith in
+    let count : n + 1 + 1 ≡ n + 2 = omega arith in
+    let y = received xs bytes (n + 1) in
+    let after : ℕ → List ℕ = λ k. set (set xs (79 + n) x) k y in
+    let both = one_more before (set xs (79 + n) x) bytes (n + 1) y room apart (one_more before xs bytes n x (omega arith) refl so_far) in
+    subst (λ (k : ℕ). AreSent before (after (79 + n + 1)) bytes k) count (subst (λ (k : ℕ). AreSent before (after k) bytes (n + 1 + 1)) place both)
 
 -- the first numbers of a list, which stand n places on in another one
 pub moved_front : (xs ys : List ℕ) (n : ℕ) → length xs ≡ 591 → length ys ≡ 591 → n ≤ 512 → ((i : ℕ) → i < 79 → at xs i ≡ at ys (n + i)) → take 79 xs ≡ take 79 (drop n ys)

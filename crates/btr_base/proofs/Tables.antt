@@ -1,8 +1,8 @@
 -- Tables of registers after zeros.
 use Rattle.std.proofs.Common.{◌≡◌, ℕ, zero, suc, ◌+◌, ◌*◌, ◌/◌, ◌%◌, ◌^◌, ◌<◌, Bool, true, false, cond, eqb, List, [], ◌∷◌, length, get_or, refl, sym, ap, ◌∙◌, arith}
-use Rattle.std.specs.Int.Bits.{bit_xor, xor_assoc, xor_zero_r}
+use Rattle.std.specs.Int.Bits.{bit_xor, xor_zero_r}
 use Rattle.std.proofs.lemmas.Bool.Decides.{Decides-eqb}
-use Rattle.std.proofs.lemmas.Nat.{pow-add}
+use Rattle.std.proofs.lemmas.Nat.{pow-add, xor_comm}
 use Rattle.std.proofs.Math.Nat.{div-div-eq-div-mul}
 use Rattle.std.specs.Bool.{Decides}
 use Rattle.btr_base.specs.Crc.{shifted_by}
@@ -55,9 +55,17 @@ split_byte n x =
     ap (λ k. shifted_by k x) sum ∙ shifted_by-add 8 (8 * n) x ∙ ap (shifted_by (8 * n)) (shifted_byte_low x) ∙ shifted_by-xor (8 * n) low (x / 256)
     ∙ ap (λ y. bit_xor y (shifted_by (8 * n) (x / 256))) (sym (shifted_by-add 8 (8 * n) (x % 256)) ∙ ap (λ k. shifted_by k (x % 256)) (sym sum))
 
-regrouped : (a b c d e f g h : ℕ) → bit_xor (bit_xor (bit_xor (bit_xor (bit_xor (bit_xor (bit_xor a b) c) d) e) f) g) h
+-- the sum of the bytes from the last one on
+turned : (a b c d e f g h : ℕ) → bit_xor (bit_xor (bit_xor (bit_xor (bit_xor (bit_xor (bit_xor h g) f) e) d) c) b) a
     ≡ bit_xor a (bit_xor b (bit_xor c (bit_xor d (bit_xor e (bit_xor f (bit_xor g h))))))
-regrouped a b c d e f g h = simp xor_assoc
+turned a b c d e f g h =
+    xor_comm (bit_xor (bit_xor (bit_xor (bit_xor (bit_xor (bit_xor h g) f) e) d) c) b) a
+    ∙ ap (bit_xor a) (xor_comm (bit_xor (bit_xor (bit_xor (bit_xor (bit_xor h g) f) e) d) c) b
+    ∙ ap (bit_xor b) (xor_comm (bit_xor (bit_xor (bit_xor (bit_xor h g) f) e) d) c
+    ∙ ap (bit_xor c) (xor_comm (bit_xor (bit_xor (bit_xor h g) f) e) d
+    ∙ ap (bit_xor d) (xor_comm (bit_xor (bit_xor h g) f) e
+    ∙ ap (bit_xor e) (xor_comm (bit_xor h g) f
+    ∙ ap (bit_xor f) (xor_comm h g))))))
 
 -- the byte k places up, and what is behind it
 next_byte : (n k x : ℕ) → shifted_by (8 * suc n) (x / 2 ^ k) ≡ bit_xor (shifted_by (8 * suc n) (x / 2 ^ k % 256)) (shifted_by (8 * n) (x / 2 ^ (k + 8)))
@@ -68,13 +76,13 @@ next_byte n k x = split_byte n (x / 2 ^ k) ∙ ap (λ y. bit_xor (shifted_by (8 
 
 -- a word goes through byte by byte
 pub word_by_bytes : (x : ℕ) → x < 2 ^ 64 → bit_xor (bit_xor (bit_xor (bit_xor (bit_xor (bit_xor (bit_xor
-    (shifted_by 64 (x % 256)) (shifted_by 56 (x / 2 ^ 8 % 256))) (shifted_by 48 (x / 2 ^ 16 % 256))) (shifted_by 40 (x / 2 ^ 24 % 256)))
-    (shifted_by 32 (x / 2 ^ 32 % 256))) (shifted_by 24 (x / 2 ^ 40 % 256))) (shifted_by 16 (x / 2 ^ 48 % 256))) (shifted_by 8 (x / 2 ^ 56 % 256))
+    (shifted_by 8 (x / 2 ^ 56 % 256)) (shifted_by 16 (x / 2 ^ 48 % 256))) (shifted_by 24 (x / 2 ^ 40 % 256))) (shifted_by 32 (x / 2 ^ 32 % 256)))
+    (shifted_by 40 (x / 2 ^ 24 % 256))) (shifted_by 48 (x / 2 ^ 16 % 256))) (shifted_by 56 (x / 2 ^ 8 % 256))) (shifted_by 64 (x % 256))
     ≡ shifted_by 64 x
 word_by_bytes x lt =
     let none : x / 2 ^ 64 ≡ 0 = omega arith in
     let at : ℕ → ℕ → ℕ = λ n k. shifted_by (8 * n) (x / 2 ^ k % 256) in
-    regrouped (shifted_by 64 (x % 256)) (at 7 8) (at 6 16) (at 5 24) (at 4 32) (at 3 40) (at 2 48) (at 1 56)
+    turned (shifted_by 64 (x % 256)) (at 7 8) (at 6 16) (at 5 24) (at 4 32) (at 3 40) (at 2 48) (at 1 56)
     ∙ sym (split_byte 7 x ∙ ap (bit_xor (shifted_by 64 (x % 256))) (next_byte 6 8 x ∙ ap (bit_xor (at 7 8)) (next_byte 5 16 x ∙ ap (bit_xor (at 6 16)) (next_byte 4 24 x
     ∙ ap (bit_xor (at 5 24)) (next_byte 3 32 x ∙ ap (bit_xor (at 4 32)) (next_byte 2 40 x ∙ ap (bit_xor (at 3 40)) (next_byte 1 48 x
     ∙ ap (bit_xor (at 2 48)) (next_byte 0 56 x ∙ ap (λ y. bit_xor (at 1 56) (shifted_by 0 y)) none ∙ ap (bit_xor (at 1 56)) (shifted_by-zero 0) ∙ xor_zero_r (at 1 56)))))))))

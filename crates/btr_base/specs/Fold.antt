@@ -2,7 +2,7 @@
 --
 -- x^79 + x^75 + x^71 + x^58 + x^18 + x^12 + x + 1 is a multiple of the generator, and so is the same polynomial in x^64. So a
 -- word may be dropped where it is added to the words that stand 4, 8, 21, 61, 67, 78 and 79 places behind it.
-use Rattle.std.specs.Prelude.{ℕ, zero, suc, ◌+◌, ◌*◌, ◌/◌, List, length, drop, slice_index, bit_xor}
+use Rattle.std.specs.Prelude.{ℕ, zero, suc, ◌+◌, ◌*◌, ◌/◌, List, length, drop, slice_index, slice_set, bit_xor}
 use Rattle.btr_base.specs.Field.{number_at}
 use Rattle.btr_base.specs.Crc.{register, shifted_by}
 
@@ -21,6 +21,14 @@ sent dropped j =
 -- the words of a piece, with what was sent to them
 abbrev pub received : List ℕ → List ℕ → ℕ → ℕ
 received dropped bytes j = bit_xor (number_at 8 (8 * j) bytes) (sent dropped j)
+
+-- the words that were dropped, with the word n of a piece, where those before it were dropped
+abbrev pub with_word : List ℕ → List ℕ → ℕ → List ℕ
+with_word dropped bytes n = slice_set dropped (79 + n) (received dropped bytes n)
+
+-- the same with the next one: neither sends to the other
+abbrev pub with_pair : List ℕ → List ℕ → ℕ → List ℕ
+with_pair dropped bytes n = slice_set (with_word dropped bytes n) (79 + n + 1) (received dropped bytes (n + 1))
 
 -- the register after a piece, where these words were dropped before it
 unfoldable pub register_behind : List ℕ → List ℕ → ℕ

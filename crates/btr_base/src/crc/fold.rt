@@ -4,12 +4,13 @@
 // same polynomial in x^64. So a word of 8 bytes may be dropped, where it is added to seven later words.
 // All words but the last 79 go that way, with no look-up in a table.
 ghost use Rattle.std.specs.Prelude.{◌≡◌, ℕ, ◌+◌, ◌*◌, ◌^◌, ◌≤◌, ◌<◌};
-ghost use Rattle.std.specs.Prelude.{length, take, drop, replicate, slice_index};
+ghost use Rattle.std.specs.Prelude.{length, take, drop, replicate, slice_index, [], ◌∷◌};
 ghost use Rattle.btr_base.specs.Crc.{register};
-ghost use Rattle.btr_base.specs.Fold.{sent, received, register_behind};
+ghost use Rattle.btr_base.specs.Fold.{sent, received, with_word, with_pair, register_behind};
 
 use super::words::{register_by_bytes, take_word};
 use crate::field::u64_at;
+use std::simd::prelude::*;
 
 // How many places on a word is sent at most.
 const AHEAD: usize = 79;
@@ -38,6 +39,29 @@ fn sent_to(dropped: &[u64; ROOM], j: usize) -> u64
         ^ dropped[j + 75]
 }
 
+// Two words one behind another.
+fn pair_at(dropped: &[u64; ROOM], j: usize) -> u64x2
+    requires { j + 2 ≤ ROOM }
+    ensures { result ≡ slice_index dropped.now j ∷ slice_index dropped.now (j + 1) ∷ [] }
+{
+    u64x2::from_array([dropped[j], dropped[j + 1]])
+}
+
+// What the dropped words have sent to the place `j` and the next one.
+#[tactic(auto, unfolding(crate::specs::Fold::sent))]
+fn pair_sent_to(dropped: &[u64; ROOM], j: usize) -> u64x2
+    requires { j + 2 ≤ WINDOW }
+    ensures { result ≡ sent dropped.now j ∷ sent dropped.now (j + 1) ∷ [] }
+{
+    pair_at(dropped, j)
+        ^ pair_at(dropped, j + 1)
+        ^ pair_at(dropped, j + 12)
+        ^ pair_at(dropped, j + 18)
+        ^ pair_at(dropped, j + 58)
+        ^ pair_at(dropped, j + 71)
+        ^ pair_at(dropped, j + 75)
+}
+
 fn no_words() -> [u64; ROOM]
     ensures { result ≡ replicate ROOM 0 }
 {
@@ -54,6 +78,29 @@ fn begin(start: u32) -> [u64; ROOM]
     dropped
 }
 
+// Computes the word `j` of the piece and the next one as they are when they are dropped. Neither sends to the other.
+fn send_pair(dropped: &mut [u64; ROOM], bytes: &[u8], j: usize)
+    requires room { j + 2 ≤ WINDOW }
+    requires words { 8 * (j + 2) ≤ length bytes.now }
+    ensures words { dropped.new ≡ with_pair dropped.old bytes.now j }
+    ensures fits { (i : ℕ) → slice_index dropped.new i < 2 ^ 64 }
+{
+    let pair = u64x2::from_array([u64_at(bytes, 8 * j), u64_at(bytes, 8 * j + 8)]);
+    let [first, second] = (pair ^ pair_sent_to(dropped, j)).to_array();
+    dropped[AHEAD + j] = first;
+    dropped[AHEAD + j + 1] = second;
+}
+
+// Computes the word `j` of the piece as it is when it is dropped.
+fn send_word(dropped: &mut [u64; ROOM], bytes: &[u8], j: usize)
+    requires room { j < WINDOW }
+    requires words { 8 * (j + 1) ≤ length bytes.now }
+    ensures word { dropped.new ≡ with_word dropped.old bytes.now j }
+    ensures fits { (i : ℕ) → slice_index dropped.new i < 2 ^ 64 }
+{
+    dropped[AHEAD + j] = u64_at(bytes, 8 * j) ^ sent_to(dropped, j);
+}
+
 // Computes the first `count` words of the piece as they are when they are dropped, behind the 79 that
 // were dropped before them.
 fn send(dropped: &mut [u64; ROOM], bytes: &[u8], count: usize)
@@ -64,8 +111,11 @@ fn send(dropped: &mut [u64; ROOM], bytes: &[u8], count: usize)
         → slice_index dropped.new (j + AHEAD) ≡ received dropped.new bytes.now j }
     ensures fits { (i : ℕ) → slice_index dropped.new i < 2 ^ 64 }
 {
-    for j in 0..count {
-        dropped[AHEAD + j] = u64_at(bytes, 8 * j) ^ sent_to(dropped, j);
+    for k in 0..count / 2 {
+        send_pair(dropped, bytes, 2 * k);
+    }
+    if count % 2 == 1 {
+        send_word(dropped, bytes, count - 1);
     }
 }
 

@@ -21,19 +21,19 @@ fn take_byte(reg: u32, byte: u8) -> u32
     after_zeros(0, u64::from(sum)) ^ (sum >> 8)
 }
 
-// The register after one more word.
+// The register after one more word. What depends on the register comes last.
 pub(super) fn take_word(reg: u32, word: u64) -> u32
     ensures { result ≡ shifted_by 64 (bit_xor reg word) }
 {
     let sum = u64::from(reg) ^ word;
-    after_zeros(7, sum)
-        ^ after_zeros(6, sum >> 8)
-        ^ after_zeros(5, sum >> 16)
-        ^ after_zeros(4, sum >> 24)
-        ^ after_zeros(3, sum >> 32)
-        ^ after_zeros(2, sum >> 40)
+    after_zeros(0, sum >> 56)
         ^ after_zeros(1, sum >> 48)
-        ^ after_zeros(0, sum >> 56)
+        ^ after_zeros(2, sum >> 40)
+        ^ after_zeros(3, sum >> 32)
+        ^ after_zeros(4, sum >> 24)
+        ^ after_zeros(5, sum >> 16)
+        ^ after_zeros(6, sum >> 8)
+        ^ after_zeros(7, sum)
 }
 
 // The register after the bytes, one by one.
