@@ -1,5 +1,5 @@
 -- The ranges of devices that stripes take up.
-use Rattle.std.specs.Prelude.{◌≡◌, ℕ, ◌+◌, ◌<◌, ◌≤◌, Bool, true, false, List, Option, Some, None, ◌==◌, ◌&&◌, nat_lt, slice_get}
+use Rattle.std.specs.Prelude.{◌≡◌, ℕ, ◌+◌, ◌<◌, ◌≤◌, Bool, MatchBool, true, false, List, Option, Some, None, ◌==◌, ◌&&◌, nat_lt, slice_get}
 use Rattle.std.specs.Ordering.{nat_cmp, ordering_then}
 use Rattle.std.specs.List.{list_any}
 use Rattle.std.specs.BTreeMap.{BTreeMap, get}
@@ -33,6 +33,10 @@ pub record SomeMeets (f : StripePlace → Option ℕ) (len : ℕ) (stripe : Stri
 -- a stripe shares no byte with any range
 abbrev pub NoneMeets : (StripePlace → Option ℕ) → ℕ → Stripe → Type 0
 NoneMeets f len stripe = (place : StripePlace) (taken : ℕ) → f place ≡ Some taken → meets_range len stripe place taken ≡ false
+
+-- whether it shares one
+abbrev pub AnswersMeeting : (StripePlace → Option ℕ) → ℕ → Stripe → Bool → Type 0
+AnswersMeeting f len stripe answer = MatchBool answer (SomeMeets f len stripe) (NoneMeets f len stripe)
 
 -- the ranges of a device have no byte in common
 abbrev pub IsSpaced : (StripePlace → Option ℕ) → Type 0

@@ -1,5 +1,6 @@
 -- How a table is kept: its chunks by their starts, and the ranges of devices that their stripes take up.
-use Rattle.std.specs.Prelude.{◌≡◌, ◌≢◌, ℕ, ◌<◌, ◌≤◌, true, false, Option, Some, None, slice_get}
+use Rattle.std.specs.Prelude.{◌≡◌, ◌≢◌, ℕ, ◌<◌, ◌≤◌, true, false, Bool, MatchBool, MatchOption, Option, Some, None, slice_get}
+use Rattle.std.specs.Borrow.{Bor}
 use Rattle.std.specs.Ordering.{nat_cmp}
 use Rattle.std.specs.BTreeMap.{BTreeMap, IsOrdered, get, btree_map_len}
 use Rattle.btr_chunk.specs.declared.stripe.Stripe.{Stripe}
@@ -33,7 +34,8 @@ pub record AreChunks (f : ℕ → Option Chunk) : Type 0 where
 
 -- ranges of devices: those of the chunks' stripes, and no others
 pub record AreStripes (f : ℕ → Option Chunk) (g : StripePlace → Option ℕ) : Type 0 where
-  pub listed : (k : ℕ) (c : Chunk) (i : ℕ) (s : Stripe) → f k ≡ Some c → slice_get c.stripes i ≡ Some s → g (record { devid = s.devid; offset = s.offset }) ≡ Some (stripe_length c)
+  pub listed : (k : ℕ) (c : Chunk) (i : ℕ) (s : Stripe) → f k ≡ Some c → slice_get c.stripes i ≡ Some s
+      → g (record { devid = s.devid; offset = s.offset }) ≡ Some (stripe_length c)
   pub owned : (place : StripePlace) (taken : ℕ) → g place ≡ Some taken → IsStripe f place taken
 
 -- what the two maps of a table keep
@@ -50,12 +52,20 @@ pub record IsLast (f : ℕ → Option Chunk) (addr : ℕ) (chunk : Chunk) : Type
   pub before : start ≤ addr
   pub last : (k : ℕ) → start < k → k ≤ addr → f k ≡ None
 
+-- the answer is that chunk, if there is one
+abbrev pub AnswersLast : (ℕ → Option Chunk) → ℕ → Option (Bor Chunk) → Type 0
+AnswersLast f addr answer = MatchOption answer ((k : ℕ) → k ≤ addr → f k ≡ None) (λ chunk. IsLast f addr chunk.now)
+
 -- the first chunk that starts at or behind an address
 pub record IsFirst (f : ℕ → Option Chunk) (addr : ℕ) (chunk : Chunk) : Type 0 where
   pub start : ℕ
   pub there : f start ≡ Some chunk
   pub behind : addr ≤ start
   pub first : (k : ℕ) → addr ≤ k → k < start → f k ≡ None
+
+-- the answer is that chunk, if there is one
+abbrev pub AnswersFirst : (ℕ → Option Chunk) → ℕ → Option (Bor Chunk) → Type 0
+AnswersFirst f addr answer = MatchOption answer ((k : ℕ) → addr ≤ k → f k ≡ None) (λ chunk. IsFirst f addr chunk.now)
 
 -- a chunk shares a logical address with one of the chunks
 pub record SharesAddress (f : ℕ → Option Chunk) (chunk : Chunk) : Type 0 where
@@ -68,6 +78,10 @@ pub record SharesAddress (f : ℕ → Option Chunk) (chunk : Chunk) : Type 0 whe
 abbrev pub SharesNone : (ℕ → Option Chunk) → Chunk → Type 0
 SharesNone f chunk = (k : ℕ) (c : Chunk) → f k ≡ Some c → ranges_meet chunk.start chunk.length c.start c.length ≡ false
 
+-- whether it shares one
+abbrev pub AnswersAddress : (ℕ → Option Chunk) → Chunk → Bool → Type 0
+AnswersAddress f chunk answer = MatchBool answer (SharesAddress f chunk) (SharesNone f chunk)
+
 -- a stripe of a chunk shares a byte with one of the ranges of devices
 pub record SharesRange (g : StripePlace → Option ℕ) (chunk : Chunk) : Type 0 where
   pub number : ℕ
@@ -78,3 +92,7 @@ pub record SharesRange (g : StripePlace → Option ℕ) (chunk : Chunk) : Type 0
 -- none does
 abbrev pub SharesNoRange : (StripePlace → Option ℕ) → Chunk → Type 0
 SharesNoRange g chunk = (i : ℕ) (s : Stripe) → slice_get chunk.stripes i ≡ Some s → NoneMeets g (stripe_length chunk) s
+
+-- whether one does
+abbrev pub AnswersRange : (StripePlace → Option ℕ) → Chunk → Bool → Type 0
+AnswersRange g chunk answer = MatchBool answer (SharesRange g chunk) (SharesNoRange g chunk)

@@ -32,8 +32,8 @@ pub struct Chunk {
 }
 
 impl Chunk {
-    ghost use Rattle.std.specs.Prelude.{◌≡◌, ◌*◌, ◌+◌, ◌≤◌, length, IfOk, true};
-    ghost use Rattle.btr_chunk.specs.Chunk.{IsChunk, has_count, keeps_rule, stripe_length, mirrors};
+    ghost use Rattle.std.specs.Prelude.{◌≡◌, ◌*◌, ◌+◌, ◌≤◌, length, IfOk};
+    ghost use Rattle.btr_chunk.specs.Chunk.{IsChunk, keeps_rule, stripe_length, mirrors};
     ghost use Rattle.btr_chunk.specs.Item.{IsReading, chunk_of};
     ghost use Rattle.btr_chunk.specs.Table.{same_chunk};
 

@@ -1,6 +1,6 @@
 // The ranges of devices that the stripes of a table take up: the length of each by the place of its first byte.
-ghost use Rattle.std.specs.Prelude.{◌≡◌, ℕ, ◌+◌, ◌^◌, ◌<◌, MatchBool, Some, None, OnOk, OnErr, false, slice_get, if◌then◌else◌};
-ghost use Rattle.btr_chunk.specs.Extents.{extent_of, SomeMeets, NoneMeets, IsSpaced, AreFree, has_stripe_at};
+ghost use Rattle.std.specs.Prelude.{◌≡◌, ◌+◌, ◌^◌, ◌<◌, Some, None, OnOk, OnErr, false, if◌then◌else◌};
+ghost use Rattle.btr_chunk.specs.Extents.{extent_of, AnswersMeeting, IsSpaced, AreFree, has_stripe_at};
 ghost use Rattle.btr_chunk.specs.declared.place.StripePlace.{StripePlace};
 ghost use Rattle.btr_chunk.specs.Table.{some_meet};
 
@@ -14,7 +14,7 @@ pub(crate) fn meets(extents: &BTreeMap<StripePlace, u64>, stripe: &Stripe, lengt
     requires spaced { IsSpaced (extent_of extents.now) }
     requires some { 0 < length }
     requires fits { stripe.now.offset + length < 2 ^ 64 }
-    ensures { MatchBool result (SomeMeets (extent_of extents.now) length stripe.now) (NoneMeets (extent_of extents.now) length stripe.now) }
+    ensures { AnswersMeeting (extent_of extents.now) length stripe.now result }
 {
     let end = StripePlace {
         devid: stripe.devid,

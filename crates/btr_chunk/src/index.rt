@@ -1,12 +1,12 @@
 // The two maps of a table: its chunks by their starts, and the ranges of devices that their stripes take up.
-ghost use Rattle.std.specs.Prelude.{◌≡◌, ℕ, ◌<◌, ◌≤◌, Some, None, slice_get, MatchOption, MatchBool, OnOk, OnErr, false};
+ghost use Rattle.std.specs.Prelude.{◌≡◌, ◌<◌, Some, None, slice_get, OnOk, OnErr, false};
 ghost use Rattle.std.specs.List.{list_any};
 ghost use Rattle.std.specs.Ordering.{nat_cmp};
 ghost use Rattle.std.specs.BTreeMap.{values, btree_map_len, IsOrdered};
 ghost use Rattle.btr_chunk.specs.Chunk.{IsChunk};
 ghost use Rattle.btr_chunk.specs.Table.{overlaps, placed, same_chunk};
 ghost use Rattle.btr_chunk.specs.Extents.{extent_of, IsSpaced};
-ghost use Rattle.btr_chunk.specs.Index.{start_of, AreChunks, IsFirst, IsIndexed, IsLast, SharesAddress, SharesNone, SharesRange, SharesNoRange};
+ghost use Rattle.btr_chunk.specs.Index.{start_of, AreChunks, IsIndexed, AnswersLast, AnswersFirst, AnswersAddress, AnswersRange};
 
 use crate::extents::{enter, meets};
 use crate::{Chunk, StripePlace};
@@ -15,7 +15,7 @@ use std::collections::BTreeMap;
 
 // The last chunk that starts at or before an address.
 pub(crate) fn last_at(chunks: &BTreeMap<u64, Chunk>, addr: u64) -> Option<&Chunk>
-    ensures { MatchOption result ((k : ℕ) → k ≤ addr → start_of chunks.now k ≡ None) (λ chunk. IsLast (start_of chunks.now) addr chunk.now) }
+    ensures { AnswersLast (start_of chunks.now) addr result }
 {
     match chunks.range(..=addr).next_back() {
         Some((_, chunk)) => Some(chunk),
@@ -25,7 +25,7 @@ pub(crate) fn last_at(chunks: &BTreeMap<u64, Chunk>, addr: u64) -> Option<&Chunk
 
 // The first chunk that starts at or behind an address.
 pub(crate) fn first_at(chunks: &BTreeMap<u64, Chunk>, addr: u64) -> Option<&Chunk>
-    ensures { MatchOption result ((k : ℕ) → addr ≤ k → start_of chunks.now k ≡ None) (λ chunk. IsFirst (start_of chunks.now) addr chunk.now) }
+    ensures { AnswersFirst (start_of chunks.now) addr result }
 {
     match chunks.range(addr..).next() {
         Some((_, chunk)) => Some(chunk),
@@ -79,7 +79,7 @@ pub(crate) fn overlaps(
 fn shares_address(chunks: &BTreeMap<u64, Chunk>, chunk: &Chunk) -> bool
     requires chunks { AreChunks (start_of chunks.now) }
     requires chunk { IsChunk chunk.now }
-    ensures { MatchBool result (SharesAddress (start_of chunks.now) chunk.now) (SharesNone (start_of chunks.now) chunk.now) }
+    ensures { AnswersAddress (start_of chunks.now) chunk.now result }
 {
     match last_at(chunks, chunk.start + (chunk.length - 1)) {
         Some(last) => chunk.start < last.start || chunk.start - last.start < last.length,
@@ -90,7 +90,7 @@ fn shares_address(chunks: &BTreeMap<u64, Chunk>, chunk: &Chunk) -> bool
 fn shares_range(extents: &BTreeMap<StripePlace, u64>, chunk: &Chunk) -> bool
     requires spaced { IsSpaced (extent_of extents.now) }
     requires chunk { IsChunk chunk.now }
-    ensures { MatchBool result (SharesRange (extent_of extents.now) chunk.now) (SharesNoRange (extent_of extents.now) chunk.now) }
+    ensures { AnswersRange (extent_of extents.now) chunk.now result }
 {
     let length = chunk.stripe_length();
     for i in 0..chunk.stripes.len() {

@@ -34,11 +34,15 @@ sizes s = number_u64 s.total_bytes ++ number_u64 s.bytes_used ++ number_u64 s.ro
 
 -- from 90h: the sizes of blocks and of the system array
 unfoldable pub geometry : Super → List ℕ
-geometry s = number_u32 s.sectorsize ++ number_u32 s.nodesize ++ number_u32 s.leafsize ++ number_u32 s.stripesize ++ number_u32 s.sys_chunk_array_size ++ number_u64 s.chunk_root_generation
+geometry s =
+    number_u32 s.sectorsize ++ number_u32 s.nodesize ++ number_u32 s.leafsize ++ number_u32 s.stripesize
+    ++ number_u32 s.sys_chunk_array_size ++ number_u64 s.chunk_root_generation
 
 -- from ach: features, the checksum type, and the levels of the roots
 unfoldable pub features : Super → List ℕ
-features s = number_u64 s.compat ++ number_u64 s.compat_ro ++ number_u64 s.incompat ++ number_u16 s.csum_type ++ (s.root_level ∷ s.chunk_root_level ∷ s.log_root_level ∷ [])
+features s =
+    number_u64 s.compat ++ number_u64 s.compat_ro ++ number_u64 s.incompat ++ number_u16 s.csum_type
+    ++ (s.root_level ∷ s.chunk_root_level ∷ s.log_root_level ∷ [])
 
 -- from c9h: the device that this image holds
 unfoldable pub device : Super → List ℕ

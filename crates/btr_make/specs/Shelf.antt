@@ -15,7 +15,13 @@ pub record Standing : Type 0 where
   pub names : List ℕ → Bool
 
 unfoldable pub standing : MemoryRack → Standing
-standing rack = record { slots = slots_of rack; failing = rack.failing; unsynced = rack.unsynced; account = rack.account; names = λ name. is_some (named rack name) }
+standing rack = record {
+  slots = slots_of rack;
+  failing = rack.failing;
+  unsynced = rack.unsynced;
+  account = rack.account;
+  names = λ name. is_some (named rack name);
+}
 
 -- A rack of a volume that can be tried: the images `a`, `b` and `c` stand on the shelf, no slot is open, nothing is to
 -- fail, and nothing waits for a sync; the count of faults can still rise.

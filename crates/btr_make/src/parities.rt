@@ -1,5 +1,5 @@
 // The parities of chunks.
-ghost use Rattle.std.specs.Prelude.{◌≡◌, ◌<◌, ◌≤◌, length, None};
+ghost use Rattle.std.specs.Prelude.{◌≡◌, ◌<◌, length, None};
 ghost use Rattle.btr_chunk.specs.Chunk.{IsChunk, mirrors, data_count};
 ghost use Rattle.btr_chunk.specs.Mapping.{IsPosition, HasPart};
 ghost use Rattle.btr_make.specs.Shelf.{standing};

@@ -1,7 +1,6 @@
 // Images whose bytes are wrong.
-ghost use Rattle.std.specs.Prelude.{◌≡◌, ◌+◌, ◌-◌, ◌*◌, ◌<◌, ◌≤◌, ◌^◌, length, map, slice_range, IfSome};
-ghost use Rattle.btr_rack.specs.Memory.{named};
-ghost use Rattle.btr_make.specs.Spoil.{Spoils, SpoilsPage, is_zeros, turned_if_spoiled};
+ghost use Rattle.std.specs.Prelude.{◌≡◌, ◌+◌, ◌-◌, ◌*◌, ◌<◌, ◌≤◌, ◌^◌, map};
+ghost use Rattle.btr_make.specs.Spoil.{Spoils, SpoilsPage, AnswersTurned, AnswersBytes, is_zeros};
 
 use btr_rack::{MemRack, PokeError};
 
@@ -54,7 +53,7 @@ fn spoil_page(rack: &mut MemRack, name: &str, index: u64) -> Result<bool, PokeEr
 // The bytes of a page, turned, or `None` where it is spared. The image has to have the page.
 fn turned_page(rack: &MemRack, name: &str, index: u64) -> Option<[u8; 4096]>
     requires { (256 ≤ index) × (index < 2 ^ 51) }
-    ensures { IfSome (named rack.now name.now) (λ image. 4096 * index + 4096 ≤ length image → result ≡ turned_if_spoiled image index) }
+    ensures { AnswersTurned rack.now name.now index result }
 {
     if index == SECOND_SUPER || index == THIRD_SUPER {
         return None;
@@ -86,7 +85,7 @@ fn turned(page: &[u8; 4096]) -> [u8; 4096]
 // The bytes of the page at an offset, which has to lie in the image.
 fn bytes_of(rack: &MemRack, name: &str, off: u64) -> [u8; 4096]
     requires { off < 2 ^ 63 }
-    ensures { IfSome (named rack.now name.now) (λ image. off + 4096 ≤ length image → result ≡ slice_range image off (off + 4096)) }
+    ensures { AnswersBytes rack.now name.now off result }
 {
     let mut page = [0; 4096];
     for (i, byte) in page.iter_mut().enumerate() {

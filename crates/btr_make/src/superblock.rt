@@ -1,5 +1,4 @@
 // Superblock copies.
-ghost use Rattle.std.specs.Prelude.{◌≡◌};
 ghost use Rattle.btr_rack.specs.Memory.{Pokes};
 ghost use Rattle.btr_make.specs.Copy.{super_copy};
 

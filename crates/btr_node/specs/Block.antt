@@ -1,6 +1,6 @@
 -- A block of a tree: behind its header of 101 bytes stands a table, of items in a leaf and of pointers in an inner node.
 -- The format is described at https://btrfs.readthedocs.io/en/latest/dev/On-disk-format.html
-use Rattle.std.specs.Prelude.{ℕ, ◌+◌, ◌*◌, ◌-◌, ◌<◌, Bool, true, ◌&&◌, ◌==◌, nat_lt, nat_le, List, [], ◌∷◌, map, length, slice_index}
+use Rattle.std.specs.Prelude.{ℕ, ◌+◌, ◌*◌, ◌-◌, ◌<◌, ◌≤◌, IsTrue, Bool, true, ◌&&◌, ◌==◌, nat_lt, nat_le, List, [], ◌∷◌, map, length, slice_index}
 use Rattle.std.specs.List.{range_with_len}
 use Rattle.btr_base.specs.Field.{number_at, bytes_at}
 use Rattle.btr_base.specs.Key.{key_at, key_number, key_lt}
@@ -77,6 +77,10 @@ abbrev pub is_packed : ℕ → ℕ → List Item → Bool
 is_packed table end [] = true
 is_packed table end (item ∷ rest) = (item.offset + item.size == end) && (nat_le table item.offset && is_packed table item.offset rest)
 
+-- the first items of a block, of this count, are so packed, and none begins before the end of their table
+abbrev pub packs_first : List ℕ → ℕ → Bool
+packs_first block count = is_packed (25 * count) (length block - 101) (map (item_at block) (range_with_len 0 count))
+
 -- a good leaf: the items' bytes fill the block from its end downwards, and the keys ascend
 unfoldable pub is_leaf : List ℕ → Bool
 is_leaf block =
@@ -90,3 +94,7 @@ is_inner block =
     (nat_lt 0 (level_of block) && nat_le (level_of block) 7)
     && ((nat_lt 0 (entry_count block) && nat_le (101 + 33 * entry_count block) (length block))
     && ascends (map (λ pointer. pointer.key) (pointers block)))
+
+-- a place among the items of a block that has a header and is a good leaf, or their end
+abbrev pub StandsIn : List ℕ → ℕ → Type 0
+StandsIn block place = (101 ≤ length block) × IsTrue (is_leaf block) × (place ≤ length (items block))

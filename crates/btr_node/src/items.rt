@@ -20,14 +20,14 @@ pub struct Items<'a> {
 }
 
 impl<'a> Model for Items<'a> {
-    ghost use Rattle.std.specs.Prelude.{◌≤◌, List, length, drop, IsTrue};
-    ghost use Rattle.btr_node.specs.Block.{Item, items, is_leaf};
+    ghost use Rattle.std.specs.Prelude.{List, drop};
+    ghost use Rattle.btr_node.specs.Block.{Item, items, StandsIn};
 
     ghost Value = { List Item };
 
     ghost view = { λ left. drop left.next (items left.block.now) };
 
-    ghost invariant = { λ left. (101 ≤ length left.block.now) × IsTrue (is_leaf left.block.now) × (left.next ≤ length (items left.block.now)) };
+    ghost invariant = { λ left. StandsIn left.block.now left.next };
 }
 
 impl<'a> Items<'a> {

@@ -1,7 +1,7 @@
 ghost use Rattle.std.specs.Prelude.{◌≡◌, ◌+◌, ◌*◌, ◌-◌, ◌^◌, ◌<◌, ◌≤◌, length, map, IsTrue, IfSome, IfNone, take, drop, All};
-ghost use Rattle.std.specs.List.{range_with_len, HoldsAt};
+ghost use Rattle.std.specs.List.{HoldsAt};
 ghost use Rattle.btr_base.specs.Key.{key_number};
-ghost use Rattle.btr_node.specs.Block.{ascends, items, item_at, is_packed, is_leaf};
+ghost use Rattle.btr_node.specs.Block.{ascends, items, item_at, packs_first, is_leaf};
 ghost use Rattle.btr_node.specs.LeafItem.{item_of};
 
 use crate::table::{HEADER, LEVEL, entry_count, entry_key, first_from, keys_ascend, last_up_to};
@@ -155,7 +155,7 @@ pub(crate) fn is_leaf(block: &[u8]) -> bool
 // Whether the bytes of the first `count` items fill the block from its end downwards, none before the table's end.
 fn is_packed(block: &[u8], count: usize) -> bool
     requires { 101 + 25 * count ≤ length block.now }
-    ensures { result ≡ is_packed (25 * count) (length block.now - 101) (map (item_at block.now) (range_with_len 0 count)) }
+    ensures { result ≡ packs_first block.now count }
 {
     let mut end = block.len() - HEADER;
     for i in 0..count {

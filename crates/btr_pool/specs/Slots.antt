@@ -52,6 +52,10 @@ with_free pool k = record { size = pool.size; lent = slice_set pool.lent k false
 abbrev pub with_bytes : Slots → ℕ → List ℕ → Slots
 with_bytes pool k written = record { size = pool.size; lent = pool.lent; bytes = slice_set pool.bytes k written }
 
+-- the pool with another byte in slot k
+abbrev pub with_byte : Slots → ℕ → ℕ → ℕ → Slots
+with_byte pool k at byte = with_bytes pool k (slice_set (bytes_at pool k) at byte)
+
 -- count pieces of size bytes each, one after another
 abbrev pub pieces : ℕ → ℕ → List ℕ → List (List ℕ)
 pieces zero size bytes = []
@@ -64,3 +68,7 @@ poured pool k written =
     let before = take (k * pool.size) region in
     let after = drop (length written) (drop (k * pool.size) region) in
     record { size = pool.size; lent = pool.lent; bytes = pieces (length pool.bytes) pool.size (before ++ (written ++ after)) }
+
+-- bytes poured in from the start of slot k on, as many as the slot has, change no other slot
+abbrev pub FillsAlone : Slots → ℕ → Type 0
+FillsAlone pool k = (written : List ℕ) → length written ≡ pool.size → poured pool k written ≡ with_bytes pool k written

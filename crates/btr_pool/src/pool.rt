@@ -1,6 +1,6 @@
-ghost use Rattle.std.specs.Prelude.{◌≡◌, ℕ, ◌+◌, ◌*◌, ◌<◌, ◌≤◌, ◌↔◌, length, List, slice_range, IsErr, IsSome, IsTrue, IfOk, IfSome, IfNone, OnErr};
+ghost use Rattle.std.specs.Prelude.{◌≡◌, ◌+◌, ◌*◌, ◌<◌, ◌≤◌, ◌↔◌, length, slice_range, IsErr, IsSome, IsTrue, IfOk, IfSome, IfNone, OnErr};
 ghost use Rattle.std.specs.Borrow.{sem};
-ghost use Rattle.btr_pool.specs.Slots.{IsLive, IsFree, free_count, bytes_at, zeroed, with_lent, with_free, with_bytes, poured};
+ghost use Rattle.btr_pool.specs.Slots.{IsLive, IsFree, free_count, bytes_at, zeroed, with_lent, with_free, FillsAlone};
 ghost use Rattle.btr_pool.specs.Lending.{LendsSlot};
 
 use crate::full::Full;
@@ -119,7 +119,7 @@ impl Pool {
     pub fn bytes_mut(&mut self, loan: &Loan) -> &mut [u8]
         requires { IsLive self.old loan.now }
         ensures* writes_back { sem 𝓛 (LendsSlot self.entry loan.now result) }
-        ensures alone { (written : List ℕ) → length written ≡ self.old.size → poured self.old loan.now written ≡ with_bytes self.old loan.now written }
+        ensures alone { FillsAlone self.old loan.now }
         ensures value { result.now ≡ bytes_at self.old loan.now }
         ensures len { length result.now ≡ self.old.size }
     {

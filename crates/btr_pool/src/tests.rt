@@ -1,5 +1,5 @@
-ghost use Rattle.std.specs.Prelude.{◌≡◌, ◌-◌, ◌%◌, ◌<◌, ◌≤◌, [], ◌∷◌, ◌++◌, slice_set};
-ghost use Rattle.btr_pool.specs.Slots.{IsLive, IsFree, bytes_at, with_lent, with_bytes};
+ghost use Rattle.std.specs.Prelude.{◌≡◌, ◌-◌, ◌%◌, ◌<◌, ◌≤◌, [], ◌∷◌, ◌++◌};
+ghost use Rattle.btr_pool.specs.Slots.{IsLive, IsFree, with_lent, with_byte};
 
 use crate::{Full, Loan, Pool};
 use std::alloc::Global;
@@ -102,7 +102,7 @@ impl Order {
 fn mark(pool: &mut Pool, loan: &Loan)
     requires live { IsLive pool.old loan.now }
     requires some { 0 < pool.old.size }
-    ensures { pool.new ≡ with_bytes pool.old loan.now (slice_set (bytes_at pool.old loan.now) (pool.old.size - 1) (loan.now % 64)) }
+    ensures { pool.new ≡ with_byte pool.old loan.now (pool.old.size - 1) (loan.now % 64) }
 {
     let last = pool.size() - 1;
     pool.bytes_mut(loan)[last] = (loan.slot() % 64) as u8;

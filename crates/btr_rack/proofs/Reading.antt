@@ -1,9 +1,9 @@
 -- Calls on a rack that only read, one after another.
-use Rattle.std.proofs.Common.{◌≡◌, ℕ, ◌≤◌, Result, Ok, Err, refl, sym, ap, ◌∙◌, arith}
+use Rattle.std.proofs.Common.{◌≡◌, Result, Ok, Err, refl, sym, ap, ◌∙◌, arith}
 use Rattle.btr_rack.specs.declared.error.RackError.{RackError}
 use Rattle.btr_rack.specs.declared.error.RackError.TheVariants.{Failed, Memory}
 use Rattle.btr_rack.specs.declared.place.Place.{Place}
-use Rattle.btr_rack.specs.Rack.{Seen, Account, NoneFailed, Accounts, OnlyCounts, OnlyReads, forgotten}
+use Rattle.btr_rack.specs.Rack.{Seen, Account, Accounts, OnlyCounts, OnlyReads, forgotten}
 
 -- no call
 pub reads_none : (a : Seen) → OnlyReads a a

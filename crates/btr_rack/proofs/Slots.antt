@@ -1,5 +1,5 @@
 -- The slots of the files that are open.
-use Rattle.std.proofs.Common.{◌≡◌, ℕ, ◌+◌, ◌<◌, ◌^◌, Bool, false, None, List, [], ◌∷◌, ◌++◌, length, get_or, slice_set, ap, ◌∙◌}
+use Rattle.std.proofs.Common.{◌≡◌, ℕ, ◌<◌, ◌^◌, Bool, false, None, List, [], ◌∷◌, ◌++◌, length, get_or, slice_set, ap, ◌∙◌}
 use Rattle.std.proofs.Math.Seq.{map-set_same}
 use Rattle.std.proofs.lemmas.List.{map_push, length-map}
 use Rattle.btr_rack.specs.declared.place.Place.{Place}

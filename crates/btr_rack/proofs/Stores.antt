@@ -1,9 +1,8 @@
 -- What storing bytes, one piece after the other, makes of a file.
-use Rattle.std.proofs.Common.{◌≡◌, ℕ, ◌+◌, ◌-◌, ◌<◌, ◌≤◌, ◌⊎◌, List, [], ◌∷◌, ◌++◌, length, take, drop, replicate, refl, ap, ◌∙◌, inl, inr, arith, append_assoc, length-append, sym}
+use Rattle.std.proofs.Common.{◌≡◌, ℕ, ◌+◌, ◌-◌, ◌<◌, ◌≤◌, ◌⊎◌, List, [], ◌++◌, length, take, replicate, refl, ap, ◌∙◌, inl, inr, arith, append_assoc, length-append, sym}
 use Rattle.std.proofs.lemmas.List.{length-take-le, take_all, append-nil, replicate-append-replicate}
 use Rattle.std.proofs.lemmas.Grind.{common_steps}
-use Rattle.btr_rack.specs.declared.raw_call.RawCall.TheVariants.{Stored}
-use Rattle.btr_rack.specs.History.{Event, event, refused, Stores, nothing_stored, stored_more, store_failed, resized, overwritten, replay}
+use Rattle.btr_rack.specs.History.{Event, Stores, nothing_stored, stored_more, store_failed, resized, overwritten, replay}
 
 pub length_resized : (len : ℕ) (file : List ℕ) → length (resized len file) ≡ len
 length_resized len file = grind (arith, common_steps)

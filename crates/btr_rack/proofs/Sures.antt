@@ -1,9 +1,8 @@
 -- Whether a rack in memory is sure, and what is seen of it after its calls.
-use Rattle.std.proofs.Common.{◌≡◌, ◌⊎◌, ◌&&◌, ◌||◌, ◌-◌, ◌^◌, nat_lt, ℕ, Bool, true, false, List, [], ◌∷◌, ◌++◌, Some, inl, inr, refl, sym, ap, ◌∙◌}
+use Rattle.std.proofs.Common.{◌≡◌, ◌⊎◌, ◌&&◌, ◌||◌, ◌-◌, ◌^◌, nat_lt, Bool, true, false, List, [], ◌∷◌, ◌++◌, Some, inl, inr, refl, sym, ap, ◌∙◌}
 use Rattle.std.specs.List.{list_any}
 use Rattle.btr_rack.specs.declared.place.Place.{Place}
-use Rattle.btr_rack.specs.Image.{MemoryImage}
-use Rattle.btr_rack.specs.Rack.{Account, Unsyncs, OnlyCounts, in_others}
+use Rattle.btr_rack.specs.Rack.{Unsyncs}
 use Rattle.btr_rack.specs.Memory.{MemoryRack, Failures, NamedRange, slots_of, held_of, shelf_of, seen_of, is_sure, is_calm, is_empty, call_strikes, write_strikes}
 
 -- a list in which something was found is not empty

@@ -1,11 +1,11 @@
 -- One piece more that was read or stored.
-use Rattle.std.proofs.Common.{◌≡◌, ℕ, ◌+◌, ◌-◌, ◌<◌, ◌≤◌, List, [], ◌∷◌, ◌++◌, length, take, drop, arith, ap, sym, ◌∙◌}
+use Rattle.std.proofs.Common.{◌≡◌, ℕ, ◌+◌, ◌-◌, ◌<◌, ◌≤◌, List, ◌∷◌, ◌++◌, length, take, drop, arith, ap, sym, ◌∙◌}
 use Rattle.std.proofs.Math.Seq.{take-add, take-append-add}
 use Rattle.std.proofs.lemmas.Grind.{common_steps}
 use Rattle.std.proofs.lemmas.List.{length-take-le, take-append-le}
 use borrow.Rule.Slice.PartMut.{put_mid, post_of, same_len_mid}
 use Rattle.btr_rack.specs.declared.raw_call.RawCall.TheVariants.{Read, Stored}
-use Rattle.btr_rack.specs.History.{Event, event, refused, Reads, nothing_read, read_more, read_failed, Stores, nothing_stored, stored_more, store_failed}
+use Rattle.btr_rack.specs.History.{Event, event, refused, Reads, read_more, Stores, stored_more, store_failed}
 
 reads_next : (off at : ℕ) (old now now' : List Event) (bytes bytes' piece : List ℕ) → Reads off old now bytes → at ≡ off + length bytes → 0 < length piece → now' ≡ event (Read at) piece ∷ now → bytes' ≡ bytes ++ piece → Reads off old now' bytes'
 reads_next off at old now now' bytes bytes' piece before e some en eb = rw (en, e, eb) (read_more now bytes piece before some)

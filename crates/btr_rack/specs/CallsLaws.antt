@@ -1,10 +1,9 @@
 -- What holds of the account of every output and every sink.
 use Rattle.std.specs.Prelude.{◌≡◌, ℕ, ◌-◌, ◌^◌, ◌<◌, nat_lt, Bool, true, false, ◌&&◌}
-use Rattle.std.proofs.Common.{arith}
 use Rattle.std.proofs.lemmas.Bool.{ltb-true}
 use Rattle.btr_rack.specs.Memory.{is_empty}
 use Rattle.btr_rack.specs.Calls.{CallCount, account_of}
-use Rattle.btr_rack.specs.Out.{CallAccount, IsCalm}
+use Rattle.btr_rack.specs.Out.{IsCalm}
 
 calm : (empty? : Bool) (faults : ℕ) → (empty? && nat_lt faults (2 ^ 64 - 1)) ≡ true → faults < 2 ^ 64 - 1
 calm true faults e = ltb-true faults (2 ^ 64 - 1) e

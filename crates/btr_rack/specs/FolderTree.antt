@@ -38,7 +38,8 @@ started_rows : (rows : List Row) (b : Bool) → started_stage b ≡ NotStarted �
 started_rows rows true e = cc
 started_rows rows false e = cc
 
-told_part : (name buffer : List ℕ) (file : Option Growing) → is_some (option_map (part_of name buffer) file) ≡ is_in_file (started_stage (is_some file))
+told_part : (name buffer : List ℕ) (file : Option Growing)
+    → is_some (option_map (part_of name buffer) file) ≡ is_in_file (started_stage (is_some file))
 told_part name buffer None = refl
 told_part name buffer (Some file) = refl
 

@@ -1,5 +1,7 @@
 -- What was asked of a file of the system.
-use Rattle.std.specs.Prelude.{◌≡◌, ℕ, ◌+◌, ◌-◌, ◌<◌, Bool, true, false, List, [], ◌∷◌, ◌++◌, length, take, drop, replicate}
+use Rattle.std.specs.Prelude.{◌≡◌, ℕ, ◌+◌, ◌-◌, ◌<◌, Bool, List, [], ◌∷◌, ◌++◌, length, take, drop, replicate, Option, MatchOption}
+use Rattle.std.specs.declared.fs.OpenOptions.{OpenOptions}
+use Rattle.std.specs.Fs.{asks_write, asks_create_new}
 use Rattle.btr_rack.specs.declared.raw_call.RawCall.{RawCall}
 use Rattle.btr_rack.specs.declared.raw_call.RawCall.TheVariants.{Opened, Read, Stored, Cut, Synced, Entered, Refused}
 
@@ -17,6 +19,18 @@ refused = event Refused []
 -- the opening of a path
 abbrev pub opened : List ℕ → Bool → Bool → Event
 opened path write made = event (Opened write made) path
+
+-- the opening of a path, and nothing else, was asked
+abbrev pub OnlyOpened : List ℕ → Bool → Bool → List Event → Type 0
+OnlyOpened path write made history = history ≡ opened path write made ∷ []
+
+-- the opening of a path as these options ask, and nothing else, was asked
+abbrev pub IsOpenedBy : OpenOptions → List ℕ → List Event → Type 0
+IsOpenedBy how path history = OnlyOpened path (asks_write how) (asks_create_new how) history
+
+-- a call that took or gave a first part of these bytes is noted, or that it was refused
+abbrev pub Notes : RawCall → List ℕ → List Event → List Event → Option ℕ → Type 0
+Notes call bytes old new result = MatchOption result (new ≡ refused ∷ old) (λ n. new ≡ event call (take n bytes) ∷ old)
 
 -- a file cut to a length, or filled up with zeros
 abbrev pub resized : ℕ → List ℕ → List ℕ
@@ -49,11 +63,13 @@ LastRefused (e ∷ older) = e ≡ refused
 -- the calls since `old` read these bytes, one piece after the other from `off` on
 pub data Reads (off : ℕ) (old : List Event) : List Event → List ℕ → Type 0 where
   nothing_read : Reads off old old []
-  read_more : (now : List Event) (bytes piece : List ℕ) → Reads off old now bytes → 0 < length piece → Reads off old (event (Read (off + length bytes)) piece ∷ now) (bytes ++ piece)
+  read_more : (now : List Event) (bytes piece : List ℕ) → Reads off old now bytes → 0 < length piece
+      → Reads off old (event (Read (off + length bytes)) piece ∷ now) (bytes ++ piece)
   read_failed : (now : List Event) (bytes : List ℕ) → Reads off old now bytes → Reads off old (refused ∷ now) bytes
 
 -- the calls since `old` stored these bytes, one piece after the other from `off` on
 pub data Stores (off : ℕ) (old : List Event) : List Event → List ℕ → Type 0 where
   nothing_stored : Stores off old old []
-  stored_more : (now : List Event) (bytes piece : List ℕ) → Stores off old now bytes → 0 < length piece → Stores off old (event (Stored (off + length bytes)) piece ∷ now) (bytes ++ piece)
+  stored_more : (now : List Event) (bytes piece : List ℕ) → Stores off old now bytes → 0 < length piece
+      → Stores off old (event (Stored (off + length bytes)) piece ∷ now) (bytes ++ piece)
   store_failed : (now : List Event) (bytes : List ℕ) → Stores off old now bytes → Stores off old (refused ∷ now) bytes

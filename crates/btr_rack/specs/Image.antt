@@ -1,5 +1,5 @@
 -- An image in memory.
-use Rattle.std.specs.Prelude.{◌≡◌, ℕ, ◌+◌, ◌-◌, ◌/◌, ◌%◌, Bool, if◌then◌else◌, nat_lt, Bool, false, List, [], length, map, slice_index, Option}
+use Rattle.std.specs.Prelude.{◌≡◌, ℕ, ◌+◌, ◌-◌, ◌/◌, ◌%◌, Bool, if◌then◌else◌, nat_lt, Bool, false, List, [], length, map, slice_index, take, Option}
 use Rattle.std.specs.Option.{option_map_or}
 use Rattle.std.specs.List.{range_with_len}
 use Rattle.std.specs.Ordering.{nat_cmp}
@@ -57,6 +57,14 @@ patched old at piece i = if nat_lt i at then old else if nat_lt i (at + length p
 abbrev pub Patches : Pages → Pages → ℕ → List ℕ → Type 0
 Patches old new off piece = (i : ℕ) → kept_byte new i ≡ patched (kept_byte old i) off piece i
 
+-- a first part of a piece was written over the bytes from `off` on
+abbrev pub PatchesPart : Pages → Pages → ℕ → List ℕ → Type 0
+PatchesPart old new off piece = (n : ℕ) × Patches old new off (take n piece)
+
 -- some n bytes were written over those from `off` on
 abbrev pub PastesSome : List ℕ → List ℕ → ℕ → ℕ → Type 0
 PastesSome old new off n = (some : List ℕ) × (length some ≡ n) × (new ≡ pasted old off some)
+
+-- the range of n bytes from `off` on of an image holds any bytes
+abbrev pub SpoilsRange : MemoryImage → MemoryImage → ℕ → ℕ → Type 0
+SpoilsRange old new off n = PastesSome (bytes_in old) (bytes_in new) off n

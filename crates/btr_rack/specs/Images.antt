@@ -42,5 +42,6 @@ TearsImage (Some byte) at off len old new result = WritesImage at off (replicate
 
 -- what a cut does: it shortens the image at a place, or refuses one that is shorter
 abbrev pub CutsImage : ℕ → ℕ → List MemoryImage → List MemoryImage → Bool → Type 0
-CutsImage at len old new true = (image : MemoryImage) × (image ≡ slice_index_or old at image) × (len ≤ image.slot.len) × (new ≡ slice_set old at (shortened len image))
+CutsImage at len old new true =
+    (image : MemoryImage) × (image ≡ slice_index_or old at image) × (len ≤ image.slot.len) × (new ≡ slice_set old at (shortened len image))
 CutsImage at len old new false = (image : MemoryImage) × (image ≡ slice_index_or old at image) × (image.slot.len < len) × (new ≡ old)

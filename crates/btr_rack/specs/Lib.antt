@@ -11,6 +11,7 @@ pub mod MemOut
 pub mod MemTree
 pub mod MemTreeLaws
 pub mod FileRack
+pub mod FilesSeen
 pub mod History
 pub mod Opened
 pub mod Growing

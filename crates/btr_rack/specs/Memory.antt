@@ -122,11 +122,22 @@ is_sure rack = is_calm rack.failing && nat_lt rack.account.faults (2 ^ 64 - 1)
 
 -- what is seen of it
 abbrev pub seen_of : MemoryRack → Seen
-seen_of rack = record { slots = slots_of rack; held = Some (held_of rack); shelf = Some (shelf_of rack); unsynced = rack.unsynced; sure = is_sure rack; account = rack.account }
+seen_of rack = record {
+  slots = slots_of rack;
+  held = Some (held_of rack);
+  shelf = Some (shelf_of rack);
+  unsynced = rack.unsynced;
+  sure = is_sure rack;
+  account = rack.account;
+}
 
 -- a read or a write of this range of an open image is to fail
 abbrev pub hits : MemoryRack → ℕ → ℕ → ℕ → Bool
 hits rack slot off len = list_any (touches (slot_at (slots_of rack) slot).name off len) rack.failing.failing_ranges
+
+-- a write of this range of an open image is to fail
+abbrev pub write_fails : MemoryRack → ℕ → ℕ → ℕ → Bool
+write_fails rack slot off len = write_strikes rack.failing || hits rack slot off len
 
 -- the bytes of the image of a name were written over from `off` on, and nothing else changed
 pub record Rewrites (name : List ℕ) (off : ℕ) (bytes : List ℕ) (old new : MemoryRack) : Type 0 where
@@ -144,7 +155,8 @@ pub record Rewrites (name : List ℕ) (off : ℕ) (bytes : List ℕ) (old new : 
 abbrev pub Pokes : {T : Type 0} → List ℕ → ℕ → List ℕ → MemoryRack → MemoryRack → Result T PokeError → Type 0
 Pokes name off bytes old new (Ok _) = Rewrites name off bytes old new
 Pokes name off bytes old new (Err NoImage) = (named old name ≡ None) × (new ≡ old)
-Pokes name off bytes old new (Err Range) = (image : List ℕ) × (named old name ≡ Some image) × (length image < off + length bytes) × (new ≡ old)
+Pokes name off bytes old new (Err Range) =
+    (image : List ℕ) × (named old name ≡ Some image) × (length image < off + length bytes) × (new ≡ old)
 Pokes name off bytes old new (Err Memory) = (some : List ℕ) × (length some ≡ length bytes) × Rewrites name off some old new
 
 -- the image of a name on the shelf was shortened, and nothing else changed
@@ -174,3 +186,11 @@ Tears tear slot off len old new (Ok _) = ⊤
 Tears None slot off len old new (Err Failed) = new ≡ old
 Tears (Some byte) slot off len old new (Err Failed) = new ≡ written old slot off (replicate len byte)
 Tears tear slot off len old new (Err Exhausted) = ⊤
+
+-- a write of this range that is made to fail leaves its tear in the open images of the rack
+abbrev pub LeavesTear : {T : Type 0} → ℕ → ℕ → ℕ → MemoryRack → MemoryRack → Result T RackError → Type 0
+LeavesTear slot off len old new result = Tears old.failing.tear slot off len (held_of old) (held_of new) result
+
+-- one more call was counted, and only the account and what waits for a sync may have changed
+abbrev pub OnlySyncs : MemoryRack → MemoryRack → Type 0
+OnlySyncs old new = record new { unsynced = old.unsynced } ≡ with_counts (after_call old.failing) new.account old

@@ -7,7 +7,7 @@ use Rattle.std.proofs.lemmas.Bool.{ltb-true}
 use Rattle.std.proofs.lemmas.List.FromFn.{length-map-range_with_len}
 use Rattle.btr_rack.specs.Rack.{IsRack}
 use Rattle.btr_rack.specs.Image.{MemoryImage, Pages, bytes_in, kept_byte, page_byte}
-use Rattle.btr_rack.specs.Memory.{MemoryRack, held_of, slots_of, seen_of, is_calm, is_sure}
+use Rattle.btr_rack.specs.Memory.{MemoryRack, seen_of, is_calm}
 
 sized : (images : List MemoryImage) → map length (map bytes_in images) ≡ map (λ slot. slot.len) (map (λ image. image.slot) images)
 sized [] = refl
@@ -22,7 +22,8 @@ small pages from (suc len) = All-cons (λ b. b < 256) (page_byte pages from) (ma
 
 bytes : (images : List MemoryImage) → All (All (λ b. b < 256)) (map bytes_in images)
 bytes [] = λ k d lt. absurd (omega arith)
-bytes (image ∷ images) = All-cons (All (λ b. b < 256)) (bytes_in image) (map bytes_in images) (small image.pages 0 image.slot.len) (bytes images)
+bytes (image ∷ images) =
+    All-cons (All (λ b. b < 256)) (bytes_in image) (map bytes_in images) (small image.pages 0 image.slot.len) (bytes images)
 
 calm : (calm? : Bool) (faults : ℕ) → (calm? && nat_lt faults (2 ^ 64 - 1)) ≡ true → faults < 2 ^ 64 - 1
 calm true faults e = ltb-true faults (2 ^ 64 - 1) e
@@ -30,4 +31,8 @@ calm false faults e = cc
 
 -- what is seen of a rack in memory
 pub sound_rack : (rack : MemoryRack) → IsRack (seen_of rack)
-sound_rack rack = record { sized = sized (take rack.opened rack.images); bytes = bytes (take rack.opened rack.images); calm = calm (is_calm rack.failing) rack.account.faults }
+sound_rack rack = record {
+  sized = sized (take rack.opened rack.images);
+  bytes = bytes (take rack.opened rack.images);
+  calm = calm (is_calm rack.failing) rack.account.faults;
+}

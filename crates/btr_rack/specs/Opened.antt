@@ -28,4 +28,11 @@ history_in images slot = (slice_index_or images slot no_image).history
 
 -- what is seen of a rack of files
 abbrev pub seen_files : List OpenImage → List Place → Account → Seen
-seen_files images unsynced account = record { slots = slots_of images; held = None; shelf = None; unsynced = unsynced; sure = false; account = account }
+seen_files images unsynced account = record {
+  slots = slots_of images;
+  held = None;
+  shelf = None;
+  unsynced = unsynced;
+  sure = false;
+  account = account;
+}

@@ -33,6 +33,10 @@ image_of images slot = slice_index_or images slot []
 abbrev pub bytes_of : List (List ℕ) → ℕ → ℕ → ℕ → List ℕ
 bytes_of images slot off len = slice_range (image_of images slot) off (off + len)
 
+-- where the bytes of the images are told, these are those of the image in a slot
+abbrev pub AreBytesOf : Option (List (List ℕ)) → ℕ → ℕ → ℕ → List ℕ → Type 0
+AreBytesOf held slot off len bytes = IfSome held (λ images. bytes ≡ bytes_of images slot off len)
+
 -- an image in which bytes were written over those from `off` on
 abbrev pub pasted : List ℕ → ℕ → List ℕ → List ℕ
 pasted image off bytes = take off image ++ bytes ++ drop (off + length bytes) image
@@ -105,12 +109,14 @@ Accounts place old new (Err Memory) = NoneFailed old new
 -- what an opening at this place does to the account
 abbrev pub AccountsOpening : {T : Type 0} → Opening → Place → Account → Account → Result T RackError → Type 0
 AccountsOpening opening place old new (Ok _) = NoneFailed old new
-AccountsOpening opening place old new (Err Failed) = OneFailed place old new × (new.opening ≡ Some opening) × (new.shut ≡ next_count old.shut)
+AccountsOpening opening place old new (Err Failed) =
+    OneFailed place old new × (new.opening ≡ Some opening) × (new.shut ≡ next_count old.shut)
 AccountsOpening opening place old new (Err Memory) = NoneFailed old new
 
 -- an opening appends its image at Ok, and does nothing otherwise
 abbrev pub Opens : List ℕ → Bool → List Slot → List Slot → Result ℕ RackError → Type 0
-Opens name write old new (Ok slot) = (slot ≡ length old) × ((len : ℕ) × (len < 2 ^ 63) × (new ≡ old ++ record { name = name; len = len; write = write } ∷ []))
+Opens name write old new (Ok slot) =
+    (slot ≡ length old) × ((len : ℕ) × (len < 2 ^ 63) × (new ≡ old ++ record { name = name; len = len; write = write } ∷ []))
 Opens name write old new (Err _) = new ≡ old
 
 -- the images that may be opened, by name
@@ -135,7 +141,8 @@ Takes name shelf shelf' images images' (Err _) = (shelf' ≡ shelf) × (images' 
 abbrev pub Writes : {T : Type 0} → ℕ → ℕ → List ℕ → Option (List (List ℕ)) → Option (List (List ℕ)) → Result T RackError → Type 0
 Writes slot off bytes None new result = new ≡ None
 Writes slot off bytes (Some images) new (Ok _) = new ≡ Some (written images slot off bytes)
-Writes slot off bytes (Some images) new (Err _) = (some : List ℕ) × (length some ≡ length bytes) × (new ≡ Some (written images slot off some))
+Writes slot off bytes (Some images) new (Err _) =
+    (some : List ℕ) × (length some ≡ length bytes) × (new ≡ Some (written images slot off some))
 
 -- What is seen of a rack: the opened images, in the order of their opening; their bytes, and the images that may be opened, where it tells
 -- them; the ranges that were written since the last sync of their image; whether it is sure, so that no call is to fail; and the calls that failed.
@@ -146,6 +153,19 @@ pub record Seen : Type 0 where
   pub unsynced : List Place
   pub sure : Bool
   pub account : Account
+
+-- what an opening does to what is seen of the shelf and of the opened images
+abbrev pub TakesFromShelf : List ℕ → Seen → Seen → Result ℕ RackError → Type 0
+TakesFromShelf name old new result = Takes name old.shelf new.shelf old.held new.held result
+
+-- what a call at this place that is no opening does to what is seen of the account
+abbrev pub AccountsCall : {T : Type 0} → Place → Seen → Seen → Result T RackError → Type 0
+AccountsCall place old new result = Accounts place old.account new.account result
+
+-- what an opening as the next slot does to what is seen of the account
+abbrev pub AccountsNextOpening : {T : Type 0} → List ℕ → Bool → Seen → Seen → Result T RackError → Type 0
+AccountsNextOpening name write old new result =
+    AccountsOpening (opening_of name write) (range_in (length old.slots) 0 0) old.account new.account result
 
 -- only the account may have changed
 abbrev pub OnlyCounts : Seen → Seen → Type 0

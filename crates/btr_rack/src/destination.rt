@@ -1,7 +1,6 @@
 // Where a folder that is a sink stands.
-ghost use Rattle.std.specs.Prelude.{◌≡◌, ◌+◌, ◌<◌, ◌^◌, ℕ, [], ◌∷◌, take, replicate, true, false, IsTrue};
+ghost use Rattle.std.specs.Prelude.{◌≡◌, ◌+◌, ◌<◌, ◌^◌, ℕ, take, replicate, true, false, IsTrue};
 ghost use Rattle.btr_rack.specs.Sink.{InFile, started, entered, left, begun, grown, finished};
-ghost use Rattle.btr_rack.specs.History.{opened};
 ghost use Rattle.btr_rack.specs.Told.{path_of};
 ghost use Rattle.btr_rack.specs.FolderTree.{at_sink, unstarted};
 

@@ -3,7 +3,8 @@ ghost use Rattle.std.specs.Prelude.{◌≡◌, ◌+◌, ◌<◌, ◌≤◌, [], 
 ghost use Rattle.btr_rack.specs.declared.raw_call.RawCall.TheVariants.{Synced};
 ghost use Rattle.btr_rack.specs.Rack.{OnlyCounts, Accounts, Unsyncs, Syncs, range_in, len_of, opened_to_write};
 ghost use Rattle.btr_rack.specs.History.{event, Reads, Stores};
-ghost use Rattle.btr_rack.specs.Opened.{slots_of, history_in, seen_files};
+ghost use Rattle.btr_rack.specs.Opened.{slots_of, seen_files};
+ghost use Rattle.btr_rack.specs.FilesSeen.{seen_of, history_of};
 
 use crate::account::Ledger;
 use crate::opened::OpenedFile;
@@ -77,10 +78,10 @@ impl<R: Files<File = File> + Drop> Rack for FileRack<R> {
     fn read_at(&mut self, slot: usize, off: u64, buf: &mut [u8]) -> Result<(), RackError>
         requires open { slot < length (slots_of self.old.files.items) }
         requires range { off + length buf.old ≤ len_of (slots_of self.old.files.items) slot }
-        ensures same { OnlyCounts (seen_files self.old.files.items self.old.unsynced.places self.old.ledger) (seen_files self.new.files.items self.new.unsynced.places self.new.ledger) }
+        ensures same { OnlyCounts (seen_of self.old) (seen_of self.new) }
         ensures account { Accounts (range_in slot off (length buf.old)) self.old.ledger self.new.ledger result }
         ensures memory { IsErrOf result RackError.Memory → ⊥ }
-        ensures read { OnOk result (Reads off (history_in self.old.files.items slot) (history_in self.new.files.items slot) buf.new) }
+        ensures read { OnOk result (Reads off (history_of self.old slot) (history_of self.new slot) buf.new) }
     {
         let len = buf.len() as u64;
         let file = &mut self.files[slot];
@@ -96,9 +97,9 @@ impl<R: Files<File = File> + Drop> Rack for FileRack<R> {
         requires open { slot < length (slots_of self.old.files.items) }
         requires write { IsTrue (opened_to_write (slots_of self.old.files.items) slot) }
         requires range { off + length bytes.now ≤ len_of (slots_of self.old.files.items) slot }
-        ensures rest { Unsyncs (range_in slot off (length bytes.now)) (seen_files self.old.files.items self.old.unsynced.places self.old.ledger) (seen_files self.new.files.items self.new.unsynced.places self.new.ledger) }
+        ensures rest { Unsyncs (range_in slot off (length bytes.now)) (seen_of self.old) (seen_of self.new) }
         ensures account { Accounts (range_in slot off (length bytes.now)) self.old.ledger self.new.ledger result }
-        ensures stored { OnOk result (Stores off (history_in self.old.files.items slot) (history_in self.new.files.items slot) bytes.now) }
+        ensures stored { OnOk result (Stores off (history_of self.old slot) (history_of self.new slot) bytes.now) }
     {
         let len = bytes.len() as u64;
         let place = Place { slot, off, len };
@@ -114,10 +115,10 @@ impl<R: Files<File = File> + Drop> Rack for FileRack<R> {
 
     fn sync(&mut self, slot: usize) -> Result<(), RackError>
         requires { slot < length (slots_of self.old.files.items) }
-        ensures synced { Syncs slot (seen_files self.old.files.items self.old.unsynced.places self.old.ledger) (seen_files self.new.files.items self.new.unsynced.places self.new.ledger) result }
+        ensures synced { Syncs slot (seen_of self.old) (seen_of self.new) result }
         ensures account { Accounts (range_in slot 0 0) self.old.ledger self.new.ledger result }
         ensures memory { IsErrOf result RackError.Memory → ⊥ }
-        ensures asked { OnOk result (history_in self.new.files.items slot ≡ event Synced [] ∷ history_in self.old.files.items slot) }
+        ensures asked { OnOk result (history_of self.new slot ≡ event Synced [] ∷ history_of self.old slot) }
     {
         let place = Place::of_slot(slot);
         if self.files[slot].sync() {

@@ -1,8 +1,8 @@
 // An image in memory.
-ghost use Rattle.std.specs.Prelude.{◌≡◌, ℕ, ◌+◌, ◌-◌, ◌*◌, ◌/◌, ◌%◌, ◌^◌, ◌<◌, ◌≤◌, List, length, take, slice_get, slice_index, slice_range, replicate, if◌then◌else◌, IsTrue, OnOk, OnErr, IfOk, ◌↔◌};
+ghost use Rattle.std.specs.Prelude.{◌≡◌, ℕ, ◌+◌, ◌-◌, ◌*◌, ◌/◌, ◌%◌, ◌^◌, ◌<◌, ◌≤◌, length, slice_get, slice_index, slice_range, replicate, if◌then◌else◌, IsTrue, OnOk, OnErr, IfOk, ◌↔◌};
 ghost use Rattle.std.specs.Option.{option_copied};
 ghost use Rattle.btr_rack.specs.Rack.{pasted};
-ghost use Rattle.btr_rack.specs.Image.{bytes_in, kept_byte, patched, page_at, is_named, opened_for, shortened, zeros, Patches, PastesSome};
+ghost use Rattle.btr_rack.specs.Image.{bytes_in, kept_byte, patched, page_at, is_named, opened_for, shortened, zeros, Patches, PatchesPart, SpoilsRange};
 
 use btr_base::Memory;
 use std::alloc::Global;
@@ -106,7 +106,7 @@ impl Image {
         requires { off + length bytes.now ≤ self.old.slot.len }
         ensures slot { self.new.slot ≡ self.old.slot }
         ensures written { OnOk result (bytes_in self.new ≡ pasted (bytes_in self.old) off bytes.now) }
-        ensures refused { OnErr result (PastesSome (bytes_in self.old) (bytes_in self.new) off (length bytes.now)) }
+        ensures refused { OnErr result (SpoilsRange self.old self.new off (length bytes.now)) }
     {
         let _len = self.len;
         write_pages(&mut self.pages, off, bytes)
@@ -117,7 +117,7 @@ impl Image {
         requires { off + len ≤ self.old.slot.len }
         ensures slot { self.new.slot ≡ self.old.slot }
         ensures filled { OnOk result (bytes_in self.new ≡ pasted (bytes_in self.old) off (replicate len byte)) }
-        ensures refused { OnErr result (PastesSome (bytes_in self.old) (bytes_in self.new) off (length (replicate len byte))) }
+        ensures refused { OnErr result (SpoilsRange self.old self.new off (length (replicate len byte))) }
     {
         let _len = self.len;
         fill_pages(&mut self.pages, off, len, byte)
@@ -204,7 +204,7 @@ fn in_page(at: u64, left: usize) -> usize
 fn write_pages(pages: &mut BTreeMap<u64, Page>, off: u64, bytes: &[u8]) -> Result<(), Memory>
     requires { off + length bytes.now < 2 ^ 63 }
     ensures written { OnOk result (Patches pages.old.entries pages.new.entries off bytes.now) }
-    ensures refused { OnErr result ((n : ℕ) × Patches pages.old.entries pages.new.entries off (take n bytes.now)) }
+    ensures refused { OnErr result (PatchesPart pages.old.entries pages.new.entries off bytes.now) }
 {
     let mut done = 0;
     while done < bytes.len() {
@@ -246,7 +246,7 @@ fn read_pages(pages: &BTreeMap<u64, Page>, off: u64, buf: &mut [u8])
 fn fill_pages(pages: &mut BTreeMap<u64, Page>, off: u64, len: usize, byte: u8) -> Result<(), Memory>
     requires { off + len < 2 ^ 63 }
     ensures written { OnOk result (Patches pages.old.entries pages.new.entries off (replicate len byte)) }
-    ensures refused { OnErr result ((n : ℕ) × Patches pages.old.entries pages.new.entries off (take n (replicate len byte))) }
+    ensures refused { OnErr result (PatchesPart pages.old.entries pages.new.entries off (replicate len byte)) }
 {
     let page = page_of_byte(byte);
     let mut done = 0;

@@ -2,8 +2,8 @@
 ghost use Rattle.std.specs.Prelude.{◌≡◌, ◌+◌, ◌<◌, ◌≤◌, ◌^◌, ◌↔◌, ◌||◌, [], Some, IsSome, is_none, OnOk, OnErr, Err, IsErrOf, slice_get, length};
 ghost use Rattle.std.specs.Option.{option_and_then, option_copied};
 ghost use Rattle.btr_rack.specs.Image.{zeros};
-ghost use Rattle.btr_rack.specs.Rack.{opening_of, range_in, len_of, bytes_of, forgotten, Opens, OpensSurely, Takes, OnlyCounts, Writes, Unsyncs, Syncs, Accounts, AccountsOpening, FailsWhere, FailsUnsure};
-ghost use Rattle.btr_rack.specs.Memory.{empty_rack, nothing_fails, after_call, after_write, call_strikes, write_strikes, hits, named, named_page, slots_of, held_of, shelf_of, seen_of, is_sure, with_image, with_failing, with_counts, failing_call, failing_write, failing_range, tearing, Pokes, Cuts, Tears};
+ghost use Rattle.btr_rack.specs.Rack.{range_in, len_of, bytes_of, forgotten, Opens, OpensSurely, TakesFromShelf, OnlyCounts, Writes, Unsyncs, Syncs, Accounts, AccountsNextOpening, FailsWhere, FailsUnsure};
+ghost use Rattle.btr_rack.specs.Memory.{empty_rack, nothing_fails, after_call, after_write, call_strikes, hits, named, named_page, slots_of, held_of, shelf_of, seen_of, is_sure, with_image, with_failing, with_counts, write_fails, failing_call, failing_write, failing_range, tearing, Pokes, Cuts, LeavesTear, OnlySyncs};
 
 use crate::account::Ledger;
 use crate::failing::Failing;
@@ -176,9 +176,9 @@ impl Rack for MemRack {
 
     fn open(&mut self, name: &str, write: bool) -> Result<usize, RackError>
         ensures slots { Opens name.now write (slots_of self.old) (slots_of self.new) result }
-        ensures images { Takes name.now (Some (shelf_of self.old)) (Some (shelf_of self.new)) (Some (held_of self.old)) (Some (held_of self.new)) result }
+        ensures images { TakesFromShelf name.now (seen_of self.old) (seen_of self.new) result }
         ensures unsynced { self.new.unsynced ≡ self.old.unsynced }
-        ensures account { AccountsOpening (opening_of name.now write) (range_in (length (slots_of self.old)) 0 0) self.old.account self.new.account result }
+        ensures account { AccountsNextOpening name.now write (seen_of self.old) (seen_of self.new) result }
         ensures sure { OpensSurely name.now (seen_of self.old) (seen_of self.new) result }
         ensures calls { self.new.failing ≡ after_call self.old.failing }
 
@@ -245,8 +245,8 @@ impl Rack for MemRack {
         ensures calls { self.new.failing ≡ after_write self.old.failing }
 
         // It fails exactly where it is made to, and then leaves the tear, or what stood there.
-        ensures fails { FailsWhere (write_strikes self.old.failing || hits self.old slot off (length bytes.now)) result }
-        ensures torn { Tears self.old.failing.tear slot off (length bytes.now) (held_of self.old) (held_of self.new) result }
+        ensures fails { FailsWhere (write_fails self.old slot off (length bytes.now)) result }
+        ensures torn { LeavesTear slot off (length bytes.now) self.old self.new result }
     {
         let len = bytes.len() as u64;
         let place = Place { slot, off, len };
@@ -269,7 +269,7 @@ impl Rack for MemRack {
     fn sync(&mut self, slot: usize) -> Result<(), RackError>
         ensures synced { Syncs slot (seen_of self.old) (seen_of self.new) result }
         ensures account { Accounts (range_in slot 0 0) self.old.account self.new.account result }
-        ensures counts { record self.new { unsynced = self.old.unsynced } ≡ with_counts (after_call self.old.failing) self.new.account self.old }
+        ensures counts { OnlySyncs self.old self.new }
 
         // It fails exactly where it is made to.
         ensures fails { FailsWhere (call_strikes self.old.failing) result }

@@ -1,7 +1,7 @@
 // A file that is being written.
-ghost use Rattle.std.specs.Prelude.{◌≡◌, ◌≤◌, ◌++◌, ℕ, [], ◌∷◌, length, take, replicate, false, true, IfSome, IsTrue};
+ghost use Rattle.std.specs.Prelude.{◌≡◌, ◌≤◌, ◌++◌, [], ◌∷◌, length, take, replicate, false, true, IfSome, IsTrue};
 ghost use Rattle.btr_rack.specs.History.{opened, replay};
-ghost use Rattle.btr_rack.specs.Growing.{written, contents};
+ghost use Rattle.btr_rack.specs.Growing.{written, contents, PutsPart};
 
 use crate::buffer::Buffer;
 use crate::history::History;
@@ -58,7 +58,7 @@ impl NewFile {
     /// Appends bytes, or says that it could not: then a first part of them may stand there.
     pub(crate) fn put(&mut self, buffer: &mut Buffer, bytes: &[u8]) -> bool
         ensures all { IsTrue result → contents self.new buffer.new ≡ contents self.old buffer.old ++ bytes.now }
-        ensures some { result ≡ false → (n : ℕ) × (contents self.new buffer.new ≡ contents self.old buffer.old ++ take n bytes.now) }
+        ensures some { result ≡ false → PutsPart self.old buffer.old self.new buffer.new bytes.now }
     {
         if buffer.push(bytes) {
             return true;

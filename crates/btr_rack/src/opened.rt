@@ -1,7 +1,7 @@
 // An opened file.
 ghost use Rattle.std.specs.Prelude.{◌≡◌, ◌+◌, ◌<◌, ◌^◌, [], ◌∷◌, length, false, IfSome, IfOk, IfErr, IsTrue};
 ghost use Rattle.btr_rack.specs.declared.raw_call.RawCall.TheVariants.{Synced};
-ghost use Rattle.btr_rack.specs.History.{event, opened, Reads, Stores, LastRefused};
+ghost use Rattle.btr_rack.specs.History.{event, OnlyOpened, Reads, Stores, LastRefused};
 ghost use Rattle.btr_rack.specs.Opened.{IsOpenedAs};
 
 use crate::file_id::FileId;
@@ -87,7 +87,7 @@ impl OpenedFile {
 // The file or block device of a path, and its length. It is looked at first, so that a pipe isn't waited for, and has to be
 // the same when it is open.
 fn open_image<R: Files<File = File>>(rt: &R, path: &str, write: bool) -> Option<(RawFile, u64)>
-    ensures { IfSome result (λ image. (image.1 < 2 ^ 63) × (image.0.history.events ≡ opened path.now write false ∷ [])) }
+    ensures { IfSome result (λ image. (image.1 < 2 ^ 63) × OnlyOpened path.now write false image.0.history.events) }
 {
     let seen = FileId::of_image(&fs::metadata(rt, path).ok()?)?;
     let mut how = File::options();

@@ -1,6 +1,6 @@
 // The images of the devices, as the engine sees them.
-ghost use Rattle.std.specs.Prelude.{◌≡◌, ◌+◌, ◌<◌, ◌≤◌, ◌^◌, length, IsTrue, IfSome, OnOk, IsErrOf};
-ghost use Rattle.btr_rack.specs.Rack.{Seen, IsRack, OnlyCounts, Unsyncs, Syncs, OpensSurely, FailsUnsure, len_of, opened_to_write, bytes_of, range_in, opening_of, forgotten, Opens, Takes, Writes, Accounts, AccountsOpening};
+ghost use Rattle.std.specs.Prelude.{◌≡◌, ◌+◌, ◌<◌, ◌≤◌, ◌^◌, length, IsTrue, OnOk, IsErrOf};
+ghost use Rattle.btr_rack.specs.Rack.{Seen, IsRack, OnlyCounts, Unsyncs, Syncs, OpensSurely, FailsUnsure, len_of, opened_to_write, range_in, forgotten, Opens, Writes, AreBytesOf, TakesFromShelf, AccountsCall, AccountsNextOpening};
 
 use crate::{Place, RackError};
 
@@ -14,9 +14,9 @@ pub trait Rack {
     /// After a refusal the slots are as before.
     fn open(&mut self, name: &str, write: bool) -> Result<usize, RackError>
         ensures slots { Opens name.now write (seen self.old).slots (seen self.new).slots result }
-        ensures images { Takes name.now (seen self.old).shelf (seen self.new).shelf (seen self.old).held (seen self.new).held result }
+        ensures images { TakesFromShelf name.now (seen self.old) (seen self.new) result }
         ensures unsynced { (seen self.new).unsynced ≡ (seen self.old).unsynced }
-        ensures account { AccountsOpening (opening_of name.now write) (range_in (length (seen self.old).slots) 0 0) (seen self.old).account (seen self.new).account result }
+        ensures account { AccountsNextOpening name.now write (seen self.old) (seen self.new) result }
         ensures sure { OpensSurely name.now (seen self.old) (seen self.new) result };
 
     /// How many images are open.
@@ -33,9 +33,9 @@ pub trait Rack {
     fn read_at(&mut self, slot: usize, off: u64, buf: &mut [u8]) -> Result<(), RackError>
         requires open { slot < length (seen self.old).slots }
         requires range { off + length buf.old ≤ len_of (seen self.old).slots slot }
-        ensures bytes { OnOk result (IfSome (seen self.old).held (λ images. buf.new ≡ bytes_of images slot off (length buf.old))) }
+        ensures bytes { OnOk result (AreBytesOf (seen self.old).held slot off (length buf.old) buf.new) }
         ensures same { OnlyCounts (seen self.old) (seen self.new) }
-        ensures account { Accounts (range_in slot off (length buf.old)) (seen self.old).account (seen self.new).account result }
+        ensures account { AccountsCall (range_in slot off (length buf.old)) (seen self.old) (seen self.new) result }
         ensures sure { FailsUnsure (seen self.old).sure result }
         ensures memory { IsErrOf result RackError.Memory → ⊥ };
 
@@ -47,14 +47,14 @@ pub trait Rack {
         requires range { off + length bytes.now ≤ len_of (seen self.old).slots slot }
         ensures held { Writes slot off bytes.now (seen self.old).held (seen self.new).held result }
         ensures rest { Unsyncs (range_in slot off (length bytes.now)) (seen self.old) (seen self.new) }
-        ensures account { Accounts (range_in slot off (length bytes.now)) (seen self.old).account (seen self.new).account result }
+        ensures account { AccountsCall (range_in slot off (length bytes.now)) (seen self.old) (seen self.new) result }
         ensures sure { FailsUnsure (seen self.old).sure result };
 
     /// Waits until what was written to the image is stored. It changes no byte, and takes no memory.
     fn sync(&mut self, slot: usize) -> Result<(), RackError>
         requires { slot < length (seen self.old).slots }
         ensures synced { Syncs slot (seen self.old) (seen self.new) result }
-        ensures account { Accounts (range_in slot 0 0) (seen self.old).account (seen self.new).account result }
+        ensures account { AccountsCall (range_in slot 0 0) (seen self.old) (seen self.new) result }
         ensures sure { FailsUnsure (seen self.old).sure result }
         ensures memory { IsErrOf result RackError.Memory → ⊥ };
 

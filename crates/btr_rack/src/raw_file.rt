@@ -1,8 +1,7 @@
 // A file of the system.
-ghost use Rattle.std.specs.Prelude.{◌≡◌, ◌<◌, ◌≤◌, [], ◌∷◌, length, take, if◌then◌else◌, IfSome, MatchOption};
-ghost use Rattle.std.specs.Fs.{asks_write, asks_create_new};
+ghost use Rattle.std.specs.Prelude.{◌≡◌, ◌<◌, ◌≤◌, [], ◌∷◌, length, if◌then◌else◌, IfSome};
 ghost use Rattle.btr_rack.specs.declared.raw_call.RawCall.TheVariants.{Read, Stored, Cut, Synced};
-ghost use Rattle.btr_rack.specs.History.{event, opened, refused};
+ghost use Rattle.btr_rack.specs.History.{event, refused, IsOpenedBy, Notes};
 
 use crate::history::History;
 use crate::raw_call::RawCall;
@@ -27,7 +26,7 @@ impl RawFile {
         path: &str,
         how: &OpenOptions,
     ) -> Option<RawFile>
-        ensures { IfSome result (λ f. f.history.events ≡ opened path.now (asks_write how.now) (asks_create_new how.now) ∷ []) }
+        ensures { IfSome result (λ f. IsOpenedBy how.now path.now f.history.events) }
     {
         let file = how.open(rt, path).ok()?;
         let call = RawCall::Opened {
@@ -42,7 +41,7 @@ impl RawFile {
     /// are none.
     pub(crate) fn read(&mut self, off: u64, buf: &mut [u8]) -> Option<usize>
         ensures count { IfSome result (λ n. (0 < n) × (n ≤ length buf.old)) }
-        ensures noted { MatchOption result (self.new.history.events ≡ refused ∷ self.old.history.events) (λ n. self.new.history.events ≡ event (Read off) (take n buf.new) ∷ self.old.history.events) }
+        ensures noted { Notes (Read off) buf.new self.old.history.events self.new.history.events result }
     {
         match self.file.read_at(buf, off) {
             Ok(count) if count > 0 => {
@@ -59,7 +58,7 @@ impl RawFile {
     /// Writes a first part of the bytes from `off` on, and answers how many. `None`: it failed, or wrote none.
     pub(crate) fn store(&mut self, off: u64, bytes: &[u8]) -> Option<usize>
         ensures count { IfSome result (λ n. (0 < n) × (n ≤ length bytes.now)) }
-        ensures noted { MatchOption result (self.new.history.events ≡ refused ∷ self.old.history.events) (λ n. self.new.history.events ≡ event (Stored off) (take n bytes.now) ∷ self.old.history.events) }
+        ensures noted { Notes (Stored off) bytes.now self.old.history.events self.new.history.events result }
     {
         match self.file.write_at(bytes, off) {
             Ok(count) if count > 0 => {

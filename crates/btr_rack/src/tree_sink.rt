@@ -1,5 +1,5 @@
 // A sink of folders and files, as the engine sees it.
-ghost use Rattle.std.specs.Prelude.{◌≡◌, ◌≢◌, ◌<◌, ℕ, [], length, replicate};
+ghost use Rattle.std.specs.Prelude.{◌≡◌, ◌≢◌, ◌<◌, [], replicate};
 ghost use Rattle.btr_rack.specs.Out.{CallAccount, IsCalm, Counts};
 ghost use Rattle.btr_rack.specs.Sink.{Sink, NotStarted, BetweenFiles, InFile, Steps, Grows, IsSound, started, entered, left, begun, finished};
 

@@ -1,9 +1,9 @@
 -- The superblock of an image.
-use Rattle.std.specs.Prelude.{◌≡◌, ℕ, ◌+◌, nat_le, if◌then◌else◌, List, [], ◌∷◌, length, slice_get, Contains, Option, Some, None, Result, Ok, Err, MatchOption}
+use Rattle.std.specs.Prelude.{◌≡◌, ◌≢◌, ℕ, ◌+◌, nat_le, if◌then◌else◌, List, [], ◌∷◌, ◌++◌, length, IfSome, IfOk, slice_get, Contains, Option, Some, None, Result, Ok, Err, MatchOption}
 use Rattle.std.specs.List.{filter_map}
 use Rattle.std.specs.Result.{result_ok}
 use Rattle.btr_base.specs.Field.{bytes_at}
-use Rattle.btr_rack.specs.Rack.{Account, NoneFailed, OneFailed, range_in}
+use Rattle.btr_rack.specs.Rack.{Account, NoneFailed, OneFailed, range_in, image_of}
 use Rattle.btr_rack.specs.declared.error.RackError.{RackError}
 use Rattle.btr_super.specs.Super.{superblock}
 use Rattle.btr_super.specs.Newest.{newest, IsNewest}
@@ -67,7 +67,8 @@ FailedAt slot place old new (Err _) = OneFailed (range_in slot place 4096) old n
 -- a read of a superblock place failed, or none did
 abbrev pub FailedAtPlace : ℕ → Account → Account → Result Super SlotFault → Type 0
 FailedAtPlace slot old new (Ok _) = NoneFailed old new
-FailedAtPlace slot old new (Err Failed) = (place : ℕ) × Contains places place × OneFailed (range_in slot place 4096) old new × (new.shut ≡ old.shut)
+FailedAtPlace slot old new (Err Failed) =
+    (place : ℕ) × Contains places place × OneFailed (range_in slot place 4096) old new × (new.shut ≡ old.shut)
 FailedAtPlace slot old new (Err (SumKind n)) = NoneFailed old new
 FailedAtPlace slot old new (Err NoSuper) = NoneFailed old new
 
@@ -80,3 +81,20 @@ pub record IsSoFar (found : List (Result Super SuperFault)) (seen : Seen) : Type
 abbrev pub kind_then : Option ℕ → Option ℕ → Option ℕ
 kind_then None other = other
 kind_then (Some n) other = Some n
+
+-- where the bytes of the images are told, what was read is what stands in the copy at a place of a slot
+abbrev pub AnswersCopy : Option (List (List ℕ)) → ℕ → ℕ → Result (Result Super SuperFault) RackError → Type 0
+AnswersCopy held slot place result = IfSome held (λ images. Answers (bytes_at 4096 place (image_of images slot)) place result)
+
+-- one more place was looked at: what was seen of some places of the image is seen of them and this one
+abbrev pub LookedAt : List ℕ → ℕ → Seen → Seen → Type 0
+LookedAt image place seen after =
+    (before : List ℕ) → IsSoFar (standing image before) seen → IsSoFar (standing image (before ++ place ∷ [])) after
+
+-- the same where the bytes of the images are told, and the place could be read
+abbrev pub AnswersLook : Option (List (List ℕ)) → ℕ → ℕ → Seen → Result Seen SlotFault → Type 0
+AnswersLook held slot place seen result = IfOk result (λ after. IfSome held (λ images. LookedAt (image_of images slot) place seen after))
+
+-- where the bytes of the images are told, what isn't a failed read is the superblock of the image in a slot
+abbrev pub AnswersSlot : Option (List (List ℕ)) → ℕ → Result Super SlotFault → Type 0
+AnswersSlot held slot result = IfSome held (λ images. result ≢ Err Failed → image_super (image_of images slot) ≡ result)

@@ -1,8 +1,7 @@
 // The superblock of a slot.
-ghost use Rattle.std.specs.Prelude.{false, ◌≡◌, ◌≢◌, ◌+◌, ◌<◌, ◌≤◌, ℕ, [], ◌∷◌, ◌++◌, List, Ok, Err, length, slice_get, slice_range, IfSome, IfOk, IfErr, ◌^◌, IsErrOf, OnOk, OnErr, Option, Result, Some, None, MatchOption};
-ghost use Rattle.btr_rack.specs.Rack.{image_of, len_of, OnlyCounts};
-ghost use Rattle.btr_base.specs.Field.{bytes_at};
-ghost use Rattle.btr_super.specs.Slot.{Answers, FailedAt, FailedAtPlace, IsSoFar, image_super, kind_then, places, standing, slot_answer, sum_kind};
+ghost use Rattle.std.specs.Prelude.{false, ◌≡◌, ◌≢◌, ◌+◌, ◌<◌, ◌≤◌, [], ◌∷◌, ◌++◌, List, Ok, Err, length, IfErr, ◌^◌, OnErr, Option, Result, Some, None};
+ghost use Rattle.btr_rack.specs.Rack.{len_of, OnlyCounts};
+ghost use Rattle.btr_super.specs.Slot.{AnswersCopy, AnswersSlot, FailedAt, FailedAtPlace, AnswersLook, IsSoFar, kind_then, slot_answer, sum_kind};
 
 use crate::seen::Seen;
 use crate::{SlotFault, Super, SuperFault};
@@ -18,7 +17,7 @@ fn read_copy<R: Rack>(
 ) -> Result<Result<Super, SuperFault>, RackError>
     requires open { slot < length (R.seen rack.old).slots }
     requires range { place + 4096 ≤ len_of (R.seen rack.old).slots slot }
-    ensures found { IfSome (R.seen rack.old).held (λ images. Answers (bytes_at 4096 place (image_of images slot)) place result) }
+    ensures found { AnswersCopy (R.seen rack.old).held slot place result }
     ensures same { OnlyCounts (R.seen rack.old) (R.seen rack.new) }
     ensures account { FailedAt slot place (R.seen rack.old).account (R.seen rack.new).account result }
     ensures sure { OnErr result ((R.seen rack.old).sure ≡ false) }
@@ -104,8 +103,7 @@ fn answer(seen: Seen) -> Result<Super, SlotFault>
 fn look<R: Rack>(rack: &mut R, slot: usize, place: u64, seen: Seen) -> Result<Seen, SlotFault>
     requires open { slot < length (R.seen rack.old).slots }
     requires bound { place < 2 ^ 63 }
-    ensures seen { IfOk result (λ after. IfSome (R.seen rack.old).held (λ images. (before : List ℕ) → IsSoFar (standing (image_of images slot) before) seen
-        → IsSoFar (standing (image_of images slot) (before ++ place ∷ [])) after)) }
+    ensures seen { AnswersLook (R.seen rack.old).held slot place seen result }
     ensures fault { IfErr result (λ e. e ≡ SlotFault.Failed) }
     ensures same { OnlyCounts (R.seen rack.old) (R.seen rack.new) }
     ensures account { FailedAt slot place (R.seen rack.old).account (R.seen rack.new).account result }
@@ -126,7 +124,7 @@ fn look<R: Rack>(rack: &mut R, slot: usize, place: u64, seen: Seen) -> Result<Se
 /// say that no copy is valid.
 pub fn read_slot<R: Rack>(rack: &mut R, slot: usize) -> Result<Super, SlotFault>
     requires { slot < length (R.seen rack.old).slots }
-    ensures answer { IfSome (R.seen rack.old).held (λ images. result ≢ Err SlotFault.Failed → image_super (image_of images slot) ≡ result) }
+    ensures answer { AnswersSlot (R.seen rack.old).held slot result }
     ensures same { OnlyCounts (R.seen rack.old) (R.seen rack.new) }
     ensures account { FailedAtPlace slot (R.seen rack.old).account (R.seen rack.new).account result }
     ensures sure { result ≡ Err SlotFault.Failed → (R.seen rack.old).sure ≡ false }

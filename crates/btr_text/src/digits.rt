@@ -1,5 +1,5 @@
 // The digits of a number, without taking memory.
-ghost use Rattle.std.specs.Prelude.{◌≡◌, ◌≤◌, [], ◌∷◌, false, drop, take};
+ghost use Rattle.std.specs.Prelude.{◌≡◌, ◌≤◌, [], ◌∷◌, drop};
 ghost use Rattle.btr_text.specs.Pieces.{hex_text, octal_text, bytes_text};
 
 // The octal digits of a number: those of `bytes` from `start` on.

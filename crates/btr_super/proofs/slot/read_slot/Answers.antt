@@ -1,4 +1,4 @@
-use Rattle.std.proofs.Common.{refl, arith}
+use Rattle.std.proofs.Common.{refl}
 use Rattle.btr_super.proofs.Looks.{begins, ends}
 use Rattle.btr_super.proofs.slot.read_slot.Goals as goal
 

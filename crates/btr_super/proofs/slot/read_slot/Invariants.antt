@@ -1,4 +1,4 @@
-use Rattle.std.proofs.Common.{◌≡◌, take}
+use Rattle.std.proofs.Common.{take}
 use Rattle.std.specs.Option.{IfSome}
 use Rattle.btr_rack.specs.Rack.{image_of, NoneFailed, OnlyCounts}
 use Rattle.btr_super.specs.Slot.{IsSoFar, standing, places}

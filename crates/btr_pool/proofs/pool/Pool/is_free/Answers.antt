@@ -1,4 +1,4 @@
-use Rattle.std.proofs.Common.{subst, sym, ap, ◌∙◌}
+use Rattle.std.proofs.Common.{subst, sym}
 use Rattle.btr_pool.specs.Slots.{IsFree}
 use Rattle.btr_pool.proofs.Region.{free_when_found}
 use Rattle.btr_pool.proofs.pool.Pool.is_free.Goals as goal

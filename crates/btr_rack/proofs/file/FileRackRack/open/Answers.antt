@@ -1,4 +1,4 @@
-use Rattle.std.proofs.Common.{◌≡◌, arith, ap, ◌∙◌, sym}
+use Rattle.std.proofs.Common.{arith}
 use Rattle.btr_rack.proofs.Slots.{length_slots, slots_push}
 use Rattle.btr_rack.proofs.file.FileRackRack.open.Goals as goal
 

@@ -1,4 +1,4 @@
-use Rattle.std.proofs.Common.{◌≡◌, ap, ◌∙◌, refl}
+use Rattle.std.proofs.Common.{refl}
 use Rattle.btr_rack.proofs.Slots.{slots_set, same_seen}
 use Rattle.btr_rack.proofs.file.FileRackRack.read_at.Goals as goal
 

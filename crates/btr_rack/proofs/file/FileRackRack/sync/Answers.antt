@@ -1,4 +1,4 @@
-use Rattle.std.proofs.Common.{◌≡◌, ap, ◌∙◌, refl}
+use Rattle.std.proofs.Common.{ap, ◌∙◌, refl}
 use Rattle.btr_rack.specs.declared.place.Place.{Place}
 use Rattle.btr_rack.specs.Rack.{in_others}
 use Rattle.btr_rack.proofs.Slots.{slots_set, same_seen}

@@ -1,4 +1,3 @@
-use Rattle.std.proofs.Common.{◌≡◌, ap, ◌∙◌, refl}
 use Rattle.btr_rack.proofs.Slots.{slots_set, same_seen}
 use Rattle.btr_rack.proofs.file.FileRackRack.write_at.Goals as goal
 

@@ -1,4 +1,4 @@
-use Rattle.std.proofs.Common.{◌≡◌, ap, sym, ◌∙◌, is_some}
+use Rattle.std.proofs.Common.{ap, sym, ◌∙◌, is_some}
 use Rattle.btr_rack.specs.Sink.{started}
 use Rattle.btr_rack.specs.Told.{path_of}
 use Rattle.btr_rack.specs.FolderTree.{unstarted}

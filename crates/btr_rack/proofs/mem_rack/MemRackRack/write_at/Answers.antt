@@ -1,6 +1,6 @@
 use Rattle.std.proofs.Common.{◌≡◌, ◌<◌, ◌≤◌, ◌+◌, Some, false, inl, inr, ap, sym, ◌∙◌, subst, refl, length}
 use Rattle.btr_rack.specs.Rack.{len_of, range_in}
-use Rattle.btr_rack.specs.Memory.{MemoryRack, slots_of, is_calm, is_sure}
+use Rattle.btr_rack.specs.Memory.{MemoryRack, slots_of, is_calm}
 use Rattle.btr_rack.proofs.Racks.{open-front, overwritten, partly, torn, tears}
 use Rattle.btr_rack.proofs.Sures.{unsyncs, as_sure, write_struck, range_struck, unsure}
 use Rattle.btr_rack.proofs.mem_rack.MemRackRack.write_at.Goals as goal

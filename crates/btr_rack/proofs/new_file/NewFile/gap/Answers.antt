@@ -1,4 +1,4 @@
-use Rattle.std.proofs.Common.{arith, ◌≡◌, ℕ, ◌≤◌, ◌++◌, length, ap, ◌∙◌, replicate, rules}
+use Rattle.std.proofs.Common.{arith, ◌≤◌, ◌++◌, length, ap, ◌∙◌, replicate, rules}
 use Rattle.btr_rack.specs.History.{replay}
 use Rattle.btr_rack.specs.Growing.{contents}
 use Rattle.btr_rack.proofs.Stores.{gap_contents}

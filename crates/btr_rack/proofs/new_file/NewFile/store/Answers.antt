@@ -1,4 +1,4 @@
-use Rattle.std.proofs.Common.{arith, ◌≡◌, ℕ, ◌≤◌, ◌++◌, length, take, ap, ◌∙◌}
+use Rattle.std.proofs.Common.{arith, ◌≤◌, ◌++◌, length, take, ap, ◌∙◌}
 use Rattle.btr_rack.specs.History.{replay}
 use Rattle.btr_rack.specs.Growing.{written}
 use Rattle.btr_rack.proofs.Stores.{stores_made, made_some, made_zero}
