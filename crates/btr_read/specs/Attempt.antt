@@ -2,11 +2,13 @@
 use Rattle.std.specs.Prelude.{◌≡◌, ℕ, true, false, List, take, Option, Some, None, IfSome, slice_get}
 use Rattle.std.specs.List.{Any, Contains}
 use Rattle.btr_rack.specs.Rack.{Seen, NoneFailed, Rose}
+use Rattle.btr_chunk.specs.declared.place.Part.{Part}
 use Rattle.btr_read.specs.declared.attempt.Attempt.{Attempt}
 use Rattle.btr_read.specs.declared.attempt.Attempt.TheVariants.{Passed, Differs, Absent, Failed}
 use Rattle.btr_read.specs.declared.attempt.Outcome.{Outcome}
 use Rattle.btr_read.specs.declared.attempt.Outcome.TheVariants as outcome
 use Rattle.btr_read.specs.declared.candidate.Candidate.{Candidate}
+use Rattle.btr_read.specs.declared.candidate.Candidate.TheVariants.{Stands}
 use Rattle.btr_read.specs.Want.{passes}
 use Rattle.btr_read.specs.Candidates.{Target, size_of, candidates, stands, value_of}
 use Rattle.btr_read.specs.Fate.{passing}
@@ -14,10 +16,16 @@ use Rattle.btr_read.specs.Cause.{IsOf, IsMissed, IsUnread}
 
 -- one candidate: `slot` is what stands in the slot afterwards
 abbrev pub FitsAttempt : Target → Candidate → Option (List (List ℕ)) → List ℕ → Attempt → Type 0
-FitsAttempt t c held slot Passed = (stands t c ≡ true) × (passes t.setting t.want (take (size_of t) slot) ≡ true) × IfSome held (λ images. value_of images t c ≡ take (size_of t) slot)
+FitsAttempt t c held slot Passed =
+    (stands t c ≡ true) × (passes t.setting t.want (take (size_of t) slot) ≡ true)
+    × IfSome held (λ images. value_of images t c ≡ take (size_of t) slot)
 FitsAttempt t c held slot Differs = (stands t c ≡ true) × IfSome held (λ images. passes t.setting t.want (value_of images t c) ≡ false)
 FitsAttempt t c held slot Absent = stands t c ≡ false
 FitsAttempt t c held slot (Failed s) = stands t c ≡ true
+
+-- a part
+abbrev pub FitsPart : Target → Part → Option (List (List ℕ)) → List ℕ → Attempt → Type 0
+FitsPart t part held slot attempt = FitsAttempt t (Stands part) held slot attempt
 
 -- one candidate fails by one read, in a range that the candidate reads
 abbrev pub AccountsAttempt : Target → Candidate → Seen → Seen → Attempt → Type 0
@@ -44,5 +52,6 @@ pub record IsLater (t : Target) (old new : Seen) (bytes : List ℕ) : Type 0 whe
 abbrev pub FitsOutcome : Target → Seen → Seen → List ℕ → Outcome → Type 0
 FitsOutcome t old new slot outcome.First = IsFirst t old new (take (size_of t) slot)
 FitsOutcome t old new slot outcome.Later = IsLater t old new (take (size_of t) slot)
-FitsOutcome t old new slot outcome.Lost = NoneFailed old.account new.account × IfSome old.held (λ images. slice_get (passing images t) 0 ≡ None)
+FitsOutcome t old new slot outcome.Lost =
+    NoneFailed old.account new.account × IfSome old.held (λ images. slice_get (passing images t) 0 ≡ None)
 FitsOutcome t old new slot (outcome.Unread s) = IsUnread t old new s

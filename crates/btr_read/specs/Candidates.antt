@@ -56,7 +56,8 @@ rebuilt _ k i = []
 
 -- the candidates in their order
 abbrev pub candidates : Target → List Candidate
-candidates t = option_map_or copies (mirror_count t.chunk.profile (length t.chunk.stripes)) (rebuilt t.chunk.profile (slice_count t) t.at.index)
+candidates t =
+    option_map_or copies (mirror_count t.chunk.profile (length t.chunk.stripes)) (rebuilt t.chunk.profile (slice_count t) t.at.index)
 
 -- whether a candidate by parities, for slice i, reads a slice
 abbrev pub reads_slice : ℕ → Candidate → ℕ → Bool
@@ -89,9 +90,17 @@ range_of t part = let place = place_at t.chunk part t.at in range_on place.offse
 abbrev pub ranges_of : Target → Candidate → List Range
 ranges_of t candidate = filter_map (range_of t) (parts_read (slice_count t) t.at.index candidate)
 
+-- these parts stand
+abbrev pub parts_stand : Target → List Part → Bool
+parts_stand t parts = list_all (λ part. is_some (range_of t part)) parts
+
 -- a candidate stands: all that it reads does
 abbrev pub stands : Target → Candidate → Bool
-stands t candidate = list_all (λ part. is_some (range_of t part)) (parts_read (slice_count t) t.at.index candidate)
+stands t candidate = parts_stand t (parts_read (slice_count t) t.at.index candidate)
+
+-- whether a candidate by parities reads a slice that doesn't stand
+abbrev pub lacks_slice : Target → Candidate → ℕ → Bool
+lacks_slice t candidate slice = reads_slice t.at.index candidate slice && not (is_some (range_of t (Slice slice)))
 
 module _ (images : List (List ℕ)) (t : Target) where
   -- the bytes of a part

@@ -67,7 +67,8 @@ fate images layout want = fate_of images (addr_of want) (sought layout want)
 
 -- the candidates that stand and pass are equal
 abbrev pub Agree : List (List ℕ) → Layout → Want → Type 0
-Agree images layout want = (a b : List ℕ) → Contains (passing_for images (sought layout want)) a → Contains (passing_for images (sought layout want)) b → a ≡ b
+Agree images layout want =
+    (a b : List ℕ) → Contains (passing_for images (sought layout want)) a → Contains (passing_for images (sought layout want)) b → a ≡ b
 
 -- a want that makes no test
 abbrev pub is_plain : Want → Bool
@@ -83,7 +84,8 @@ chosen n xs = slice_get xs (if nat_lt n (length xs) then n else 0)
 -- of what is sought the candidate of a number where there is no test, else the first that stands and passes
 abbrev pub choice_of : List (List ℕ) → ℕ → Want → Result Target Fault → Result (List ℕ) Fault
 choice_of images n want (Err fault) = Err fault
-choice_of images n want (Ok t) = or_lost (addr_of want) (if is_plain want then chosen n (passing images t) else slice_get (passing images t) 0)
+choice_of images n want (Ok t) =
+    or_lost (addr_of want) (if is_plain want then chosen n (passing images t) else slice_get (passing images t) 0)
 
 -- what may become of a want, by choice: any candidate that stands where there is no test, else its fate
 abbrev pub choices : List (List ℕ) → ℕ → Layout → Want → Result (List ℕ) Fault

@@ -33,7 +33,8 @@ pub record IsUnreadFor (layout : Layout) (want : Want) (old new : Seen) (addr sl
 -- each answer with what it says of the want's fate. `store` is the store afterwards
 abbrev pub FitsFetch : Layout → Want → Seen → Seen → Blocks → Result Lent ReadFault → Type 0
 FitsFetch layout want old new store (Ok loan) = IsOk (sought layout want) × IsSomeAnd (block_of store loan) (IsFetched layout want old new)
-FitsFetch layout want old new store (Err (fault.Lost addr)) = (addr ≡ addr_of want) × IsOk (sought layout want) × IfSome old.held (λ images. fate images layout want ≡ Err (Lost addr))
+FitsFetch layout want old new store (Err (fault.Lost addr)) =
+    (addr ≡ addr_of want) × IsOk (sought layout want) × IfSome old.held (λ images. fate images layout want ≡ Err (Lost addr))
 FitsFetch layout want old new store (Err (fault.Unread addr slot)) = IsUnreadFor layout want old new addr slot
 FitsFetch layout want old new store (Err (fault.Unmapped addr)) = sought layout want ≡ Err (Unmapped addr)
 FitsFetch layout want old new store (Err (fault.Crosses addr)) = sought layout want ≡ Err (Crosses addr)
@@ -46,6 +47,10 @@ AccountsFetch layout want old new (Err (fault.Lost addr)) = NoneFailed (forgotte
 AccountsFetch layout want old new (Err (fault.Unread addr slot)) = ⊤
 AccountsFetch layout want old new (Err (fault.Unmapped addr)) = NoneFailed (forgotten old) new
 AccountsFetch layout want old new (Err (fault.Crosses addr)) = NoneFailed (forgotten old) new
+
+-- the same of what is seen of a rack
+abbrev pub CountsFetch : Layout → Want → Seen → Seen → Result Lent ReadFault → Type 0
+CountsFetch layout want old new result = AccountsFetch layout want old.account new.account result
 
 -- a block that a free slot keeps is had without a read
 abbrev pub ComesAgain : Want → Blocks → Account → Account → Result Lent ReadFault → Type 0
@@ -65,7 +70,8 @@ AnswersOf want store (Err (fault.Crosses addr)) B = B want ≡ Err (Crosses addr
 
 -- so far as the call was steady, it answers as the block map
 abbrev pub CallsFetch : Layout → Want → Seen → Seen → Blocks → Result Lent ReadFault → Type 0
-CallsFetch layout want old new store result = IsTested want → Calls (AgreedOn layout) (shown old) (shown new) (OnMap layout (AnswersOf want store result))
+CallsFetch layout want old new store result =
+    IsTested want → Calls (AgreedOn layout) (shown old) (shown new) (OnMap layout (AnswersOf want store result))
 
 -- what is sought, or why it has no position
 abbrev pub IsLocated : Result Target Fault → Result Target ReadFault → Type 0

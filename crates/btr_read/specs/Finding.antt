@@ -6,6 +6,7 @@ use Rattle.btr_read.specs.declared.attempt.Missed.{Missed}
 use Rattle.btr_read.specs.declared.attempt.Missed.TheVariants.{Lost, Unread}
 use Rattle.btr_read.specs.declared.fault.ReadFault.{ReadFault}
 use Rattle.btr_read.specs.declared.fault.ReadFault.TheVariants as fault
+use Rattle.btr_read.specs.declared.kept.Kept.{Kept}
 use Rattle.btr_read.specs.declared.want.Want.{Want}
 use Rattle.btr_read.specs.Candidates.{Target, size_of}
 use Rattle.btr_read.specs.Fate.{passing}
@@ -42,5 +43,11 @@ abbrev pub FitsFinding : Target → List (Option Want) → List (Option Want) �
 FitsFinding t wants wants' pool pool' old new (Ok slot) =
     (KeepsOneMore t wants wants' pool pool' slot × IsFirst t old new (take (size_of t) (bytes_at pool' slot)))
     ⊎ (StillKept wants wants' pool pool' × IsLater t old new (take (size_of t) (bytes_at pool' slot)))
-FitsFinding t wants wants' pool pool' old new (Err Lost) = StillKept wants wants' pool pool' × NoneFailed old.account new.account × IfSome old.held (λ images. slice_get (passing images t) 0 ≡ None)
+FitsFinding t wants wants' pool pool' old new (Err Lost) =
+    StillKept wants wants' pool pool' × NoneFailed old.account new.account
+    × IfSome old.held (λ images. slice_get (passing images t) 0 ≡ None)
 FitsFinding t wants wants' pool pool' old new (Err (Unread image)) = StillKept wants wants' pool pool' × IsUnread t old new image
+
+-- the same of what is known to stand in the slots
+abbrev pub Finds : Target → Kept → Kept → Slots → Slots → Seen → Seen → Result ℕ Missed → Type 0
+Finds t kept kept' pool pool' old new result = FitsFinding t kept.wants kept'.wants pool pool' old new result

@@ -29,3 +29,7 @@ AreOpen slots members = (devid : ℕ) (device : Device) → device_in members de
 -- no slot is that of two devices
 abbrev pub HaveOwnSlots : List Member → Type 0
 HaveOwnSlots members = (d e : ℕ) (a b : Device) → device_in members d ≡ Some a → device_in members e ≡ Some b → a.slot ≡ b.slot → d ≡ e
+
+-- these chunks, devices and what all blocks have in common
+abbrev pub layout_of : List Chunk → List Member → Setting → Layout
+layout_of chunks devices setting = record { chunks = chunks; devices = devices; setting = setting }

@@ -14,5 +14,6 @@ pub mod Finding
 pub mod Fetch
 pub mod Mirror
 pub mod Gathering
+pub mod Folding
 pub mod Values
 pub mod Trial

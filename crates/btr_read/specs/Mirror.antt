@@ -1,5 +1,5 @@
 -- What a try of one mirror answers.
-use Rattle.std.specs.Prelude.{◌≡◌, ℕ, true, false, List, length, Option, IfSome, IsSomeAnd, Result, Ok, Err}
+use Rattle.std.specs.Prelude.{◌≡◌, ℕ, true, false, List, length, Option, IfSome, IfOk, IsSomeAnd, Result, Ok, Err}
 use Rattle.btr_rack.specs.Rack.{Seen, NoneFailed}
 use Rattle.btr_chunk.specs.declared.place.Part.TheVariants.{Mirror}
 use Rattle.btr_chunk.specs.Mapping.{HasPart}
@@ -12,6 +12,8 @@ use Rattle.btr_read.specs.declared.mirror.TryFault.TheVariants.{Failed}
 use Rattle.btr_read.specs.declared.want.Want.{Want}
 use Rattle.btr_read.specs.Want.{passes}
 use Rattle.btr_read.specs.Candidates.{Target, stands, value_of}
+use Rattle.btr_read.specs.Layout.{Layout}
+use Rattle.btr_read.specs.Fate.{sought}
 use Rattle.btr_read.specs.Cause.{IsMissed}
 use Rattle.btr_read.specs.Store.{Blocks, IsLentBy, SameLoans, block_of}
 
@@ -46,3 +48,12 @@ LendsTried want old new (Ok (Passed loan)) = IsLentBy old new want loan
 LendsTried want old new (Ok Differs) = SameLoans old new
 LendsTried want old new (Ok Absent) = SameLoans old new
 LendsTried want old new (Err (Failed slot)) = SameLoans old new
+
+-- what a try of a mirror of a want answers, and what it does to the account, where the want has a position
+abbrev pub AnswersMirror : Layout → Want → ℕ → Option (List (List ℕ)) → Blocks → Result Tried TryFault → Type 0
+AnswersMirror layout want mirror held store result =
+    IfOk (sought layout want) (λ t. FitsTried t (mirror_candidate mirror) held store result)
+
+abbrev pub AccountsMirror : Layout → Want → ℕ → Seen → Seen → Result Tried TryFault → Type 0
+AccountsMirror layout want mirror old new result =
+    IfOk (sought layout want) (λ t. AccountsTried t (mirror_candidate mirror) old new result)

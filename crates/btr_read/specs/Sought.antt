@@ -1,5 +1,5 @@
 -- What each search keeps.
-use Rattle.std.specs.Prelude.{◌≡◌, ◌≢◌, ℕ, ◌<◌, ◌≤◌, List, [], ◌∷◌, length, IsNone}
+use Rattle.std.specs.Prelude.{◌≡◌, ◌≢◌, ℕ, ◌+◌, ◌<◌, ◌≤◌, List, [], ◌∷◌, length, slice_get, Some, IsNone}
 use Rattle.btr_chunk.specs.declared.chunk.Chunk.{Chunk}
 use Rattle.btr_chunk.specs.declared.position.Elements.{Elements}
 use Rattle.btr_chunk.specs.declared.place.Part.{Part}
@@ -12,7 +12,7 @@ use Rattle.btr_read.specs.declared.candidate.Candidate.TheVariants.{Stands, ByP,
 use Rattle.btr_read.specs.declared.parity.Parity.{Parity}
 use Rattle.btr_read.specs.declared.parity.Parity.TheVariants as parity
 use Rattle.btr_read.specs.declared.setting.Setting.{Setting}
-use Rattle.btr_read.specs.Candidates.{Target, slice_count}
+use Rattle.btr_read.specs.Candidates.{Target, rebuilt, slice_count}
 
 -- the position is one of the chunk, and a node has room for a header, and at most 65536 bytes
 pub record IsTarget (setting : Setting) (chunk : Chunk) (at : Elements) : Type 0 where
@@ -34,6 +34,10 @@ IsTwoParities k i (Stands part) = part ≡ Slice i
 IsTwoParities k i ByP = Unit {0}
 IsTwoParities k i ByQ = Unit {0}
 IsTwoParities k i (ByBoth j) = (j < k) × (j ≢ i)
+
+-- the candidate at a place in the order of those for slice i of a row with P and Q, however many slices it has
+abbrev pub IsInPlace : ℕ → ℕ → Candidate → Type 0
+IsInPlace i place c = (k : ℕ) → i < k → place < k + 2 → slice_get (rebuilt Raid6 k i) place ≡ Some c
 
 -- a candidate by parities, whose parts are there
 abbrev pub IsRebuilt : Target → Candidate → Type 0

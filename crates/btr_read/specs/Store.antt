@@ -1,6 +1,7 @@
 -- What a contract sees of a store and of its loans.
 use Rattle.std.specs.Prelude.{◌≡◌, ℕ, ◌+◌, ◌<◌, ◌≤◌, List, [], ◌∷◌, ◌++◌, length, take, drop, replicate, Option, Some, None, IsSome, IsSomeAnd, is_none, slice_index_or, slice_set, count_by}
 use Rattle.std.specs.Option.{option_map}
+use Rattle.btr_base.specs.declared.kind.SumKind.{SumKind}
 use Rattle.btr_chunk.specs.declared.chunk.Chunk.{Chunk}
 use Rattle.btr_pool.specs.Slots.{Slots}
 use Rattle.btr_read.specs.declared.device.Member.{Member}
@@ -90,13 +91,33 @@ pub record IsLiveIn (store : Blocks) (loan : Lent) : Type 0 where
 abbrev pub with_loan : Blocks → ℕ → Option (List ℕ) → Blocks
 with_loan store slot loan = record { layout = store.layout; loans = slice_set store.loans slot loan; kept = store.kept }
 
+-- the store of these chunks with no device, which keeps nothing
+abbrev pub store_of : List Chunk → SumKind → List ℕ → ℕ → Blocks
+store_of chunks kind fsid nodesize = record {
+  layout = record { chunks = chunks; devices = []; setting = record { kind = kind; fsid = fsid; nodesize = nodesize } };
+  loans = replicate 24 None;
+  kept = none_kept;
+}
+
 -- the store with other chunks, which keeps nothing
 abbrev pub with_chunks : Blocks → List Chunk → Blocks
-with_chunks store chunks = record { layout = record { chunks = chunks; devices = store.layout.devices; setting = store.layout.setting }; loans = store.loans; kept = none_kept }
+with_chunks store chunks = record {
+  layout = record { chunks = chunks; devices = store.layout.devices; setting = store.layout.setting };
+  loans = store.loans;
+  kept = none_kept;
+}
 
 -- the store with one more device, which keeps nothing
 abbrev pub with_member : Blocks → Member → Blocks
-with_member store member = record { layout = record { chunks = store.layout.chunks; devices = store.layout.devices ++ member ∷ []; setting = store.layout.setting }; loans = store.loans; kept = none_kept }
+with_member store member = record {
+  layout = record { chunks = store.layout.chunks; devices = store.layout.devices ++ member ∷ []; setting = store.layout.setting };
+  loans = store.loans;
+  kept = none_kept;
+}
+
+-- the store with one more device, by its id: the image of a length in a slot
+abbrev pub with_device : Blocks → ℕ → ℕ → ℕ → Blocks
+with_device store devid slot len = with_member store (record { devid = devid; device = record { slot = slot; len = len } })
 
 -- the store that keeps nothing
 abbrev pub without_kept : Blocks → Blocks

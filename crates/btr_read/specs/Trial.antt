@@ -1,6 +1,7 @@
 -- How far the candidates of a search were tried.
 use Rattle.std.specs.Prelude.{◌≡◌, ℕ, ◌<◌, ◌≤◌, Bool, true, false, List, length, take, slice_index_or, Option, Some, None, IfSome, Result, Ok, Err, is_none, if◌then◌else◌}
 use Rattle.std.specs.List.{All, Any, filter, filter_map}
+use Rattle.btr_pool.specs.Slots.{Slots, bytes_at}
 use Rattle.btr_rack.specs.Rack.{Seen, NoneFailed, Rose}
 use Rattle.btr_chunk.specs.declared.place.Part.{Part}
 use Rattle.btr_read.specs.declared.attempt.Outcome.{Outcome}
@@ -30,8 +31,11 @@ pub record TriedSoFar (t : Target) (before now : Seen) (failed : Option ℕ) (k 
   pub later : before.account.faults ≤ now.account.faults
   pub cause : CauseSoFar t before now failed
   pub only : All (λ missed. Any (IsOf t missed) (candidates t)) now.account.missed
-  pub enough : (images : List (List ℕ)) → before.held ≡ Some images → length (passing_of images t (take k (candidates t))) ≤ now.account.fresh
-  pub each : (images : List (List ℕ)) → before.held ≡ Some images → (j : ℕ) (d : Candidate) → j < k → Passes images t (slice_index_or (candidates t) j d) → Any (λ missed. IsOf t missed (slice_index_or (candidates t) j d)) now.account.missed
+  pub enough : (images : List (List ℕ)) → before.held ≡ Some images
+      → length (passing_of images t (take k (candidates t))) ≤ now.account.fresh
+  pub each : (images : List (List ℕ)) → before.held ≡ Some images → (j : ℕ) (d : Candidate) → j < k
+      → Passes images t (slice_index_or (candidates t) j d)
+      → Any (λ missed. IsOf t missed (slice_index_or (candidates t) j d)) now.account.missed
 
 -- a trial began when no fresh call had failed, with the same images
 pub record BeganAt (before now : Seen) : Type 0 where
@@ -49,13 +53,27 @@ ended_outcome (Some slot) = outcome.Unread slot
 
 -- bytes that were rebuilt are the candidate's, and were tested
 abbrev pub FitsSyndromes : Target → Candidate → Seen → List ℕ → Result Bool Unread → Type 0
-FitsSyndromes t c old slot (Ok test) = (passes t.setting t.want (take (size_of t) slot) ≡ test) × IfSome old.held (λ images. value_of images t c ≡ take (size_of t) slot)
+FitsSyndromes t c old slot (Ok test) =
+    (passes t.setting t.want (take (size_of t) slot) ≡ test) × IfSome old.held (λ images. value_of images t c ≡ take (size_of t) slot)
 FitsSyndromes t c old slot (Err unread) = Unit {0}
 
 -- a trial from its beginning on
 abbrev pub FitsTrial : Target → Seen → Seen → List ℕ → Trial → Type 0
 FitsTrial t before now slot (Ended outcome) = FitsOutcome t before now slot outcome
 FitsTrial t before now slot (Stopped tried unread) = TriedSoFar t before now (Some unread.slot) tried
+
+-- a trial, and its outcome, where the first k candidates had been tried when it began
+abbrev pub GoesOn : Target → Option ℕ → ℕ → Seen → Seen → Slots → ℕ → Trial → Type 0
+GoesOn t failed k old new pool slot trial =
+    (before : Seen) → BeganAt before old → TriedSoFar t before old failed k → FitsTrial t before new (bytes_at pool slot) trial
+
+abbrev pub EndsFrom : Target → Option ℕ → ℕ → Seen → Seen → Slots → ℕ → Outcome → Type 0
+EndsFrom t failed k old new pool slot outcome =
+    (before : Seen) → BeganAt before old → TriedSoFar t before old failed k → FitsOutcome t before new (bytes_at pool slot) outcome
+
+-- its outcome, where the read of a part had failed last
+abbrev pub EndsAround : Target → Unread → ℕ → Seen → Seen → Slots → ℕ → Outcome → Type 0
+EndsAround t unread k old new pool slot outcome = EndsFrom t (Some unread.slot) k old new pool slot outcome
 
 -- the part whose read stopped it
 abbrev pub IfStopped : (Part → Type 0) → Trial → Type 0

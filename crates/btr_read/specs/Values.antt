@@ -21,11 +21,14 @@ Solves images t (ByBoth j) X = (Y : List ℕ) × IsSlice (size_of t) Y × (fits_
 
 -- the parts that a candidate reads are as long as what is sought
 abbrev pub AreWhole : List (List ℕ) → Target → Candidate → Type 0
-AreWhole images t candidate = (part : Part) → Contains (parts_read (slice_count t) t.at.index candidate) part → IsSlice (size_of t) (element images t part)
+AreWhole images t candidate =
+    (part : Part) → Contains (parts_read (slice_count t) t.at.index candidate) part → IsSlice (size_of t) (element images t part)
 
 -- the value of a candidate by parities is the one slice that solves its equations
 abbrev pub ValueIsTheOne : Type 0
-ValueIsTheOne = (images : List (List ℕ)) (t : Target) (candidate : Candidate) → IsTarget t.setting t.chunk t.at → IsRebuilt t candidate → AreWhole images t candidate
+ValueIsTheOne =
+    (images : List (List ℕ)) (t : Target) (candidate : Candidate) → IsTarget t.setting t.chunk t.at → IsRebuilt t candidate
+    → AreWhole images t candidate
     → IsTheOne (size_of t) (Solves images t candidate) (value_of images t candidate)
 
 -- images that agree on a candidate's ranges give it the same value

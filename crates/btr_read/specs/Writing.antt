@@ -1,6 +1,6 @@
 -- What reading into slots may do to a pool.
 use Rattle.std.specs.Prelude.{◌≡◌, ◌≢◌, ℕ, true, false, List, [], ◌∷◌, length, slice_index_or, slice_set, Option, Some, None, IsSome, ◌≤◌, ◌+◌, ◌-◌, ◌^◌, min}
-use Rattle.btr_pool.specs.Slots.{Slots, IsLive, bytes_at}
+use Rattle.btr_pool.specs.Slots.{Slots, IsLive, IsFree, bytes_at}
 use Rattle.btr_read.specs.declared.want.Want.{Want}
 
 -- the loans stay as they are, and only one of them, and slots that are free, change their bytes
@@ -41,12 +41,20 @@ pub record AreFour (pool : Slots) (a b c d : ℕ) : Type 0 where
 
 -- what is still known to stand in the slots was known before, and its bytes stand
 abbrev pub StillKept : List (Option Want) → List (Option Want) → Slots → Slots → Type 0
-StillKept old_wants new_wants old new = (j : ℕ) (want : Want) → slice_index_or new_wants j None ≡ Some want → (slice_index_or old_wants j None ≡ Some want) × (bytes_at new j ≡ bytes_at old j)
+StillKept old_wants new_wants old new =
+    (j : ℕ) (want : Want) → slice_index_or new_wants j None ≡ Some want
+    → (slice_index_or old_wants j None ≡ Some want) × (bytes_at new j ≡ bytes_at old j)
+
+-- by the wants whose blocks stand in the slots: that of a want stands in no free slot
+abbrev pub NoneKeeps : Slots → List (Option Want) → Want → Type 0
+NoneKeeps pool wants want = (k : ℕ) → IsFree pool k → slice_index_or wants k None ≢ Some want
 
 -- by the wants whose blocks stand in the slots, and the times of their last use: a slot is to be written no later than
 -- another. What stands in it is forgotten only if something stands in the other too, and was used no earlier
 abbrev pub ComesFirst : List (Option Want) → List ℕ → ℕ → ℕ → Type 0
-ComesFirst wants used slot other = IsSome (slice_index_or wants slot None) → IsSome (slice_index_or wants other None) × (slice_index_or used slot 0 ≤ slice_index_or used other 0)
+ComesFirst wants used slot other =
+    IsSome (slice_index_or wants slot None)
+    → IsSome (slice_index_or wants other None) × (slice_index_or used slot 0 ≤ slice_index_or used other 0)
 
 -- by the times of the slots' last use, and what the times have counted up to: a slot is used at a time of its own, behind all others
 -- until the count stands still at its type's last value

@@ -2,12 +2,12 @@
 ghost use Rattle.std.specs.Prelude.{◌≡◌, ◌≤◌, [], IfOk, OnErr, length};
 ghost use Rattle.btr_pool.specs.Slots.{loans_of, free_count as free_slots};
 ghost use Rattle.btr_rack.specs.Rack.{OnlyReads};
-ghost use Rattle.btr_read.specs.Layout.{AreOpen};
+ghost use Rattle.btr_read.specs.Layout.{AreOpen, layout_of};
 ghost use Rattle.btr_read.specs.Candidates.{size_of};
 ghost use Rattle.btr_read.specs.Fate.{sought};
 ghost use Rattle.btr_read.specs.Store.{IsLentBy, SameLoans, free_count};
-ghost use Rattle.btr_read.specs.Fetch.{FitsFetch, AccountsFetch, CallsFetch, ComesAgain, KeepsLent, IsLocated};
-ghost use Rattle.btr_read.specs.Finding.{FitsFinding, SameShape, TakesFound};
+ghost use Rattle.btr_read.specs.Fetch.{FitsFetch, CountsFetch, CallsFetch, ComesAgain, KeepsLent, IsLocated};
+ghost use Rattle.btr_read.specs.Finding.{Finds, SameShape, TakesFound};
 ghost use Rattle.btr_read.specs.Serves.{Serves};
 
 use crate::attempt::{Missed, Outcome};
@@ -30,7 +30,7 @@ pub(crate) fn locate<'a>(
 ) -> Result<Search<'a>, ReadFault>
     requires large { 101 ≤ setting.nodesize }
     requires small { setting.nodesize ≤ 65536 }
-    ensures { IsLocated (sought (record { chunks = chunks.now; devices = devices.now; setting = setting }) want.now) result }
+    ensures { IsLocated (sought (layout_of chunks.now devices.now setting) want.now) result }
 {
     let addr = want.addr();
     let Some(chunk) = chunks.find(addr) else {
@@ -67,7 +67,7 @@ fn find<R: Rack>(
     ensures shape { SameShape pool.old pool.new }
     ensures taken { IfOk result (TakesFound pool.old pool.new) }
     ensures refused { OnErr result (loans_of pool.new ≡ loans_of pool.old) }
-    ensures found { FitsFinding search.now kept.old.wants kept.new.wants pool.old pool.new (R.seen rack.old) (R.seen rack.new) result }
+    ensures found { Finds search.now kept.old kept.new pool.old pool.new (R.seen rack.old) (R.seen rack.new) result }
 {
     let slot = take_least(pool, kept);
     match try_all(search, rack, pool, kept, &slot) {
@@ -106,7 +106,7 @@ pub fn fetch<R: Rack>(want: &Want, rack: &mut R, store: &mut Store) -> Result<Lo
     requires room { 4 ≤ free_count store.old }
     ensures serves { Serves (R.seen rack.new) store.new }
     ensures reads { OnlyReads (R.seen rack.old) (R.seen rack.new) }
-    ensures account { AccountsFetch store.old.layout want.now (R.seen rack.old).account (R.seen rack.new).account result }
+    ensures account { CountsFetch store.old.layout want.now (R.seen rack.old) (R.seen rack.new) result }
     ensures lent { IfOk result (IsLentBy store.old store.new want.now) }
     ensures refused { OnErr result (SameLoans store.old store.new) }
     ensures again { ComesAgain want.now store.old (R.seen rack.old).account (R.seen rack.new).account result }

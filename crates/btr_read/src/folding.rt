@@ -1,9 +1,8 @@
 // Slices that are added from slot to slot.
-ghost use Rattle.std.specs.Prelude.{◌≡◌, ◌≢◌, ℕ, ◌+◌, ◌≤◌, List, length, take, slice_range};
-ghost use Rattle.btr_parity.specs.Slices.{plus};
+ghost use Rattle.std.specs.Prelude.{◌≡◌, ◌≢◌, ℕ, ◌+◌, ◌≤◌, List, length};
 ghost use Rattle.btr_pool.specs.Slots.{IsLive, bytes_at, with_bytes};
 ghost use Rattle.btr_rack.specs.Rack.{pasted};
-ghost use Rattle.btr_read.specs.Gathering.{weighed};
+ghost use Rattle.btr_read.specs.Folding.{front_of, piece_of, with_piece, with_added_piece, AddsFront};
 
 use crate::parity::{Parity, add_range};
 use btr_pool::{Loan, Pool};
@@ -26,7 +25,7 @@ pub(crate) fn add_slot(
     requires fits { len ≤ pool.old.size }
     requires is_index { index ≤ 62 }
     ensures kept { (w : List ℕ) × (pool.new ≡ with_bytes pool.old sum.now w) }
-    ensures sum { take len (bytes_at pool.new sum.now) ≡ plus (take len (bytes_at pool.old sum.now)) (weighed parity index (take len (bytes_at pool.old slice.now))) }
+    ensures sum { AddsFront parity index len pool.old pool.new sum.now slice.now }
 {
     let mut buffer = [0; PIECE];
     let mut done = 0;
@@ -52,7 +51,7 @@ pub(crate) fn copy_slot(pool: &mut Pool, to: &Loan, from: &Loan, len: usize)
     requires apart { to.now ≢ from.now }
     requires fits { len ≤ pool.old.size }
     ensures kept { (w : List ℕ) × (pool.new ≡ with_bytes pool.old to.now w) }
-    ensures copy { take len (bytes_at pool.new to.now) ≡ take len (bytes_at pool.old from.now) }
+    ensures copy { front_of pool.new to.now len ≡ front_of pool.old from.now len }
 {
     let mut buffer = [0; PIECE];
     let mut done = 0;
@@ -68,9 +67,9 @@ fn copy_piece(pool: &mut Pool, to: &Loan, from: &Loan, start: usize, piece: &mut
     requires live { IsLive pool.old to.now }
     requires other_live { IsLive pool.old from.now }
     requires fits { start + length piece.old ≤ pool.old.size }
-    ensures copied { pool.new ≡ with_bytes pool.old to.now (pasted (bytes_at pool.old to.now) start (slice_range (bytes_at pool.old from.now) start (start + length piece.old))) }
+    ensures copied { pool.new ≡ with_piece pool.old to.now start (piece_of pool.old from.now start (length piece.old)) }
     ensures long { length (bytes_at pool.old to.now) ≡ pool.old.size }
-    ensures whole { length (slice_range (bytes_at pool.old from.now) start (start + length piece.old)) ≡ length piece.old }
+    ensures whole { length (piece_of pool.old from.now start (length piece.old)) ≡ length piece.old }
 {
     pool.copy_out(from, start, piece);
     put_range(pool.bytes_mut(to), start, piece);
@@ -98,9 +97,9 @@ fn add_piece(
     requires other_live { IsLive pool.old slice.now }
     requires fits { start + length piece.old ≤ pool.old.size }
     requires is_index { index ≤ 62 }
-    ensures added { pool.new ≡ with_bytes pool.old sum.now (pasted (bytes_at pool.old sum.now) start (plus (slice_range (bytes_at pool.old sum.now) start (start + length piece.old)) (weighed parity index (slice_range (bytes_at pool.old slice.now) start (start + length piece.old))))) }
+    ensures added { pool.new ≡ with_added_piece parity index pool.old sum.now slice.now start (length piece.old) }
     ensures long { length (bytes_at pool.old sum.now) ≡ pool.old.size }
-    ensures whole { length (slice_range (bytes_at pool.old slice.now) start (start + length piece.old)) ≡ length piece.old }
+    ensures whole { length (piece_of pool.old slice.now start (length piece.old)) ≡ length piece.old }
 {
     pool.copy_out(slice, start, piece);
     add_range(parity, pool.bytes_mut(sum), start, piece, index);

@@ -1,16 +1,16 @@
 // What the parities leave of lost slices.
-ghost use Rattle.std.specs.Prelude.{◌≡◌, ◌≢◌, ℕ, ◌<◌, ◌≤◌, List, [], ◌∷◌, length, take, OnOk, IfSome, IsSome, true};
+ghost use Rattle.std.specs.Prelude.{◌≡◌, ◌≢◌, ℕ, ◌<◌, ◌≤◌, List, [], ◌∷◌, length, OnOk, IsSome, true};
 ghost use Rattle.btr_chunk.specs.Mapping.{HasPart};
 ghost use Rattle.btr_chunk.specs.declared.place.Part.{Part};
 ghost use Rattle.btr_parity.specs.Slices.{IsSlice};
-ghost use Rattle.btr_pool.specs.Slots.{IsLive, bytes_at, with_bytes};
+ghost use Rattle.btr_pool.specs.Slots.{IsLive, with_bytes};
 ghost use Rattle.btr_read.specs.Layout.{AreOpen};
 ghost use Rattle.btr_read.specs.declared.candidate.Candidate.{Candidate};
 ghost use Rattle.btr_read.specs.declared.parity.Parity.{Parity};
-ghost use Rattle.btr_read.specs.Candidates.{size_of, slice_count, range_of, element, stands};
+ghost use Rattle.btr_read.specs.Candidates.{size_of, slice_count, range_of, stands};
 ghost use Rattle.btr_read.specs.Sought.{IsRebuilt, Uses};
 ghost use Rattle.btr_read.specs.Writing.{AreApart, OnlyWritesIn};
-ghost use Rattle.btr_read.specs.Gathering.{IsAdded, IsGathered, RowStands, AccountsPart, AccountsGather, AccountsRow};
+ghost use Rattle.btr_read.specs.Gathering.{front_for, HasElement, AddsSlice, HasGathered, RowStands, AccountsPart, AccountsGather, AccountsRow};
 ghost use Rattle.btr_rack.specs.Rack.{OnlyReads};
 
 use crate::attempt::Unread;
@@ -38,8 +38,8 @@ pub(crate) fn read_part<R: Rack>(
     requires fits { size_of search.now ≤ pool.old.size }
     ensures reads { OnlyReads (R.seen rack.old) (R.seen rack.new) }
     ensures kept { (w : List ℕ) × (pool.new ≡ with_bytes pool.old loan.now w) }
-    ensures bytes { OnOk result (IfSome (R.seen rack.old).held (λ images. take (size_of search.now) (bytes_at pool.new loan.now) ≡ element images search.now part)) }
-    ensures slice { OnOk result (IsSlice (size_of search.now) (take (size_of search.now) (bytes_at pool.new loan.now))) }
+    ensures bytes { OnOk result (HasElement (R.seen rack.old).held search.now part pool.new loan.now) }
+    ensures slice { OnOk result (IsSlice (size_of search.now) (front_for search.now pool.new loan.now)) }
     ensures account { AccountsPart search.now part (R.seen rack.old) (R.seen rack.new) result }
 {
     let Some(range) = search.range(part) else {
@@ -75,7 +75,7 @@ fn add_slice<R: Rack>(
     requires fits { size_of search.now ≤ pool.old.size }
     ensures reads { OnlyReads (R.seen rack.old) (R.seen rack.new) }
     ensures pool { OnlyWritesIn (spare.now ∷ sum.now ∷ []) pool.old pool.new }
-    ensures bytes { OnOk result (IfSome (R.seen rack.old).held (λ images. IsAdded images search.now slice parity (bytes_at pool.old sum.now) (bytes_at pool.new sum.now))) }
+    ensures bytes { OnOk result (AddsSlice (R.seen rack.old).held search.now slice parity sum.now pool.old pool.new) }
     ensures account { AccountsPart search.now (Part.Slice slice) (R.seen rack.old) (R.seen rack.new) result }
 {
     read_part(search, Part::Slice(slice), rack, pool, spare)?;
@@ -107,8 +107,8 @@ fn add_slice_to_both<R: Rack>(
     requires fits { size_of search.now ≤ pool.old.size }
     ensures reads { OnlyReads (R.seen rack.old) (R.seen rack.new) }
     ensures pool { OnlyWritesIn (q.now ∷ spare.now ∷ p.now ∷ []) pool.old pool.new }
-    ensures of_p { OnOk result (IfSome (R.seen rack.old).held (λ images. IsAdded images search.now slice Parity.P (bytes_at pool.old p.now) (bytes_at pool.new p.now))) }
-    ensures of_q { OnOk result (IfSome (R.seen rack.old).held (λ images. IsAdded images search.now slice Parity.Q (bytes_at pool.old q.now) (bytes_at pool.new q.now))) }
+    ensures of_p { OnOk result (AddsSlice (R.seen rack.old).held search.now slice Parity.P p.now pool.old pool.new) }
+    ensures of_q { OnOk result (AddsSlice (R.seen rack.old).held search.now slice Parity.Q q.now pool.old pool.new) }
     ensures account { AccountsPart search.now (Part.Slice slice) (R.seen rack.old) (R.seen rack.new) result }
 {
     read_part(search, Part::Slice(slice), rack, pool, spare)?;
@@ -138,7 +138,7 @@ pub(crate) fn gather<R: Rack>(
     requires fits { size_of search.now ≤ pool.old.size }
     ensures reads { OnlyReads (R.seen rack.old) (R.seen rack.new) }
     ensures pool { OnlyWritesIn (spare.now ∷ sum.now ∷ []) pool.old pool.new }
-    ensures bytes { OnOk result (IfSome (R.seen rack.old).held (λ images. IsGathered images search.now candidate parity (take (size_of search.now) (bytes_at pool.new sum.now)))) }
+    ensures bytes { OnOk result (HasGathered (R.seen rack.old).held search.now candidate parity pool.new sum.now) }
     ensures account { AccountsGather search.now candidate (R.seen rack.old) (R.seen rack.new) result }
     ensures sought { OnOk result ((search.now.at.index < slice_count search.now) × (slice_count search.now ≤ 63)) }
 {
@@ -169,8 +169,8 @@ pub(crate) fn gather_both<R: Rack>(
     requires fits { size_of search.now ≤ pool.old.size }
     ensures reads { OnlyReads (R.seen rack.old) (R.seen rack.new) }
     ensures pool { OnlyWritesIn (q.now ∷ spare.now ∷ p.now ∷ []) pool.old pool.new }
-    ensures of_p { OnOk result (IfSome (R.seen rack.old).held (λ images. IsGathered images search.now candidate Parity.P (take (size_of search.now) (bytes_at pool.new p.now)))) }
-    ensures of_q { OnOk result (IfSome (R.seen rack.old).held (λ images. IsGathered images search.now candidate Parity.Q (take (size_of search.now) (bytes_at pool.new q.now)))) }
+    ensures of_p { OnOk result (HasGathered (R.seen rack.old).held search.now candidate Parity.P pool.new p.now) }
+    ensures of_q { OnOk result (HasGathered (R.seen rack.old).held search.now candidate Parity.Q pool.new q.now) }
     ensures account { AccountsRow search.now candidate (R.seen rack.old) (R.seen rack.new) result }
     ensures sought { OnOk result ((search.now.at.index < slice_count search.now) × (slice_count search.now ≤ 63)) }
 {

@@ -1,8 +1,8 @@
 // Which tree blocks stand in the slots, from one loan to the next.
-ghost use Rattle.std.specs.Prelude.{◌≡◌, ◌≢◌, ◌<◌, ◌≤◌, ℕ, Some, None, IfSome, IfNone, IsSome, length, replicate, slice_index_or, slice_set, IsTrue, IsFalse};
+ghost use Rattle.std.specs.Prelude.{◌≡◌, ◌<◌, ℕ, Some, None, IfSome, IfNone, length, replicate, slice_index_or, slice_set};
 ghost use Rattle.btr_pool.specs.Slots.{IsFree, free_count, with_lent};
 ghost use Rattle.btr_read.specs.Store.{kept_want};
-ghost use Rattle.btr_read.specs.Writing.{ComesFirst, IsUsed};
+ghost use Rattle.btr_read.specs.Writing.{ComesFirst, IsUsed, NoneKeeps};
 
 use crate::Want;
 use btr_pool::{Loan, Pool};
@@ -75,7 +75,7 @@ impl Kept {
         ensures free { IfSome result (IsFree pool.now) }
         ensures there { IfSome result (λ slot. slot < 24) }
         ensures kept { IfSome result (λ slot. slice_index_or self.now.wants slot None ≡ Some want.now) }
-        ensures missing { IfNone result ((k : ℕ) → IsFree pool.now k → slice_index_or self.now.wants k None ≢ Some want.now) }
+        ensures missing { IfNone result (NoneKeeps pool.now self.now.wants want.now) }
     {
         for slot in 0..SLOTS {
             if pool.is_free(slot) && self.wants[slot] == Some(*want) {
@@ -85,8 +85,9 @@ impl Kept {
         None
     }
 
-    // Of the free slots the one to be written next: one in which no tree block is known to stand, and else the one that
-    // was used least lately. `first` is a free slot.
+    // Of the free slots the one to be written next: the first one in which no tree block is known to stand, and else the one
+    // that was used least lately. So sectors, which aren't kept, go into the same slot, which stays near the processor.
+    // `first` is a free slot.
     fn least(&self, pool: &Pool, first: usize) -> usize
         requires free { IsFree pool.now first }
         requires count { length pool.now.bytes ≡ 24 }
@@ -95,24 +96,16 @@ impl Kept {
     {
         let mut least = first;
         for slot in 0..SLOTS {
-            if pool.is_free(slot) && self.is_before(slot, least) {
-                least = slot;
+            if pool.is_free(slot) {
+                if self.wants[slot].is_none() {
+                    return slot;
+                }
+                if self.used[slot] < self.used[least] {
+                    least = slot;
+                }
             }
         }
         least
-    }
-
-    // Whether a slot is to be written before another.
-    fn is_before(&self, slot: usize, other: usize) -> bool
-        requires slot { slot < 24 }
-        requires other { other < 24 }
-        ensures yes { IsTrue result → ComesFirst self.now.wants self.now.used slot other }
-        ensures no { IsFalse result → ComesFirst self.now.wants self.now.used other slot }
-    {
-        if self.wants[other].is_none() {
-            return false;
-        }
-        self.wants[slot].is_none() || self.used[slot] < self.used[other]
     }
 }
 
@@ -159,7 +152,7 @@ pub(crate) fn lend_kept(want: &Want, pool: &mut Pool, kept: &mut Kept) -> Option
     ensures wants { kept.new.wants ≡ kept.old.wants }
     ensures used { IfSome result (λ slot. IsUsed kept.old.used kept.old.clock slot kept.new.used kept.new.clock) }
     ensures none { IfNone result (pool.new ≡ pool.old) }
-    ensures missing { IfNone result ((k : ℕ) → IsFree pool.old k → slice_index_or kept.old.wants k None ≢ Some want.now) }
+    ensures missing { IfNone result (NoneKeeps pool.old kept.old.wants want.now) }
 {
     let slot = kept.find(pool, want)?;
     kept.touch(slot);

@@ -1,7 +1,7 @@
-ghost use Rattle.std.specs.Prelude.{◌≡◌, ◌≤◌, IfOk, IsOkAnd};
+ghost use Rattle.std.specs.Prelude.{◌≤◌, IsOkAnd};
 ghost use Rattle.btr_read.specs.Fate.{sought};
 ghost use Rattle.btr_read.specs.Store.{free_count};
-ghost use Rattle.btr_read.specs.Mirror.{HasMirror, mirror_candidate, FitsTried, AccountsTried, LendsTried};
+ghost use Rattle.btr_read.specs.Mirror.{HasMirror, AnswersMirror, AccountsMirror, LendsTried};
 ghost use Rattle.btr_rack.specs.Rack.{OnlyReads};
 ghost use Rattle.btr_read.specs.Serves.{Serves};
 
@@ -51,8 +51,8 @@ pub fn try_mirror<R: Rack>(
     ensures serves { Serves (R.seen rack.new) store.new }
     ensures reads { OnlyReads (R.seen rack.old) (R.seen rack.new) }
     ensures lent { LendsTried want.now store.old store.new result }
-    ensures answer { IfOk (sought store.old.layout want.now) (λ t. FitsTried t (mirror_candidate mirror) (R.seen rack.old).held store.new result) }
-    ensures account { IfOk (sought store.old.layout want.now) (λ t. AccountsTried t (mirror_candidate mirror) (R.seen rack.old) (R.seen rack.new) result) }
+    ensures answer { AnswersMirror store.old.layout want.now mirror (R.seen rack.old).held store.new result }
+    ensures account { AccountsMirror store.old.layout want.now mirror (R.seen rack.old) (R.seen rack.new) result }
 {
     let Ok(search) = locate(want, store.setting, &store.chunks, &store.devices) else {
         unreachable!();

@@ -1,7 +1,6 @@
-ghost use Rattle.std.specs.Prelude.{◌≡◌, ◌+◌, ◌≤◌, length, slice_range};
-ghost use Rattle.btr_parity.specs.Slices.{plus};
-ghost use Rattle.btr_rack.specs.Rack.{pasted};
-ghost use Rattle.btr_read.specs.Gathering.{part_of, weighed};
+ghost use Rattle.std.specs.Prelude.{◌≡◌, ◌+◌, ◌≤◌, length};
+ghost use Rattle.btr_read.specs.Gathering.{part_of};
+ghost use Rattle.btr_read.specs.Folding.{with_added};
 
 use btr_chunk::Part;
 use btr_parity::{fold_p, fold_q};
@@ -29,7 +28,7 @@ impl Parity {
 pub(crate) fn add_range(parity: Parity, buffer: &mut [u8], start: usize, piece: &[u8], index: u8)
     requires fits { start + length piece.now ≤ length buffer.old }
     requires is_index { index ≤ 62 }
-    ensures { buffer.new ≡ pasted buffer.old start (plus (slice_range buffer.old start (start + length piece.now)) (weighed parity index piece.now)) }
+    ensures { buffer.new ≡ with_added parity index buffer.old start piece.now }
 {
     let range = &mut buffer[start..start + piece.len()];
     match parity {

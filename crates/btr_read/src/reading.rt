@@ -1,8 +1,9 @@
 // Reads into slots.
-ghost use Rattle.std.specs.Prelude.{◌≡◌, ℕ, ◌+◌, ◌<◌, ◌≤◌, List, length, take, OnOk, IfSome, IsErrOf};
+ghost use Rattle.std.specs.Prelude.{◌≡◌, ℕ, ◌+◌, ◌<◌, ◌≤◌, List, length, take, OnOk, IsErrOf};
 ghost use Rattle.std.specs.List.{All};
-ghost use Rattle.btr_rack.specs.Rack.{OnlyReads, FailsUnsure, len_of, bytes_of, Accounts};
+ghost use Rattle.btr_rack.specs.Rack.{OnlyReads, FailsUnsure, len_of, Accounts};
 ghost use Rattle.btr_pool.specs.Slots.{IsLive, bytes_at, with_bytes};
+ghost use Rattle.btr_read.specs.Reading.{AreBytesIn, HasRange};
 
 use btr_pool::{Loan, Pool};
 use btr_rack::{Place, Rack, RackError};
@@ -13,7 +14,7 @@ fn read_front<R: Rack>(rack: &mut R, range: Place, buf: &mut [u8]) -> Result<(),
     requires within { range.off + range.len ≤ len_of (R.seen rack.old).slots range.slot }
     requires fits { range.len ≤ length buf.old }
     ensures reads { OnlyReads (R.seen rack.old) (R.seen rack.new) }
-    ensures bytes { OnOk result (IfSome (R.seen rack.old).held (λ images. take range.len buf.new ≡ bytes_of images range.slot range.off range.len)) }
+    ensures bytes { OnOk result (AreBytesIn (R.seen rack.old).held range (take range.len buf.new)) }
     ensures account { Accounts range (R.seen rack.old).account (R.seen rack.new).account result }
     ensures sure { FailsUnsure (R.seen rack.old).sure result }
     ensures memory { IsErrOf result RackError.Memory → ⊥ }
@@ -35,7 +36,7 @@ pub(crate) fn read_into<R: Rack>(
     requires fits { range.len ≤ pool.old.size }
     ensures reads { OnlyReads (R.seen rack.old) (R.seen rack.new) }
     ensures kept { (w : List ℕ) × (pool.new ≡ with_bytes pool.old loan.now w) }
-    ensures bytes { OnOk result (IfSome (R.seen rack.old).held (λ images. take range.len (bytes_at pool.new loan.now) ≡ bytes_of images range.slot range.off range.len)) }
+    ensures bytes { OnOk result (HasRange (R.seen rack.old).held range pool.new loan.now) }
     ensures account { Accounts range (R.seen rack.old).account (R.seen rack.new).account result }
     ensures sure { FailsUnsure (R.seen rack.old).sure result }
     ensures memory { IsErrOf result RackError.Memory → ⊥ }

@@ -1,11 +1,11 @@
 // Candidates by parities.
-ghost use Rattle.std.specs.Prelude.{◌≡◌, ◌≢◌, ◌≤◌, [], ◌∷◌, take, true, OnOk, IfSome};
+ghost use Rattle.std.specs.Prelude.{◌≡◌, ◌≢◌, ◌≤◌, [], ◌∷◌, true, OnOk};
 ghost use Rattle.btr_pool.specs.Slots.{IsLive, bytes_at};
 ghost use Rattle.btr_read.specs.Layout.{AreOpen};
-ghost use Rattle.btr_read.specs.Candidates.{size_of, stands, value_of};
+ghost use Rattle.btr_read.specs.Candidates.{size_of, stands};
 ghost use Rattle.btr_read.specs.Sought.{IsRebuilt};
 ghost use Rattle.btr_read.specs.Attempt.{FitsAttempt, AccountsAttempt};
-ghost use Rattle.btr_read.specs.Gathering.{AccountsGather};
+ghost use Rattle.btr_read.specs.Gathering.{AccountsGather, HasPairValue, HasValue};
 ghost use Rattle.btr_read.specs.Writing.{AreApart, OnlyWritesIn};
 ghost use Rattle.btr_read.specs.declared.candidate.Candidate.{Candidate};
 ghost use Rattle.btr_rack.specs.Rack.{OnlyReads};
@@ -70,7 +70,7 @@ fn rebuild<R: Rack>(
     requires fits { size_of search.now ≤ pool.old.size }
     ensures reads { OnlyReads (R.seen rack.old) (R.seen rack.new) }
     ensures pool { OnlyWritesIn (q.now ∷ spare.now ∷ loan.now ∷ []) pool.old pool.new }
-    ensures value { OnOk result (IfSome (R.seen rack.old).held (λ images. value_of images search.now candidate ≡ take (size_of search.now) (bytes_at pool.new loan.now))) }
+    ensures value { OnOk result (HasValue (R.seen rack.old).held search.now candidate pool.new loan.now) }
     ensures account { AccountsGather search.now candidate (R.seen rack.old) (R.seen rack.new) result }
 {
     match candidate {
@@ -97,7 +97,7 @@ fn rebuild_by_p<R: Rack>(
     requires fits { size_of search.now ≤ pool.old.size }
     ensures reads { OnlyReads (R.seen rack.old) (R.seen rack.new) }
     ensures pool { OnlyWritesIn (spare.now ∷ loan.now ∷ []) pool.old pool.new }
-    ensures value { OnOk result (IfSome (R.seen rack.old).held (λ images. value_of images search.now Candidate.ByP ≡ take (size_of search.now) (bytes_at pool.new loan.now))) }
+    ensures value { OnOk result (HasValue (R.seen rack.old).held search.now Candidate.ByP pool.new loan.now) }
     ensures account { AccountsGather search.now Candidate.ByP (R.seen rack.old) (R.seen rack.new) result }
 {
     gather(search, Candidate::ByP, Parity::P, rack, pool, loan, spare)
@@ -119,7 +119,7 @@ fn rebuild_by_q<R: Rack>(
     requires fits { size_of search.now ≤ pool.old.size }
     ensures reads { OnlyReads (R.seen rack.old) (R.seen rack.new) }
     ensures pool { OnlyWritesIn (spare.now ∷ loan.now ∷ []) pool.old pool.new }
-    ensures value { OnOk result (IfSome (R.seen rack.old).held (λ images. value_of images search.now Candidate.ByQ ≡ take (size_of search.now) (bytes_at pool.new loan.now))) }
+    ensures value { OnOk result (HasValue (R.seen rack.old).held search.now Candidate.ByQ pool.new loan.now) }
     ensures account { AccountsGather search.now Candidate.ByQ (R.seen rack.old) (R.seen rack.new) result }
 {
     gather(search, Candidate::ByQ, Parity::Q, rack, pool, loan, spare)?;
@@ -144,7 +144,7 @@ fn rebuild_by_both<R: Rack>(
     requires fits { size_of search.now ≤ pool.old.size }
     ensures reads { OnlyReads (R.seen rack.old) (R.seen rack.new) }
     ensures pool { OnlyWritesIn (q.now ∷ spare.now ∷ p.now ∷ []) pool.old pool.new }
-    ensures value { OnOk result (IfSome (R.seen rack.old).held (λ images. value_of images search.now (Candidate.ByBoth other) ≡ take (size_of search.now) (bytes_at pool.new p.now))) }
+    ensures value { OnOk result (HasPairValue (R.seen rack.old).held search.now other pool.new p.now) }
     ensures account { AccountsGather search.now (Candidate.ByBoth other) (R.seen rack.old) (R.seen rack.new) result }
 {
     gather_both(search, Candidate::ByBoth(other), rack, pool, p, q, spare)?;

@@ -1,6 +1,6 @@
 ghost use Rattle.std.specs.Prelude.{◌≡◌, ℕ, ◌+◌, ◌<◌, slice_get, Some};
 ghost use Rattle.btr_read.specs.Candidates.{rebuilt};
-ghost use Rattle.btr_read.specs.Sought.{IsByParities, IsOneParity, IsTwoParities};
+ghost use Rattle.btr_read.specs.Sought.{IsByParities, IsInPlace, IsOneParity, IsTwoParities};
 
 use crate::Want;
 use crate::candidate::Candidate;
@@ -32,13 +32,12 @@ impl<'a> Model for Search<'a> {
 }
 
 impl Search<'_> {
-    ghost use Rattle.std.specs.Prelude.{◌≡◌, ◌<◌, ◌≤◌, ◌&&◌, ◌↔◌, IsTrue, true, not, length, slice_get, Some, IsNone, is_some};
+    ghost use Rattle.std.specs.Prelude.{◌≡◌, ◌<◌, ◌≤◌, ◌&&◌, ◌↔◌, IsTrue, true, length, slice_get, Some, IsNone};
     ghost use Rattle.btr_chunk.specs.Mapping.{HasPart};
     ghost use Rattle.btr_read.specs.Want.{passes};
     ghost use Rattle.btr_chunk.specs.declared.place.Part.{Part};
-    ghost use Rattle.std.specs.List.{list_all};
     ghost use Rattle.btr_chunk.specs.Chunk.{mirror_count};
-    ghost use Rattle.btr_read.specs.Candidates.{size_of, range_of, candidates, slice_count, slices_read, reads_slice, stands};
+    ghost use Rattle.btr_read.specs.Candidates.{size_of, range_of, candidates, slice_count, slices_read, reads_slice, parts_stand, stands, lacks_slice};
     ghost use Rattle.btr_read.specs.Sought.{CanTry, IsByParities, IsRebuilt, parities_read};
     ghost use Rattle.btr_read.specs.Gathering.{IsOfRow, RowStands};
 
@@ -108,7 +107,7 @@ impl Search<'_> {
     // Whether the parities stand that a candidate reads.
     fn parities_stand(&self, candidate: Candidate) -> bool
         requires { IsRebuilt self.now candidate }
-        ensures { result ≡ list_all (λ part. is_some (range_of self.now part)) (parities_read candidate) }
+        ensures { result ≡ parts_stand self.now (parities_read candidate) }
     {
         match candidate {
             Candidate::Stands(_) => true,
@@ -121,7 +120,7 @@ impl Search<'_> {
     // Whether the slices stand that a candidate reads.
     fn slices_stand(&self, candidate: Candidate) -> bool
         requires { IsRebuilt self.now candidate }
-        ensures { result ≡ list_all (λ part. is_some (range_of self.now part)) (slices_read (slice_count self.now) self.now.at.index candidate) }
+        ensures { result ≡ parts_stand self.now (slices_read (slice_count self.now) self.now.at.index candidate) }
     {
         for slice in 0..self.slice_count() {
             if self.lacks(candidate, slice) {
@@ -141,7 +140,7 @@ impl Search<'_> {
     // Whether a candidate by parities reads a slice that doesn't stand.
     fn lacks(&self, candidate: Candidate, slice: u32) -> bool
         requires { HasPart self.now.chunk.profile (length self.now.chunk.stripes) (Part.Slice slice) }
-        ensures { result ≡ (reads_slice self.now.at.index candidate slice && not (is_some (range_of self.now (Part.Slice slice)))) }
+        ensures { result ≡ lacks_slice self.now candidate slice }
     {
         self.reads(candidate, slice) && !self.range(Part::Slice(slice)).is_some()
     }
@@ -224,7 +223,7 @@ fn by_one_parity(index: u32, k: u32) -> Candidate
 
 // The candidate at a place in their order, for slice `index` of a row with P and Q.
 fn by_two_parities(index: u32, k: u32) -> Candidate
-    ensures value { (slices : ℕ) → index < slices → k < slices + 2 → slice_get (rebuilt Profile.Raid6 slices index) k ≡ Some result }
+    ensures value { IsInPlace index k result }
     ensures parts { (slices : ℕ) → index < slices → k < slices + 2 → IsTwoParities slices index result }
     ensures behind { 0 < k → IsByParities result }
 {

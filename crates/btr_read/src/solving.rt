@@ -1,12 +1,10 @@
 // Lost slices, from what the parities leave of them in slots.
-ghost use Rattle.std.specs.Prelude.{◌≡◌, ◌≢◌, ℕ, ◌+◌, ◌≤◌, List, [], ◌∷◌, length, take, slice_range};
-ghost use Rattle.btr_parity.specs.Slices.{plus};
+ghost use Rattle.std.specs.Prelude.{◌≡◌, ◌≢◌, ℕ, ◌+◌, ◌≤◌, List, [], ◌∷◌, length, take};
 ghost use Rattle.btr_read.specs.declared.parity.Parity.{Parity};
-ghost use Rattle.btr_read.specs.Gathering.{weighed};
+ghost use Rattle.btr_read.specs.Folding.{front_of, AddsTwice, SolvesFront, SolvesWith, SolvesPiece, SolvesRange};
 ghost use Rattle.btr_read.specs.Writing.{AreFour, OnlyWritesIn};
-ghost use Rattle.btr_parity.specs.Solutions.{IsTheOne, Weighs, WeighsWith};
+ghost use Rattle.btr_parity.specs.Solutions.{IsTheOne, Weighs};
 ghost use Rattle.btr_pool.specs.Slots.{IsLive, bytes_at, with_bytes};
-ghost use Rattle.btr_rack.specs.Rack.{pasted};
 
 use crate::folding::{PIECE, add_slot, copy_slot};
 use crate::parity::Parity;
@@ -27,7 +25,7 @@ pub(crate) fn divide(pool: &mut Pool, loan: &Loan, len: usize, index: u8)
     requires fits { len ≤ pool.old.size }
     requires is_index { index ≤ 62 }
     ensures kept { (w : List ℕ) × (pool.new ≡ with_bytes pool.old loan.now w) }
-    ensures one { IsTheOne len (Weighs index (take len (bytes_at pool.old loan.now))) (take len (bytes_at pool.new loan.now)) }
+    ensures one { IsTheOne len (Weighs index (front_of pool.old loan.now len)) (front_of pool.new loan.now len) }
 {
     let sum = pool.bytes_mut(loan);
     divide_front(sum, len, index);
@@ -43,7 +41,7 @@ pub(crate) fn solve(pool: &mut Pool, p: &Loan, q: &Loan, len: usize, index: u8, 
     requires is_other_index { other ≤ 62 }
     requires differ { index ≢ other }
     ensures kept { (w : List ℕ) × (pool.new ≡ with_bytes pool.old p.now w) }
-    ensures one { IsTheOne len (WeighsWith (take len (bytes_at pool.old p.now)) (take len (bytes_at pool.old q.now)) index other) (take len (bytes_at pool.new p.now)) }
+    ensures one { SolvesFront index other len pool.old pool.new p.now q.now }
 {
     let mut buffer = [0; PIECE];
     let mut done = 0;
@@ -72,8 +70,8 @@ pub(crate) fn solve_with(
     requires is_other_index { other ≤ 62 }
     requires differ { index ≢ other }
     ensures writes { OnlyWritesIn (q.now ∷ loan.now ∷ []) pool.old pool.new }
-    ensures one { IsTheOne len (WeighsWith (plus (take len (bytes_at pool.old p.now)) (take len (bytes_at pool.old slice.now))) (plus (take len (bytes_at pool.old q.now)) (weighed Parity.Q other (take len (bytes_at pool.old slice.now)))) index other) (take len (bytes_at pool.new loan.now)) }
-    ensures twice { take len (bytes_at pool.new q.now) ≡ plus (plus (take len (bytes_at pool.old q.now)) (weighed Parity.Q other (take len (bytes_at pool.old slice.now)))) (weighed Parity.Q other (take len (bytes_at pool.old slice.now))) }
+    ensures one { SolvesWith index other len pool.old pool.new loan.now p.now q.now slice.now }
+    ensures twice { AddsTwice other len pool.old pool.new q.now slice.now }
 {
     copy_slot(pool, loan, p, len);
     add_slot(Parity::P, pool, loan, slice, len, other);
@@ -98,7 +96,7 @@ fn solve_piece(
     requires is_index { index ≤ 62 }
     requires is_other_index { other ≤ 62 }
     requires differ { index ≢ other }
-    ensures solved { (X : List ℕ) × IsTheOne (length piece.old) (WeighsWith (slice_range (bytes_at pool.old p.now) start (start + length piece.old)) (slice_range (bytes_at pool.old q.now) start (start + length piece.old)) index other) X × (pool.new ≡ with_bytes pool.old p.now (pasted (bytes_at pool.old p.now) start X)) }
+    ensures solved { SolvesPiece index other pool.old pool.new p.now q.now start (length piece.old) }
     ensures long { length (bytes_at pool.old p.now) ≡ pool.old.size }
 {
     pool.copy_out(q, start, piece);
@@ -111,7 +109,7 @@ fn solve_range(p: &mut [u8], start: usize, q: &[u8], index: u8, other: u8)
     requires is_index { index ≤ 62 }
     requires is_other_index { other ≤ 62 }
     requires differ { index ≢ other }
-    ensures { (X : List ℕ) × IsTheOne (length q.now) (WeighsWith (slice_range p.old start (start + length q.now)) q.now index other) X × (p.new ≡ pasted p.old start X) }
+    ensures { SolvesRange index other p.old p.new start q.now }
 {
     rebuild_pq(&mut p[start..start + q.len()], q, index, other);
 }

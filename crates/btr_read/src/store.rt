@@ -1,6 +1,6 @@
-ghost use Rattle.std.specs.Prelude.{◌≡◌, ◌≤◌, IfOk, OnErr, IsNone, Some, None, [], length, replicate};
+ghost use Rattle.std.specs.Prelude.{◌≡◌, ◌≤◌, IfOk, OnErr, IsNone, Some, None, length};
 ghost use Rattle.btr_read.specs.Layout.{device_in};
-ghost use Rattle.btr_read.specs.Store.{IsLiveIn, block_of, free_count, none_kept, with_chunks, with_loan, with_member, without_kept};
+ghost use Rattle.btr_read.specs.Store.{IsLiveIn, block_of, free_count, store_of, with_chunks, with_device, with_loan, without_kept};
 
 use crate::device::{Device, Member, find_device};
 use crate::kept::{Kept, SLOTS};
@@ -50,7 +50,7 @@ impl Store {
     ) -> Result<Store, Memory>
         requires large { 4096 ≤ nodesize }
         requires small { nodesize ≤ 65536 }
-        ensures { IfOk result (λ store. store ≡ record { layout = record { chunks = chunks; devices = []; setting = record { kind = kind; fsid = fsid; nodesize = nodesize } }; loans = replicate 24 None; kept = none_kept }) }
+        ensures { IfOk result (λ store. store ≡ store_of chunks kind fsid nodesize) }
     {
         let pool = Pool::new(alloc, nodesize as usize, SLOTS)?;
         Ok(Store {
@@ -72,7 +72,7 @@ impl Store {
     /// `Memory`: the store is as before.
     pub fn add_device(&mut self, devid: u64, slot: usize, len: u64) -> Result<(), Memory>
         requires { IsNone (device_in self.old.layout.devices devid) }
-        ensures added { IfOk result (λ _. self.new ≡ with_member self.old (record { devid = devid; device = record { slot = slot; len = len } })) }
+        ensures added { IfOk result (λ _. self.new ≡ with_device self.old devid slot len) }
         ensures unchanged { OnErr result (self.new ≡ self.old) }
     {
         let member = Member {

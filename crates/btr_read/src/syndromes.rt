@@ -1,13 +1,13 @@
 // The candidates by parities of a row with P and Q, from what these leave of the slice that is sought: each less all other
 // slices. So all of them take two reads of each other slice at most.
-ghost use Rattle.std.specs.Prelude.{◌≡◌, ℕ, ◌<◌, ◌≤◌, [], ◌∷◌, List, take, Option, OnOk, IfOk, IfSome};
+ghost use Rattle.std.specs.Prelude.{◌≡◌, ◌<◌, ◌≤◌, [], ◌∷◌, Option, OnOk};
 ghost use Rattle.btr_pool.specs.Slots.{bytes_at};
-ghost use Rattle.btr_rack.specs.Rack.{OnlyReads, Seen};
+ghost use Rattle.btr_rack.specs.Rack.{OnlyReads};
 ghost use Rattle.btr_read.specs.Layout.{AreOpen};
-ghost use Rattle.btr_read.specs.Candidates.{size_of, slice_count, value_of};
+ghost use Rattle.btr_read.specs.Candidates.{size_of, slice_count};
 ghost use Rattle.btr_read.specs.Sought.{IsRebuilt};
-ghost use Rattle.btr_read.specs.Gathering.{AreSyndromes, RowStands, AccountsRow, IsOfRow};
-ghost use Rattle.btr_read.specs.Trial.{BeganAt, TriedSoFar, FitsSyndromes, FitsTrial, IfStopped};
+ghost use Rattle.btr_read.specs.Gathering.{HasPairValue, HasValue, HaveSyndromes, RowStands, AccountsRow, IsOfRow};
+ghost use Rattle.btr_read.specs.Trial.{FitsSyndromes, GoesOn, IfStopped};
 ghost use Rattle.btr_read.specs.Writing.{AreFour, OnlyWritesIn};
 ghost use Rattle.btr_read.specs.declared.candidate.Candidate.{Candidate};
 
@@ -39,7 +39,7 @@ pub(crate) fn try_row<R: Rack>(
     requires fits { size_of search.now ≤ pool.old.size }
     ensures reads { OnlyReads (R.seen rack.old) (R.seen rack.new) }
     ensures pool { OnlyWritesIn (q.now ∷ spare.now ∷ p.now ∷ loan.now ∷ []) pool.old pool.new }
-    ensures trial { (before : Seen) → BeganAt before (R.seen rack.old) → TriedSoFar search.now before (R.seen rack.old) failed 1 → FitsTrial search.now before (R.seen rack.new) (bytes_at pool.new loan.now) result }
+    ensures trial { GoesOn search.now failed 1 (R.seen rack.old) (R.seen rack.new) pool.new loan.now result }
     ensures part { IfStopped (IsOfRow search.now Candidate.ByP) result }
 {
     match gather_both(search, Candidate::ByP, rack, pool, p, q, spare) {
@@ -66,10 +66,10 @@ fn try_syndromes<R: Rack>(
     requires fits { size_of search.now ≤ pool.old.size }
     requires sought { search.now.at.index < slice_count search.now }
     requires few { slice_count search.now ≤ 63 }
-    requires syndromes { IfSome (R.seen rack.old).held (λ images. AreSyndromes images search.now (take (size_of search.now) (bytes_at pool.old p.now)) (take (size_of search.now) (bytes_at pool.old q.now))) }
+    requires syndromes { HaveSyndromes (R.seen rack.old).held search.now pool.old p.now q.now }
     ensures reads { OnlyReads (R.seen rack.old) (R.seen rack.new) }
     ensures pool { OnlyWritesIn (q.now ∷ spare.now ∷ loan.now ∷ []) pool.old pool.new }
-    ensures trial { (before : Seen) → BeganAt before (R.seen rack.old) → TriedSoFar search.now before (R.seen rack.old) failed 1 → FitsTrial search.now before (R.seen rack.new) (bytes_at pool.new loan.now) result }
+    ensures trial { GoesOn search.now failed 1 (R.seen rack.old) (R.seen rack.new) pool.new loan.now result }
     ensures part { IfStopped (IsOfRow search.now Candidate.ByP) result }
 {
     for k in 1..search.candidate_count() {
@@ -104,11 +104,11 @@ fn try_by_syndromes<R: Rack>(
     requires fits { size_of search.now ≤ pool.old.size }
     requires sought { search.now.at.index < slice_count search.now }
     requires few { slice_count search.now ≤ 63 }
-    requires syndromes { IfSome (R.seen rack.old).held (λ images. AreSyndromes images search.now (take (size_of search.now) (bytes_at pool.old p.now)) (take (size_of search.now) (bytes_at pool.old q.now))) }
+    requires syndromes { HaveSyndromes (R.seen rack.old).held search.now pool.old p.now q.now }
     ensures reads { OnlyReads (R.seen rack.old) (R.seen rack.new) }
     ensures pool { OnlyWritesIn (q.now ∷ spare.now ∷ loan.now ∷ []) pool.old pool.new }
     ensures value { FitsSyndromes search.now candidate (R.seen rack.old) (bytes_at pool.new loan.now) result }
-    ensures syndromes { OnOk result (IfSome (R.seen rack.old).held (λ images. AreSyndromes images search.now (take (size_of search.now) (bytes_at pool.new p.now)) (take (size_of search.now) (bytes_at pool.new q.now)))) }
+    ensures syndromes { OnOk result (HaveSyndromes (R.seen rack.old).held search.now pool.new p.now q.now) }
     ensures account { AccountsRow search.now Candidate.ByP (R.seen rack.old) (R.seen rack.new) result }
 {
     rebuild_by_syndromes(search, candidate, rack, pool, loan, p, q, spare)?;
@@ -133,11 +133,11 @@ fn rebuild_by_syndromes<R: Rack>(
     requires fits { size_of search.now ≤ pool.old.size }
     requires sought { search.now.at.index < slice_count search.now }
     requires few { slice_count search.now ≤ 63 }
-    requires syndromes { IfSome (R.seen rack.old).held (λ images. AreSyndromes images search.now (take (size_of search.now) (bytes_at pool.old p.now)) (take (size_of search.now) (bytes_at pool.old q.now))) }
+    requires syndromes { HaveSyndromes (R.seen rack.old).held search.now pool.old p.now q.now }
     ensures reads { OnlyReads (R.seen rack.old) (R.seen rack.new) }
     ensures pool { OnlyWritesIn (q.now ∷ spare.now ∷ loan.now ∷ []) pool.old pool.new }
-    ensures value { OnOk result (IfSome (R.seen rack.old).held (λ images. value_of images search.now candidate ≡ take (size_of search.now) (bytes_at pool.new loan.now))) }
-    ensures syndromes { OnOk result (IfSome (R.seen rack.old).held (λ images. AreSyndromes images search.now (take (size_of search.now) (bytes_at pool.new p.now)) (take (size_of search.now) (bytes_at pool.new q.now)))) }
+    ensures value { OnOk result (HasValue (R.seen rack.old).held search.now candidate pool.new loan.now) }
+    ensures syndromes { OnOk result (HaveSyndromes (R.seen rack.old).held search.now pool.new p.now q.now) }
     ensures account { AccountsRow search.now Candidate.ByP (R.seen rack.old) (R.seen rack.new) result }
 {
     let len = search.size();
@@ -175,11 +175,11 @@ fn solve_pair<R: Rack>(
     requires fits { size_of search.now ≤ pool.old.size }
     requires sought { search.now.at.index < slice_count search.now }
     requires few { slice_count search.now ≤ 63 }
-    requires syndromes { IfSome (R.seen rack.old).held (λ images. AreSyndromes images search.now (take (size_of search.now) (bytes_at pool.old p.now)) (take (size_of search.now) (bytes_at pool.old q.now))) }
+    requires syndromes { HaveSyndromes (R.seen rack.old).held search.now pool.old p.now q.now }
     ensures reads { OnlyReads (R.seen rack.old) (R.seen rack.new) }
     ensures pool { OnlyWritesIn (q.now ∷ spare.now ∷ loan.now ∷ []) pool.old pool.new }
-    ensures value { OnOk result (IfSome (R.seen rack.old).held (λ images. value_of images search.now (Candidate.ByBoth other) ≡ take (size_of search.now) (bytes_at pool.new loan.now))) }
-    ensures syndromes { OnOk result (IfSome (R.seen rack.old).held (λ images. AreSyndromes images search.now (take (size_of search.now) (bytes_at pool.new p.now)) (take (size_of search.now) (bytes_at pool.new q.now)))) }
+    ensures value { OnOk result (HasPairValue (R.seen rack.old).held search.now other pool.new loan.now) }
+    ensures syndromes { OnOk result (HaveSyndromes (R.seen rack.old).held search.now pool.new p.now q.now) }
     ensures account { AccountsRow search.now Candidate.ByP (R.seen rack.old) (R.seen rack.new) result }
 {
     read_part(search, Part::Slice(other), rack, pool, spare)?;

@@ -5,12 +5,12 @@ ghost use Rattle.btr_pool.specs.Slots.{IsLive, bytes_at, with_bytes, free_count}
 ghost use Rattle.btr_read.specs.Layout.{AreOpen};
 ghost use Rattle.btr_read.specs.Candidates.{size_of};
 ghost use Rattle.btr_read.specs.Sought.{CanTry, IsRebuilt};
-ghost use Rattle.btr_read.specs.Attempt.{FitsAttempt, AccountsAttempt, FitsOutcome};
+ghost use Rattle.btr_read.specs.Attempt.{FitsAttempt, FitsPart, AccountsAttempt, FitsOutcome};
 ghost use Rattle.btr_read.specs.declared.candidate.Candidate.{Candidate};
 ghost use Rattle.btr_read.specs.Writing.{OnlyWrites, StillKept};
 ghost use Rattle.btr_read.specs.Gathering.{IsOfRow, RowStands};
-ghost use Rattle.btr_read.specs.Trial.{BeganAt, TriedSoFar, FitsTrial, IfStopped};
-ghost use Rattle.btr_rack.specs.Rack.{OnlyReads, Seen};
+ghost use Rattle.btr_read.specs.Trial.{GoesOn, EndsFrom, EndsAround, IfStopped};
+ghost use Rattle.btr_rack.specs.Rack.{OnlyReads};
 
 use crate::attempt::{Attempt, Outcome, Trial, Unread, ended_after, passed_after};
 use crate::candidate::Candidate;
@@ -37,7 +37,7 @@ pub(crate) fn try_part<R: Rack>(
     requires fits { size_of search.now ≤ pool.old.size }
     ensures reads { OnlyReads (R.seen rack.old) (R.seen rack.new) }
     ensures kept { (w : List ℕ) × (pool.new ≡ with_bytes pool.old loan.now w) }
-    ensures attempt { FitsAttempt search.now (Candidate.Stands part) (R.seen rack.old).held (bytes_at pool.new loan.now) result }
+    ensures attempt { FitsPart search.now part (R.seen rack.old).held (bytes_at pool.new loan.now) result }
     ensures account { AccountsAttempt search.now (Candidate.Stands part) (R.seen rack.old) (R.seen rack.new) result }
 {
     let Some(range) = search.range(part) else {
@@ -137,7 +137,7 @@ fn try_from<R: Rack>(
     ensures reads { OnlyReads (R.seen rack.old) (R.seen rack.new) }
     ensures pool { OnlyWrites loan.now pool.old pool.new }
     ensures kept { StillKept kept.old.wants kept.new.wants pool.old pool.new }
-    ensures outcome { (before : Seen) → BeganAt before (R.seen rack.old) → TriedSoFar search.now before (R.seen rack.old) failed from → FitsOutcome search.now before (R.seen rack.new) (bytes_at pool.new loan.now) result }
+    ensures outcome { EndsFrom search.now failed from (R.seen rack.old) (R.seen rack.new) pool.new loan.now result }
 {
     for k in from..search.candidate_count() {
         match try_candidate(search, search.candidate(k), rack, pool, kept, loan) {
@@ -170,7 +170,7 @@ fn try_by_parities<R: Rack>(
     ensures reads { OnlyReads (R.seen rack.old) (R.seen rack.new) }
     ensures pool { OnlyWrites loan.now pool.old pool.new }
     ensures kept { StillKept kept.old.wants kept.new.wants pool.old pool.new }
-    ensures trial { (before : Seen) → BeganAt before (R.seen rack.old) → TriedSoFar search.now before (R.seen rack.old) failed 1 → FitsTrial search.now before (R.seen rack.new) (bytes_at pool.new loan.now) result }
+    ensures trial { GoesOn search.now failed 1 (R.seen rack.old) (R.seen rack.new) pool.new loan.now result }
     ensures part { IfStopped (IsOfRow search.now Candidate.ByP) result }
 {
     let p = take_least(pool, kept);
@@ -204,7 +204,7 @@ fn try_around<R: Rack>(
     ensures reads { OnlyReads (R.seen rack.old) (R.seen rack.new) }
     ensures pool { OnlyWrites loan.now pool.old pool.new }
     ensures kept { StillKept kept.old.wants kept.new.wants pool.old pool.new }
-    ensures outcome { (before : Seen) → BeganAt before (R.seen rack.old) → TriedSoFar search.now before (R.seen rack.old) (Some unread.slot) tried → FitsOutcome search.now before (R.seen rack.new) (bytes_at pool.new loan.now) result }
+    ensures outcome { EndsAround search.now unread tried (R.seen rack.old) (R.seen rack.new) pool.new loan.now result }
 {
     let other = search.candidate(search.without(unread.part));
     let last = match try_candidate(search, other, rack, pool, kept, loan) {
@@ -235,7 +235,7 @@ fn try_behind<R: Rack>(
     ensures reads { OnlyReads (R.seen rack.old) (R.seen rack.new) }
     ensures pool { OnlyWrites loan.now pool.old pool.new }
     ensures kept { StillKept kept.old.wants kept.new.wants pool.old pool.new }
-    ensures outcome { (before : Seen) → BeganAt before (R.seen rack.old) → TriedSoFar search.now before (R.seen rack.old) failed 1 → FitsOutcome search.now before (R.seen rack.new) (bytes_at pool.new loan.now) result }
+    ensures outcome { EndsFrom search.now failed 1 (R.seen rack.old) (R.seen rack.new) pool.new loan.now result }
 {
     if !search.row_stands() {
         return try_from(search, 1, failed, rack, pool, kept, loan);

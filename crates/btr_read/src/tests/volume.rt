@@ -1,9 +1,8 @@
 // Volumes in memory, and what is fetched from them.
 ghost use Rattle.std.specs.Prelude.{◌≡◌, ◌==◌, ◌≤◌, IsTrue, IfOk, OnErr};
 ghost use Rattle.std.specs.List.{list_any};
-ghost use Rattle.btr_rack.specs.Memory.{seen_of, slots_of};
+ghost use Rattle.btr_rack.specs.Memory.{slots_of};
 ghost use Rattle.btr_read.specs.Layout.{AreOpen, HaveOwnSlots};
-ghost use Rattle.btr_read.specs.Serves.{Serves};
 ghost use Rattle.btr_read.specs.Store.{IsLiveIn, IsLentBy, SameLoans, free_count};
 
 use super::shape::{ELEMENT, MIB, START, Shape, contains, place_of, set_of, stripe_start};

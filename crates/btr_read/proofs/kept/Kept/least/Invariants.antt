@@ -1,11 +1,12 @@
-use Rattle.std.proofs.Common.{ℕ, ◌<◌}
+use Rattle.std.proofs.Common.{ℕ, ◌<◌, ◌≤◌, get_or, None}
+use Rattle.std.specs.Prelude.{IsSome}
 use Rattle.btr_pool.specs.Slots.{IsFree}
-use Rattle.btr_read.specs.Writing.{ComesFirst}
 use Rattle.btr_read.proofs.kept.Kept.least.Given as goal
 
--- a free slot was found, to be written no later than the free ones so far
+-- in all free slots so far something stands, and a free one was found that was used no later than they
 abbrev pub invariant-loop-slot : goal.invariant-loop-slot
 invariant-loop-slot l = record {
   free : IsFree l.pool l.least;
-  least : (k : ℕ) → k < l.slot → IsFree l.pool k → ComesFirst l.self.wants l.self.used l.least k;
+  full : (k : ℕ) → k < l.slot → IsFree l.pool k → IsSome (get_or l.self.wants k None);
+  least : (k : ℕ) → k < l.slot → IsFree l.pool k → get_or l.self.used l.least 0 ≤ get_or l.self.used k 0;
 }
