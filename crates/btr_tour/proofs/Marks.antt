@@ -1,8 +1,8 @@
 -- Marks that are met, one after another.
-use Rattle.std.proofs.Common.{◌≡◌, List, [], ◌∷◌, fold, IsSomeAnd, Some, None, Result, Ok, Err, Bool, true, false, Option, refl, sym, ap, ◌∙◌, subst}
+use Rattle.std.proofs.Common.{◌≡◌, ◌∷◌, fold, IsSomeAnd, Some, None, Result, Ok, Err, Bool, true, false, Option, refl, sym, ap, ◌∙◌, subst}
 use Rattle.btr_read.specs.Fate as fate
 use Rattle.btr_read.specs.Store.{Blocks}
-use Rattle.btr_tour.specs.Steps.{reason, left, Meets, MeetsBlock}
+use Rattle.btr_tour.specs.Steps.{reason, left, Meets}
 use Rattle.btr_tour.specs.Place.{IsOn}
 use Rattle.btr_tour.specs.Tour as marks
 use Rattle.btr_tour.specs.Tour.{Mark, whole}
@@ -15,7 +15,7 @@ use Rattle.btr_walk.specs.Reading.{Map}
 use Rattle.btr_walk.specs.Showing.{item_of}
 use Rattle.btr_walk.specs.declared.folder.FoldFault.{FoldFault}
 use Rattle.btr_walk.specs.declared.place.RootPlace.{RootPlace}
-use Rattle.btr_tour.specs.Visits.{Shows, Takes, IsTaken, Goes, MeetsBy, IsMet, IsRun, Visits}
+use Rattle.btr_tour.specs.Visits.{Shows, IsTaken, Goes, IsMet, IsRun, Visits}
 
 module _ (B : Map) (old new : Blocks) (tour tour' : Tour) (same : tour'.scope ≡ tour.scope) where
   -- what was left is a mark that is shown, and then what is left

@@ -9,4 +9,6 @@ use Rattle.btr_tour.specs.Tour.{tour, items_met, faults_met}
 
 -- where a tour has no fault, the range comes to its end, and its items are the tour's
 abbrev pub FaultlessLaw : Type 0
-FaultlessLaw = (B : Map) (root : RootPlace) (lo hi : Key) → faults_met (tour lo hi B root) ≡ [] → (steps_of (exec B (range lo hi root)).marks ≡ items_met (tour lo hi B root)) × ((exec B (range lo hi root)).ending ≡ Ok tt)
+FaultlessLaw =
+    (B : Map) (root : RootPlace) (lo hi : Key) → faults_met (tour lo hi B root) ≡ []
+    → (steps_of (exec B (range lo hi root)).marks ≡ items_met (tour lo hi B root)) × ((exec B (range lo hi root)).ending ≡ Ok tt)

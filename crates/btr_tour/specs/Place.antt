@@ -30,7 +30,8 @@ module _ (lo hi : Key) where
   module _ (B : Map) where
     -- the tours of the children of a node of a level, those from child `from` on
     abbrev pub children_left : ℕ → Spot → ℕ → List Spot → List Mark
-    children_left level spot from spots = flat_map (child_tour lo hi (tour_at lo hi B (level - 1)) spot.addr (level - 1)) (filter (meets_keys lo hi) (drop from spots))
+    children_left level spot from spots =
+        flat_map (child_tour lo hi (tour_at lo hi B (level - 1)) spot.addr (level - 1)) (filter (meets_keys lo hi) (drop from spots))
 
     -- .. of a frame
     abbrev pub frame_left : ℕ → Frame → List Mark

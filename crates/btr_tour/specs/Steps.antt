@@ -24,6 +24,7 @@ use Rattle.btr_tour.specs.declared.frame.Frame.{Frame}
 use Rattle.btr_tour.specs.declared.leaf_at.LeafAt.{LeafAt}
 use Rattle.btr_tour.specs.declared.path.AtLevel.{AtLevel}
 use Rattle.btr_tour.specs.declared.place.Place.{Place}
+use Rattle.btr_tour.specs.declared.scope.Scope.{Scope}
 use Rattle.btr_tour.specs.declared.step.Advanced.{Advanced}
 use Rattle.btr_tour.specs.declared.step.Step.{Step}
 use Rattle.btr_tour.specs.declared.step.Step.TheVariants.{Block, Child, Item, Fault, End}
@@ -37,6 +38,10 @@ pub record IsFirstFrom {X : Type 0} (test : X → Bool) (xs : List X) (from at :
   pub behind : from ≤ at
   pub skipped : filter test (drop from xs) ≡ filter test (drop at xs)
   pub here : HoldsAt (λ x. test x ≡ true) xs at
+
+-- no entry from one on passes a test
+abbrev pub NoneFrom : {X : Type 0} → (X → Bool) → List X → ℕ → Type 0
+NoneFrom test xs from = filter test (drop from xs) ≡ []
 
 -- a leaf in hand: its loan is live, and its block is a good leaf
 pub record IsInHand (store : Blocks) (l : LeafAt) : Type 0 where
@@ -97,7 +102,7 @@ module _ (lo hi : Key) where
     pub next : IsFirstFrom (meets_keys lo hi) (child_spots ps spot.up) from frame.next
 
   abbrev pub FramesFrom : List KeyPointer → Spot → ℕ → Option Frame → Type 0
-  FramesFrom ps spot from None = filter (meets_keys lo hi) (drop from (child_spots ps spot.up)) ≡ []
+  FramesFrom ps spot from None = NoneFrom (meets_keys lo hi) (child_spots ps spot.up) from
   FramesFrom ps spot from (Some frame) = IsFrameFrom ps spot from frame
 
   -- the next child of a frame
@@ -120,7 +125,8 @@ module _ (lo hi : Key) where
     left store place leaf = leaf_left lo hi store leaf ++ place_left lo hi B place
 
     -- a good block was met; what is below it comes next, and can be passed
-    pub record MeetsBlock (sums : SumKind) (before : List Mark) (store : Blocks) (place : Place) (leaf : Option LeafAt) (at : RootPlace) (header : Header) : Type 0 where
+    pub record MeetsBlock (sums : SumKind) (before : List Mark) (store : Blocks) (place : Place) (leaf : Option LeafAt)
+        (at : RootPlace) (header : Header) : Type 0 where
       pub spot : Spot
       pub block : List ℕ
       pub node : Node
@@ -129,7 +135,9 @@ module _ (lo hi : Key) where
       pub at_is : at ≡ place_of at.level spot
       pub header_is : header ≡ header_of sums block
       pub met : before ≡ tour.Block at block ∷ left store place leaf
-      pub below : left store place leaf ≡ under lo hi (tour_at lo hi B (at.level - 1)) at.level spot node ++ left store (passed_place at.level place) (passed_leaf at.level leaf)
+      pub below :
+          left store place leaf
+          ≡ under lo hi (tour_at lo hi B (at.level - 1)) at.level spot node ++ left store (passed_place at.level place) (passed_leaf at.level leaf)
       pub on : IsOn lo hi B place
 
     -- one mark was met, and what is left comes behind
@@ -140,7 +148,9 @@ module _ (lo hi : Key) where
     -- the item at a place of the leaf in hand was met
     abbrev pub MeetsItem : List Mark → Blocks → Place → Option LeafAt → ℕ → Type 0
     MeetsItem before store place None at = ⊥
-    MeetsItem before store place (Some l) at = IsSomeAnd (block_of store l.loan) (λ block. HoldsAt (λ (item : NodeItem). Meets before store place (Some l) (tour.Item (tree_item l.addr item))) (items block) at)
+    MeetsItem before store place (Some l) at =
+        IsSomeAnd (block_of store l.loan)
+        (λ block. HoldsAt (λ (item : NodeItem). Meets before store place (Some l) (tour.Item (tree_item l.addr item))) (items block) at)
 
     -- a step of a tour that had this still to meet
     abbrev pub StepsBy : SumKind → List Mark → Blocks → Place → Option LeafAt → Result Step TreeFault → Type 0
@@ -154,6 +164,10 @@ module _ (lo hi : Key) where
     -- what a step does from a place
     abbrev pub Advances : SumKind → Place → List Mark → Blocks → Advanced → Type 0
     Advances sums old before store a = IsOn lo hi B old → StepsBy sums before store a.place a.leaf a.step
+
+-- what a step does within a scope, from a place with a leaf in hand or with none
+abbrev pub AdvancesIn : Scope → Map → Blocks → Place → Option LeafAt → Blocks → Advanced → Type 0
+AdvancesIn scope B old place leaf store a = Advances scope.lo scope.hi B scope.sums place (left scope.lo scope.hi B old place leaf) store a
 
 -- what is told whatever was read: an item stands in the leaf in hand; a loan is kept with an item or a good leaf alone; only
 -- a block that could not be read is refused, and then the place stays

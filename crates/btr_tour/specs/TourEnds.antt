@@ -51,10 +51,14 @@ without_leaf store tour = base store (loan_of tour.leaf)
 -- One mark is met, and what is left comes behind. Behind a good block comes what is below it, which can be passed. A block
 -- that could not be read is met again.
 abbrev pub NextBy : Map → Blocks → Blocks → Tour → Tour → Result (Option Met) TreeFault → Type 0
-NextBy B old new tour tour' (Ok (Some (Block place header))) = MeetsBlock tour.scope.lo tour.scope.hi B tour.scope.sums (left_of B old tour) new tour'.place tour'.leaf place header
-NextBy B old new tour tour' (Ok (Some (Child block place))) = Meets tour.scope.lo tour.scope.hi B (left_of B old tour) new tour'.place tour'.leaf (marks.Child block place)
-NextBy B old new tour tour' (Ok (Some (Item found))) = Meets tour.scope.lo tour.scope.hi B (left_of B old tour) new tour'.place tour'.leaf (marks.Item (item_of found))
-NextBy B old new tour tour' (Ok (Some (Fault f))) = IsSomeAnd (reason f) (λ fault. Meets tour.scope.lo tour.scope.hi B (left_of B old tour) new tour'.place tour'.leaf (marks.Left fault))
+NextBy B old new tour tour' (Ok (Some (Block place header))) =
+    MeetsBlock tour.scope.lo tour.scope.hi B tour.scope.sums (left_of B old tour) new tour'.place tour'.leaf place header
+NextBy B old new tour tour' (Ok (Some (Child block place))) =
+    Meets tour.scope.lo tour.scope.hi B (left_of B old tour) new tour'.place tour'.leaf (marks.Child block place)
+NextBy B old new tour tour' (Ok (Some (Item found))) =
+    Meets tour.scope.lo tour.scope.hi B (left_of B old tour) new tour'.place tour'.leaf (marks.Item (item_of found))
+NextBy B old new tour tour' (Ok (Some (Fault f))) =
+    IsSomeAnd (reason f) (λ fault. Meets tour.scope.lo tour.scope.hi B (left_of B old tour) new tour'.place tour'.leaf (marks.Left fault))
 NextBy B old new tour tour' (Ok None) = left_of B old tour ≡ []
 NextBy B old new tour tour' (Err f) = (left_of B old tour ≡ left_of B new tour') × IsUnderway B tour'
 

@@ -1,13 +1,12 @@
 // One step further.
-ghost use Rattle.std.specs.Prelude.{◌≡◌, ◌≤◌, Some, None, IfSome, ◌++◌};
+ghost use Rattle.std.specs.Prelude.{◌≤◌, Some, None, IfSome};
 ghost use Rattle.btr_rack.specs.Rack.{OnlyReads};
 ghost use Rattle.btr_read.specs.Serves.{Serves};
 ghost use Rattle.btr_read.specs.Store.{SameLoans, free_count};
 ghost use Rattle.btr_walk.specs.Lending.{base};
 ghost use Rattle.btr_walk.specs.Reading.{Tells};
-ghost use Rattle.btr_tour.specs.Place.{place_left, leaf_left};
 ghost use Rattle.btr_tour.specs.Shape.{IsShaped, rank_on, StepNears};
-ghost use Rattle.btr_tour.specs.Steps.{IsInHand, loan_of, HasStep, StepCause, Advances, left};
+ghost use Rattle.btr_tour.specs.Steps.{IsInHand, loan_of, HasStep, StepCause, AdvancesIn};
 
 use crate::entering::{enter, meet_child};
 use crate::leaf_at::LeafAt;
@@ -33,7 +32,8 @@ fn from_place<R: Rack>(place: &Place, scope: &Scope, rack: &mut R, store: &mut S
     ensures nears { StepNears (rank_on place.now None) (rank_on result.place result.leaf) result.step }
     ensures step { HasStep place.now result.place result.leaf result.step }
     ensures cause { StepCause store.old.layout (R.seen rack.old) (R.seen rack.new) result.step }
-    ensures content { Tells store.old.layout (R.seen rack.old) (R.seen rack.new) (λ B. Advances scope.now.lo scope.now.hi B scope.now.sums place.now (place_left scope.now.lo scope.now.hi B place.now) store.new result) }
+    ensures content { Tells store.old.layout (R.seen rack.old) (R.seen rack.new)
+        (λ B. AdvancesIn scope.now B store.old place.now None store.new result) }
 {
     match &place.todo {
         Some(todo) => enter(place, todo, scope, rack, store),
@@ -68,7 +68,8 @@ pub(crate) fn advance<R: Rack>(
     ensures nears { StepNears (rank_on place.now leaf) (rank_on result.place result.leaf) result.step }
     ensures step { HasStep place.now result.place result.leaf result.step }
     ensures cause { StepCause store.old.layout (R.seen rack.old) (R.seen rack.new) result.step }
-    ensures content { Tells store.old.layout (R.seen rack.old) (R.seen rack.new) (λ B. Advances scope.now.lo scope.now.hi B scope.now.sums place.now (left scope.now.lo scope.now.hi B store.old place.now leaf) store.new result) }
+    ensures content { Tells store.old.layout (R.seen rack.old) (R.seen rack.new)
+        (λ B. AdvancesIn scope.now B store.old place.now leaf store.new result) }
 {
     let Some(hand) = leaf else {
         return from_place(place, scope, rack, store);

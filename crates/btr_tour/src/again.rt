@@ -1,5 +1,5 @@
 // A node that is read again.
-ghost use Rattle.std.specs.Prelude.{◌≡◌, ◌<◌, ◌≤◌, length, IsTrue, IfOk};
+ghost use Rattle.std.specs.Prelude.{◌<◌, ◌≤◌, length, IsTrue, IfOk};
 ghost use Rattle.btr_node.specs.Block.{pointers, is_inner};
 ghost use Rattle.btr_rack.specs.Rack.{OnlyReads};
 ghost use Rattle.btr_read.specs.Serves.{Serves};
@@ -57,7 +57,8 @@ pub(crate) fn read_again<R: Rack>(
     ensures store { SameLoans store.old store.new }
     ensures fits { IfOk result (FitsBelow frame.now) }
     ensures cause { HasCause store.old.layout (R.seen rack.old) (R.seen rack.new) result }
-    ensures content { Tells store.old.layout (R.seen rack.old) (R.seen rack.new) (λ B. Rereads scope.now.lo scope.now.hi B level frame.now result) }
+    ensures content { Tells store.old.layout (R.seen rack.old) (R.seen rack.new)
+        (λ B. Rereads scope.now.lo scope.now.hi B level frame.now result) }
 {
     match read_block(level, &frame.spot, rack, store) {
         Err(fault) => Err(fault),

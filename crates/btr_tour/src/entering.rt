@@ -1,13 +1,12 @@
 // A block that is read on the way.
-ghost use Rattle.std.specs.Prelude.{◌≡◌, ◌<◌, ◌≤◌, length, IsTrue, IfSome, None, Some};
+ghost use Rattle.std.specs.Prelude.{◌≡◌, ◌<◌, ◌≤◌, IfSome, None, Some};
 ghost use Rattle.btr_rack.specs.Rack.{OnlyReads};
 ghost use Rattle.btr_read.specs.Serves.{Serves};
 ghost use Rattle.btr_read.specs.Store.{SameLoans, free_count};
 ghost use Rattle.btr_walk.specs.Lending.{base};
 ghost use Rattle.btr_walk.specs.Reading.{Tells};
-ghost use Rattle.btr_tour.specs.Place.{place_left};
 ghost use Rattle.btr_tour.specs.Shape.{IsShaped, rank_on, StepNears};
-ghost use Rattle.btr_tour.specs.Steps.{IsInHand, loan_of, left_out, IsLowest, HasStep, StepCause, Advances};
+ghost use Rattle.btr_tour.specs.Steps.{IsInHand, loan_of, left_out, IsLowest, HasStep, StepCause, AdvancesIn};
 
 use crate::again::read_again;
 use crate::frame::Todo;
@@ -75,7 +74,8 @@ pub(crate) fn enter<R: Rack>(
     ensures nears { StepNears (rank_on place.now None) (rank_on result.place result.leaf) result.step }
     ensures step { HasStep place.now result.place result.leaf result.step }
     ensures cause { StepCause store.old.layout (R.seen rack.old) (R.seen rack.new) result.step }
-    ensures content { Tells store.old.layout (R.seen rack.old) (R.seen rack.new) (λ B. Advances scope.now.lo scope.now.hi B scope.now.sums place.now (place_left scope.now.lo scope.now.hi B place.now) store.new result) }
+    ensures content { Tells store.old.layout (R.seen rack.old) (R.seen rack.new)
+        (λ B. AdvancesIn scope.now B store.old place.now None store.new result) }
 {
     let after = Place {
         path: place.path,
@@ -137,7 +137,8 @@ pub(crate) fn meet_child<R: Rack>(
     ensures nears { StepNears (rank_on place.now None) (rank_on result.place result.leaf) result.step }
     ensures step { HasStep place.now result.place result.leaf result.step }
     ensures cause { StepCause store.old.layout (R.seen rack.old) (R.seen rack.new) result.step }
-    ensures content { Tells store.old.layout (R.seen rack.old) (R.seen rack.new) (λ B. Advances scope.now.lo scope.now.hi B scope.now.sums place.now (place_left scope.now.lo scope.now.hi B place.now) store.new result) }
+    ensures content { Tells store.old.layout (R.seen rack.old) (R.seen rack.new)
+        (λ B. AdvancesIn scope.now B store.old place.now None store.new result) }
 {
     let level = low.at as u8;
     let frame = &low.frame;

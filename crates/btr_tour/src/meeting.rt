@@ -1,9 +1,9 @@
 // What of a block lies between two keys.
-ghost use Rattle.std.specs.Prelude.{◌≡◌, ◌≤◌, ◌&&◌, [], IfNone, IfSome, length, drop, filter};
+ghost use Rattle.std.specs.Prelude.{◌≡◌, ◌&&◌, IfNone, IfSome};
 ghost use Rattle.btr_base.specs.Key.{key_le};
 ghost use Rattle.btr_walk.specs.Range.{is_within};
 ghost use Rattle.btr_tour.specs.Tour.{child_spots, meets_keys};
-ghost use Rattle.btr_tour.specs.Steps.{IsFirstFrom, FramesFrom};
+ghost use Rattle.btr_tour.specs.Steps.{IsFirstFrom, NoneFrom, FramesFrom};
 
 use crate::frame::Frame;
 use crate::scope::Scope;
@@ -35,7 +35,7 @@ fn lies_within(key: Key, scope: &Scope) -> bool
 
 // The first child from child `from` on whose keys meet those of the scope.
 fn seek_child(inner: &Inner<'_>, up: Option<Key>, from: usize, scope: &Scope) -> Option<usize>
-    ensures none { IfNone result (filter (meets_keys scope.now.lo scope.now.hi) (drop from (child_spots inner.now up)) ≡ []) }
+    ensures none { IfNone result (NoneFrom (meets_keys scope.now.lo scope.now.hi) (child_spots inner.now up) from) }
     ensures some { IfSome result (IsFirstFrom (meets_keys scope.now.lo scope.now.hi) (child_spots inner.now up) from) }
 {
     for at in from..inner.count() {
@@ -48,7 +48,7 @@ fn seek_child(inner: &Inner<'_>, up: Option<Key>, from: usize, scope: &Scope) ->
 
 /// The first item from item `from` on that lies between the keys of the scope.
 pub(crate) fn seek_item(leaf: &Leaf<'_>, from: usize, scope: &Scope) -> Option<usize>
-    ensures none { IfNone result (filter (is_within scope.now.lo scope.now.hi) (drop from leaf.now) ≡ []) }
+    ensures none { IfNone result (NoneFrom (is_within scope.now.lo scope.now.hi) leaf.now from) }
     ensures some { IfSome result (IsFirstFrom (is_within scope.now.lo scope.now.hi) leaf.now from) }
 {
     for at in from..leaf.count() {

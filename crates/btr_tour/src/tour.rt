@@ -6,7 +6,6 @@ ghost use Rattle.btr_read.specs.Serves.{Serves};
 ghost use Rattle.btr_read.specs.Store.{Blocks, SameLoans, free_count};
 ghost use Rattle.btr_walk.specs.Reading.{Map};
 ghost use Rattle.btr_tour.specs.Tour.{tour};
-ghost use Rattle.btr_tour.specs.Place.{IsOn};
 ghost use Rattle.btr_tour.specs.Steps.{IsInHand, passed_leaf};
 ghost use Rattle.btr_tour.specs.TourEnds.{left_of, passed, without_leaf, rank_of, level_met, IsReady, IsUnderway, KeepsLeaf, NextNears, NextCause, TourEnds};
 

@@ -54,7 +54,8 @@ fn meet_next<R: Rack, E, V: Visitor<E>>(
     ensures nears { MetNears tour.old tour.new result }
     ensures unread { OnlyUnread result }
     ensures cause { FoldCause store.old.layout (R.seen rack.old) (R.seen rack.new) result }
-    ensures content { Tells store.old.layout (R.seen rack.old) (R.seen rack.new) (λ B. IsMet V.step B store.old store.new tour.old tour.new visitor.old visitor.new result) }
+    ensures content { Tells store.old.layout (R.seen rack.old) (R.seen rack.new)
+        (λ B. IsMet V.step B store.old store.new tour.old tour.new visitor.old visitor.new result) }
 {
     match next(store, tour, rack) {
         Err(fault) => Err(FoldFault::Tree(fault)),
@@ -77,7 +78,8 @@ fn run<R: Rack, E, V: Visitor<E>>(
     ensures others { SameLoans (without_leaf store.old tour.old) (without_leaf store.new tour.new) }
     ensures unread { OnlyUnread result }
     ensures cause { FoldCause store.old.layout (R.seen rack.old) (R.seen rack.new) result }
-    ensures content { Tells store.old.layout (R.seen rack.old) (R.seen rack.new) (λ B. IsRun V.step B store.old tour.old visitor.old visitor.new result) }
+    ensures content { Tells store.old.layout (R.seen rack.old) (R.seen rack.new)
+        (λ B. IsRun V.step B store.old tour.old visitor.old visitor.new result) }
 {
     loop {
         match meet_next(tour, rack, store, visitor) {
@@ -107,7 +109,8 @@ pub fn visit<R: Rack, E, V: Visitor<E>>(
     ensures loans { SameLoans store.old store.new }
     ensures unread { OnlyUnread result }
     ensures cause { FoldCause store.old.layout (R.seen rack.old) (R.seen rack.new) result }
-    ensures content { Tells store.old.layout (R.seen rack.old) (R.seen rack.new) (λ B. Visits V.step B root.now visitor.old visitor.new result) }
+    ensures content { Tells store.old.layout (R.seen rack.old) (R.seen rack.new)
+        (λ B. Visits V.step B root.now visitor.old visitor.new result) }
 {
     let mut tour = Tour::new(root, FIRST_KEY, LAST_KEY, sums);
     let ended = run(&mut tour, rack, store, visitor);

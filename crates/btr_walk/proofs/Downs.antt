@@ -1,5 +1,5 @@
 -- A key that is in a child of a node.
-use Rattle.std.proofs.Common.{◌≡◌, ℕ, zero, suc, ◌+◌, ◌-◌, ◌<◌, ◌≤◌, Bool, true, false, not, ◌&&◌, cond, eqb, List, [], ◌∷◌, ◌++◌, length, get_or, take, drop, All, Option, Some, None, IfSome, Ok, refl, sym, ap, ◌∙◌, subst, append_assoc, arith}
+use Rattle.std.proofs.Common.{◌≡◌, ℕ, zero, suc, ◌+◌, ◌-◌, ◌<◌, ◌≤◌, Bool, true, false, not, cond, eqb, List, [], ◌∷◌, ◌++◌, length, get_or, take, drop, All, Option, Some, None, IfSome, Ok, refl, sym, ap, ◌∙◌, subst, arith}
 use Rattle.std.specs.List.{list_all}
 use Rattle.std.proofs.lemmas.Bool.{and_parts, and_from, not-true, ltb-true, ltb-false, leb-true, le-leb, false≢true}
 use Rattle.std.proofs.lemmas.List.Elements.{All-cons, All-nil}
@@ -9,14 +9,12 @@ use Rattle.btr_node.specs.Block.{Item, KeyPointer, ascends, items, pointers, is_
 use Rattle.btr_node.specs.Node.{node_of}
 use Rattle.btr_node.specs.declared.node.Node.TheVariants.{Leaf, Inner}
 use Rattle.btr_node.proofs.Inners.{ascends-pointers}
-use Rattle.btr_prog.specs.Prog.{Wants, Run, run, first, prepend, exec}
-use Rattle.btr_read.specs.Fate as fate
-use Rattle.btr_read.specs.declared.want.Want.{Want}
+use Rattle.btr_prog.specs.Prog.{Wants, first, prepend, exec}
 use Rattle.btr_walk.specs.declared.frame.Frame.{Frame}
 use Rattle.btr_walk.specs.declared.place.RootPlace.{RootPlace}
 use Rattle.btr_walk.specs.declared.spot.Spot.{Spot}
 use Rattle.btr_walk.specs.Spot.{begins, is_below, is_from, spans, fits, fitting, item_keys, pointer_keys, judged}
-use Rattle.btr_walk.specs.Le.{TreeItem, below, up_of, want_of}
+use Rattle.btr_walk.specs.Le.{below, up_of, want_of}
 use Rattle.btr_walk.specs.Range.{RangeProg, over, range_at, range}
 use Rattle.btr_walk.specs.Reading.{Map}
 use Rattle.btr_walk.specs.Scans.{wants, pointers_in, frame_or_rest, KeepsLater, IsDown, IsBehind}
@@ -24,7 +22,7 @@ use Rattle.btr_walk.specs.Going.{path_prog, IsPast, LeadsTo}
 use Rattle.btr_walk.proofs.Belows.{over_at}
 use Rattle.btr_walk.proofs.Choosing.{over_none, over_skip}
 use Rattle.btr_walk.proofs.Entered.{enter_at}
-use Rattle.btr_walk.proofs.Leads.{wants-append}
+use Rattle.btr_walk.proofs.Leads.{one_past}
 use Rattle.btr_walk.proofs.Reaching.{all_above, below_less, fits_of}
 
 abbrev pointer_key : KeyPointer → Key
@@ -162,9 +160,6 @@ module _ (hi : Key) (B : Map) (level : ℕ) (node : Spot) (frame : Option Frame)
     node_then =
         subst (λ (l : ℕ). judged l node down.block ≡ Some (Inner ps) → B (want_of l node) ≡ Ok down.block → exec B (range_at key hi l node rest) ≡ first (Wants (want_of l node)) (exec B (over key hi go ps node.up rest))) (sym level_is) (λ is came. enter_at key hi B n node down.block is came rest) down.is down.came
         ∙ ap (λ p. first (Wants (want_of level node)) (exec B p)) over_child
-
-  one_past : (past : List Want) (w : Want) (r : Run Want fate.Fault TreeItem (Unit {0})) → prepend (wants past) (first (Wants w) r) ≡ prepend (wants (past ++ w ∷ [])) r
-  one_past past w r = ap (λ ms. run ms r.ending) (sym (append_assoc (wants past) (Wants w ∷ []) r.marks) ∙ ap (λ ms. ms ++ r.marks) (sym (wants-append past (w ∷ []))))
 
   -- where a new scan comes to the node, it comes to the child
   pub leads_down : (root : RootPlace) (n : ℕ) → level ≡ suc n → (frames : List (Option Frame)) → LeadsTo root hi B level node frames → IsPast B (range key hi root) (range_at key hi n child (path_prog key hi B n (frame ∷ frames)))

@@ -1,12 +1,12 @@
 -- A fold goes on as its scan does.
-use Rattle.std.proofs.Common.{◌≡◌, ℕ, List, [], ◌∷◌, ◌++◌, Option, Result, Ok, Err, refl, sym, ap, ◌∙◌, subst}
+use Rattle.std.proofs.Common.{◌≡◌, ℕ, List, [], ◌∷◌, ◌++◌, Result, Ok, Err, refl, sym, ap, subst}
 use Rattle.btr_prog.specs.Prog.{Prog, Mark, Wants, Does, Run, run, first, prepend, exec, after, steps_of, want_marks}
 use Rattle.btr_prog.specs.Thread.{go_on_run, thread_run, end_of}
 use Rattle.btr_prog.specs.Answers.{Halt, Fault, Follows, no_part}
 use Rattle.btr_prog.specs.Goes.{AfterTo, GoOnTo, ThreadsTo}
 use Rattle.btr_prog.proofs.Threads.{exec-thread}
 use Rattle.btr_prog.proofs.SoFars.{threads_exec}
-use Rattle.btr_prog.proofs.Cursors.{Treats, cursor_halts}
+use Rattle.btr_prog.proofs.Cursors.{cursor_halts}
 use Rattle.btr_read.specs.Fate as fate
 use Rattle.btr_read.specs.declared.want.Want.{Want}
 use Rattle.btr_walk.specs.Le.{TreeItem}

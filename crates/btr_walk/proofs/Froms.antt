@@ -1,18 +1,17 @@
 -- The items of a leaf in hand from a key on.
-use Rattle.std.proofs.Common.{◌≡◌, ℕ, zero, suc, ◌+◌, ◌-◌, ◌<◌, ◌≤◌, Bool, true, false, cond, List, [], ◌∷◌, length, take, drop, map, filter, All, Option, Some, None, IfSome, IsTrue, Ok, Err, refl, sym, ap, ◌∙◌, subst, arith}
-use Rattle.std.proofs.lemmas.Bool.{lt-leb, le-leb}
+use Rattle.std.proofs.Common.{◌≡◌, ◌⊎◌, inl, inr, ℕ, zero, suc, ◌+◌, ◌-◌, ◌<◌, ◌≤◌, true, false, cond, List, [], ◌∷◌, take, drop, map, All, Some, refl, sym, ap, ◌∙◌, subst, arith}
+use Rattle.std.proofs.lemmas.Bool.{cases_lt, lt-leb, le-leb}
 use Rattle.btr_base.specs.declared.key.Key.{Key}
 use Rattle.btr_base.specs.Key.{key_number, key_le}
-use Rattle.btr_node.specs.Block.{Item, items, is_leaf}
-use Rattle.btr_read.specs.Store.{Blocks, SameLoans, block_of}
-use Rattle.btr_read.specs.declared.want.Want.{Want}
+use Rattle.btr_node.specs.Block.{Item, items}
+use Rattle.btr_read.specs.Store.{Blocks, block_of}
 use Rattle.btr_walk.specs.declared.entering.LeafAt.{LeafAt}
-use Rattle.btr_walk.specs.declared.scan.Scan.{Scan}
 use Rattle.btr_walk.specs.Le.{TreeItem, tree_item}
-use Rattle.btr_walk.specs.Scans.{part_items}
-use Rattle.btr_walk.specs.Advancing.{IsInHand, hand_items}
-use Rattle.btr_walk.specs.ScanEnds.{from_key, IsFrom}
+use Rattle.btr_walk.specs.Scans.{part_items, from_key}
+use Rattle.btr_walk.specs.Advancing.{hand_items}
+use Rattle.btr_walk.specs.ScanEnds.{IsFrom}
 use Rattle.btr_walk.proofs.Belows.{all_later}
+use Rattle.btr_walk.proofs.Fetched.{some_block}
 use Rattle.btr_walk.proofs.Joined.{block_is}
 
 head_of : {X : Type 0} (P : X → Type 0) (x : X) (xs : List X) → All P (x ∷ xs) → P x
@@ -95,9 +94,15 @@ pub is_from : (store : Blocks) (l : LeafAt) (key : Key) (block : List ℕ) (at :
 is_from store l key block at is below from next e = record {
   loan = refl;
   spot = refl;
+  end = refl;
+  below = λ past. (omega (arith, e, past.0), some_block store l.loan block (λ b. All (λ i. key_number i.key < key_number key) (take next (items b))) is (passed (block_is store l.loan block (λ b. All (λ i. key_number i.key < key_number key) (take l.next (items b))) is past.1) (cases_lt l.next at)));
   fewer = omega (arith, e);
   items = ap (λ x. hand_items x (record { spot = l.spot; next = next; end = l.end; loan = l.loan })) is
       ∙ ap (λ (n : ℕ). part_items l.spot.addr block n l.end) e
       ∙ part_from key l.spot.addr block l.next at l.end below from
       ∙ ap (λ x. from_key key (hand_items x l)) (sym is);
 }
+  where
+    passed : All (λ i. key_number i.key < key_number key) (take l.next (items block)) → (l.next < at) ⊎ (at ≤ l.next) → All (λ i. key_number i.key < key_number key) (take next (items block))
+    passed past (inl lt) = let f : next ≡ at = omega (arith, e, lt) in subst (λ (n : ℕ). All (λ i. key_number i.key < key_number key) (take n (items block))) (sym f) below
+    passed past (inr le) = let f : next ≡ l.next = omega (arith, e, le) in subst (λ (n : ℕ). All (λ i. key_number i.key < key_number key) (take n (items block))) (sym f) past

@@ -1,7 +1,7 @@
 -- A block that could not be had ends what wanted it.
-use Rattle.std.proofs.Common.{◌≡◌, inl, inr, ℕ, zero, suc, List, [], ◌∷◌, ◌++◌, Option, None, Ok, Err, refl, sym, ap, subst, arith}
+use Rattle.std.proofs.Common.{◌≡◌, inl, inr, ℕ, zero, suc, List, [], ◌∷◌, ◌++◌, None, Ok, Err, refl, sym, subst, arith}
 use Rattle.std.specs.List.{Contains}
-use Rattle.btr_prog.specs.Prog.{Prog, Need, Wants, Run, run, first, given, exec}
+use Rattle.btr_prog.specs.Prog.{Prog, Need, Wants, run, first, given, exec}
 use Rattle.btr_prog.specs.Answers.{Fault, Unread, Names, Follows, no_part}
 use Rattle.btr_read.specs.Fate as fate
 use Rattle.btr_read.specs.Store.{Blocks}

@@ -19,7 +19,7 @@ use Rattle.btr_walk.specs.declared.spot.Spot.{Spot}
 use Rattle.btr_walk.specs.Spot.{judged}
 use Rattle.btr_walk.specs.Le.{tree_item, root_spot, le, want_of, le_item, le_child}
 use Rattle.btr_walk.specs.Reading.{Map, UnreadBlock, Tells, halt_of, answer_of, Reads, IsGoodFor}
-use Rattle.btr_walk.specs.Finding.{Finds, LendsLeaf}
+use Rattle.btr_walk.specs.Finding.{LendsLeaf}
 use Rattle.btr_walk.specs.Reach.{next_key, FindsAndReaches, SameUpTo}
 use Rattle.btr_walk.proofs.Fetched.{some_block}
 use Rattle.btr_walk.proofs.Reaching.{Carries, carries_down, carries_end}

@@ -1,13 +1,13 @@
 -- A scan that goes on at a key, below a node of its path or at the root.
-use Rattle.std.proofs.Common.{◌≡◌, inl, inr, ℕ, zero, suc, ◌+◌, ◌-◌, ◌<◌, ◌≤◌, Bool, true, false, ◌&&◌, cond, List, [], ◌∷◌, length, get_or, set, drop, replicate, All, Option, Some, None, IfSome, refl, sym, ap, ◌∙◌, subst, arith}
+use Rattle.std.proofs.Common.{◌≡◌, inl, inr, ℕ, zero, suc, ◌+◌, ◌-◌, ◌<◌, ◌≤◌, true, false, cond, List, [], ◌∷◌, length, get_or, set, drop, replicate, All, Option, Some, None, IfSome, refl, sym, ap, ◌∙◌, subst, arith}
 use Rattle.std.proofs.lemmas.Bool.{cases_eq, cases_lt, and_parts}
 use Rattle.std.proofs.lemmas.Grind.{drop_more_same}
 use Rattle.std.proofs.lemmas.List.{get_or-set_same, get_or-set_other, get_or-drop, drop-set-lt, drop-drop, length-set}
 use Rattle.std.proofs.lemmas.Option.{IfSome_then}
 use Rattle.btr_base.specs.declared.key.Key.{Key}
 use Rattle.btr_base.specs.Key.{key_number}
-use Rattle.btr_node.specs.Block.{KeyPointer, pointers}
-use Rattle.btr_prog.specs.Prog.{Return, exec}
+use Rattle.btr_node.specs.Block.{KeyPointer}
+use Rattle.btr_prog.specs.Prog.{exec}
 use Rattle.btr_read.specs.declared.want.Want.{Want}
 use Rattle.btr_walk.specs.declared.frame.Frame.{Frame}
 use Rattle.btr_walk.specs.declared.frame.Todo.{Todo}
@@ -20,7 +20,7 @@ use Rattle.btr_walk.specs.Range.{RangeProg, range_at, range}
 use Rattle.btr_walk.specs.Reading.{Map}
 use Rattle.btr_walk.specs.Ranks.{IsShaped, FrameFits}
 use Rattle.btr_walk.specs.Scans.{pointers_in, IsFrame, IsBehind}
-use Rattle.btr_walk.specs.Going.{LieBehind, path_prog, place_prog, IsPast, LeadsTo, IsUnder, rejoined, IsBound, IsAlong}
+use Rattle.btr_walk.specs.Going.{LieBehind, path_prog, place_prog, IsPast, LeadsTo, IsUnder, rejoined, IsAlong}
 use Rattle.btr_walk.specs.Rejoining.{Rejoins}
 use Rattle.btr_walk.proofs.Paths.{path_bare, path_none}
 

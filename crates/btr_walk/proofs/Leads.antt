@@ -1,7 +1,7 @@
 -- How far a scan has come on its way to the next leaf.
 use Rattle.std.proofs.Common.{◌≡◌, ℕ, ◌<◌, ◌≤◌, List, [], ◌∷◌, ◌++◌, Option, Some, None, IsSomeAnd, Result, Ok, Err, refl, sym, ap, ◌∙◌, subst, append-nil, append_assoc}
 use Rattle.btr_base.specs.declared.key.Key.{Key}
-use Rattle.btr_prog.specs.Prog.{Wants, run, prepend, exec, steps_of, wants_of}
+use Rattle.btr_prog.specs.Prog.{Wants, Run, run, first, prepend, exec, steps_of, wants_of}
 use Rattle.btr_prog.specs.Answers.{Halt, Follows, no_part}
 use Rattle.btr_prog.proofs.Follow.{follows_as, follows_behind}
 use Rattle.btr_read.specs.Fate as fate
@@ -34,6 +34,9 @@ steps_back (w ∷ ws) = steps_back ws
 pub wants-append : (xs ys : List Want) → wants (xs ++ ys) ≡ wants xs ++ wants ys
 wants-append [] ys = refl
 wants-append (w ∷ xs) ys = ap (λ x. Wants w ∷ x) (wants-append xs ys)
+
+pub one_past : (past : List Want) (w : Want) (r : Run Want fate.Fault TreeItem (Unit {0})) → prepend (wants past) (first (Wants w) r) ≡ prepend (wants (past ++ w ∷ [])) r
+one_past past w r = ap (λ ms. run ms r.ending) (sym (append_assoc (wants past) (Wants w ∷ []) r.marks) ∙ ap (λ ms. ms ++ r.marks) (sym (wants-append past (w ∷ []))))
 
 module _ (lo hi : Key) (B : Map) where
   -- from whatever was seen before
@@ -70,6 +73,7 @@ module _ (lo hi : Key) (B : Map) where
           record {
             comes = comes_then seen from at (emit_all (part_items l.spot.addr block l.next l.end) (place_prog lo hi B after)) after x c;
             held = subst (λ (z : List Want). IsHeld B z store l) (append_assoc seen x.past c.past) h.held;
+            leads = λ root u. h.leads root (x.under root u);
           }
 
   -- a leaf with no item in the range

@@ -12,6 +12,8 @@ pub mod Entered
 pub mod Repeated
 pub mod Downs
 pub mod Nested
+pub mod Beyond
+pub mod Staying
 pub mod Paths
 pub mod Joins
 pub mod Items

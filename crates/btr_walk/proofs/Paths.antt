@@ -23,12 +23,13 @@ use Rattle.btr_walk.specs.Spot.{judged}
 use Rattle.btr_walk.specs.Le.{want_of}
 use Rattle.btr_walk.specs.Range.{RangeProg, emit_all, range_leaf, range_inner, range_at}
 use Rattle.btr_walk.specs.Reading.{Map, UnreadBlock, Reads, halt_of}
-use Rattle.btr_walk.specs.Scans.{part_items, todo_prog, frame_prog, frame_or_rest, IsFrame}
+use Rattle.btr_walk.specs.Scans.{part_items, frame_of, todo_prog, frame_prog, frame_or_rest, IsFrame}
 use Rattle.btr_walk.specs.Entering.{IsEntered, HasLevel}
 use Rattle.btr_walk.specs.Again.{IsAgain}
 use Rattle.btr_walk.proofs.Halting.{need_halts, named}
 use Rattle.btr_walk.proofs.Nested.{bound_set, under_set}
-use Rattle.btr_walk.specs.Going.{LieBehind, LeadsTo, IsUnder, path_prog, place_prog, IsAlong, Comes, ComesTo, IsGone}
+use Rattle.btr_walk.proofs.Staying.{leads_to_leaf}
+use Rattle.btr_walk.specs.Going.{LieBehind, LeadsTo, IsUnder, path_prog, place_prog, IsAlong, ComesTo, IsGone}
 
 module _ (lo hi : Key) (B : Map) where
   -- places of a path that have no frame
@@ -116,6 +117,7 @@ module _ (lo hi : Key) (B : Map) where
           under = λ root u. record { todo = tt; nodes = u.nodes };
         };
         held = h.1 (seen ++ (want_of todo.level todo.spot ∷ [])) (last_read seen (want_of todo.level todo.spot));
+        leads = λ root u. leads_to_leaf lo hi B path todo seen (frame_of l) h.2 on root u;
       }
 
   -- .. or an inner node

@@ -1,13 +1,12 @@
 -- A walk over the blocks of a tree.
-use Rattle.std.proofs.Common.{◌≡◌, inl, inr, ℕ, zero, suc, ◌+◌, ◌-◌, ◌^◌, ◌<◌, ◌≤◌, List, [], ◌∷◌, ◌++◌, length, get_or, set, drop, Option, Some, None, IfSome, IsSomeAnd, Result, Ok, Err, refl, sym, ap, ◌∙◌, subst, append-nil, append_assoc, arith}
+use Rattle.std.proofs.Common.{◌≡◌, inl, inr, ℕ, zero, suc, ◌+◌, ◌-◌, ◌^◌, ◌<◌, ◌≤◌, List, [], ◌∷◌, ◌++◌, length, get_or, set, drop, Option, Some, None, IfSome, Ok, Err, refl, sym, ap, ◌∙◌, subst, arith}
 use Rattle.std.specs.List.{Contains}
 use Rattle.std.proofs.lemmas.Bool.{cases_eq}
 use Rattle.std.proofs.lemmas.List.{drop_all, get_or-set_same, get_or-set_other, set-get_or}
 use Rattle.std.proofs.lemmas.List.Elements.{Contains-append_left, Contains-append_right}
-use Rattle.btr_base.specs.declared.key.Key.{Key}
 use Rattle.btr_node.specs.Block.{KeyPointer, items, pointers}
 use Rattle.btr_node.specs.declared.node.Node.TheVariants.{Leaf, Inner}
-use Rattle.btr_prog.specs.Prog.{Return, Wants, Does, Run, run, first, given, prepend, want_marks, exec}
+use Rattle.btr_prog.specs.Prog.{Return, Wants, Does, first, given, exec}
 use Rattle.btr_prog.specs.Answers.{Follows, no_part}
 use Rattle.btr_prog.proofs.Follow.{unread_here}
 use Rattle.btr_read.specs.Fate as fate
@@ -29,7 +28,7 @@ use Rattle.btr_walk.specs.Scans.{pointers_in}
 use Rattle.btr_walk.specs.Ranks.{FitsBelow}
 use Rattle.btr_walk.specs.Reading.{Map, UnreadBlock, Reads, halt_of}
 use Rattle.btr_walk.specs.Blocks.{TreeBlock, BlocksProg, tree_block, each, blocks_leaf, blocks_inner, blocks_at, blocks}
-use Rattle.btr_walk.specs.Preorder.{frame_blocks, blocks_or_rest, todo_blocks, path_blocks, place_blocks, IsNode, IsAmong, place_of, Enters, IsBehind, GivesBlock}
+use Rattle.btr_walk.specs.Preorder.{frame_blocks, blocks_or_rest, todo_blocks, path_blocks, place_blocks, IsNode, IsAmong, place_of, Enters, GivesBlock}
 use Rattle.btr_walk.proofs.Belows.{drop_at}
 use Rattle.btr_walk.proofs.Halting.{need_halts, named}
 use Rattle.btr_walk.proofs.Ranking.{above_fits, low_todo}

@@ -1,5 +1,5 @@
 -- How far the way to an item is the same for greater keys.
-use Rattle.std.proofs.Common.{◌≡◌, ℕ, zero, suc, ◌+◌, ◌-◌, ◌<◌, ◌≤◌, Bool, true, false, ◌&&◌, cond, eqb, List, [], ◌∷◌, map, length, get_or, drop, All, Option, Some, None, Ok, refl, sym, ap, ◌∙◌, subst, arith}
+use Rattle.std.proofs.Common.{◌≡◌, ℕ, zero, suc, ◌+◌, ◌-◌, ◌<◌, ◌≤◌, Bool, true, false, cond, eqb, List, [], ◌∷◌, map, length, get_or, drop, All, Option, Some, None, Ok, refl, sym, ap, ◌∙◌, subst, arith}
 use Rattle.std.specs.List.{list_all}
 use Rattle.std.specs.Option.{option_map}
 use Rattle.std.proofs.lemmas.Bool.{and_parts, ltb-true, lt-ltb, leb-true, le-leb}
@@ -15,7 +15,7 @@ use Rattle.btr_node.proofs.Inners.{ascends-pointers}
 use Rattle.btr_prog.specs.Prog.{Wants, Return, prepend, exec}
 use Rattle.btr_walk.specs.declared.place.RootPlace.{RootPlace}
 use Rattle.btr_walk.specs.declared.spot.Spot.{Spot}
-use Rattle.btr_walk.specs.Le.{tree_item, below, up_of, or_here, le_item, le_child, le_leaf, want_of, root_spot}
+use Rattle.btr_walk.specs.Le.{tree_item, below, up_of, or_here, le_item, le_child, want_of, root_spot}
 use Rattle.btr_walk.specs.Reach.{next_key, SameUpTo}
 use Rattle.btr_walk.specs.Reading.{Map}
 use Rattle.btr_walk.specs.Spot.{begins, is_below, fits, fitting, keys_of, judged}

@@ -1,12 +1,9 @@
 -- A scan whose leaf was given back, by where it goes on.
-use Rattle.std.proofs.Common.{◌≡◌, ℕ, zero, suc, ◌-◌, ◌<◌, ◌≤◌, List, [], ◌∷◌, ◌++◌, length, map, get_or, Option, Some, None, IfSome, IsSomeAnd, IsTrue, Result, Ok, Err, refl, sym, ap, ◌∙◌, subst, append-nil, arith}
+use Rattle.std.proofs.Common.{◌≡◌, ℕ, zero, suc, ◌-◌, ◌<◌, ◌≤◌, List, [], ◌∷◌, ◌++◌, length, map, get_or, Option, Some, None, IfSome, IsSomeAnd, IsTrue, Ok, Err, refl, sym, ap, ◌∙◌, subst, append-nil, arith}
 use Rattle.std.specs.Prelude.{slice_get}
-use Rattle.std.specs.Option.{option_map}
-use Rattle.std.proofs.lemmas.Option.{slice_get-map, get_or_from_slice_get}
 use Rattle.btr_node.specs.Block.{Item, items, is_leaf}
 use Rattle.btr_prog.specs.Prog.{Return, exec, wants_of}
 use Rattle.btr_prog.specs.Answers.{Names, Follows, no_part}
-use Rattle.btr_read.specs.Fate.{Fault}
 use Rattle.btr_read.specs.Layout.{Layout}
 use Rattle.btr_base.specs.declared.key.Key.{Key}
 use Rattle.btr_rack.specs.Rack.{Seen}
@@ -16,21 +13,19 @@ use Rattle.btr_walk.specs.declared.entering.LeafAt.{LeafAt}
 use Rattle.btr_walk.specs.declared.fault.TreeFault.{TreeFault}
 use Rattle.btr_walk.specs.declared.fault.TreeFault.TheVariants.{Lost, Unread, Unmapped, Crosses, Malformed}
 use Rattle.btr_walk.specs.declared.frame.Frame.{Frame}
-use Rattle.btr_walk.specs.declared.rest.MetAgain.{MetAgain}
 use Rattle.btr_walk.specs.declared.rest.Rest.{Rest}
-use Rattle.btr_walk.specs.declared.scan_place.ScanPlace.{ScanPlace}
 use Rattle.btr_walk.specs.declared.spot.Spot.{Spot}
 use Rattle.btr_walk.specs.declared.scan.Scan.{Scan}
-use Rattle.btr_walk.specs.Advancing.{leaf_prog, IsLeafOf, LendsAgain, IsLeafAgain}
+use Rattle.btr_walk.specs.Advancing.{leaf_prog, IsLeafOf, IsLeafAgain}
 use Rattle.btr_walk.specs.Entering.{LendsLeafAt}
 use Rattle.btr_walk.specs.Le.{TreeItem, tree_item, want_of}
-use Rattle.btr_walk.specs.Going.{place_prog, IsOn}
+use Rattle.btr_walk.specs.Going.{place_prog, IsOn, IsLeafUnder}
 use Rattle.btr_walk.specs.Range.{RangeProg}
 use Rattle.btr_walk.specs.Ranks.{rank_on}
 use Rattle.btr_walk.specs.Reading.{Map, UnreadBlock, Tells, unread_by, halt_of}
-use Rattle.btr_walk.specs.Rests.{kept_prog, Rests, items_of_leaf, item_before, HasMet, IsLentAgain, LendsMet, IsUnreadOf, IsMetAgain}
-use Rattle.btr_walk.specs.Scans.{IsHeld, IsKept}
-use Rattle.btr_walk.specs.ScanEnds.{HoldsLeaf, WasMet, frame_of, IsReady, Paused}
+use Rattle.btr_walk.specs.Rests.{kept_prog, Rests, items_of_leaf, item_before, IsLentAgain, IsUnreadOf, IsMetAgain}
+use Rattle.btr_walk.specs.Scans.{frame_of, leaf_at, IsHeld, IsKept}
+use Rattle.btr_walk.specs.ScanEnds.{WasMet, IsReady, Paused}
 use Rattle.btr_walk.proofs.Joined.{block_is, drawn}
 use Rattle.btr_walk.proofs.Leads.{leaf_back}
 
@@ -78,6 +73,7 @@ rests_is old new scan paused p ready = record {
   shaped = λ rack h. (ready rack h).shaped;
   some = some_kept scan.leaf paused.place.leaf p.kept;
   met = λ B seen item held i m. met_kept B seen old item scan.leaf paused.place.leaf p.kept held i m;
+  leaf_under = λ root B h. subst (λ o. IsLeafUnder root paused.lo paused.hi B (leaf_at o paused.place.leaf) paused.place.rest) p.leaf (p.leaf_under root B h);
   program = λ B seen held. kept_is B new paused.leaf paused.place.leaf (place_prog paused.lo paused.hi B paused.place.rest) p.leaf ∙ p.program B seen held;
   on = λ B seen held h. subst (λ (k : Key). IsOn k paused.hi B seen paused.place) (sym p.lo) (subst (λ (k : Key). IsOn scan.lo k B seen paused.place) (sym p.hi) (p.on B seen held h));
 }

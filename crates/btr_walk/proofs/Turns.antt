@@ -1,8 +1,8 @@
 -- A fold turn by turn.
-use Rattle.std.proofs.Common.{◌≡◌, ℕ, ◌≤◌, count_by, is_none, List, [], ◌∷◌, ◌++◌, Option, Some, None, Result, Ok, Err, refl, sym, ap, ◌∙◌, subst, append-nil, append_assoc}
+use Rattle.std.proofs.Common.{◌≡◌, ◌≤◌, count_by, is_none, List, [], ◌∷◌, ◌++◌, Option, Some, None, Result, Ok, Err, refl, sym, ap, ◌∙◌, subst, append-nil, append_assoc}
 use Rattle.btr_base.specs.declared.key.Key.{Key}
 use Rattle.btr_prog.specs.Prog.{Wants, Does, Run, run, first, prepend, exec, steps_of, wants_of, want_marks}
-use Rattle.btr_prog.specs.Answers.{Halt, Follows, no_part}
+use Rattle.btr_prog.specs.Answers.{Follows, no_part}
 use Rattle.btr_prog.proofs.Follow.{broke_here, follows_as, follows_behind}
 use Rattle.btr_rack.specs.Rack.{Seen, OnlyReads}
 use Rattle.btr_read.specs.Fate as fate
@@ -10,7 +10,6 @@ use Rattle.btr_read.specs.Layout.{Layout}
 use Rattle.btr_read.specs.Store.{Blocks, Lent, SameLoans, free_count}
 use Rattle.btr_read.specs.declared.want.Want.{Want}
 use Rattle.btr_walk.specs.declared.fault.TreeFault.{TreeFault}
-use Rattle.btr_walk.specs.declared.fault.TreeFault.TheVariants.{Malformed}
 use Rattle.btr_walk.specs.declared.folder.FoldFault.{FoldFault}
 use Rattle.btr_walk.specs.declared.folder.FoldFault.TheVariants.{Tree, Own}
 use Rattle.btr_walk.specs.declared.folding.Turn.{Turn}
@@ -21,13 +20,12 @@ use Rattle.btr_walk.specs.declared.scan.Scan.{Scan}
 use Rattle.btr_walk.specs.Le.{TreeItem}
 use Rattle.btr_walk.specs.Range.{range}
 use Rattle.btr_walk.specs.Reading.{Map, UnreadBlock, halt_of}
-use Rattle.btr_walk.specs.Scans.{wants}
 use Rattle.btr_walk.specs.Showing.{item_of}
 use Rattle.btr_walk.specs.Lending.{base}
 use Rattle.btr_walk.specs.Going.{IsOn}
 use Rattle.btr_walk.specs.ScanEnds.{left_of, Gives, IsNextOn}
-use Rattle.btr_walk.specs.Folds.{Next, Go, End, Broken, folded_over, folded}
-use Rattle.btr_walk.specs.Folding.{fold_halt, fold_answer, FoldCause, IsTaken, to_fold, Turns, Ends, TurnsBy, IsTurned, result_of, IsRun, FoldFollows}
+use Rattle.btr_walk.specs.Folds.{Next, folded_over, folded}
+use Rattle.btr_walk.specs.Folding.{fold_answer, FoldCause, IsTaken, to_fold, Turns, Ends, TurnsBy, IsTurned, result_of, IsRun, FoldFollows}
 use Rattle.btr_walk.proofs.Fetched.{cause_since}
 use Rattle.btr_walk.proofs.Folds.{fold_run, exec_fold, fold_past, fold_go, fold_end, fold_broken, fold_halts, fold_ends, wants_value, wants_fault}
 

@@ -1,9 +1,9 @@
 -- A step of a walk over the blocks of a tree.
-use Rattle.std.proofs.Common.{◌≡◌, ℕ, ◌<◌, List, [], ◌++◌, Option, Some, None, IfSome, IsSomeAnd, Result, Ok, Err, refl, sym, ap, ◌∙◌, subst}
-use Rattle.btr_prog.specs.Prog.{Return, exec}
+use Rattle.std.proofs.Common.{◌≡◌, ℕ, ◌<◌, [], Option, Some, None, IfSome, IsSomeAnd, Result, Ok, Err, refl, sym, ◌∙◌, subst}
+use Rattle.btr_prog.specs.Prog.{exec}
 use Rattle.btr_prog.specs.Answers.{Follows, no_part}
 use Rattle.btr_prog.proofs.Follow.{follows_as}
-use Rattle.btr_rack.specs.Rack.{Seen, OnlyReads}
+use Rattle.btr_rack.specs.Rack.{Seen}
 use Rattle.btr_read.specs.Serves.{Serves}
 use Rattle.btr_read.specs.Layout.{Layout}
 use Rattle.btr_read.specs.Store.{Blocks, Lent, SameLoans, block_of, IsLiveIn, IsLentBy}
@@ -18,8 +18,7 @@ use Rattle.btr_walk.specs.Le.{want_of}
 use Rattle.btr_walk.specs.Lending.{base}
 use Rattle.btr_walk.specs.Ranks.{IsShaped, rank}
 use Rattle.btr_walk.specs.Reading.{Map, UnreadBlock, Tells, unread_by, FaultCause, halt_of}
-use Rattle.btr_walk.specs.Blocks.{shown_block}
-use Rattle.btr_walk.specs.Preorder.{place_blocks, place_of, IsAmong, IsAhead, Enters, IsEntry, GivesBlock, IsStep, NearsStep, LendsBlock, LendsStep, IsNextBlock, Walked}
+use Rattle.btr_walk.specs.Preorder.{place_blocks, place_of, IsAhead, Enters, IsEntry, GivesBlock, IsStep, NearsStep, LendsBlock, LendsStep, IsNextBlock, Walked}
 use Rattle.btr_walk.proofs.Joined.{drawn, block_is}
 use Rattle.btr_walk.proofs.Lending.{given_back, same_then}
 use Rattle.btr_walk.proofs.Preorders.{gives_entered}

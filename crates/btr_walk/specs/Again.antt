@@ -35,6 +35,10 @@ abbrev pub IsNext : List KeyPointer → ℕ → Frame → Option Below → Type 
 IsNext ps level frame None = length ps ≤ frame.next
 IsNext ps level frame (Some b) = IsNextBelow ps level frame b.frame b.todo
 
+-- the first child of a node with these pointers, and the node where more are to come
+abbrev pub IsFirstBelow : List KeyPointer → Todo → Below → Type 0
+IsFirstBelow ps todo b = IsNextBelow ps todo.level (record { spot = todo.spot; next = 0; end = length ps }) b.frame b.todo
+
 -- a node was read again under a block map: what comes of it, or why it didn't come
 abbrev pub Rereads : (UnreadBlock → Want → Type 0) → Map → ℕ → Frame → Result Below TreeFault → Type 0
 Rereads Is B level frame (Ok b) = (block : List ℕ) × (B (want_of level frame.spot) ≡ Ok block) × IsNext (pointers block) level frame (Some b)
@@ -42,7 +46,8 @@ Rereads Is B level frame (Err (Lost a)) = B (want_of level frame.spot) ≡ Err (
 Rereads Is B level frame (Err (Unread a slot)) = Is (record { addr = a; slot = slot }) (want_of level frame.spot)
 Rereads Is B level frame (Err (Unmapped a)) = B (want_of level frame.spot) ≡ Err (fate.Unmapped a)
 Rereads Is B level frame (Err (Crosses a)) = B (want_of level frame.spot) ≡ Err (fate.Crosses a)
-Rereads Is B level frame (Err (Malformed a)) = (block : List ℕ) × (B (want_of level frame.spot) ≡ Ok block) × ((judged level frame.spot block ≡ None) ⊎ (length (pointers block) ≤ frame.next))
+Rereads Is B level frame (Err (Malformed a)) =
+    (block : List ℕ) × (B (want_of level frame.spot) ≡ Ok block) × ((judged level frame.spot block ≡ None) ⊎ (length (pointers block) ≤ frame.next))
 
 module _ (lo hi : Key) where
   -- what is left of a frame is its next child, and then what is left behind it

@@ -19,7 +19,7 @@ use Rattle.btr_walk.specs.Spot.{is_below}
 use Rattle.btr_walk.specs.Le.{want_of}
 use Rattle.btr_walk.specs.Range.{RangeProg, emit_all, over, range_at}
 use Rattle.btr_walk.specs.Reading.{Map, UnreadBlock, Reads}
-use Rattle.btr_walk.specs.Scans.{part_items, todo_prog, frame_or_rest, IsFrame, IsTodo, IsHeld, IsPick, IsDown}
+use Rattle.btr_walk.specs.Scans.{part_items, kept_items, from_key, frame_of, whole, todo_prog, frame_or_rest, IsFrame, IsTodo, IsHeld, IsPick, IsDown}
 
 module _ (lo hi : Key) where
   abbrev pub rest_of : (Spot → RangeProg → RangeProg) → List KeyPointer → Option Frame → RangeProg → RangeProg
@@ -41,7 +41,8 @@ module _ (lo hi : Key) where
 
   -- what comes below an inner node with these pointers, whose bound is above lo
   pub record IsBelow (ps : List KeyPointer) (todo : Todo) (below : Below) : Type 0 where
-    pub program : is_below todo.spot.up lo ≡ true → (f : Spot → RangeProg → RangeProg) (rest : RangeProg) → over lo hi f ps todo.spot.up rest ≡ below_prog f ps below rest
+    pub program :
+        is_below todo.spot.up lo ≡ true → (f : Spot → RangeProg → RangeProg) (rest : RangeProg) → over lo hi f ps todo.spot.up rest ≡ below_prog f ps below rest
     pub frame : IfSome below.frame (IsPlace ps todo.spot)
     pub none : below.todo ≡ None → below.frame ≡ None
     pub fits : IfSome below.frame (λ f. (0 < f.next) × (f.next < f.end) × (f.end < 2 ^ 64))
@@ -49,14 +50,27 @@ module _ (lo hi : Key) where
     pub up : is_below todo.spot.up lo ≡ true → IsTodo lo hi below.todo
     pub pick : IfSome below.todo (λ t. IsPick hi ps todo.spot below.frame t.spot)
 
+  -- a leaf that was read: from any key on, it gives its items from that key on
+  pub record IsLeafFrom (B : Map) (todo : Todo) (leaf : Frame) : Type 0 where
+    pub level : todo.level ≡ 0
+    pub spot : leaf.spot ≡ todo.spot
+    pub from :
+        (key : Key) (rest : RangeProg)
+        → exec B (range_at key hi todo.level todo.spot rest)
+        ≡ first (Wants (want_of todo.level todo.spot)) (exec B (emit_all (from_key key (kept_items B (whole leaf))) rest))
+
   -- a block was read: the program of its spot is the want, and then what it has
   abbrev pub IsEntered : (UnreadBlock → Want → Type 0) → Map → Todo → Blocks → Result Entered TreeFault → Type 0
   IsEntered Is B todo store (Ok (Leaf l)) =
-      IsSomeAnd (block_of store l.loan) (λ block. (rest : RangeProg) → exec B (range_at lo hi todo.level todo.spot rest) ≡ first (Wants (want_of todo.level todo.spot)) (exec B (emit_all (part_items l.spot.addr block l.next l.end) rest)))
+      IsSomeAnd (block_of store l.loan)
+      (λ block. (rest : RangeProg) → exec B (range_at lo hi todo.level todo.spot rest)
+      ≡ first (Wants (want_of todo.level todo.spot)) (exec B (emit_all (part_items l.spot.addr block l.next l.end) rest)))
       × ((seen : List Want) → Contains seen (want_of todo.level todo.spot) → IsHeld B seen store l)
+      × IsLeafFrom B todo (frame_of l)
   IsEntered Is B todo store (Ok (Inner b)) =
       is_below todo.spot.up lo ≡ true
-      → ((rest : RangeProg) → exec B (range_at lo hi todo.level todo.spot rest) ≡ first (Wants (want_of todo.level todo.spot)) (exec B (todo_prog lo hi b.todo (frame_or_rest lo hi B todo.level b.frame rest))))
+      → ((rest : RangeProg) → exec B (range_at lo hi todo.level todo.spot rest)
+      ≡ first (Wants (want_of todo.level todo.spot)) (exec B (todo_prog lo hi b.todo (frame_or_rest lo hi B todo.level b.frame rest))))
       × ((seen : List Want) → Contains seen (want_of todo.level todo.spot) → IfSome b.frame (IsFrame lo hi B seen todo.level))
       × IsTodo lo hi b.todo
       × IfSome b.todo (λ t. t.level ≡ todo.level - 1)
@@ -82,5 +96,7 @@ LendsEntered old new (Err f) = SameLoans old new
 -- an inner node has a level of 1 to 7
 abbrev pub HasLevel : Todo → Result Entered TreeFault → Type 0
 HasLevel todo (Ok (Leaf l)) = Unit {0}
-HasLevel todo (Ok (Inner b)) = (0 < todo.level) × (todo.level ≤ 7) × IfSome b.frame (λ f. (0 < f.next) × (f.next < f.end) × (f.end < 2 ^ 64)) × (b.todo ≡ None → b.frame ≡ None) × IfSome b.todo (λ t. t.level ≡ todo.level - 1)
+HasLevel todo (Ok (Inner b)) =
+    (0 < todo.level) × (todo.level ≤ 7) × IfSome b.frame (λ f. (0 < f.next) × (f.next < f.end) × (f.end < 2 ^ 64))
+    × (b.todo ≡ None → b.frame ≡ None) × IfSome b.todo (λ t. t.level ≡ todo.level - 1)
 HasLevel todo (Err f) = Unit {0}

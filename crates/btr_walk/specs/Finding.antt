@@ -2,7 +2,7 @@
 use Rattle.std.specs.Prelude.{◌≡◌, ℕ, ◌<◌, ◌≤◌, List, [], Option, Some, None, IsSomeAnd, Result, Ok, Err, length, slice_set, IsTrue}
 use Rattle.std.specs.List.{HoldsAt}
 use Rattle.btr_base.specs.declared.key.Key.{Key}
-use Rattle.btr_node.specs.Block.{items, is_leaf}
+use Rattle.btr_node.specs.Block.{Item, items, is_leaf}
 use Rattle.btr_prog.specs.Prog.{exec}
 use Rattle.btr_prog.specs.Answers.{Follows, no_part}
 use Rattle.btr_read.specs.Store.{Blocks, SameLoans, block_of, loan_in, IsLiveIn}
@@ -10,12 +10,16 @@ use Rattle.btr_read.specs.declared.want.Want.{Want}
 use Rattle.btr_walk.specs.declared.place.RootPlace.{RootPlace}
 use Rattle.btr_walk.specs.declared.fault.TreeFault.{TreeFault}
 use Rattle.btr_walk.specs.declared.finding.Spotted.{Spotted}
-use Rattle.btr_walk.specs.Le.{TreeItem, tree_item, le}
+use Rattle.btr_walk.specs.Le.{TreeItem, tree_item, le_item, le}
 use Rattle.btr_walk.specs.Reading.{Map, UnreadBlock, answer_of}
 
 -- the item at a place of a leaf's block
 abbrev pub ItemAt : Blocks → Spotted → TreeItem → Type 0
 ItemAt store spotted item = IsSomeAnd (block_of store spotted.loan) (λ block. HoldsAt (λ x. tree_item spotted.leaf x ≡ item) (items block) spotted.at)
+
+-- the item at a place is the last one at or below a key
+abbrev pub IsLeAt : Key → List Item → ℕ → Type 0
+IsLeAt key is at = HoldsAt (λ item. le_item key is ≡ Some item) is at
 
 -- the answer without the loan
 abbrev pub Shows : Blocks → Result (Option Spotted) TreeFault → Result (Option TreeItem) TreeFault → Type 0
@@ -30,7 +34,9 @@ Shows store (Err f) (Err f') = f' ≡ f
 
 -- what a lookup answers follows the program
 abbrev pub Finds : (UnreadBlock → Want → Type 0) → Map → RootPlace → Key → Blocks → Result (Option Spotted) TreeFault → Type 0
-Finds Is B root key store result = (shown : Result (Option TreeItem) TreeFault) × Shows store result shown × Follows {S = ⊥} Is no_part [] (exec B (le root key)) [] (answer_of shown)
+Finds Is B root key store result =
+    (shown : Result (Option TreeItem) TreeFault) × Shows store result shown
+    × Follows {S = ⊥} Is no_part [] (exec B (le root key)) [] (answer_of shown)
 
 -- a leaf is lent where there is an item, and nothing otherwise
 pub record LendsLeaf (old new : Blocks) (spotted : Spotted) : Type 0 where

@@ -9,7 +9,6 @@ use Rattle.btr_read.specs.Fate as fate
 use Rattle.btr_read.specs.Layout.{Layout}
 use Rattle.btr_read.specs.Store.{Blocks}
 use Rattle.btr_read.specs.declared.want.Want.{Want}
-use Rattle.btr_walk.specs.declared.fault.TreeFault.{TreeFault}
 use Rattle.btr_walk.specs.declared.fault.TreeFault.TheVariants.{Malformed}
 use Rattle.btr_walk.specs.declared.folder.FoldFault.{FoldFault}
 use Rattle.btr_walk.specs.declared.folder.FoldFault.TheVariants.{Tree, Own}
@@ -68,7 +67,9 @@ module _ {St R : Type 0} (step : St → TreeItem → Next St R) (answer : St →
 
   -- one item of a scan, or its end
   abbrev pub IsTurned : {E : Type 0} → (UnreadBlock → Want → Type 0) → Map → Blocks → Blocks → Scan → Scan → St → St → Result (Turn R) (FoldFault E) → Type 0
-  IsTurned Is B old new scan scan' state state' result = (seen : List Want) → IsOn scan.lo scan.hi B seen scan.place → TurnsBy Is B seen old new scan scan' state state' result
+  IsTurned Is B old new scan scan' state state' result =
+      (seen : List Want) → IsOn scan.lo scan.hi B seen scan.place
+      → TurnsBy Is B seen old new scan scan' state state' result
 
   -- the answer, where one came before the last item, or the one of the last state
   abbrev pub result_of : {E : Type 0} → St → Result (Option R) (FoldFault E) → Result R (FoldFault E)
@@ -78,7 +79,9 @@ module _ {St R : Type 0} (step : St → TreeItem → Next St R) (answer : St →
 
   -- all items of a scan
   abbrev pub IsRun : {E : Type 0} → (UnreadBlock → Want → Type 0) → Map → Blocks → Scan → St → St → Result (Option R) (FoldFault E) → Type 0
-  IsRun Is B store scan state state' result = (seen : List Want) → IsOn scan.lo scan.hi B seen scan.place → Ends Is B seen store scan state (result_of state' result)
+  IsRun Is B store scan state state' result =
+      (seen : List Want) → IsOn scan.lo scan.hi B seen scan.place
+      → Ends Is B seen store scan state (result_of state' result)
 
   -- the answer of a fold follows its program
   abbrev pub FoldFollows : {E : Type 0} → (UnreadBlock → Want → Type 0) → Map → St → RootPlace → Key → Key → Result R (FoldFault E) → Type 0

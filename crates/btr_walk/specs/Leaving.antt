@@ -18,7 +18,9 @@ use Rattle.btr_walk.specs.Ranks.{IsShaped, rank}
 
 module _ (lo hi : Key) where
   abbrev pub ReachedTo : (UnreadBlock → Want → Type 0) → Map → List Want → Where → Blocks → Result Reached TreeFault → Type 0
-  ReachedTo Is B seen place store (Ok (Leaf l after)) = IsSomeAnd (block_of store l.loan) (λ block. ComesTo lo hi B seen place (emit_all (part_items l.spot.addr block l.next l.end) (place_prog lo hi B after)) after store l)
+  ReachedTo Is B seen place store (Ok (Leaf l after)) =
+      IsSomeAnd (block_of store l.loan)
+      (λ block. ComesTo lo hi B seen place (emit_all (part_items l.spot.addr block l.next l.end) (place_prog lo hi B after)) after store l)
   ReachedTo Is B seen place store (Ok End) = Follows Is no_part seen (exec B (place_prog lo hi B place)) [] (Ok tt)
   ReachedTo Is B seen place store (Err f) = Follows Is no_part seen (exec B (place_prog lo hi B place)) [] (Err (halt_of f))
 

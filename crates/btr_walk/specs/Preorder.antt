@@ -22,7 +22,7 @@ use Rattle.btr_walk.specs.declared.going.Where.{Where}
 use Rattle.btr_walk.specs.declared.preorder.Entry.{Entry}
 use Rattle.btr_walk.specs.Spot.{judged}
 use Rattle.btr_walk.specs.Le.{want_of}
-use Rattle.btr_walk.specs.Reading.{Map, UnreadBlock, Tells, unread_by, halt_of}
+use Rattle.btr_walk.specs.Reading.{Map, UnreadBlock, TellsOf, halt_of}
 use Rattle.btr_walk.specs.Lending.{base}
 use Rattle.btr_walk.specs.Scans.{pointers_in}
 use Rattle.btr_walk.specs.Ranks.{IsShaped, rank}
@@ -88,10 +88,15 @@ pub record Enters (B : Map) (seen : List Want) (from to : Where) (want : Want) (
 
 -- where a walk is behind a block: for a leaf nothing is below; a node's first child comes next, and then the others
 abbrev pub IsBehind : Ahead → List ℕ → Where → Type 0
-IsBehind ahead block place = (B : Map) (seen : List Want) → B (want_of ahead.todo.level ahead.todo.spot) ≡ Ok block → IsAmong B seen (place_of ahead) → Enters B seen (place_of ahead) place (want_of ahead.todo.level ahead.todo.spot) (tree_block ahead.todo.level ahead.todo.spot block)
+IsBehind ahead block place =
+    (B : Map) (seen : List Want) → B (want_of ahead.todo.level ahead.todo.spot) ≡ Ok block → IsAmong B seen (place_of ahead)
+    → Enters B seen (place_of ahead) place (want_of ahead.todo.level ahead.todo.spot) (tree_block ahead.todo.level ahead.todo.spot block)
 
 abbrev pub EntersBy : (UnreadBlock → Want → Type 0) → Map → List Want → Ahead → Blocks → Result Entry TreeFault → Type 0
-EntersBy Is B seen ahead store (Ok e) = IsSomeAnd (block_of store e.loan) (λ block. Enters B seen (place_of ahead) e.place (want_of ahead.todo.level ahead.todo.spot) (record { addr = e.addr; level = e.level; bytes = block }))
+EntersBy Is B seen ahead store (Ok e) =
+    IsSomeAnd (block_of store e.loan)
+    (λ block. Enters B seen (place_of ahead) e.place (want_of ahead.todo.level ahead.todo.spot)
+    (record { addr = e.addr; level = e.level; bytes = block }))
 EntersBy Is B seen ahead store (Err f) = Follows Is no_part seen (exec B (place_blocks B (place_of ahead))) [] (Err (halt_of f))
 
 abbrev pub IsEntry : (UnreadBlock → Want → Type 0) → Map → Ahead → Blocks → Result Entry TreeFault → Type 0
@@ -113,7 +118,9 @@ pub record GivesBlock (B : Map) (seen : List Want) (from to : Where) (met : Tree
   pub on : IsAmong B (seen ++ past) to
 
 abbrev pub StepsBy : (UnreadBlock → Want → Type 0) → Map → List Want → Where → Blocks → Result (Option Entry) TreeFault → Type 0
-StepsBy Is B seen place store (Ok (Some e)) = IsSomeAnd (block_of store e.loan) (λ block. GivesBlock B seen place e.place (record { addr = e.addr; level = e.level; bytes = block }))
+StepsBy Is B seen place store (Ok (Some e)) =
+    IsSomeAnd (block_of store e.loan)
+    (λ block. GivesBlock B seen place e.place (record { addr = e.addr; level = e.level; bytes = block }))
 StepsBy Is B seen place store (Ok None) = Follows Is no_part seen (exec B (place_blocks B place)) [] (Ok tt)
 StepsBy Is B seen place store (Err f) = Follows Is no_part seen (exec B (place_blocks B place)) [] (Err (halt_of f))
 
@@ -161,7 +168,7 @@ without_block store scan = base store scan.loan
 pub record Walked (old new : Blocks) (scan scan' : BlockScan) (before now : Seen) (result : Result (Option FoundBlock) TreeFault) : Type 0 where
   pub others : SameLoans (without_block old scan) (without_block new scan')
   pub ready : IsReadyFor now new scan'
-  pub content : Tells old.layout before now (λ B. IsNextBlock (unread_by old.layout before now) B scan scan' result)
+  pub content : TellsOf old before now (λ Is B. IsNextBlock Is B scan scan' result)
 
 abbrev pub BlockScanEnds : MutBor Blocks → BlockScan → BlockScan → Seen → Seen → Result (Option FoundBlock) TreeFault → Fml
 BlockScanEnds store scan scan' before now result = follows_so the_row the_row store.ghost_name none (λ _ _. ⊤) (λ new. Walked store.now new scan scan' before now result)

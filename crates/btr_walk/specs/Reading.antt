@@ -36,6 +36,10 @@ unread_by layout old new u want = IsUnreadFor layout want old new u.addr u.slot
 pub record Tells (layout : Layout) (old new : Seen) (P : Map → Type 0) : Type 0 where
   pub calls : Calls (AgreedOn layout) (shown old) (shown new) (OnMap layout P)
 
+-- so far as the calls over a store were steady, P holds of the wants that could not be read and of the block map of the images
+abbrev pub TellsOf : Blocks → Seen → Seen → ((UnreadBlock → Want → Type 0) → Map → Type 0) → Type 0
+TellsOf store old new P = Tells store.layout old new (P (unread_by store.layout old new))
+
 -- why a tree can't be read on, where a block of it could not be had
 abbrev pub tree_fault : ReadFault → TreeFault
 tree_fault (read.Lost a) = tree.Lost a

@@ -1,5 +1,5 @@
 -- Where a scan goes on at a key.
-use Rattle.std.specs.Prelude.{◌≡◌, ℕ, List}
+use Rattle.std.specs.Prelude.{◌≡◌, List}
 use Rattle.btr_base.specs.declared.key.Key.{Key}
 use Rattle.btr_read.specs.declared.want.Want.{Want}
 use Rattle.btr_walk.specs.declared.going.Where.{Where}

@@ -1,7 +1,7 @@
 -- What a scan has still to give.
-use Rattle.std.specs.Prelude.{◌≡◌, ℕ, ◌+◌, ◌-◌, ◌<◌, ◌≤◌, true, List, [], ◌∷◌, length, take, drop, map, All, slice_index_or, Option, Some, None, IfSome, Result, Ok, Err}
+use Rattle.std.specs.Prelude.{◌≡◌, ℕ, ◌+◌, ◌-◌, ◌<◌, ◌≤◌, true, List, [], ◌∷◌, length, take, drop, map, filter, All, slice_index_or, Option, Some, None, IfSome, Result, Ok, Err}
 use Rattle.std.specs.List.{Contains}
-use Rattle.btr_base.specs.Key.{key_number}
+use Rattle.btr_base.specs.Key.{key_number, key_le}
 use Rattle.btr_base.specs.declared.key.Key.{Key}
 use Rattle.btr_node.specs.Block.{Item, KeyPointer, items, pointers}
 use Rattle.btr_prog.specs.Prog.{Mark, Wants}
@@ -130,3 +130,20 @@ items_in (Err f) addr next end = []
 -- the items of a leaf that was given back
 abbrev pub kept_items : Map → Frame → List TreeItem
 kept_items B frame = items_in (B (want_of 0 frame.spot)) frame.spot.addr frame.next frame.end
+
+-- the items from a key on
+abbrev pub from_key : Key → List TreeItem → List TreeItem
+from_key key items = filter (λ (i : TreeItem). key_le key i.key) items
+
+-- where a leaf in hand stands, without its loan
+abbrev pub frame_of : LeafAt → Frame
+frame_of l = record { spot = l.spot; next = l.next; end = l.end }
+
+-- a leaf from its first item on
+abbrev pub whole : Frame → Frame
+whole leaf = record { spot = leaf.spot; next = 0; end = leaf.end }
+
+-- the leaf in hand, or the one that was given back
+abbrev pub leaf_at : Option LeafAt → Option Frame → Option Frame
+leaf_at None kept = kept
+leaf_at (Some l) kept = Some (frame_of l)

@@ -1,10 +1,10 @@
 // One item further.
-ghost use Rattle.std.specs.Prelude.{◌≡◌, ◌+◌, ◌-◌, ◌*◌, ◌^◌, ◌<◌, ◌≤◌, length, Some, IfSome};
+ghost use Rattle.std.specs.Prelude.{◌+◌, ◌-◌, ◌*◌, ◌^◌, ◌<◌, ◌≤◌, Some, IfSome};
 ghost use Rattle.btr_read.specs.Serves.{Serves};
 ghost use Rattle.btr_rack.specs.Rack.{OnlyReads};
 ghost use Rattle.btr_read.specs.Store.{SameLoans, free_count};
 ghost use Rattle.btr_walk.specs.Lending.{base};
-ghost use Rattle.btr_walk.specs.Reading.{Tells, unread_by, HasCause};
+ghost use Rattle.btr_walk.specs.Reading.{TellsOf, HasCause};
 ghost use Rattle.btr_walk.specs.Advancing.{IsInHand, loan_of, Lends, HasItem, FromPlace, FromHand, IsAdvanced};
 ghost use Rattle.btr_walk.specs.Ranks.{IsShaped, rank, rank_on, StepNears};
 
@@ -43,7 +43,8 @@ pub(crate) fn from_place<R: Rack>(
     ensures nears { StepNears (2 ^ 64 * rank place) result.place result.leaf result.met }
     ensures item { HasItem result.leaf result.met }
     ensures cause { HasCause store.old.layout (R.seen rack.old) (R.seen rack.new) result.met }
-    ensures content { Tells store.old.layout (R.seen rack.old) (R.seen rack.new) (λ B. FromPlace lo hi (unread_by store.old.layout (R.seen rack.old) (R.seen rack.new)) B place store.new result) }
+    ensures content { TellsOf store.old (R.seen rack.old) (R.seen rack.new)
+        (λ Is B. FromPlace lo hi Is B place store.new result) }
 {
     match to_leaf(&place, lo, hi, rack, store) {
         Err(fault) => Advanced {
@@ -100,7 +101,8 @@ pub(crate) fn from_hand<R: Rack>(
     ensures nears { StepNears (2 ^ 64 * rank place + (hand.end - hand.next)) result.place result.leaf result.met }
     ensures item { HasItem result.leaf result.met }
     ensures cause { HasCause store.old.layout (R.seen rack.old) (R.seen rack.new) result.met }
-    ensures content { Tells store.old.layout (R.seen rack.old) (R.seen rack.new) (λ B. FromHand lo hi (unread_by store.old.layout (R.seen rack.old) (R.seen rack.new)) B place hand store.old store.new result) }
+    ensures content { TellsOf store.old (R.seen rack.old) (R.seen rack.new)
+        (λ Is B. FromHand lo hi Is B place hand store.old store.new result) }
 {
     let LeafAt {
         spot,
@@ -147,7 +149,8 @@ pub(crate) fn advance<R: Rack>(
     ensures nears { StepNears (rank_on place.now leaf) result.place result.leaf result.met }
     ensures item { HasItem result.leaf result.met }
     ensures cause { HasCause store.old.layout (R.seen rack.old) (R.seen rack.new) result.met }
-    ensures content { Tells store.old.layout (R.seen rack.old) (R.seen rack.new) (λ B. IsAdvanced lo hi (unread_by store.old.layout (R.seen rack.old) (R.seen rack.new)) B place.now leaf store.old store.new result) }
+    ensures content { TellsOf store.old (R.seen rack.old) (R.seen rack.new)
+        (λ Is B. IsAdvanced lo hi Is B place.now leaf store.old store.new result) }
 {
     match leaf {
         Some(hand) => from_hand(place.rest, hand, lo, hi, rack, store),

@@ -1,10 +1,10 @@
 // A node that is read again.
-ghost use Rattle.std.specs.Prelude.{◌≡◌, ◌<◌, ◌≤◌, length, IsTrue, IfOk};
+ghost use Rattle.std.specs.Prelude.{◌<◌, ◌≤◌, length, IsTrue, IfOk};
 ghost use Rattle.btr_node.specs.Block.{pointers, is_inner};
 ghost use Rattle.btr_read.specs.Serves.{Serves};
 ghost use Rattle.btr_rack.specs.Rack.{OnlyReads};
 ghost use Rattle.btr_read.specs.Store.{SameLoans, free_count};
-ghost use Rattle.btr_walk.specs.Reading.{Tells, unread_by, HasCause};
+ghost use Rattle.btr_walk.specs.Reading.{TellsOf, HasCause};
 ghost use Rattle.btr_walk.specs.Again.{IsNext, Rereads};
 ghost use Rattle.btr_walk.specs.Ranks.{FitsNext};
 
@@ -67,7 +67,8 @@ pub(crate) fn read_again<R: Rack>(
     ensures store { SameLoans store.old store.new }
     ensures next { IfOk result (λ b. FitsNext level frame.now b.frame b.todo) }
     ensures cause { HasCause store.old.layout (R.seen rack.old) (R.seen rack.new) result }
-    ensures content { Tells store.old.layout (R.seen rack.old) (R.seen rack.new) (λ B. Rereads (unread_by store.old.layout (R.seen rack.old) (R.seen rack.new)) B level frame.now result) }
+    ensures content { TellsOf store.old (R.seen rack.old) (R.seen rack.new)
+        (λ Is B. Rereads Is B level frame.now result) }
 {
     let loan = read_block(level, &frame.spot, rack, store)?;
     let below = next_of(store.bytes(&loan), level, frame);

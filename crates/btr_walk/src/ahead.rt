@@ -1,11 +1,11 @@
 // What a walk over all blocks of a tree reads next.
-ghost use Rattle.std.specs.Prelude.{◌≡◌, ◌≤◌};
+ghost use Rattle.std.specs.Prelude.{◌≤◌};
 ghost use Rattle.btr_rack.specs.Rack.{OnlyReads};
 ghost use Rattle.btr_read.specs.Serves.{Serves};
 ghost use Rattle.btr_read.specs.Store.{SameLoans, free_count};
 ghost use Rattle.btr_walk.specs.Preorder.{IsAhead, NearsAhead};
 ghost use Rattle.btr_walk.specs.Ranks.{IsShaped};
-ghost use Rattle.btr_walk.specs.Reading.{Tells, unread_by, HasCause};
+ghost use Rattle.btr_walk.specs.Reading.{TellsOf, HasCause};
 
 use crate::TreeFault;
 use crate::again::read_again;
@@ -36,7 +36,7 @@ pub(crate) fn ahead_of<R: Rack>(
     ensures reads { OnlyReads (R.seen rack.old) (R.seen rack.new) }
     ensures store { SameLoans store.old store.new }
     ensures cause { HasCause store.old.layout (R.seen rack.old) (R.seen rack.new) result }
-    ensures content { Tells store.old.layout (R.seen rack.old) (R.seen rack.new) (λ B. IsAhead (unread_by store.old.layout (R.seen rack.old) (R.seen rack.new)) B place.now result) }
+    ensures content { TellsOf store.old (R.seen rack.old) (R.seen rack.new) (λ Is B. IsAhead Is B place.now result) }
 {
     let path = place.path;
     match place.todo {

@@ -1,10 +1,10 @@
 // A block that is read on the way through a range.
-ghost use Rattle.std.specs.Prelude.{◌≡◌, ◌<◌, ◌≤◌, length, IsTrue};
-ghost use Rattle.btr_node.specs.Block.{items, pointers, is_leaf, is_inner};
+ghost use Rattle.std.specs.Prelude.{◌<◌, ◌≤◌, length, IsTrue};
+ghost use Rattle.btr_node.specs.Block.{pointers, is_inner};
 ghost use Rattle.btr_read.specs.Serves.{Serves};
 ghost use Rattle.btr_rack.specs.Rack.{OnlyReads};
 ghost use Rattle.btr_read.specs.Store.{free_count};
-ghost use Rattle.btr_walk.specs.Reading.{Tells, unread_by, HasCause};
+ghost use Rattle.btr_walk.specs.Reading.{TellsOf, HasCause};
 ghost use Rattle.btr_walk.specs.Entering.{IsBelow, HasLevel, LendsEntered, IsEntered};
 
 use crate::TreeFault;
@@ -91,7 +91,8 @@ pub(crate) fn enter<R: Rack>(
     ensures lent { LendsEntered store.old store.new result }
     ensures level { HasLevel todo.now result }
     ensures cause { HasCause store.old.layout (R.seen rack.old) (R.seen rack.new) result }
-    ensures content { Tells store.old.layout (R.seen rack.old) (R.seen rack.new) (λ B. IsEntered lo hi (unread_by store.old.layout (R.seen rack.old) (R.seen rack.new)) B todo.now store.new result) }
+    ensures content { TellsOf store.old (R.seen rack.old) (R.seen rack.new)
+        (λ Is B. IsEntered lo hi Is B todo.now store.new result) }
 {
     let loan = read_block(todo.level, &todo.spot, rack, store)?;
     if todo.level == 0 {

@@ -1,5 +1,5 @@
 // The greatest item at or below a key.
-ghost use Rattle.std.specs.Prelude.{◌≡◌, ◌+◌, ◌<◌, ◌≤◌, length, drop, IsTrue, IfOk, OnErr, IfNone, IfSome};
+ghost use Rattle.std.specs.Prelude.{◌≡◌, ◌+◌, ◌<◌, ◌≤◌, length, drop, IsTrue, IfNone, IfSome};
 ghost use Rattle.std.specs.List.{HoldsAt};
 ghost use Rattle.btr_node.specs.Block.{items, pointers, is_leaf, is_inner};
 ghost use Rattle.btr_read.specs.Serves.{Serves};
@@ -7,11 +7,11 @@ ghost use Rattle.btr_rack.specs.Rack.{OnlyReads};
 ghost use Rattle.btr_read.specs.Store.{free_count};
 ghost use Rattle.btr_walk.specs.Le.{below, up_of, le_item, le_child};
 ghost use Rattle.btr_walk.specs.Reach.{next_key, FindsAndReaches, Reaches};
-ghost use Rattle.btr_walk.specs.Reading.{Tells, unread_by, HasCause};
+ghost use Rattle.btr_walk.specs.Reading.{Tells, TellsOf, HasCause};
 ghost use Rattle.std.specs.Borrow.{sem};
 ghost use Rattle.std.specs.Prelude.{None, Some};
 ghost use Rattle.btr_walk.specs.Le.{tree_item};
-ghost use Rattle.btr_walk.specs.Finding.{LendsItem};
+ghost use Rattle.btr_walk.specs.Finding.{IsLeAt, LendsItem};
 ghost use Rattle.btr_walk.specs.Lending.{EndsWith};
 ghost use Rattle.btr_walk.specs.Showing.{item_of, FindsItem, LendsReach, LendsWhere, ReachesItem};
 
@@ -63,7 +63,7 @@ fn place_le(block: &[u8], key: Key) -> Option<usize>
     requires good { IsTrue (is_leaf block.now) }
     ensures none { IfNone result (le_item key (items block.now) ≡ None) }
     ensures within { IfSome result (λ i. i < length (items block.now)) }
-    ensures some { IfSome result (λ i. HoldsAt (λ item. le_item key (items block.now) ≡ Some item) (items block.now) i) }
+    ensures some { IfSome result (IsLeAt key (items block.now)) }
 {
     Leaf::of(block).seek_le(key)
 }
@@ -106,7 +106,8 @@ pub(crate) fn seek_le<R: Rack>(
     ensures reads { OnlyReads (R.seen rack.old) (R.seen rack.new) }
     ensures lent { LendsItem store.old store.new result }
     ensures cause { HasCause store.old.layout (R.seen rack.old) (R.seen rack.new) result }
-    ensures content { Tells store.old.layout (R.seen rack.old) (R.seen rack.new) (λ B. FindsAndReaches (unread_by store.old.layout (R.seen rack.old) (R.seen rack.new)) B root.now key store.new result) }
+    ensures content { TellsOf store.old (R.seen rack.old) (R.seen rack.new)
+        (λ Is B. FindsAndReaches Is B root.now key store.new result) }
 {
     let mut level = root.level;
     let mut spot = Spot {
@@ -189,7 +190,8 @@ pub fn find_reach<'e, R: Rack>(
     ensures lent { LendsReach result loan.new }
     ensures cause { HasCause store.old.layout (R.seen rack.old) (R.seen rack.new) result }
     ensures reach { Tells store.old.layout (R.seen rack.old) (R.seen rack.new) (λ B. Reaches B root.now key result) }
-    ensures content { Tells store.old.layout (R.seen rack.old) (R.seen rack.new) (λ B. ReachesItem (unread_by store.old.layout (R.seen rack.old) (R.seen rack.new)) B root.now key result) }
+    ensures content { TellsOf store.old (R.seen rack.old) (R.seen rack.new)
+        (λ Is B. ReachesItem Is B root.now key result) }
 {
     match seek_le(root, key, rack, store) {
         Err(fault) => Err(fault),
@@ -232,7 +234,8 @@ pub fn find_le<'e, R: Rack>(
     ensures reads { OnlyReads (R.seen rack.old) (R.seen rack.new) }
     ensures lent { LendsWhere result loan.new }
     ensures cause { HasCause store.old.layout (R.seen rack.old) (R.seen rack.new) result }
-    ensures content { Tells store.old.layout (R.seen rack.old) (R.seen rack.new) (λ B. FindsItem (unread_by store.old.layout (R.seen rack.old) (R.seen rack.new)) B root.now key result) }
+    ensures content { TellsOf store.old (R.seen rack.old) (R.seen rack.new)
+        (λ Is B. FindsItem Is B root.now key result) }
 {
     match find_reach(store, root, key, rack, loan) {
         Err(fault) => Err(fault),

@@ -4,7 +4,7 @@ ghost use Rattle.btr_rack.specs.Rack.{OnlyReads};
 ghost use Rattle.btr_read.specs.Serves.{Serves};
 ghost use Rattle.btr_read.specs.Store.{SameLoans, free_count};
 ghost use Rattle.btr_walk.specs.Folding.{FoldCause, IsTaken, IsTurned, IsRun, FoldFollows, TurnNears};
-ghost use Rattle.btr_walk.specs.Reading.{Tells, unread_by};
+ghost use Rattle.btr_walk.specs.Reading.{TellsOf};
 ghost use Rattle.btr_walk.specs.ScanEnds.{IsReady, without_leaf};
 ghost use Rattle.btr_walk.specs.Showing.{item_of};
 
@@ -51,7 +51,8 @@ fn take_next<R: Rack, Out, E, F: Folder<Out, E>>(
     ensures hi { scan.new.hi ≡ scan.old.hi }
     ensures nears { TurnNears scan.old scan.new result }
     ensures cause { FoldCause store.old.layout (R.seen rack.old) (R.seen rack.new) result }
-    ensures content { Tells store.old.layout (R.seen rack.old) (R.seen rack.new) (λ B. IsTurned F.step F.answer (unread_by store.old.layout (R.seen rack.old) (R.seen rack.new)) B store.old store.new scan.old scan.new state.old state.new result) }
+    ensures content { TellsOf store.old (R.seen rack.old) (R.seen rack.new)
+        (λ Is B. IsTurned F.step F.answer Is B store.old store.new scan.old scan.new state.old state.new result) }
 {
     match next(store, scan, rack) {
         Err(fault) => Err(FoldFault::Tree(fault)),
@@ -73,7 +74,8 @@ fn run<R: Rack, Out, E, F: Folder<Out, E>>(
     ensures reads { OnlyReads (R.seen rack.old) (R.seen rack.new) }
     ensures others { SameLoans (without_leaf store.old scan.old) (without_leaf store.new scan.new) }
     ensures cause { FoldCause store.old.layout (R.seen rack.old) (R.seen rack.new) result }
-    ensures content { Tells store.old.layout (R.seen rack.old) (R.seen rack.new) (λ B. IsRun F.step F.answer (unread_by store.old.layout (R.seen rack.old) (R.seen rack.new)) B store.old scan.old state.old state.new result) }
+    ensures content { TellsOf store.old (R.seen rack.old) (R.seen rack.new)
+        (λ Is B. IsRun F.step F.answer Is B store.old scan.old state.old state.new result) }
 {
     loop {
         match take_next(scan, rack, store, state) {
@@ -105,7 +107,8 @@ pub fn fold<R: Rack, Out, E, F: Folder<Out, E> + Drop>(
     ensures reads { OnlyReads (R.seen rack.old) (R.seen rack.new) }
     ensures loans { SameLoans store.old store.new }
     ensures cause { FoldCause store.old.layout (R.seen rack.old) (R.seen rack.new) result }
-    ensures content { Tells store.old.layout (R.seen rack.old) (R.seen rack.new) (λ B. FoldFollows F.step F.answer (unread_by store.old.layout (R.seen rack.old) (R.seen rack.new)) B state root.now lo hi result) }
+    ensures content { TellsOf store.old (R.seen rack.old) (R.seen rack.new)
+        (λ Is B. FoldFollows F.step F.answer Is B state root.now lo hi result) }
 {
     let mut state = state;
     let mut scan = Scan::new(root, lo, hi);

@@ -1,9 +1,9 @@
 // How a scan goes on, block by block.
-ghost use Rattle.std.specs.Prelude.{◌≡◌, ◌<◌, ◌≤◌, length};
+ghost use Rattle.std.specs.Prelude.{◌<◌, ◌≤◌};
 ghost use Rattle.btr_read.specs.Serves.{Serves};
 ghost use Rattle.btr_rack.specs.Rack.{OnlyReads};
 ghost use Rattle.btr_read.specs.Store.{free_count};
-ghost use Rattle.btr_walk.specs.Reading.{Tells, unread_by, HasCause};
+ghost use Rattle.btr_walk.specs.Reading.{TellsOf, HasCause};
 ghost use Rattle.btr_walk.specs.Going.{LendsGone, IsGone};
 ghost use Rattle.btr_walk.specs.Ranks.{IsShaped, Nears};
 
@@ -46,7 +46,8 @@ pub(crate) fn go_on<R: Rack>(
     ensures reads { OnlyReads (R.seen rack.old) (R.seen rack.new) }
     ensures lent { LendsGone store.old store.new result }
     ensures cause { HasCause store.old.layout (R.seen rack.old) (R.seen rack.new) result }
-    ensures content { Tells store.old.layout (R.seen rack.old) (R.seen rack.new) (λ B. IsGone lo hi (unread_by store.old.layout (R.seen rack.old) (R.seen rack.new)) B place.now store.new result) }
+    ensures content { TellsOf store.old (R.seen rack.old) (R.seen rack.new)
+        (λ Is B. IsGone lo hi Is B place.now store.new result) }
 {
     let path = place.path;
     match place.todo {

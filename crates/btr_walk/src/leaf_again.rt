@@ -1,10 +1,10 @@
 // A leaf that is read again.
-ghost use Rattle.std.specs.Prelude.{◌≡◌, ◌≤◌, IfOk};
+ghost use Rattle.std.specs.Prelude.{◌≤◌, IfOk};
 ghost use Rattle.btr_rack.specs.Rack.{OnlyReads};
 ghost use Rattle.btr_read.specs.Serves.{Serves};
 ghost use Rattle.btr_read.specs.Store.{free_count};
 ghost use Rattle.btr_walk.specs.Advancing.{IsLeafOf, LendsAgain, IsLeafAgain};
-ghost use Rattle.btr_walk.specs.Reading.{Tells, unread_by, HasCause};
+ghost use Rattle.btr_walk.specs.Reading.{TellsOf, HasCause};
 
 use crate::TreeFault;
 use crate::entering::LeafAt;
@@ -27,7 +27,8 @@ pub(crate) fn read_leaf<R: Rack>(
     ensures lent { LendsAgain store.old store.new result }
     ensures same { IfOk result (IsLeafOf frame.now) }
     ensures cause { HasCause store.old.layout (R.seen rack.old) (R.seen rack.new) result }
-    ensures content { Tells store.old.layout (R.seen rack.old) (R.seen rack.new) (λ B. IsLeafAgain (unread_by store.old.layout (R.seen rack.old) (R.seen rack.new)) B frame.now store.new result) }
+    ensures content { TellsOf store.old (R.seen rack.old) (R.seen rack.new)
+        (λ Is B. IsLeafAgain Is B frame.now store.new result) }
 {
     match read_block(0, &frame.spot, rack, store) {
         Err(fault) => Err(fault),

@@ -1,9 +1,9 @@
 // How a scan comes to its next leaf.
-ghost use Rattle.std.specs.Prelude.{◌≡◌, ◌<◌, ◌≤◌, length};
+ghost use Rattle.std.specs.Prelude.{◌<◌, ◌≤◌};
 ghost use Rattle.btr_read.specs.Serves.{Serves};
 ghost use Rattle.btr_rack.specs.Rack.{OnlyReads};
 ghost use Rattle.btr_read.specs.Store.{free_count};
-ghost use Rattle.btr_walk.specs.Reading.{Tells, unread_by, HasCause};
+ghost use Rattle.btr_walk.specs.Reading.{TellsOf, HasCause};
 ghost use Rattle.btr_walk.specs.Leaving.{LendsReached, IsReached, NearsReached};
 ghost use Rattle.btr_walk.specs.Ranks.{IsShaped};
 
@@ -36,7 +36,8 @@ pub(crate) fn to_leaf<R: Rack>(
     ensures lent { LendsReached store.old store.new result }
     ensures nears { NearsReached place.now result }
     ensures cause { HasCause store.old.layout (R.seen rack.old) (R.seen rack.new) result }
-    ensures content { Tells store.old.layout (R.seen rack.old) (R.seen rack.new) (λ B. IsReached lo hi (unread_by store.old.layout (R.seen rack.old) (R.seen rack.new)) B place.now store.new result) }
+    ensures content { TellsOf store.old (R.seen rack.old) (R.seen rack.new)
+        (λ Is B. IsReached lo hi Is B place.now store.new result) }
 {
     let mut at = *place;
     loop {

@@ -1,14 +1,14 @@
 // The next block of a walk over all blocks of a tree.
-ghost use Rattle.std.specs.Prelude.{◌≡◌, ◌^◌, ◌<◌, ◌≤◌, length, IsSome, IsTrue};
+ghost use Rattle.std.specs.Prelude.{◌^◌, ◌<◌, ◌≤◌, length, IsSome, IsTrue};
 ghost use Rattle.btr_node.specs.Block.{pointers, is_inner};
 ghost use Rattle.btr_rack.specs.Rack.{OnlyReads};
 ghost use Rattle.btr_read.specs.Serves.{Serves};
 ghost use Rattle.btr_read.specs.Store.{free_count};
-ghost use Rattle.btr_walk.specs.Again.{IsNextBelow};
+ghost use Rattle.btr_walk.specs.Again.{IsFirstBelow};
 ghost use Rattle.btr_walk.specs.Preorder.{place_of, IsBehind, IsEntry, NearsEntry, LendsEntry, IsStep, NearsStep, LendsStep};
 ghost use Rattle.btr_walk.specs.Ranks.{IsShaped, rank};
 ghost use Rattle.btr_walk.specs.Spot.{judged};
-ghost use Rattle.btr_walk.specs.Reading.{Tells, unread_by, HasCause};
+ghost use Rattle.btr_walk.specs.Reading.{TellsOf, HasCause};
 
 use crate::TreeFault;
 use crate::again::next_of;
@@ -36,7 +36,7 @@ fn children_of(block: &[u8], todo: &Todo) -> Below
     requires good { IsTrue (is_inner block.now) }
     requires some { 0 < todo.now.level }
     ensures few { length (pointers block.now) < 2 ^ 64 }
-    ensures first { IsNextBelow (pointers block.now) todo.now.level (record { spot = todo.now.spot; next = 0; end = length (pointers block.now) }) result.frame result.todo }
+    ensures first { IsFirstBelow (pointers block.now) todo.now result }
 {
     let end = Inner::of(block).count();
     let all = Frame {
@@ -86,7 +86,8 @@ pub(crate) fn enter_block<R: Rack>(
     ensures reads { OnlyReads (R.seen rack.old) (R.seen rack.new) }
     ensures lent { LendsEntry store.old store.new ahead.now result }
     ensures cause { HasCause store.old.layout (R.seen rack.old) (R.seen rack.new) result }
-    ensures content { Tells store.old.layout (R.seen rack.old) (R.seen rack.new) (λ B. IsEntry (unread_by store.old.layout (R.seen rack.old) (R.seen rack.new)) B ahead.now store.new result) }
+    ensures content { TellsOf store.old (R.seen rack.old) (R.seen rack.new)
+        (λ Is B. IsEntry Is B ahead.now store.new result) }
 {
     let todo = ahead.todo;
     match read_block(todo.level, &todo.spot, rack, store) {
@@ -117,7 +118,8 @@ pub(crate) fn step_block<R: Rack>(
     ensures reads { OnlyReads (R.seen rack.old) (R.seen rack.new) }
     ensures lent { LendsStep store.old store.new result }
     ensures cause { HasCause store.old.layout (R.seen rack.old) (R.seen rack.new) result }
-    ensures content { Tells store.old.layout (R.seen rack.old) (R.seen rack.new) (λ B. IsStep (unread_by store.old.layout (R.seen rack.old) (R.seen rack.new)) B place.now store.new result) }
+    ensures content { TellsOf store.old (R.seen rack.old) (R.seen rack.new)
+        (λ Is B. IsStep Is B place.now store.new result) }
 {
     match ahead_of(place, rack, store) {
         Err(fault) => Err(fault),

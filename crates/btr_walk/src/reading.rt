@@ -1,10 +1,10 @@
 // A block of a tree.
-ghost use Rattle.std.specs.Prelude.{◌≡◌, ◌≤◌, IfOk, OnErr};
+ghost use Rattle.std.specs.Prelude.{◌≤◌, IfOk, OnErr};
 ghost use Rattle.btr_read.specs.Serves.{Serves};
 ghost use Rattle.btr_rack.specs.Rack.{OnlyReads};
 ghost use Rattle.btr_read.specs.Store.{IsLentBy, SameLoans, free_count};
 ghost use Rattle.btr_walk.specs.Le.{want_of};
-ghost use Rattle.btr_walk.specs.Reading.{Tells, unread_by, Reads, IsGoodFor, HasCause};
+ghost use Rattle.btr_walk.specs.Reading.{TellsOf, Reads, IsGoodFor, HasCause};
 
 use crate::TreeFault;
 use crate::judging::is_judged;
@@ -30,7 +30,8 @@ pub fn read_block<R: Rack>(
     ensures refused { OnErr result (SameLoans store.old store.new) }
     ensures good { IfOk result (IsGoodFor level spot.now store.new) }
     ensures cause { HasCause store.old.layout (R.seen rack.old) (R.seen rack.new) result }
-    ensures content { Tells store.old.layout (R.seen rack.old) (R.seen rack.new) (λ B. Reads (unread_by store.old.layout (R.seen rack.old) (R.seen rack.new)) B level spot.now store.new result) }
+    ensures content { TellsOf store.old (R.seen rack.old) (R.seen rack.new)
+        (λ Is B. Reads Is B level spot.now store.new result) }
 {
     let want = Want::Tree {
         addr: spot.addr,

@@ -1,5 +1,4 @@
 // Where a scan goes on at a key.
-ghost use Rattle.std.specs.Prelude.{◌≡◌};
 ghost use Rattle.btr_walk.specs.Rejoining.{Rejoins};
 
 use crate::RootPlace;

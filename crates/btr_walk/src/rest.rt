@@ -7,8 +7,8 @@ ghost use Rattle.btr_walk.specs.Advancing.{IsInHand};
 ghost use Rattle.btr_walk.specs.Going.{IsOn, IsUnder};
 ghost use Rattle.btr_walk.specs.Range.{range};
 ghost use Rattle.btr_walk.specs.Ranks.{IsShaped};
-ghost use Rattle.btr_walk.specs.Reading.{Map, Tells, HasCause, unread_by};
-ghost use Rattle.btr_walk.specs.Rests.{Rests, rest_left, HasMet, LendsMet, IsMetAgain};
+ghost use Rattle.btr_walk.specs.Reading.{Map, TellsOf, HasCause};
+ghost use Rattle.btr_walk.specs.Rests.{Rests, rest_left, HasRestUnder, HasMet, LendsMet, IsMetAgain};
 ghost use Rattle.btr_walk.specs.ScanEnds.{without_leaf};
 
 use crate::begin::begin;
@@ -60,6 +60,7 @@ impl Rest {
         ensures program { (B : Map) → rest_left B result ≡ range lo hi root.now }
         ensures on { (B : Map) → IsOn lo hi B [] result.place }
         ensures under { (B : Map) → IsUnder root.now hi B result.place.rest }
+        ensures leaf_under { (B : Map) → HasRestUnder root.now B result }
     {
         Rest {
             root: *root,
@@ -96,7 +97,8 @@ impl Rest {
         ensures reads { OnlyReads (R.seen rack.old) (R.seen rack.new) }
         ensures lent { LendsMet store.old store.new result }
         ensures cause { HasCause store.old.layout (R.seen rack.old) (R.seen rack.new) result }
-        ensures content { Tells store.old.layout (R.seen rack.old) (R.seen rack.new) (λ B. IsMetAgain (unread_by store.old.layout (R.seen rack.old) (R.seen rack.new)) B self.now store.new result) }
+        ensures content { TellsOf store.old (R.seen rack.old) (R.seen rack.new)
+            (λ Is B. IsMetAgain Is B self.now store.new result) }
     {
         let Some(frame) = &self.place.leaf else {
             unreachable!();

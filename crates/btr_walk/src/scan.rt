@@ -14,7 +14,7 @@ ghost use Rattle.btr_walk.specs.Going.{IsOn, IsUnder, place_prog};
 ghost use Rattle.btr_walk.specs.Le.{root_spot};
 ghost use Rattle.btr_walk.specs.Ranks.{IsShaped};
 ghost use Rattle.btr_rack.specs.Rack.{Seen};
-ghost use Rattle.btr_walk.specs.ScanEnds.{left_of, without_leaf, IsReady, KeepsLeaf, NextNears, Paused, IsFrom, Sought, ScanEnds};
+ghost use Rattle.btr_walk.specs.ScanEnds.{left_of, without_leaf, IsReady, HasLeafUnder, KeepsLeaf, NextNears, Paused, IsFrom, Sought, ScanEnds};
 
 use crate::advancing::{Advanced, advance};
 use crate::begin::begin;
@@ -66,6 +66,7 @@ impl Scan {
         ensures program { (B : Map) (store : Blocks) → left_of B store result ≡ range lo hi root.now }
         ensures on { (B : Map) → IsOn lo hi B [] result.place }
         ensures under { (B : Map) → IsUnder root.now hi B result.place.rest }
+        ensures leaf_under { (B : Map) → HasLeafUnder root.now B result }
     {
         Scan {
             root: *root,

@@ -7,8 +7,8 @@ ghost use Rattle.btr_tour.specs.TourEnds.{IsReady, without_leaf};
 
 use crate::{Met, Tour, next};
 use btr_base::Key;
-use btr_blocks::{Body, Form, Items, Tree};
-use btr_chunk::{Chunk, ChunkTable};
+use btr_blocks::{Body, Form, Items, Tree, bodies};
+use btr_chunk::{Chunk, ChunkTable, Stripe};
 use btr_rack::{MemRack, Rack};
 use btr_read::Store;
 use btr_walk::{RootPlace, TreeFault};
@@ -40,19 +40,12 @@ pub(super) enum Mark {
 
 // The item of a chunk with one copy.
 fn item(alloc: Global) -> Result<Body, AllocError> {
-    Body::new(alloc)
-        .u64(CHUNK)?
-        .u64(2)?
-        .u64(65536)?
-        .u64(2)?
-        .u32(65536)?
-        .u32(65536)?
-        .u32(4096)?
-        .u16(1)?
-        .u16(1)?
-        .u64(1)?
-        .u64(START)?
-        .zeros(16)
+    let stripe = Stripe {
+        devid: 1,
+        offset: START,
+        uuid: [0; 16],
+    };
+    bodies::chunk_item(alloc, CHUNK, 2, &[stripe])
 }
 
 // The key of an item that is numbered.

@@ -3,8 +3,8 @@ ghost use Rattle.std.specs.Prelude.{◌<◌, IfOk, length};
 ghost use Rattle.btr_rack.specs.Memory.{slots_of};
 
 use super::scans::is_even_run;
-use super::volume::{CHUNK, FORM, Reading, START, read, root, tree, tree_of};
-use btr_blocks::{Body, Form, Tree};
+use super::volume::{CHUNK, FORM, Reading, START, read, root, stripe, tree, tree_of};
+use btr_blocks::{Body, Form, Tree, bodies};
 use btr_rack::{MemRack, Rack};
 use std::alloc::{AllocError, Global};
 use std::test::Fail;
@@ -20,22 +20,7 @@ const SECOND: u64 = START + CHUNK;
 
 // The item of a chunk with two copies.
 fn item(alloc: Global) -> Result<Body, AllocError> {
-    Body::new(alloc)
-        .u64(CHUNK)?
-        .u64(2)?
-        .u64(65536)?
-        .u64(0x22)?
-        .u32(65536)?
-        .u32(65536)?
-        .u32(4096)?
-        .u16(2)?
-        .u16(1)?
-        .u64(1)?
-        .u64(START)?
-        .zeros(16)?
-        .u64(1)?
-        .u64(SECOND)?
-        .zeros(16)
+    bodies::chunk_item(alloc, CHUNK, 0x22, &[stripe(START), stripe(SECOND)])
 }
 
 // Writes both copies of a tree, of which the first has the stale blocks at one level.

@@ -8,8 +8,8 @@ ghost use Rattle.btr_walk.specs.ScanEnds.{IsReady, without_leaf};
 
 use crate::{RootPlace, Scan, TreeFault, find_le, next};
 use btr_base::Key;
-use btr_blocks::{Body, Form, Items, Tree};
-use btr_chunk::{Chunk, ChunkTable};
+use btr_blocks::{Body, Form, Items, Tree, bodies};
+use btr_chunk::{Chunk, ChunkTable, Stripe};
 use btr_rack::{MemRack, Rack};
 use btr_read::{Loan, Store};
 use std::alloc::{AllocError, Global};
@@ -29,21 +29,18 @@ pub(super) const FORM: Form = Form {
     ..Form::DEFAULT
 };
 
+/// A stripe on the device, from an address on.
+pub(super) fn stripe(offset: u64) -> Stripe {
+    Stripe {
+        devid: 1,
+        offset,
+        uuid: [0; 16],
+    }
+}
+
 // The item of a chunk with one copy.
 fn item(alloc: Global) -> Result<Body, AllocError> {
-    Body::new(alloc)
-        .u64(CHUNK)?
-        .u64(2)?
-        .u64(65536)?
-        .u64(2)?
-        .u32(65536)?
-        .u32(65536)?
-        .u32(4096)?
-        .u16(1)?
-        .u16(1)?
-        .u64(1)?
-        .u64(START)?
-        .zeros(16)
+    bodies::chunk_item(alloc, CHUNK, 2, &[stripe(START)])
 }
 
 /// A key of an item that is numbered.

@@ -1,4 +1,4 @@
-use Rattle.std.proofs.Common.{Ok, Err, Some, None, ap, ◌∙◌, subst, true, false, refl}
+use Rattle.std.proofs.Common.{Ok, Err, ap, ◌∙◌, subst, false, refl}
 use Rattle.btr_walk.specs.declared.folder.FoldFault.TheVariants.{Tree}
 use Rattle.btr_walk.proofs.Joined.{drawn}
 use Rattle.btr_tour.specs.TourEnds.{IsNextMark}

@@ -1,4 +1,4 @@
-use Rattle.std.proofs.Common.{◌∙◌, Ok, Err, true, false, subst}
+use Rattle.std.proofs.Common.{◌∙◌, Ok, subst}
 use Rattle.btr_rack.proofs.Reading.{reads_more}
 use Rattle.btr_walk.proofs.Joined.{joined}
 use Rattle.btr_walk.proofs.Lending.{same_then}

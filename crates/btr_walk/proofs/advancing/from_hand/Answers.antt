@@ -1,4 +1,4 @@
-use Rattle.std.proofs.Common.{Ok, Some, true, sym, ap, subst, arith}
+use Rattle.std.proofs.Common.{Ok, Some, true, ap, subst, arith}
 use Rattle.btr_read.specs.Store.{SameLoans}
 use Rattle.btr_walk.specs.Advancing.{loan_of, FromPlace, FromHand}
 use Rattle.btr_walk.specs.Lending.{base}

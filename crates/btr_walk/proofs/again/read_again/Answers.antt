@@ -5,7 +5,6 @@ use Rattle.btr_walk.specs.Reading.{Reads, unread_by}
 use Rattle.btr_walk.specs.Again.{Rereads}
 use Rattle.btr_walk.proofs.Lending.{given_back, served_back}
 use Rattle.btr_walk.proofs.Joined.{drawn, block_is, is_inner_at}
-use Rattle.btr_walk.proofs.Repeated.{rereads_err}
 use Rattle.btr_walk.proofs.again.read_again.Goals as goal
 
 pub next_of-below-requires-clause-good : goal.next_of-below-requires-clause-good

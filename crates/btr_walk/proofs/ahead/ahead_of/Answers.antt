@@ -1,4 +1,4 @@
-use Rattle.std.proofs.Common.{◌+◌, Ok, Err, Some, None, refl, subst, arith}
+use Rattle.std.proofs.Common.{◌+◌, Ok, Err, Some, None, refl}
 use Rattle.btr_walk.specs.Again.{Rereads}
 use Rattle.btr_walk.specs.Preorder.{IsAhead}
 use Rattle.btr_walk.specs.Reading.{unread_by}

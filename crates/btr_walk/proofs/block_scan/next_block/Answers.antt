@@ -1,4 +1,4 @@
-use Rattle.std.proofs.Common.{◌≡◌, Ok, Err, Some, None, refl, sym, ap, ◌∙◌, subst}
+use Rattle.std.proofs.Common.{◌≡◌, Ok, Some, refl, ap, subst}
 use Rattle.std.specs.Option.{is_some}
 use Rattle.btr_read.specs.Store.{block_of}
 use Rattle.btr_walk.specs.Preorder.{IsStep}

@@ -11,6 +11,7 @@ use Rattle.btr_walk.proofs.Fetched.{some_block}
 use Rattle.btr_walk.proofs.Lending.{given_back, served_back}
 use Rattle.btr_walk.proofs.Joined.{drawn, block_is, is_leaf_at, is_inner_at}
 use Rattle.btr_walk.proofs.Entered.{enter_leaf, held_leaf, enter_inner, enter_frame, down_from, place_spot}
+use Rattle.btr_walk.proofs.Staying.{leaf_from}
 use Rattle.btr_walk.proofs.entering.enter.Goals as goal
 
 pub part_of-part-requires-clause-good : goal.part_of-part-requires-clause-good
@@ -41,6 +42,7 @@ returns-then-todo-eq0-clause-content g c =
       some_block store c.in_ok-loan.loan block (λ (b : List ℕ). (rest : RangeProg) → exec B (range_at c.args.lo c.args.hi todo.level todo.spot rest) ≡ first (Wants (want_of todo.level todo.spot)) (exec B (emit_all (part_items todo.spot.addr b c.part_of-part.result.next c.part_of-part.result.end) rest))) c.bytes.ensures.value
           (enter_leaf c.args.lo c.args.hi B todo.level todo.spot block c.part_of-part.result leaf c.part_of-part.ensures e),
       λ seen read. held_leaf c.args.lo c.args.hi B todo.level todo.spot block store c.part_of-part.result.next c.part_of-part.result.end c.in_ok-loan.loan seen leaf c.bytes.ensures.value e read,
+      leaf_from c.args.lo c.args.hi B todo block c.part_of-part.result.next c.part_of-part.result.end leaf c.part_of-part.ensures.low c.part_of-part.ensures.high e,
     ))
     c.in_ok-loan.ensures.content
 

@@ -1,13 +1,11 @@
-use Rattle.std.proofs.Common.{◌≤◌, Ok, Err, Some, None, subst, sym, ◌∙◌}
-use Rattle.std.specs.List.{count_by}
+use Rattle.std.proofs.Common.{Ok, Err, Some, None, subst, ◌∙◌}
 use Rattle.btr_rack.proofs.Reading.{reads_more}
-use Rattle.btr_walk.specs.declared.folding.Turn.TheVariants.{More, Last, Out}
 use Rattle.btr_walk.specs.Folding.{IsTurned, IsRun}
 use Rattle.btr_walk.specs.Reading.{unread_by}
 use Rattle.btr_walk.proofs.Fetched.{since}
 use Rattle.btr_walk.proofs.Joined.{joined}
 use Rattle.btr_walk.proofs.Lending.{same_then}
-use Rattle.btr_walk.proofs.Turns.{Led, led_more, led_ends, same_layout, same_room, fold_cause_since}
+use Rattle.btr_walk.proofs.Turns.{Led, led_more, led_ends, same_layout, same_room}
 use Rattle.btr_walk.proofs.folding.run.Goals as goal
 
 pub returns-in-Err-clause-content : goal.returns-in-Err-clause-content

@@ -1,4 +1,4 @@
-use Rattle.std.proofs.Common.{Ok, Err, Some, None, ◌∙◌, ap, subst}
+use Rattle.std.proofs.Common.{Ok, Err, ◌∙◌, ap, subst}
 use Rattle.btr_walk.specs.declared.folder.FoldFault.TheVariants.{Tree}
 use Rattle.btr_walk.specs.declared.folding.Turn.TheVariants.{Last}
 use Rattle.btr_walk.specs.Folding.{IsTurned}

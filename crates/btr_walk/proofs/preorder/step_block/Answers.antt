@@ -1,4 +1,4 @@
-use Rattle.std.proofs.Common.{Ok, Err, Some, None, ◌∙◌, ap, subst}
+use Rattle.std.proofs.Common.{Ok, Err, Some, None, subst}
 use Rattle.btr_walk.specs.Preorder.{IsAhead, IsEntry, IsStep}
 use Rattle.btr_walk.specs.Reading.{unread_by}
 use Rattle.btr_walk.proofs.Fetched.{since}

@@ -1,4 +1,4 @@
-use Rattle.std.proofs.Common.{◌+◌, Some, rules, length, sym, ◌∙◌, subst, arith}
+use Rattle.std.proofs.Common.{◌+◌, Some, rules, sym, ◌∙◌, subst}
 use Rattle.btr_walk.specs.Rejoining.{Rejoins}
 use Rattle.btr_walk.proofs.Joins.{joins_node, joins_root}
 use Rattle.btr_walk.proofs.rejoining.rejoin.Goals as goal

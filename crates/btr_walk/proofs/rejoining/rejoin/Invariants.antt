@@ -1,4 +1,3 @@
-use Rattle.std.proofs.Common.{◌≡◌, length}
 use Rattle.btr_walk.proofs.Joins.{Popped}
 use Rattle.btr_walk.proofs.rejoining.rejoin.Given as goal
 

@@ -1,6 +1,6 @@
 use Rattle.std.proofs.Common.{refl, sym, ◌∙◌}
 use Rattle.btr_walk.proofs.Lending.{served_back}
-use Rattle.btr_walk.proofs.Nexts.{paused_none, paused_leaf, ready_paused}
+use Rattle.btr_walk.proofs.Nexts.{paused_leaf, ready_paused}
 use Rattle.btr_walk.proofs.scan.Scan.pause.Goals as goal
 
 pub returns-in-Some-clause-serves : goal.returns-in-Some-clause-serves

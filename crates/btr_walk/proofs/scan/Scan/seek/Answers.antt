@@ -1,4 +1,4 @@
-use Rattle.std.proofs.Common.{Some, None, refl, sym, ◌∙◌}
+use Rattle.std.proofs.Common.{None, refl, sym, ◌∙◌}
 use Rattle.btr_walk.proofs.Lending.{served_back}
 use Rattle.btr_walk.proofs.Nexts.{sought_in, sought_others, sought_ready, sought_anew, anew_ready, no_hand, past_hand}
 use Rattle.btr_walk.proofs.scan.Scan.seek.Goals as goal

@@ -1,4 +1,4 @@
-use Rattle.std.proofs.Common.{◌≡◌, Option, Some, None, IfSome, refl, sym, ap, ◌∙◌, subst}
+use Rattle.std.proofs.Common.{◌≡◌, Option, Some, None, IfSome, refl, sym, subst}
 use Rattle.btr_rack.specs.Memory.{seen_of}
 use Rattle.btr_rack.specs.Rack.{Seen}
 use Rattle.btr_read.specs.Store.{Blocks, without_kept, free_count}
@@ -7,7 +7,7 @@ use Rattle.btr_walk.specs.declared.entering.LeafAt.{LeafAt}
 use Rattle.btr_walk.specs.declared.scan.Scan.{Scan}
 use Rattle.btr_walk.specs.Lending.{base}
 use Rattle.btr_walk.specs.Advancing.{IsInHand, loan_of}
-use Rattle.btr_walk.specs.ScanEnds.{IsReady, without_leaf}
+use Rattle.btr_walk.specs.ScanEnds.{IsReady}
 use Rattle.btr_walk.proofs.tests.seeks.seek.Goals as goal
 
 hand_still : (store : Blocks) (leaf : Option LeafAt) → IfSome leaf (IsInHand store) → IfSome leaf (IsInHand (without_kept store))
