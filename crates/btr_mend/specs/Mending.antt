@@ -13,8 +13,8 @@ use Rattle.btr_read.specs.Layout.{Layout}
 use Rattle.btr_read.specs.declared.want.Want.{Want}
 use Rattle.btr_read.specs.Mirror.{HasMirror, mirror_candidate}
 use Rattle.btr_mend.specs.Blocks.{bad_parts, block_writes, copy_writes, is_good, is_lost}
-use Rattle.btr_mend.specs.Writes.{Does, Images, writes_if}
-use Rattle.btr_read.specs.Store.{Blocks, IsLentBy, SameLoans, block_of}
+use Rattle.btr_mend.specs.Writes.{AccountsMend, Does, Images, writes_if}
+use Rattle.btr_read.specs.Store.{Blocks, IsLentBy, Lent, SameLoans, block_of}
 use Rattle.btr_mend.specs.declared.finding.First.{First}
 use Rattle.btr_mend.specs.declared.mended.MendFault.{MendFault}
 use Rattle.btr_mend.specs.declared.mended.Mended.{Mended}
@@ -25,6 +25,10 @@ pub record IsCopied (layout : Layout) (want : Want) : Type 0 where
   pub is_sought : sought layout want ≡ Ok target
   pub copies : IsSome (mirrors target.chunk)
   pub stand : (mirror : ℕ) → HasMirror mirror target → IsSome (range_of target (Mirror mirror))
+
+-- where the images are told, this holds of them and of the position of a wanted block
+abbrev pub InTold : Blocks → Want → Seen → (Images → Target → Type 0) → Type 0
+InTold store want rack Fact = (t : Target) (images : Images) → sought store.layout want ≡ Ok t → rack.held ≡ Some images → Fact images t
 
 -- a range lies in a copy of a block
 pub record IsOfCopy (t : Target) (range : Range) : Type 0 where
@@ -81,3 +85,22 @@ flagged flags n = map Mirror (filter (λ k. slice_index_or flags k false) (range
 -- bytes are written over copies
 abbrev pub Overwrites : {A : Type 0} → Target → List ℕ → List Part → List Bool → List Bool → Seen → Seen → Result A MendFault → Type 0
 Overwrites t bytes parts marks marks' old new result = Does (IsOfCopy t) (λ images. copy_writes t bytes parts) marks marks' old new result
+
+-- a loan has the bytes of a copy
+abbrev pub LendsCopy : Blocks → Lent → Images → Target → ℕ → Type 0
+LendsCopy store loan images t mirror = block_of store loan ≡ Some (element images t (Mirror mirror))
+
+-- ---- a wanted block, by its position
+
+-- the account is as before, but where a copy of it failed
+abbrev pub AccountsCopies : {A : Type 0} → Blocks → Want → Seen → Seen → Result A MendFault → Type 0
+AccountsCopies store want old new result = (t : Target) → sought store.layout want ≡ Ok t → AccountsMend (IsOfCopy t) old new result
+
+-- the bytes of a loan were written over copies of it
+abbrev pub WritesLoan : {A : Type 0} → Blocks → Want → Lent → List Part → List Bool → List Bool → Seen → Seen → Result A MendFault → Type 0
+WritesLoan store want loan parts marks marks' old new result =
+    (t : Target) (bytes : List ℕ) → sought store.layout want ≡ Ok t → block_of store loan ≡ Some bytes → Overwrites t bytes parts marks marks' old new result
+
+-- it was mended by its copies
+abbrev pub MendsWant : Blocks → Want → Bool → List Bool → List Bool → Seen → Seen → Result Mended MendFault → Type 0
+MendsWant store want write marks marks' old new result = (t : Target) → sought store.layout want ≡ Ok t → Mends t write marks marks' old new result

@@ -9,8 +9,7 @@ ghost use Rattle.btr_read.specs.Mirror.{HasMirror};
 ghost use Rattle.btr_read.specs.Serves.{Serves};
 ghost use Rattle.btr_read.specs.Store.{SameLoans, free_count};
 ghost use Rattle.btr_mend.specs.Blocks.{is_good};
-ghost use Rattle.btr_mend.specs.Mending.{AreBad, FindsFirst, IsCopied, IsFirst, IsOfCopy, LendsFirst};
-ghost use Rattle.btr_mend.specs.Writes.{AccountsMend, Images};
+ghost use Rattle.btr_mend.specs.Mending.{AccountsCopies, AreBad, FindsFirst, InTold, IsCopied, IsFirst, LendsFirst};
 
 use crate::MendFault;
 use btr_rack::Rack;
@@ -44,9 +43,10 @@ pub(crate) fn first_good<R: Rack>(
     ensures serves { Serves (R.seen rack.new) store.new }
     ensures reads { OnlyReads (R.seen rack.old) (R.seen rack.new) }
     ensures lent { LendsFirst want.now store.old store.new result }
-    ensures found { (t : Target) (images : Images) → sought store.old.layout want.now ≡ Ok t → (R.seen rack.old).held ≡ Some images → FindsFirst images t copies store.new result }
+    ensures found { InTold store.old want.now (R.seen rack.old)
+        (λ images t. FindsFirst images t copies store.new result) }
     ensures below { IfOk result (λ found. IfSome found (λ first. first.mirror < copies)) }
-    ensures account { (t : Target) → sought store.old.layout want.now ≡ Ok t → AccountsMend (IsOfCopy t) (R.seen rack.old) (R.seen rack.new) result }
+    ensures account { AccountsCopies store.old want.now (R.seen rack.old) (R.seen rack.new) result }
 {
     for mirror in 0..copies {
         match try_mirror(want, mirror, rack, store) {
@@ -73,8 +73,9 @@ fn is_good<R: Rack>(
     ensures serves { Serves (R.seen rack.new) store.new }
     ensures reads { OnlyReads (R.seen rack.old) (R.seen rack.new) }
     ensures same { SameLoans store.old store.new }
-    ensures good { (t : Target) (images : Images) → sought store.old.layout want.now ≡ Ok t → (R.seen rack.old).held ≡ Some images → IfOk result (λ good. good ≡ is_good images t (Mirror mirror)) }
-    ensures account { (t : Target) → sought store.old.layout want.now ≡ Ok t → AccountsMend (IsOfCopy t) (R.seen rack.old) (R.seen rack.new) result }
+    ensures good { InTold store.old want.now (R.seen rack.old)
+        (λ images t. IfOk result (λ good. good ≡ is_good images t (Mirror mirror))) }
+    ensures account { AccountsCopies store.old want.now (R.seen rack.old) (R.seen rack.new) result }
 {
     match try_mirror(want, mirror, rack, store) {
         Ok(Tried::Passed(loan)) => {
@@ -99,12 +100,13 @@ fn is_bad<R: Rack>(
     requires room { 1 ≤ free_count store.old }
     requires copied { IsCopied store.old.layout want.now }
     requires mirror { (t : Target) → sought store.old.layout want.now ≡ Ok t → HasMirror mirror t }
-    requires first { (t : Target) (images : Images) → sought store.old.layout want.now ≡ Ok t → (R.seen rack.old).held ≡ Some images → IsFirst images t first }
+    requires first { InTold store.old want.now (R.seen rack.old) (λ images t. IsFirst images t first) }
     ensures serves { Serves (R.seen rack.new) store.new }
     ensures reads { OnlyReads (R.seen rack.old) (R.seen rack.new) }
     ensures same { SameLoans store.old store.new }
-    ensures bad { (t : Target) (images : Images) → sought store.old.layout want.now ≡ Ok t → (R.seen rack.old).held ≡ Some images → IfOk result (λ bad. bad ≡ not (is_good images t (Mirror mirror))) }
-    ensures account { (t : Target) → sought store.old.layout want.now ≡ Ok t → AccountsMend (IsOfCopy t) (R.seen rack.old) (R.seen rack.new) result }
+    ensures bad { InTold store.old want.now (R.seen rack.old)
+        (λ images t. IfOk result (λ bad. bad ≡ not (is_good images t (Mirror mirror)))) }
+    ensures account { AccountsCopies store.old want.now (R.seen rack.old) (R.seen rack.new) result }
 {
     if mirror < first {
         return Ok(true);
@@ -137,12 +139,13 @@ pub(crate) fn bad_copies<R: Rack>(
     requires copied { IsCopied store.old.layout want.now }
     requires few { copies ≤ 4 }
     requires copies { (t : Target) → sought store.old.layout want.now ≡ Ok t → mirrors t.chunk ≡ Some copies }
-    requires first { (t : Target) (images : Images) → sought store.old.layout want.now ≡ Ok t → (R.seen rack.old).held ≡ Some images → IsFirst images t first }
+    requires first { InTold store.old want.now (R.seen rack.old) (λ images t. IsFirst images t first) }
     ensures serves { Serves (R.seen rack.new) store.new }
     ensures reads { OnlyReads (R.seen rack.old) (R.seen rack.new) }
     ensures same { SameLoans store.old store.new }
-    ensures bad { (t : Target) (images : Images) → sought store.old.layout want.now ≡ Ok t → (R.seen rack.old).held ≡ Some images → IfOk result (λ bad. AreBad images t copies bad.flags bad.count) }
-    ensures account { (t : Target) → sought store.old.layout want.now ≡ Ok t → AccountsMend (IsOfCopy t) (R.seen rack.old) (R.seen rack.new) result }
+    ensures bad { InTold store.old want.now (R.seen rack.old)
+        (λ images t. IfOk result (λ bad. AreBad images t copies bad.flags bad.count)) }
+    ensures account { AccountsCopies store.old want.now (R.seen rack.old) (R.seen rack.new) result }
 {
     let mut flags = [false; 4];
     let mut count = 0;

@@ -1,14 +1,13 @@
 // A block, mended by its copies.
 ghost use Rattle.std.specs.Prelude.{◌≡◌, ◌<◌, ◌≤◌, length, IsTrue, Ok, Some};
 ghost use Rattle.btr_chunk.specs.Chunk.{mirrors};
-ghost use Rattle.btr_chunk.specs.declared.place.Part.TheVariants.{Mirror};
-ghost use Rattle.btr_read.specs.Candidates.{Target, element};
+ghost use Rattle.btr_read.specs.Candidates.{Target};
 ghost use Rattle.btr_read.specs.Fate.{sought};
 ghost use Rattle.btr_read.specs.Serves.{Serves};
-ghost use Rattle.btr_read.specs.Store.{IsLiveIn, SameLoans, block_of, free_count};
+ghost use Rattle.btr_read.specs.Store.{IsLiveIn, SameLoans, free_count};
 ghost use Rattle.btr_read.specs.Want.{len_of};
-ghost use Rattle.btr_mend.specs.Mending.{IsCopied, IsFirst, Mends};
-ghost use Rattle.btr_mend.specs.Writes.{AreWritable, Images};
+ghost use Rattle.btr_mend.specs.Mending.{InTold, IsCopied, IsFirst, LendsCopy, MendsWant};
+ghost use Rattle.btr_mend.specs.Writes.{AreWritable};
 
 use crate::copies::copies_of;
 use crate::finding::{First, bad_copies, first_good};
@@ -36,13 +35,14 @@ fn mend_others<R: Rack>(
     requires few { copies ≤ 4 }
     requires below { first < copies }
     requires copies { (t : Target) → sought store.old.layout want.now ≡ Ok t → mirrors t.chunk ≡ Some copies }
-    requires first { (t : Target) (images : Images) → sought store.old.layout want.now ≡ Ok t → (R.seen rack.old).held ≡ Some images → IsFirst images t first }
+    requires first { InTold store.old want.now (R.seen rack.old) (λ images t. IsFirst images t first) }
     requires live { IsLiveIn store.old loan.now }
     requires len { loan.now.len ≡ len_of store.old.layout.setting want.now }
-    requires bytes { (t : Target) (images : Images) → sought store.old.layout want.now ≡ Ok t → (R.seen rack.old).held ≡ Some images → block_of store.old loan.now ≡ Some (element images t (Mirror first)) }
+    requires bytes { InTold store.old want.now (R.seen rack.old)
+        (λ images t. LendsCopy store.old loan.now images t first) }
     ensures serves { Serves (R.seen rack.new) store.new }
     ensures loans { SameLoans store.old store.new }
-    ensures mends { (t : Target) → sought store.old.layout want.now ≡ Ok t → Mends t write marks.old marks.new (R.seen rack.old) (R.seen rack.new) result }
+    ensures mends { MendsWant store.old want.now write marks.old marks.new (R.seen rack.old) (R.seen rack.new) result }
 {
     let bad = match bad_copies(want, first, copies, rack, store) {
         Ok(bad) => bad,
@@ -86,7 +86,7 @@ pub fn mend_copies<R: Rack>(
     requires copied { IsCopied store.old.layout want.now }
     ensures serves { Serves (R.seen rack.new) store.new }
     ensures loans { SameLoans store.old store.new }
-    ensures mends { (t : Target) → sought store.old.layout want.now ≡ Ok t → Mends t write marks.old marks.new (R.seen rack.old) (R.seen rack.new) result }
+    ensures mends { MendsWant store.old want.now write marks.old marks.new (R.seen rack.old) (R.seen rack.new) result }
 {
     let copies = copies_of(want, store);
     match first_good(want, copies, rack, store) {

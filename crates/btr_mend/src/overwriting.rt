@@ -1,14 +1,14 @@
 // Writing over bad copies.
-ghost use Rattle.std.specs.Prelude.{◌≡◌, ◌≤◌, ℕ, List, [], ◌∷◌, length, Ok, Some, if◌then◌else◌};
+ghost use Rattle.std.specs.Prelude.{◌≡◌, ◌≤◌, [], ◌∷◌, length, Ok, Some, if◌then◌else◌};
 ghost use Rattle.btr_chunk.specs.Chunk.{mirrors};
 ghost use Rattle.btr_chunk.specs.declared.place.Part.TheVariants.{Mirror};
 ghost use Rattle.btr_read.specs.Candidates.{Target};
 ghost use Rattle.btr_read.specs.Fate.{sought};
 ghost use Rattle.btr_read.specs.Layout.{AreOpen};
 ghost use Rattle.btr_read.specs.Mirror.{HasMirror};
-ghost use Rattle.btr_read.specs.Store.{IsLiveIn, block_of};
+ghost use Rattle.btr_read.specs.Store.{IsLiveIn};
 ghost use Rattle.btr_read.specs.Want.{len_of};
-ghost use Rattle.btr_mend.specs.Mending.{IsCopied, Overwrites, flagged};
+ghost use Rattle.btr_mend.specs.Mending.{IsCopied, WritesLoan, flagged};
 ghost use Rattle.btr_mend.specs.Writes.{AreWritable};
 
 use crate::MendFault;
@@ -34,8 +34,8 @@ fn overwrite<R: Rack>(
     requires live { IsLiveIn store.now loan.now }
     requires len { loan.now.len ≡ len_of store.now.layout.setting want.now }
     ensures slots { (R.seen rack.new).slots ≡ (R.seen rack.old).slots }
-    ensures writes { (t : Target) (bytes : List ℕ) → sought store.now.layout want.now ≡ Ok t → block_of store.now loan.now ≡ Some bytes
-        → Overwrites t bytes (Mirror mirror ∷ []) marks.old marks.new (R.seen rack.old) (R.seen rack.new) result }
+    ensures writes { WritesLoan store.now want.now loan.now (Mirror mirror ∷ [])
+        marks.old marks.new (R.seen rack.old) (R.seen rack.new) result }
 {
     let bytes = store.bytes(loan);
     let place = place_of_copy(want, mirror, bytes.len() as u64, store);
@@ -65,8 +65,8 @@ fn overwrite_if<R: Rack>(
     requires live { IsLiveIn store.now loan.now }
     requires len { loan.now.len ≡ len_of store.now.layout.setting want.now }
     ensures slots { (R.seen rack.new).slots ≡ (R.seen rack.old).slots }
-    ensures writes { (t : Target) (bytes : List ℕ) → sought store.now.layout want.now ≡ Ok t → block_of store.now loan.now ≡ Some bytes
-        → Overwrites t bytes (if bad then Mirror mirror ∷ [] else []) marks.old marks.new (R.seen rack.old) (R.seen rack.new) result }
+    ensures writes { WritesLoan store.now want.now loan.now (if bad then Mirror mirror ∷ [] else [])
+        marks.old marks.new (R.seen rack.old) (R.seen rack.new) result }
 {
     if !bad {
         return Ok(());
@@ -93,8 +93,8 @@ pub(crate) fn write_over<R: Rack>(
     requires live { IsLiveIn store.now loan.now }
     requires len { loan.now.len ≡ len_of store.now.layout.setting want.now }
     ensures slots { (R.seen rack.new).slots ≡ (R.seen rack.old).slots }
-    ensures writes { (t : Target) (bytes : List ℕ) → sought store.now.layout want.now ≡ Ok t → block_of store.now loan.now ≡ Some bytes
-        → Overwrites t bytes (flagged bad.now.flags copies) marks.old marks.new (R.seen rack.old) (R.seen rack.new) result }
+    ensures writes { WritesLoan store.now want.now loan.now (flagged bad.now.flags copies)
+        marks.old marks.new (R.seen rack.old) (R.seen rack.new) result }
 {
     for mirror in 0..copies {
         let is_bad = bad.flags[mirror as usize];

@@ -14,8 +14,8 @@ use Rattle.btr_read.specs.declared.want.Want.{Want}
 use Rattle.btr_mend.specs.Blocks.{accepted, bad_parts, block_writes, is_good, is_lost}
 use Rattle.btr_mend.specs.Writes.{Images}
 use Rattle.btr_row.specs.Rows.{Row, element, meets, slice_count, with_block}
-use Rattle.btr_row.specs.Mending.{IsOn}
-use Rattle.btr_row.specs.Memory.{IsSpot, IsStripeOf, element_in}
+use Rattle.btr_row.specs.Mending.{IsOn, IsRowOf}
+use Rattle.btr_row.specs.Memory.{HoldsRow, IsSpot, IsStripeOf, element_in}
 use Rattle.btr_row.specs.declared.judged.Judged.{Judged}
 use Rattle.btr_row.specs.declared.judging.Verdict.{Verdict}
 use Rattle.btr_row.specs.declared.shape.Shape.{Shape}
@@ -52,6 +52,15 @@ pub record FitsVerdict (images : Images) (t : Target) (old new : List ℕ) (verd
   pub lost : verdict.lost ≡ is_lost images t
   pub pasted_is : new ≡ option_map_or (pasted old (t.at.index * 65536 + t.at.rest)) (accepted images t) old
 
+-- what comes of a wanted block of a row in memory
+abbrev pub JudgesBlock : Layout → FullStripe → Want → List ℕ → List ℕ → List ℕ → Verdict → Type 0
+JudgesBlock layout stripe want bytes old new verdict =
+    (images : Images) (row : Row) (t : Target) → IsStripeOf layout stripe row → HoldsRow images layout row bytes → sought layout want ≡ Ok t → FitsVerdict images t old new verdict
+
+-- a column's flag
+abbrev pub flag : List Bool → ℕ → Bool
+flag flags column = slice_index_or flags column false
+
 -- a block has bytes in a column
 abbrev pub meets_spot : ℕ → Spot → Bool
 meets_spot column spot = nat_lt spot.rest (column * 4096 + 4096) && nat_lt (column * 4096) (spot.rest + spot.len)
@@ -72,3 +81,9 @@ pub record AreJudged (images : Images) (layout : Layout) (row : Row) (ts : List 
   pub lost : judged.lost ≡ count_by (is_lost images) ts
   pub met : (column : ℕ) → column < 16 → slice_index_or judged.met column false ≡ list_any (meets column) ts
   pub broken : (column : ℕ) → column < 16 → slice_index_or judged.broken column false ≡ list_any (λ t. is_lost images t && meets column t) ts
+
+-- the wanted blocks of a row in memory were judged
+abbrev pub JudgesRow : Layout → FullStripe → List Want → List ℕ → List ℕ → Judged → Type 0
+JudgesRow layout stripe wants old new judged =
+    (images : Images) (row : Row) → IsStripeOf layout stripe row → IsRowOf layout stripe.chunk stripe.number wants row → HoldsRow images layout row old
+    → AreJudged images layout row row.blocks new judged

@@ -1,6 +1,6 @@
 -- A row's bytes in memory, element by element: the slices, P, and Q; and a block of it.
-use Rattle.std.specs.List.{All}
-use Rattle.std.specs.Prelude.{◌≡◌, ℕ, ◌+◌, ◌*◌, ◌<◌, ◌≤◌, ◌==◌, false, List, length, nat_lt, take, Option, Some, None, IfSome, IsSome, slice_range, if◌then◌else◌}
+use Rattle.std.specs.List.{All, range_with_len}
+use Rattle.std.specs.Prelude.{◌≡◌, ℕ, ◌+◌, ◌*◌, ◌<◌, ◌≤◌, ◌==◌, false, List, length, map, nat_lt, take, Option, Some, None, IfSome, IsSome, Result, Ok, slice_get, slice_range, if◌then◌else◌}
 use Rattle.btr_chunk.specs.Chunk.{IsChunk, mirrors}
 use Rattle.btr_chunk.specs.Mapping.{HasPart, IsPosition}
 use Rattle.btr_chunk.specs.declared.place.Part.{Part}
@@ -10,15 +10,19 @@ use Rattle.btr_chunk.specs.declared.profile.Profile.TheVariants.{Raid6}
 use Rattle.btr_parity.specs.Field.{power}
 use Rattle.btr_parity.specs.Slices.{IsSlice, plus, scaled, parity_p, parity_q}
 use Rattle.btr_read.specs.Candidates as candidates
-use Rattle.btr_read.specs.Candidates.{Target, size_of}
+use Rattle.btr_read.specs.Candidates.{Target, rebuilt, size_of, value_of}
+use Rattle.btr_read.specs.Fate.{sought}
 use Rattle.btr_read.specs.Gathering.{read_slices}
 use Rattle.btr_read.specs.Layout.{Layout}
 use Rattle.btr_read.specs.declared.candidate.Candidate.{Candidate}
 use Rattle.btr_read.specs.declared.candidate.Candidate.TheVariants.{Stands, ByP, ByQ, ByBoth}
+use Rattle.btr_read.specs.declared.want.Want.{Want}
+use Rattle.btr_rack.specs.Rack.{Seen}
 use Rattle.btr_mend.specs.Blocks.{accepted, is_good}
-use Rattle.btr_mend.specs.Writes.{Images}
+use Rattle.btr_mend.specs.Writes.{AccountsMend, Images}
+use Rattle.btr_mend.specs.declared.mended.MendFault.{MendFault}
 use Rattle.btr_row.specs.Rows.{Row, element, parities, slice_count}
-use Rattle.btr_row.specs.Mending.{IsFullStripe}
+use Rattle.btr_row.specs.Mending.{IsFullStripe, IsOfRow}
 use Rattle.btr_row.specs.declared.stripe.FullStripe.{FullStripe}
 use Rattle.btr_row.specs.declared.parity.Parity.{Parity}
 use Rattle.btr_row.specs.declared.parity.Parity.TheVariants as parity
@@ -33,6 +37,14 @@ pub record IsShape (row : Row) (shape : Shape) : Type 0 where
 -- the bytes of an element
 abbrev pub element_in : List ℕ → ℕ → List ℕ
 element_in bytes e = slice_range bytes (e * 65536) (e * 65536 + 65536)
+
+-- the first elements, as slices
+abbrev pub slices_in : List ℕ → ℕ → List (List ℕ)
+slices_in bytes n = map (element_in bytes) (range_with_len 0 n)
+
+-- so many bytes from a place on
+abbrev pub piece_at : List ℕ → ℕ → ℕ → List ℕ
+piece_at bytes start len = slice_range bytes start (start + len)
 
 -- the part whose element has a number, of k slices
 abbrev pub part_at : ℕ → ℕ → Part
@@ -61,6 +73,18 @@ pub record IsStripeOf (layout : Layout) (stripe : FullStripe) (row : Row) : Type
 pub record IsStripe (layout : Layout) (stripe : FullStripe) : Type 0 where
   pub row : Row
   pub of : IsStripeOf layout stripe row
+
+-- this holds of it
+abbrev pub OfRow : Layout → FullStripe → (Row → Type 0) → Type 0
+OfRow layout stripe Fact = (row : Row) → IsStripeOf layout stripe row → Fact row
+
+-- it has a part
+abbrev pub IsPartOf : Layout → FullStripe → Part → Type 0
+IsPartOf layout stripe part = (row : Row) → IsStripeOf layout stripe row → HasPart row.chunk.profile (length row.chunk.stripes) part
+
+-- the account is as before, but where one of its elements failed
+abbrev pub AccountsRow : {A : Type 0} → Layout → FullStripe → Seen → Seen → Result A MendFault → Type 0
+AccountsRow layout stripe old new result = (row : Row) → IsStripeOf layout stripe row → AccountsMend (IsOfRow layout row) old new result
 
 -- an element was read, where no read failed
 abbrev pub ReadsElement : Layout → FullStripe → Part → List ℕ → Option Images → Type 0
@@ -146,6 +170,18 @@ ReadsQ ByP = ⊥
 ReadsQ ByQ = Unit {0}
 ReadsQ (ByBoth j) = Unit {0}
 
+-- the front of a buffer has what a parity leaves of the slices that a candidate doesn't read
+abbrev pub Gathers : Spot → List ℕ → Candidate → Parity → List ℕ → Type 0
+Gathers spot bytes c p sum = (images : Images) (t : Target) → IsHeld images t spot bytes → IsLeft images t c p (take spot.len sum)
+
+-- .. what a candidate gives
+abbrev pub Computes : Spot → List ℕ → Candidate → List ℕ → Type 0
+Computes spot bytes c block = (images : Images) (t : Target) → IsHeld images t spot bytes → value_of images t c ≡ take spot.len block
+
+-- a candidate for slice i is the one at a place in their order, of so many slices
+abbrev pub IsCandidate : Profile → ℕ → ℕ → ℕ → Candidate → Type 0
+IsCandidate profile slices i k c = slice_get (rebuilt profile slices i) k ≡ Some c
+
 -- the number of the first candidate that passes, and what is accepted for the block, in the front of a buffer
 pub record IsAccepted (images : Images) (t : Target) (block : List ℕ) (n : ℕ) : Type 0 where
   pub bytes : accepted images t ≡ Some (take (size_of t) block)
@@ -160,3 +196,8 @@ pub record IsGone (images : Images) (t : Target) : Type 0 where
 abbrev pub Accepts : Images → Target → List ℕ → Option ℕ → Type 0
 Accepts images t block (Some n) = IsAccepted images t block n
 Accepts images t block None = IsGone images t
+
+-- the same for a wanted block
+abbrev pub AcceptsWant : Layout → Want → Spot → List ℕ → List ℕ → Option ℕ → Type 0
+AcceptsWant layout want spot bytes block number =
+    (images : Images) (t : Target) → sought layout want ≡ Ok t → IsHeld images t spot bytes → Accepts images t block number

@@ -61,11 +61,19 @@ pub record HasRoom (buffer : RowBuffer) (count : ℕ) : Type 0 where
   pub block : 65536 ≤ length buffer.block.items
   pub spare : 65536 ≤ length buffer.spare.items
 
+-- .. of the row of a number in the chunk that starts at an address
+abbrev pub HasRoomFor : Layout → ℕ → ℕ → List Want → RowBuffer → Type 0
+HasRoomFor layout start number wants buffer = (row : Row) → IsRowOf layout start number wants row → HasRoom buffer (length row.chunk.stripes)
+
 -- a range lies in an element of the row
 pub record IsOfRow (layout : Layout) (row : Row) (range : Range) : Type 0 where
   pub part : Part
   pub has : HasPart row.chunk.profile (length row.chunk.stripes) part
   pub lies : IsSomeAnd (range_in_element layout row part 0 65536) (LiesIn range)
+
+-- how many sectors of its parities are wrong
+abbrev pub parity_count : Images → Layout → Row → ℕ
+parity_count images layout row = sum_by (λ part. length (parity_writes images layout row part)) (parities row.chunk.profile)
 
 -- what comes of a row, which is written or only read
 abbrev pub mended_row : Images → Layout → Row → Bool → MendedRow
@@ -73,7 +81,7 @@ mended_row images layout row write = record {
   bad = sum_by (λ t. length (bad_parts images t)) row.blocks;
   repaired = if write then sum_by (λ t. length (block_writes images t)) row.blocks else 0;
   lost = count_by (is_lost images) row.blocks;
-  parity = sum_by (λ part. length (parity_writes images layout row part)) (parities row.chunk.profile);
+  parity = parity_count images layout row;
 }
 
 -- the counts of what came of it

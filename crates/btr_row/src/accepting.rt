@@ -1,13 +1,10 @@
 // What is accepted for a block: the bytes of its first candidate that passes.
-ghost use Rattle.std.specs.Prelude.{◌≡◌, ◌≢◌, ℕ, ◌+◌, ◌<◌, ◌≤◌, length, take, slice_get, Ok, Some, if◌then◌else◌};
+ghost use Rattle.std.specs.Prelude.{◌≡◌, ◌≢◌, ℕ, ◌+◌, ◌<◌, ◌≤◌, length, take};
 ghost use Rattle.btr_chunk.specs.declared.profile.Profile.{Profile};
 ghost use Rattle.btr_chunk.specs.declared.profile.Profile.TheVariants as profile;
-ghost use Rattle.btr_read.specs.Candidates.{Target, rebuilt, value_of};
-ghost use Rattle.btr_read.specs.Fate.{sought};
 ghost use Rattle.btr_read.specs.Sought.{IsTwoParities};
 ghost use Rattle.btr_read.specs.Want.{len_of, passes};
-ghost use Rattle.btr_mend.specs.Writes.{Images};
-ghost use Rattle.btr_row.specs.Memory.{Accepts, FitsIn, IsHeld, ReadsQ};
+ghost use Rattle.btr_row.specs.Memory.{AcceptsWant, Computes, FitsIn, IsCandidate, ReadsQ};
 
 use crate::gathering::{copy_front, divide_front, gather, solve_front};
 use crate::parity::Parity;
@@ -17,8 +14,8 @@ use btr_read::{Candidate, Store, Want, passes};
 
 // The candidate at a place in their order, for slice `index`.
 fn candidate_at(index: u32, k: u32) -> Candidate
-    ensures one { (slices : ℕ) → k < 2 → slice_get (rebuilt profile.Raid5 slices index) k ≡ Some result }
-    ensures two { (slices : ℕ) → index < slices → k < slices + 2 → slice_get (rebuilt profile.Raid6 slices index) k ≡ Some result }
+    ensures one { (slices : ℕ) → k < 2 → IsCandidate profile.Raid5 slices index k result }
+    ensures two { (slices : ℕ) → index < slices → k < slices + 2 → IsCandidate profile.Raid6 slices index k result }
     ensures parts { (slices : ℕ) → index < slices → k < slices + 2 → IsTwoParities slices index result }
     ensures first { k < 2 → ReadsQ result → ⊥ }
 {
@@ -52,7 +49,7 @@ fn compute(bytes: &[u8], spot: &Spot, candidate: Candidate, block: &mut [u8], sp
     requires spare_fits { spot.now.len ≤ length spare.old }
     requires parts { IsTwoParities spot.now.shape.slices spot.now.index candidate }
     requires q { ReadsQ candidate → spot.now.shape.profile ≡ Profile.Raid6 }
-    ensures value { (images : Images) (t : Target) → IsHeld images t spot.now bytes.now → value_of images t candidate ≡ take spot.now.len block.new }
+    ensures value { Computes spot.now bytes.now candidate block.new }
     ensures long { length block.new ≡ length block.old }
     ensures spare_long { length spare.new ≡ length spare.old }
 {
@@ -93,7 +90,7 @@ pub(crate) fn accept(
     requires fits { spot.now.len ≤ length block.old }
     requires spare_fits { spot.now.len ≤ length spare.old }
     requires len { spot.now.len ≡ len_of store.now.layout.setting want.now }
-    ensures accepts { (images : Images) (t : Target) → sought store.now.layout want.now ≡ Ok t → IsHeld images t spot.now bytes.now → Accepts images t block.new result }
+    ensures accepts { AcceptsWant store.now.layout want.now spot.now bytes.now block.new result }
     ensures long { length block.new ≡ length block.old }
     ensures spare_long { length spare.new ≡ length spare.old }
 {

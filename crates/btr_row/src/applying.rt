@@ -1,14 +1,13 @@
 // Writing all that mends a row.
-ghost use Rattle.std.specs.Prelude.{◌≡◌, ℕ, ◌≤◌, length, Option};
-ghost use Rattle.std.specs.List.{flat_map, sum_by};
-ghost use Rattle.btr_read.specs.Layout.{AreOpen, Layout};
+ghost use Rattle.std.specs.Prelude.{◌≡◌, ℕ, ◌≤◌, length};
+ghost use Rattle.std.specs.List.{flat_map};
+ghost use Rattle.btr_read.specs.Layout.{AreOpen};
 ghost use Rattle.btr_mend.specs.Blocks.{block_writes};
-ghost use Rattle.btr_mend.specs.Writes.{AreWritable, Does, Images};
-ghost use Rattle.btr_row.specs.Rows.{Row, parities, parity_writes, row_writes};
-ghost use Rattle.btr_row.specs.Mending.{HasRoom, IsOfRow, IsRow, IsRowOf};
-ghost use Rattle.btr_row.specs.Memory.{IsStripe, IsStripeOf};
-ghost use Rattle.btr_row.specs.Preparing.{IsPrepared, TellsRow};
-ghost use Rattle.btr_row.specs.Writing.{told_writes};
+ghost use Rattle.btr_mend.specs.Writes.{AreWritable};
+ghost use Rattle.btr_row.specs.Rows.{parities, parity_writes, row_writes};
+ghost use Rattle.btr_row.specs.Mending.{HasRoom, IsRow, parity_count};
+ghost use Rattle.btr_row.specs.Memory.{IsStripe, OfRow};
+ghost use Rattle.btr_row.specs.Preparing.{StaysPrepared, WherePrepared, WritesPrepared, WritesWanted};
 
 use crate::RowBuffer;
 use crate::blocks::write_blocks;
@@ -29,9 +28,9 @@ pub(crate) fn count_parities(
     buffer: &RowBuffer,
 ) -> u64
     requires stripe { IsStripe store.now.layout stripe.now }
-    requires room { (row : Row) → IsStripeOf store.now.layout stripe.now row → HasRoom buffer.now (length row.chunk.stripes) }
-    ensures { (images : Images) (row : Row) → IsStripeOf store.now.layout stripe.now row → IsPrepared images store.now.layout row judged.now buffer.now
-        → result ≡ sum_by (λ part. length (parity_writes images store.now.layout row part)) (parities row.chunk.profile) }
+    requires room { OfRow store.now.layout stripe.now (λ row. HasRoom buffer.now (length row.chunk.stripes)) }
+    ensures { WherePrepared store.now.layout stripe.now judged.now buffer.now
+        (λ images row. result ≡ parity_count images store.now.layout row) }
 {
     let p = count_wrong(Parity::P, stripe, judged, &buffer.elements, &buffer.p);
     match stripe.shape.profile {
@@ -55,10 +54,11 @@ fn write_parities<R: Rack>(
     requires writable { AreWritable (R.seen rack.old).slots }
     requires slots { length (R.seen rack.old).slots ≤ length marks.old }
     requires stripe { IsStripe store.now.layout stripe.now }
-    requires room { (row : Row) → IsStripeOf store.now.layout stripe.now row → HasRoom buffer.now (length row.chunk.stripes) }
+    requires room { OfRow store.now.layout stripe.now (λ row. HasRoom buffer.now (length row.chunk.stripes)) }
     ensures slots { (R.seen rack.new).slots ≡ (R.seen rack.old).slots }
-    ensures writes { (told : Option Images) (row : Row) → IsStripeOf store.now.layout stripe.now row → TellsRow store.now.layout row judged.now buffer.now told (R.seen rack.old).held
-        → Does (IsOfRow store.now.layout row) (λ images. told_writes (λ images. flat_map (parity_writes images store.now.layout row) (parities row.chunk.profile)) told) marks.old marks.new (R.seen rack.old) (R.seen rack.new) result }
+    ensures writes { WritesPrepared store.now.layout stripe.now judged.now buffer.now
+        (λ images row. flat_map (parity_writes images store.now.layout row) (parities row.chunk.profile))
+        marks.old marks.new (R.seen rack.old) (R.seen rack.new) result }
 {
     match write_parity(
         Parity::P,
@@ -103,7 +103,7 @@ fn write_rebuilt<R: Rack>(
     requires slots { length (R.seen rack.old).slots ≤ length marks.old }
     requires row { IsRow store.now.layout stripe.now.chunk stripe.now.number wants.now }
     requires stripe { IsStripe store.now.layout stripe.now }
-    requires room { (row : Row) → IsStripeOf store.now.layout stripe.now row → HasRoom buffer.old (length row.chunk.stripes) }
+    requires room { OfRow store.now.layout stripe.now (λ row. HasRoom buffer.old (length row.chunk.stripes)) }
     ensures slots { (R.seen rack.new).slots ≡ (R.seen rack.old).slots }
     ensures marks { length marks.new ≡ length marks.old }
     ensures elements { buffer.new.elements ≡ buffer.old.elements }
@@ -112,8 +112,9 @@ fn write_rebuilt<R: Rack>(
     ensures q { buffer.new.q ≡ buffer.old.q }
     ensures block { length buffer.new.block.items ≡ length buffer.old.block.items }
     ensures spare { length buffer.new.spare.items ≡ length buffer.old.spare.items }
-    ensures writes { (told : Option Images) (row : Row) → IsStripeOf store.now.layout stripe.now row → IsRowOf store.now.layout stripe.now.chunk stripe.now.number wants.now row → TellsRow store.now.layout row judged.now buffer.old told (R.seen rack.old).held
-        → Does (IsOfRow store.now.layout row) (λ images. told_writes (λ images. flat_map (block_writes images) row.blocks) told) marks.old marks.new (R.seen rack.old) (R.seen rack.new) result }
+    ensures writes { WritesWanted store.now.layout stripe.now wants.now judged.now buffer.old
+        (λ images row. flat_map (block_writes images) row.blocks)
+        marks.old marks.new (R.seen rack.old) (R.seen rack.new) result }
 {
     if judged.rebuilt == 0 {
         return Ok(());
@@ -145,12 +146,13 @@ pub(crate) fn write_row<R: Rack>(
     requires slots { length (R.seen rack.old).slots ≤ length marks.old }
     requires row { IsRow store.now.layout stripe.now.chunk stripe.now.number wants.now }
     requires stripe { IsStripe store.now.layout stripe.now }
-    requires room { (row : Row) → IsStripeOf store.now.layout stripe.now row → HasRoom buffer.old (length row.chunk.stripes) }
+    requires room { OfRow store.now.layout stripe.now (λ row. HasRoom buffer.old (length row.chunk.stripes)) }
     ensures slots { (R.seen rack.new).slots ≡ (R.seen rack.old).slots }
     ensures room { (elements : ℕ) → HasRoom buffer.old elements → HasRoom buffer.new elements }
-    ensures prepared { (images : Images) (row : Row) → IsPrepared images store.now.layout row judged.now buffer.old → IsPrepared images store.now.layout row judged.now buffer.new }
-    ensures writes { (told : Option Images) (row : Row) → IsStripeOf store.now.layout stripe.now row → IsRowOf store.now.layout stripe.now.chunk stripe.now.number wants.now row → TellsRow store.now.layout row judged.now buffer.old told (R.seen rack.old).held
-        → Does (IsOfRow store.now.layout row) (λ images. told_writes (λ images. row_writes images store.now.layout row) told) marks.old marks.new (R.seen rack.old) (R.seen rack.new) result }
+    ensures prepared { StaysPrepared store.now.layout judged.now buffer.old buffer.new }
+    ensures writes { WritesWanted store.now.layout stripe.now wants.now judged.now buffer.old
+        (λ images row. row_writes images store.now.layout row)
+        marks.old marks.new (R.seen rack.old) (R.seen rack.new) result }
 {
     match write_rebuilt(wants, stripe, judged, rack, store, buffer, marks) {
         Ok(()) => write_parities(stripe, judged, rack, store, buffer, marks),

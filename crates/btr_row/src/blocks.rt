@@ -1,16 +1,11 @@
 // Writing the blocks of a row that are bad.
-ghost use Rattle.std.specs.Prelude.{◌≡◌, ℕ, ◌+◌, ◌*◌, ◌<◌, ◌≤◌, length, Ok, Option};
-ghost use Rattle.std.specs.List.{flat_map};
-ghost use Rattle.btr_read.specs.Candidates.{Target};
-ghost use Rattle.btr_read.specs.Fate.{sought};
+ghost use Rattle.std.specs.Prelude.{◌≡◌, ◌*◌, ◌≤◌, length};
 ghost use Rattle.btr_read.specs.Layout.{AreOpen};
-ghost use Rattle.btr_mend.specs.Blocks.{block_writes};
-ghost use Rattle.btr_mend.specs.Writes.{AreWritable, Does, Images};
-ghost use Rattle.btr_row.specs.Rows.{Row};
-ghost use Rattle.btr_row.specs.Mending.{IsOfRow, IsRow, IsRowOf};
-ghost use Rattle.btr_row.specs.Memory.{IsStripe, IsStripeOf};
+ghost use Rattle.btr_mend.specs.Writes.{AreWritable};
+ghost use Rattle.btr_row.specs.Mending.{IsRow};
+ghost use Rattle.btr_row.specs.Memory.{IsStripe, OfRow};
 ghost use Rattle.btr_row.specs.Judging.{IsIn};
-ghost use Rattle.btr_row.specs.Writing.{Tells, told_writes};
+ghost use Rattle.btr_row.specs.Writing.{WritesBlock, WritesBlocks};
 
 use crate::accepting::accept;
 use crate::judging::spot_of;
@@ -36,15 +31,15 @@ fn write_block<R: Rack>(
     requires writable { AreWritable (R.seen rack.old).slots }
     requires slots { length (R.seen rack.old).slots ≤ length marks.old }
     requires within { IsIn store.now.layout stripe.now want.now }
-    requires room { (row : Row) → IsStripeOf store.now.layout stripe.now row → length row.chunk.stripes * 65536 ≤ length old.now }
+    requires room { OfRow store.now.layout stripe.now (λ row. length row.chunk.stripes * 65536 ≤ length old.now) }
     requires block { 65536 ≤ length block.old }
     requires spare { 65536 ≤ length spare.old }
     ensures slots { (R.seen rack.new).slots ≡ (R.seen rack.old).slots }
     ensures marks { length marks.new ≡ length marks.old }
     ensures block_long { length block.new ≡ length block.old }
     ensures spare_long { length spare.new ≡ length spare.old }
-    ensures writes { (told : Option Images) (row : Row) (t : Target) → IsStripeOf store.now.layout stripe.now row → Tells store.now.layout row old.now told (R.seen rack.old).held → sought store.now.layout want.now ≡ Ok t
-        → Does (IsOfRow store.now.layout row) (λ images. told_writes (λ images. block_writes images t) told) marks.old marks.new (R.seen rack.old) (R.seen rack.new) result }
+    ensures writes { WritesBlock store.now.layout stripe.now want.now old.now
+        marks.old marks.new (R.seen rack.old) (R.seen rack.new) result }
 {
     let spot = spot_of(want, stripe, store);
     match accept(want, &spot, store, old, block, spare) {
@@ -75,15 +70,15 @@ pub(crate) fn write_blocks<R: Rack>(
     requires slots { length (R.seen rack.old).slots ≤ length marks.old }
     requires row { IsRow store.now.layout stripe.now.chunk stripe.now.number wants.now }
     requires stripe { IsStripe store.now.layout stripe.now }
-    requires room { (row : Row) → IsStripeOf store.now.layout stripe.now row → length row.chunk.stripes * 65536 ≤ length old.now }
+    requires room { OfRow store.now.layout stripe.now (λ row. length row.chunk.stripes * 65536 ≤ length old.now) }
     requires block { 65536 ≤ length block.old }
     requires spare { 65536 ≤ length spare.old }
     ensures slots { (R.seen rack.new).slots ≡ (R.seen rack.old).slots }
     ensures marks { length marks.new ≡ length marks.old }
     ensures block_long { length block.new ≡ length block.old }
     ensures spare_long { length spare.new ≡ length spare.old }
-    ensures writes { (told : Option Images) (row : Row) → IsStripeOf store.now.layout stripe.now row → IsRowOf store.now.layout stripe.now.chunk stripe.now.number wants.now row → Tells store.now.layout row old.now told (R.seen rack.old).held
-        → Does (IsOfRow store.now.layout row) (λ images. told_writes (λ images. flat_map (block_writes images) row.blocks) told) marks.old marks.new (R.seen rack.old) (R.seen rack.new) result }
+    ensures writes { WritesBlocks store.now.layout stripe.now wants.now old.now
+        marks.old marks.new (R.seen rack.old) (R.seen rack.new) result }
 {
     for want in wants {
         match write_block(want, stripe, rack, store, old, block, spare, marks) {

@@ -1,10 +1,9 @@
 // What the parities leave of slices, in memory.
-ghost use Rattle.std.specs.Prelude.{◌≡◌, ◌≢◌, ◌+◌, ◌≤◌, length, take, slice_range};
+ghost use Rattle.std.specs.Prelude.{◌≡◌, ◌≢◌, ◌+◌, ◌≤◌, length, take};
 ghost use Rattle.btr_parity.specs.Slices.{plus};
 ghost use Rattle.btr_parity.specs.Solutions.{IsTheOne, Weighs, WeighsWith};
-ghost use Rattle.btr_read.specs.Candidates.{Target, reads_slice};
-ghost use Rattle.btr_mend.specs.Writes.{Images};
-ghost use Rattle.btr_row.specs.Memory.{FitsIn, HasParity, IsHeld, IsLeft, weighed};
+ghost use Rattle.btr_read.specs.Candidates.{reads_slice};
+ghost use Rattle.btr_row.specs.Memory.{FitsIn, Gathers, HasParity, piece_at, weighed};
 
 use crate::parity::Parity;
 use crate::spot::Spot;
@@ -15,7 +14,7 @@ use btr_read::Candidate;
 pub(crate) fn copy_front(front: &mut [u8], bytes: &[u8], start: usize, len: usize)
     requires fits { len ≤ length front.old }
     requires within { start + len ≤ length bytes.now }
-    ensures front { take len front.new ≡ slice_range bytes.now start (start + len) }
+    ensures front { take len front.new ≡ piece_at bytes.now start len }
     ensures long { length front.new ≡ length front.old }
 {
     front[..len].copy_from_slice(&bytes[start..start + len]);
@@ -33,7 +32,7 @@ pub(crate) fn add_front(
     requires fits { len ≤ length front.old }
     requires within { start + len ≤ length bytes.now }
     requires is_index { index ≤ 62 }
-    ensures sum { take len front.new ≡ plus (take len front.old) (weighed parity index (slice_range bytes.now start (start + len))) }
+    ensures sum { take len front.new ≡ plus (take len front.old) (weighed parity index (piece_at bytes.now start len)) }
     ensures long { length front.new ≡ length front.old }
 {
     let piece = &bytes[start..start + len];
@@ -89,7 +88,7 @@ pub(crate) fn gather(
     requires within { FitsIn bytes.now spot.now }
     requires fits { spot.now.len ≤ length sum.old }
     requires has { HasParity spot.now.shape.profile parity }
-    ensures left { (images : Images) (t : Target) → IsHeld images t spot.now bytes.now → IsLeft images t candidate parity (take spot.now.len sum.new) }
+    ensures left { Gathers spot.now bytes.now candidate parity sum.new }
     ensures long { length sum.new ≡ length sum.old }
 {
     let element = parity.element(spot.shape.slices);

@@ -1,10 +1,8 @@
 // The counts of the blocks of a row, and its columns.
-ghost use Rattle.std.specs.Prelude.{◌≡◌, ℕ, ◌+◌, ◌*◌, ◌<◌, ◌≤◌, ◌^◌, ◌||◌, Bool, false, length, slice_index_or};
-ghost use Rattle.btr_mend.specs.Writes.{Images};
-ghost use Rattle.btr_row.specs.Rows.{Row};
-ghost use Rattle.btr_row.specs.Mending.{IsRow, IsRowOf};
-ghost use Rattle.btr_row.specs.Memory.{HoldsRow, IsStripe, IsStripeOf};
-ghost use Rattle.btr_row.specs.Judging.{AreJudged, IsCounted, meets_spot};
+ghost use Rattle.std.specs.Prelude.{◌≡◌, ℕ, ◌+◌, ◌*◌, ◌<◌, ◌≤◌, ◌^◌, ◌||◌, length};
+ghost use Rattle.btr_row.specs.Mending.{IsRow};
+ghost use Rattle.btr_row.specs.Memory.{IsStripe, OfRow};
+ghost use Rattle.btr_row.specs.Judging.{IsCounted, JudgesRow, flag, meets_spot};
 
 use crate::buffer::ELEMENT;
 use crate::gathering::copy_front;
@@ -46,7 +44,7 @@ fn either(one: bool, other: bool) -> bool
 // Flags by column, and those of the columns that a block meets.
 fn marked(flags: [bool; 16], spot: &Spot) -> [bool; 16]
     requires inside { spot.now.rest + spot.now.len ≤ 65536 }
-    ensures { (column : ℕ) → column < 16 → slice_index_or result column false ≡ (slice_index_or flags column false || meets_spot column spot.now) }
+    ensures { (column : ℕ) → column < 16 → flag result column ≡ (flag flags column || meets_spot column spot.now) }
 {
     let mut flags = flags;
     for column in 0..16 {
@@ -89,11 +87,11 @@ pub(crate) fn judge(
 ) -> Judged
     requires row { IsRow store.now.layout stripe.now.chunk stripe.now.number wants.now }
     requires stripe { IsStripe store.now.layout stripe.now }
-    requires room { (row : Row) → IsStripeOf store.now.layout stripe.now row → length row.chunk.stripes * 65536 ≤ length old.now }
-    requires new_room { (row : Row) → IsStripeOf store.now.layout stripe.now row → length row.chunk.stripes * 65536 ≤ length new.old }
+    requires room { OfRow store.now.layout stripe.now (λ row. length row.chunk.stripes * 65536 ≤ length old.now) }
+    requires new_room { OfRow store.now.layout stripe.now (λ row. length row.chunk.stripes * 65536 ≤ length new.old) }
     requires block { 65536 ≤ length block.old }
     requires spare { 65536 ≤ length spare.old }
-    ensures judged { (images : Images) (row : Row) → IsStripeOf store.now.layout stripe.now row → IsRowOf store.now.layout stripe.now.chunk stripe.now.number wants.now row → HoldsRow images store.now.layout row old.now → AreJudged images store.now.layout row row.blocks new.new result }
+    ensures judged { JudgesRow store.now.layout stripe.now wants.now old.now new.new result }
     ensures long { length new.new ≡ length new.old }
     ensures block_long { length block.new ≡ length block.old }
     ensures spare_long { length spare.new ≡ length spare.old }

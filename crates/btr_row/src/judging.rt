@@ -1,13 +1,11 @@
 // What the checked blocks of a row come to.
-ghost use Rattle.std.specs.Prelude.{◌≡◌, ℕ, ◌+◌, ◌*◌, ◌<◌, ◌≤◌, ◌||◌, Bool, length, slice_index_or, take, Ok};
+ghost use Rattle.std.specs.Prelude.{◌≡◌, ◌+◌, ◌*◌, ◌≤◌, length, take, Ok};
 ghost use Rattle.btr_rack.specs.Rack.{pasted};
 ghost use Rattle.btr_read.specs.Candidates.{Target};
 ghost use Rattle.btr_read.specs.Fate.{sought};
 ghost use Rattle.btr_read.specs.Want.{len_of};
-ghost use Rattle.btr_mend.specs.Writes.{Images};
-ghost use Rattle.btr_row.specs.Rows.{Row};
-ghost use Rattle.btr_row.specs.Memory.{HoldsRow, IsStripe, IsStripeOf};
-ghost use Rattle.btr_row.specs.Judging.{FitsVerdict, IsIn, IsPlaced, meets_spot};
+ghost use Rattle.btr_row.specs.Judging.{IsIn, IsPlaced, JudgesBlock};
+ghost use Rattle.btr_row.specs.Memory.{OfRow};
 
 use crate::accepting::accept;
 use crate::shape::Shape;
@@ -77,11 +75,11 @@ pub(crate) fn judge_block(
     spare: &mut [u8],
 ) -> Verdict
     requires within { IsIn store.now.layout stripe.now want.now }
-    requires room { (row : Row) → IsStripeOf store.now.layout stripe.now row → length row.chunk.stripes * 65536 ≤ length old.now }
-    requires new_room { (row : Row) → IsStripeOf store.now.layout stripe.now row → length row.chunk.stripes * 65536 ≤ length new.old }
+    requires room { OfRow store.now.layout stripe.now (λ row. length row.chunk.stripes * 65536 ≤ length old.now) }
+    requires new_room { OfRow store.now.layout stripe.now (λ row. length row.chunk.stripes * 65536 ≤ length new.old) }
     requires block { 65536 ≤ length block.old }
     requires spare { 65536 ≤ length spare.old }
-    ensures verdict { (images : Images) (row : Row) (t : Target) → IsStripeOf store.now.layout stripe.now row → HoldsRow images store.now.layout row old.now → sought store.now.layout want.now ≡ Ok t → FitsVerdict images t new.old new.new result }
+    ensures verdict { JudgesBlock store.now.layout stripe.now want.now old.now new.old new.new result }
     ensures inside { result.spot.rest + result.spot.len ≤ 65536 }
     ensures long { length new.new ≡ length new.old }
     ensures block_long { length block.new ≡ length block.old }

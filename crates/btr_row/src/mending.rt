@@ -4,7 +4,7 @@ ghost use Rattle.btr_read.specs.Serves.{Serves};
 ghost use Rattle.btr_read.specs.Store.{SameLoans};
 ghost use Rattle.btr_mend.specs.Writes.{AreWritable};
 ghost use Rattle.btr_row.specs.Rows.{Row};
-ghost use Rattle.btr_row.specs.Mending.{HasRoom, IsRow, IsRowOf, MendsRow};
+ghost use Rattle.btr_row.specs.Mending.{HasRoom, HasRoomFor, IsRow, IsRowOf, MendsRow};
 
 use crate::applying::{count_parities, write_row};
 use crate::preparing::prepare;
@@ -40,7 +40,7 @@ pub fn mend_row<R: Rack>(
     requires slots { length (R.seen rack.old).slots ≤ length marks.old }
     requires nodesize { at.nodesize ≡ store.old.layout.setting.nodesize }
     requires row { IsRow store.old.layout at.chunk at.number wants.now }
-    requires room { (row : Row) → IsRowOf store.old.layout at.chunk at.number wants.now row → HasRoom buffer.old (length row.chunk.stripes) }
+    requires room { HasRoomFor store.old.layout at.chunk at.number wants.now buffer.old }
     ensures serves { Serves (R.seen rack.new) store.new }
     ensures loans { SameLoans store.old store.new }
     ensures room { (elements : ℕ) → HasRoom buffer.old elements → HasRoom buffer.new elements }

@@ -1,8 +1,7 @@
 // P and Q of the new data.
-ghost use Rattle.std.specs.Prelude.{◌≡◌, ℕ, ◌+◌, ◌*◌, ◌<◌, ◌≤◌, length, map, slice_range, take};
-ghost use Rattle.std.specs.List.{range_with_len};
+ghost use Rattle.std.specs.Prelude.{◌≡◌, ◌+◌, ◌*◌, ◌<◌, ◌≤◌, length, take};
 ghost use Rattle.btr_parity.specs.Slices.{parity_p, parity_q, plus, scaled};
-ghost use Rattle.btr_row.specs.Memory.{element_in};
+ghost use Rattle.btr_row.specs.Memory.{piece_at, slices_in};
 
 use crate::buffer::ELEMENT;
 use crate::gathering::{add_front, copy_front};
@@ -13,7 +12,7 @@ use btr_parity::double_and_add;
 fn double_front(front: &mut [u8], bytes: &[u8], start: usize, len: usize)
     requires fits { len ≤ length front.old }
     requires within { start + len ≤ length bytes.now }
-    ensures sum { take len front.new ≡ plus (scaled 2 (take len front.old)) (slice_range bytes.now start (start + len)) }
+    ensures sum { take len front.new ≡ plus (scaled 2 (take len front.old)) (piece_at bytes.now start len) }
     ensures long { length front.new ≡ length front.old }
 {
     double_and_add(&mut front[..len], &bytes[start..start + len]);
@@ -25,7 +24,7 @@ pub(crate) fn make_p(slices: u32, bytes: &[u8], p: &mut [u8])
     requires some { 0 < slices }
     requires few { slices ≤ 63 }
     requires within { slices * 65536 ≤ length bytes.now }
-    ensures p { take 65536 p.new ≡ parity_p 65536 (map (element_in bytes.now) (range_with_len 0 slices)) }
+    ensures p { take 65536 p.new ≡ parity_p 65536 (slices_in bytes.now slices) }
     ensures long { length p.new ≡ length p.old }
 {
     copy_front(p, bytes, 0, ELEMENT);
@@ -41,7 +40,7 @@ pub(crate) fn make_q(slices: u32, bytes: &[u8], q: &mut [u8])
     requires some { 0 < slices }
     requires few { slices ≤ 63 }
     requires within { slices * 65536 ≤ length bytes.now }
-    ensures q { take 65536 q.new ≡ parity_q 65536 (map (element_in bytes.now) (range_with_len 0 slices)) }
+    ensures q { take 65536 q.new ≡ parity_q 65536 (slices_in bytes.now slices) }
     ensures long { length q.new ≡ length q.old }
 {
     let last = (slices - 1) as usize * ELEMENT;

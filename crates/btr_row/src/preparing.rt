@@ -1,15 +1,12 @@
 // Reading a row, judging its blocks, and making its parities.
-ghost use Rattle.std.specs.Prelude.{◌≡◌, ℕ, ◌+◌, ◌*◌, ◌<◌, ◌≤◌, length, map, take, IfOk, Some};
-ghost use Rattle.std.specs.List.{range_with_len};
+ghost use Rattle.std.specs.Prelude.{◌≡◌, ℕ, ◌*◌, ◌<◌, ◌≤◌, length, take, IfOk};
 ghost use Rattle.btr_chunk.specs.declared.profile.Profile.{Profile};
 ghost use Rattle.btr_parity.specs.Slices.{parity_p, parity_q};
 ghost use Rattle.btr_rack.specs.Rack.{OnlyReads};
 ghost use Rattle.btr_read.specs.Layout.{AreOpen};
-ghost use Rattle.btr_mend.specs.Writes.{AccountsMend, Images};
-ghost use Rattle.btr_row.specs.Rows.{Row};
-ghost use Rattle.btr_row.specs.Mending.{HasRoom, IsOfRow, IsRow, IsRowOf};
-ghost use Rattle.btr_row.specs.Memory.{IsStripe, IsStripeOf, element_in};
-ghost use Rattle.btr_row.specs.Preparing.{IsPrepared};
+ghost use Rattle.btr_row.specs.Mending.{HasRoom, IsRow};
+ghost use Rattle.btr_row.specs.Memory.{AccountsRow, IsStripe, OfRow, slices_in};
+ghost use Rattle.btr_row.specs.Preparing.{Prepares};
 
 use crate::RowBuffer;
 use crate::judged::{Judged, judge};
@@ -29,8 +26,9 @@ fn make_parities(shape: &Shape, new: &[u8], p: &mut [u8], q: &mut [u8])
     requires some { 0 < shape.now.slices }
     requires few { shape.now.slices ≤ 63 }
     requires within { shape.now.slices * 65536 ≤ length new.now }
-    ensures p { take 65536 p.new ≡ parity_p 65536 (map (element_in new.now) (range_with_len 0 shape.now.slices)) }
-    ensures q { shape.now.profile ≡ Profile.Raid6 → take 65536 q.new ≡ parity_q 65536 (map (element_in new.now) (range_with_len 0 shape.now.slices)) }
+    ensures p { take 65536 p.new ≡ parity_p 65536 (slices_in new.now shape.now.slices) }
+    ensures q { shape.now.profile ≡ Profile.Raid6
+        → take 65536 q.new ≡ parity_q 65536 (slices_in new.now shape.now.slices) }
     ensures p_long { length p.new ≡ length p.old }
     ensures q_long { length q.new ≡ length q.old }
 {
@@ -52,11 +50,11 @@ pub(crate) fn prepare<R: Rack>(
     requires open { AreOpen (R.seen rack.old).slots store.now.layout.devices }
     requires row { IsRow store.now.layout stripe.now.chunk stripe.now.number wants.now }
     requires stripe { IsStripe store.now.layout stripe.now }
-    requires room { (row : Row) → IsStripeOf store.now.layout stripe.now row → HasRoom buffer.old (length row.chunk.stripes) }
+    requires room { OfRow store.now.layout stripe.now (λ row. HasRoom buffer.old (length row.chunk.stripes)) }
     ensures reads { OnlyReads (R.seen rack.old) (R.seen rack.new) }
     ensures room { (elements : ℕ) → HasRoom buffer.old elements → HasRoom buffer.new elements }
-    ensures prepared { (images : Images) (row : Row) → (R.seen rack.old).held ≡ Some images → IsStripeOf store.now.layout stripe.now row → IsRowOf store.now.layout stripe.now.chunk stripe.now.number wants.now row → IfOk result (λ judged. IsPrepared images store.now.layout row judged buffer.new) }
-    ensures account { (row : Row) → IsStripeOf store.now.layout stripe.now row → AccountsMend (IsOfRow store.now.layout row) (R.seen rack.old) (R.seen rack.new) result }
+    ensures prepared { IfOk result (Prepares store.now.layout stripe.now wants.now (R.seen rack.old) buffer.new) }
+    ensures account { AccountsRow store.now.layout stripe.now (R.seen rack.old) (R.seen rack.new) result }
 {
     match read_row(stripe, rack, store, &mut buffer.elements) {
         Ok(()) => {}

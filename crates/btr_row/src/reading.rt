@@ -1,12 +1,8 @@
 // Reading a row whole.
-ghost use Rattle.std.specs.Prelude.{◌≡◌, ◌≢◌, ℕ, ◌+◌, ◌*◌, ◌<◌, ◌≤◌, length, OnOk};
-ghost use Rattle.btr_chunk.specs.Mapping.{HasPart};
+ghost use Rattle.std.specs.Prelude.{◌≡◌, ◌≢◌, ℕ, ◌+◌, ◌*◌, ◌≤◌, length, OnOk};
 ghost use Rattle.btr_rack.specs.Rack.{OnlyReads};
 ghost use Rattle.btr_read.specs.Layout.{AreOpen};
-ghost use Rattle.btr_mend.specs.Writes.{AccountsMend};
-ghost use Rattle.btr_row.specs.Rows.{Row};
-ghost use Rattle.btr_row.specs.Mending.{IsOfRow};
-ghost use Rattle.btr_row.specs.Memory.{IsStripe, IsStripeOf, ReadsElement, ReadsRow, element_in};
+ghost use Rattle.btr_row.specs.Memory.{AccountsRow, IsPartOf, IsStripe, OfRow, ReadsElement, ReadsRow, element_in};
 
 use crate::buffer::ELEMENT;
 use crate::stripe::{FullStripe, place_of_part};
@@ -26,14 +22,15 @@ fn read_element<R: Rack>(
 ) -> Result<(), MendFault>
     requires open { AreOpen (R.seen rack.old).slots store.now.layout.devices }
     requires stripe { IsStripe store.now.layout stripe.now }
-    requires part { (row : Row) → IsStripeOf store.now.layout stripe.now row → HasPart row.chunk.profile (length row.chunk.stripes) part }
+    requires part { IsPartOf store.now.layout stripe.now part }
     requires few { number ≤ 64 }
     requires room { (number + 1) * 65536 ≤ length bytes.old }
     ensures reads { OnlyReads (R.seen rack.old) (R.seen rack.new) }
     ensures long { length bytes.new ≡ length bytes.old }
     ensures others { (e : ℕ) → e ≢ number → element_in bytes.new e ≡ element_in bytes.old e }
-    ensures bytes { OnOk result (ReadsElement store.now.layout stripe.now part (element_in bytes.new number) (R.seen rack.old).held) }
-    ensures account { (row : Row) → IsStripeOf store.now.layout stripe.now row → AccountsMend (IsOfRow store.now.layout row) (R.seen rack.old) (R.seen rack.new) result }
+    ensures bytes { OnOk result
+        (ReadsElement store.now.layout stripe.now part (element_in bytes.new number) (R.seen rack.old).held) }
+    ensures account { AccountsRow store.now.layout stripe.now (R.seen rack.old) (R.seen rack.new) result }
 {
     let place = place_of_part(stripe, part, store);
     let start = number as usize * ELEMENT;
@@ -53,11 +50,11 @@ pub(crate) fn read_row<R: Rack>(
 ) -> Result<(), MendFault>
     requires open { AreOpen (R.seen rack.old).slots store.now.layout.devices }
     requires stripe { IsStripe store.now.layout stripe.now }
-    requires room { (row : Row) → IsStripeOf store.now.layout stripe.now row → length row.chunk.stripes * 65536 ≤ length bytes.old }
+    requires room { OfRow store.now.layout stripe.now (λ row. length row.chunk.stripes * 65536 ≤ length bytes.old) }
     ensures reads { OnlyReads (R.seen rack.old) (R.seen rack.new) }
     ensures long { length bytes.new ≡ length bytes.old }
     ensures bytes { OnOk result (ReadsRow store.now.layout stripe.now bytes.new (R.seen rack.old).held) }
-    ensures account { (row : Row) → IsStripeOf store.now.layout stripe.now row → AccountsMend (IsOfRow store.now.layout row) (R.seen rack.old) (R.seen rack.new) result }
+    ensures account { AccountsRow store.now.layout stripe.now (R.seen rack.old) (R.seen rack.new) result }
 {
     for number in 0..stripe.shape.elements() {
         let part = stripe.shape.part(number);

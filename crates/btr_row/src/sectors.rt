@@ -1,12 +1,11 @@
 // The sectors of a parity that differ from those of the new data.
-ghost use Rattle.std.specs.Prelude.{◌≡◌, ℕ, ◌+◌, ◌*◌, ◌<◌, ◌≤◌, ◌&&◌, length, slice_range, Option, if◌then◌else◌};
+ghost use Rattle.std.specs.Prelude.{◌≡◌, ◌+◌, ◌*◌, ◌<◌, ◌≤◌, length, if◌then◌else◌};
 ghost use Rattle.std.specs.Str.{bytes_eq};
-ghost use Rattle.btr_read.specs.Layout.{AreOpen, Layout};
-ghost use Rattle.btr_mend.specs.Writes.{AreWritable, Does, Images};
-ghost use Rattle.btr_row.specs.Rows.{Row, differs, is_decided, parities, parity_writes};
-ghost use Rattle.btr_row.specs.Mending.{IsOfRow};
-ghost use Rattle.btr_row.specs.Memory.{HasParity, IsStripe, IsStripeOf, part_of};
-ghost use Rattle.btr_row.specs.Writing.{KnowsParity, TellsParity, column_writes, told_writes};
+ghost use Rattle.btr_read.specs.Layout.{AreOpen};
+ghost use Rattle.btr_mend.specs.Writes.{AreWritable};
+ghost use Rattle.btr_row.specs.Rows.{parities, parity_writes};
+ghost use Rattle.btr_row.specs.Memory.{HasParity, IsStripe, part_of, piece_at};
+ghost use Rattle.btr_row.specs.Writing.{WhereParity, WritesParity, column_writes, is_wrong};
 
 use crate::buffer::ELEMENT;
 use crate::judged::Judged;
@@ -24,7 +23,7 @@ const SECTOR: usize = 4096;
 fn same_bytes(one: &[u8], start: usize, other: &[u8], other_start: usize, len: usize) -> bool
     requires within { start + len ≤ length one.now }
     requires other_within { other_start + len ≤ length other.now }
-    ensures { result ≡ bytes_eq (slice_range one.now start (start + len)) (slice_range other.now other_start (other_start + len)) }
+    ensures { result ≡ bytes_eq (piece_at one.now start len) (piece_at other.now other_start len) }
 {
     one[start..start + len] == other[other_start..other_start + len]
 }
@@ -44,8 +43,8 @@ fn is_wrong(
     requires has { HasParity stripe.now.shape.profile parity }
     requires some { 1 ≤ length (parities stripe.now.shape.profile) }
     requires sums { 65536 ≤ length sums.now }
-    ensures { (images : Images) (layout : Layout) (row : Row) → IsStripeOf layout stripe.now row → KnowsParity images layout row parity judged.now old.now sums.now
-        → result ≡ (is_decided images layout row column && differs images layout row (part_of parity) column) }
+    ensures { WhereParity stripe.now parity judged.now old.now sums.now
+        (λ images layout row. result ≡ is_wrong images layout row (part_of parity) column) }
 {
     if !judged.met[column] || judged.broken[column] {
         return false;
@@ -76,8 +75,8 @@ pub(crate) fn count_wrong(
     requires some { 1 ≤ length (parities stripe.now.shape.profile) }
     requires sums { 65536 ≤ length sums.now }
     ensures few { result ≤ 16 }
-    ensures count { (images : Images) (layout : Layout) (row : Row) → IsStripeOf layout stripe.now row → KnowsParity images layout row parity judged.now old.now sums.now
-        → result ≡ length (parity_writes images layout row (part_of parity)) }
+    ensures count { WhereParity stripe.now parity judged.now old.now sums.now
+        (λ images layout row. result ≡ length (parity_writes images layout row (part_of parity))) }
 {
     let mut count = 0;
     for column in 0..16 {
@@ -111,8 +110,9 @@ fn write_sector<R: Rack>(
     requires stripe { IsStripe store.now.layout stripe.now }
     ensures slots { (R.seen rack.new).slots ≡ (R.seen rack.old).slots }
     ensures marks { length marks.new ≡ length marks.old }
-    ensures writes { (told : Option Images) (row : Row) → IsStripeOf store.now.layout stripe.now row → TellsParity store.now.layout row parity judged.now old.now sums.now told (R.seen rack.old).held
-        → Does (IsOfRow store.now.layout row) (λ images. told_writes (λ images. column_writes store.now.layout row (part_of parity) images column) told) marks.old marks.new (R.seen rack.old) (R.seen rack.new) result }
+    ensures writes { WritesParity store.now.layout stripe.now parity judged.now old.now sums.now
+        (λ images row. column_writes store.now.layout row (part_of parity) images column)
+        marks.old marks.new (R.seen rack.old) (R.seen rack.new) result }
 {
     if !is_wrong(column, parity, stripe, judged, old, sums) {
         return Ok(());
@@ -144,8 +144,9 @@ pub(crate) fn write_parity<R: Rack>(
     requires stripe { IsStripe store.now.layout stripe.now }
     ensures slots { (R.seen rack.new).slots ≡ (R.seen rack.old).slots }
     ensures marks { length marks.new ≡ length marks.old }
-    ensures writes { (told : Option Images) (row : Row) → IsStripeOf store.now.layout stripe.now row → TellsParity store.now.layout row parity judged.now old.now sums.now told (R.seen rack.old).held
-        → Does (IsOfRow store.now.layout row) (λ images. told_writes (λ images. parity_writes images store.now.layout row (part_of parity)) told) marks.old marks.new (R.seen rack.old) (R.seen rack.new) result }
+    ensures writes { WritesParity store.now.layout stripe.now parity judged.now old.now sums.now
+        (λ images row. parity_writes images store.now.layout row (part_of parity))
+        marks.old marks.new (R.seen rack.old) (R.seen rack.new) result }
 {
     for column in 0..16 {
         match write_sector(

@@ -1,9 +1,8 @@
 // A full stripe, and where its elements lie.
-ghost use Rattle.std.specs.Prelude.{◌≡◌, ◌≤◌, length, Some};
-ghost use Rattle.btr_chunk.specs.Mapping.{HasPart};
+ghost use Rattle.std.specs.Prelude.{◌≡◌, Some};
 ghost use Rattle.btr_row.specs.Rows.{Row, range_in_element};
 ghost use Rattle.btr_row.specs.Mending.{HasStripe, IsFullStripe};
-ghost use Rattle.btr_row.specs.Memory.{IsStripe, IsStripeOf};
+ghost use Rattle.btr_row.specs.Memory.{IsPartOf, IsStripe, IsStripeOf, OfRow};
 
 use crate::shape::Shape;
 use btr_chunk::{Elements, Part, Profile, place_of};
@@ -47,8 +46,9 @@ pub(crate) fn full_stripe(chunk: u64, number: u64, nodesize: u32, store: &Store)
 // Where the element of a part lies.
 pub(crate) fn place_of_part(stripe: &FullStripe, part: Part, store: &Store) -> Place
     requires stripe { IsStripe store.now.layout stripe.now }
-    requires part { (row : Row) → IsStripeOf store.now.layout stripe.now row → HasPart row.chunk.profile (length row.chunk.stripes) part }
-    ensures { (row : Row) → IsStripeOf store.now.layout stripe.now row → range_in_element store.now.layout row part 0 65536 ≡ Some result }
+    requires part { IsPartOf store.now.layout stripe.now part }
+    ensures { OfRow store.now.layout stripe.now
+        (λ row. range_in_element store.now.layout row part 0 65536 ≡ Some result) }
 {
     let Some(chunk) = store.chunks().find(stripe.chunk) else {
         unreachable!();

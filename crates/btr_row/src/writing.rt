@@ -1,11 +1,9 @@
 // Writing what mends a row.
-ghost use Rattle.std.specs.Prelude.{◌≡◌, ◌+◌, ◌≤◌, ◌<◌, ◌^◌, [], ◌∷◌, length, slice_range, take};
-ghost use Rattle.btr_rack.specs.Rack.{len_of, range_in};
-ghost use Rattle.btr_read.specs.Layout.{AreOpen, Layout};
-ghost use Rattle.btr_mend.specs.Writes.{AreWritable, Does};
-ghost use Rattle.btr_row.specs.Rows.{Row};
-ghost use Rattle.btr_row.specs.Mending.{IsOfRow};
-ghost use Rattle.btr_row.specs.Writing.{write_at};
+ghost use Rattle.std.specs.Prelude.{◌≡◌, ◌+◌, ◌≤◌, ◌<◌, ◌^◌, length, take};
+ghost use Rattle.btr_rack.specs.Rack.{len_of};
+ghost use Rattle.btr_mend.specs.Writes.{AreWritable};
+ghost use Rattle.btr_row.specs.Writing.{WritesBytes};
+ghost use Rattle.btr_row.specs.Memory.{piece_at};
 
 use btr_mend::MendFault;
 use btr_rack::{Place, Rack, RackError};
@@ -25,8 +23,8 @@ pub(crate) fn write_in<R: Rack>(
     requires small { element.off + rest < 2 ^ 64 }
     ensures slots { (R.seen rack.new).slots ≡ (R.seen rack.old).slots }
     ensures marks { length marks.new ≡ length marks.old }
-    ensures writes { (layout : Layout) (row : Row) → IsOfRow layout row (range_in element.slot (element.off + rest) (length bytes.now))
-        → Does (IsOfRow layout row) (λ images. write_at element.slot (element.off + rest) bytes.now ∷ []) marks.old marks.new (R.seen rack.old) (R.seen rack.new) result }
+    ensures writes { WritesBytes element.slot (element.off + rest) bytes.now
+        marks.old marks.new (R.seen rack.old) (R.seen rack.new) result }
 {
     marks[element.slot] = true;
     match rack.write_at(element.slot, element.off + rest, bytes) {
@@ -53,8 +51,8 @@ pub(crate) fn write_range<R: Rack>(
     requires small { element.off + start < 2 ^ 64 }
     ensures slots { (R.seen rack.new).slots ≡ (R.seen rack.old).slots }
     ensures marks { length marks.new ≡ length marks.old }
-    ensures writes { (layout : Layout) (row : Row) → IsOfRow layout row (range_in element.slot (element.off + start) (length (slice_range buffer.now start (start + len))))
-        → Does (IsOfRow layout row) (λ images. write_at element.slot (element.off + start) (slice_range buffer.now start (start + len)) ∷ []) marks.old marks.new (R.seen rack.old) (R.seen rack.new) result }
+    ensures writes { WritesBytes element.slot (element.off + start) (piece_at buffer.now start len)
+        marks.old marks.new (R.seen rack.old) (R.seen rack.new) result }
 {
     write_in(
         element,
@@ -82,8 +80,8 @@ pub(crate) fn write_front<R: Rack>(
     requires small { element.off + rest < 2 ^ 64 }
     ensures slots { (R.seen rack.new).slots ≡ (R.seen rack.old).slots }
     ensures marks { length marks.new ≡ length marks.old }
-    ensures writes { (layout : Layout) (row : Row) → IsOfRow layout row (range_in element.slot (element.off + rest) (length (take len front.now)))
-        → Does (IsOfRow layout row) (λ images. write_at element.slot (element.off + rest) (take len front.now) ∷ []) marks.old marks.new (R.seen rack.old) (R.seen rack.new) result }
+    ensures writes { WritesBytes element.slot (element.off + rest) (take len front.now)
+        marks.old marks.new (R.seen rack.old) (R.seen rack.new) result }
 {
     write_in(element, rest, &front[..len], rack, marks)
 }

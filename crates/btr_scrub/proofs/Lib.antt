@@ -1,5 +1,4 @@
 pub mod Some
-pub mod Ranges
 pub mod Elements
 pub mod Stripes
 pub mod Pasting

@@ -18,13 +18,14 @@ use Rattle.btr_read.specs.Candidates as read
 use Rattle.btr_read.specs.Layout.{Layout}
 use Rattle.btr_read.specs.Want.{passes}
 use Rattle.btr_mend.specs.Blocks.{accepted}
-use Rattle.btr_scrub.specs.Glue.{In, ranges_of}
+use Rattle.btr_parity.specs.Laws.{ranges_of}
+use Rattle.btr_scrub.specs.Glue.{In}
 use Rattle.btr_scrub.specs.Right.{committed_for}
 use Rattle.btr_row.specs.Rows as rows
 use Rattle.btr_row.specs.Rows.{Row, blocks_at, column_of, element, element_with, meets, slice_with, slices_with, with_block}
 use Rattle.btr_scrub.specs.Survival.{BadBlockIsWrong, DifferingParityIsWrong, IsParity}
 use Rattle.btr_scrub.proofs.Elements.{block_of_element}
-use Rattle.btr_scrub.proofs.Ranges.{parity_of_ranges}
+use Rattle.btr_parity.proofs.Ranges.{parity_of_ranges}
 use Rattle.btr_row.proofs.Pasted.{length-pasted, pasted-above, pasted-below, pasted-within}
 use Rattle.btr_scrub.proofs.Survival.{block_there, at_slice, slice_there, some_of, of_filter, range_ext}
 use Rattle.btr_mend.specs.Writes.{Images}

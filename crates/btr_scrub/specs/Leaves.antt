@@ -7,7 +7,7 @@ use Rattle.btr_chunk.specs.Chunk.{stripe_length}
 use Rattle.btr_read.specs.Candidates.{range_on}
 use Rattle.btr_read.specs.Cause.{LiesIn}
 use Rattle.btr_read.specs.Layout.{Layout, device_in}
-use Rattle.btr_scrub.specs.Repair.{byte_at, covers, ranges, writes}
+use Rattle.btr_scrub.specs.Repair.{byte_at, covers}
 use Rattle.btr_mend.specs.Writes.{Images, Write, write_on}
 
 -- images differ in some ranges at most

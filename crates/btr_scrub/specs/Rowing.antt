@@ -27,3 +27,7 @@ pub record Collects (chunk : Chunk) (row : ℕ) (first : Want) (old new wants : 
   pub split : old ≡ more ++ new
   pub inside : (want : Want) → In want more → row_in chunk (addr_of want) ≡ Some row
   pub next : BeginsElse chunk row new
+
+-- the same for the row of a chunk in which the first block lies
+abbrev pub CollectsRow : Chunk → Want → List Want → List Want → List Want → ℕ → Type 0
+CollectsRow chunk first old new wants row = (row_in chunk (addr_of first) ≡ Some row) × Collects chunk row first old new wants

@@ -1,5 +1,5 @@
 -- Mending block by block and chunk by chunk: what was done, and what is counted.
-use Rattle.std.specs.Prelude.{◌≡◌, ◌⊎◌, ℕ, ◌+◌, ◌<◌, ◌≤◌, Bool, List, [], ◌∷◌, ◌++◌, length, Option, Some, None, is_none, slice_index_or, false, IsTrue, IfSome, OnOk, Result, slice_get, if◌then◌else◌}
+use Rattle.std.specs.Prelude.{◌≡◌, ◌⊎◌, ℕ, ◌+◌, ◌<◌, ◌≤◌, Bool, List, [], ◌∷◌, ◌++◌, length, Option, Some, None, is_none, slice_index_or, false, IsSome, IsSomeAnd, IsTrue, IfSome, OnOk, Result, slice_get, if◌then◌else◌}
 use Rattle.std.specs.List.{filter, flat_map, fold}
 use Rattle.btr_chunk.specs.Chunk.{mirrors}
 use Rattle.btr_chunk.specs.Table.{IsTable}
@@ -84,6 +84,29 @@ pub record IsPastChunk (layout : Layout) (chunk : Chunk) (old new : List Want) :
   pub inside : (t : Target) → In t (targets layout past) → t.chunk ≡ chunk
   pub behind : AreApart layout (chunk.start + chunk.length) new
 
+-- ---- the chunk of a number
+
+-- the blocks that come next lie in it, or behind it
+abbrev pub ComesNext : Layout → ℕ → List Want → Type 0
+ComesNext layout number blocks = IsSomeAnd (slice_get layout.chunks number) (λ chunk. AreApart layout chunk.start blocks)
+
+-- .. and it has copies
+abbrev pub CopiesComeNext : Layout → ℕ → List Want → Type 0
+CopiesComeNext layout number blocks = IsSomeAnd (slice_get layout.chunks number) (λ chunk. IsSome (mirrors chunk) × AreApart layout chunk.start blocks)
+
+-- .. or parity
+abbrev pub RowsComeNext : Layout → ℕ → List Want → Type 0
+RowsComeNext layout number blocks = IsSomeAnd (slice_get layout.chunks number) (λ chunk. (mirrors chunk ≡ None) × AreApart layout chunk.start blocks)
+
+-- its blocks are past
+abbrev pub PassesChunk : Layout → ℕ → List Want → List Want → Type 0
+PassesChunk layout number old new = (chunk : Chunk) → slice_get layout.chunks number ≡ Some chunk → IsPastChunk layout chunk old new
+
+-- exactly the writes that are its own were made, or those up to one that failed, and what it counts was counted
+abbrev pub ScrubsChunk : {A : Type 0} → Layout → ℕ → Bool → (Chunk → Images → List Write) → (Chunk → Images → Tally → Tally) → List Bool → List Bool → Seen → Seen → Tally → Tally → Result A MendFault → Type 0
+ScrubsChunk layout number write writes count marks marks' old new tally tally' result =
+    (chunk : Chunk) → slice_get layout.chunks number ≡ Some chunk → Scrubs layout write (writes chunk) (count chunk) marks marks' old new tally tally' result
+
 -- ---- chunks with parity
 
 -- counts with those of a full stripe of so many checked blocks
@@ -148,6 +171,11 @@ pub record Works {A : Type 0} (layout : Layout) (write : Bool) (writes : Images 
   pub synced : OnOk result (old.unsynced ≡ [] → new.unsynced ≡ [])
   pub unwritten : write ≡ false → OnlyReads old new
 
+-- the same for the chunk of a number
+abbrev pub WorksChunk : {A : Type 0} → Layout → ℕ → Bool → (Chunk → Images → List Write) → (Chunk → Images → Tally → Tally) → Seen → Seen → Tally → Tally → Result A MendFault → Type 0
+WorksChunk layout number write writes count old new tally tally' result =
+    (chunk : Chunk) → slice_get layout.chunks number ≡ Some chunk → Works layout write (writes chunk) (count chunk) old new tally tally' result
+
 -- the images of the first n marks are synced: nothing waits for it any more there
 pub record AreSynced (marks : List Bool) (n : ℕ) (ranges left : List Range) : Type 0 where
   pub among : (range : Range) → In range left → In range ranges × (range.slot < n → slice_index_or marks range.slot false ≡ false)
@@ -173,3 +201,7 @@ pub record SyncsMarked (marks : List Bool) (old new : Seen) (result : Result (Un
 -- a buffer has room for each full stripe of the table
 abbrev pub HasRooms : Layout → RowBuffer → Type 0
 HasRooms layout buffer = (i : ℕ) (chunk : Chunk) → slice_get layout.chunks i ≡ Some chunk → mirrors chunk ≡ None → HasRoom buffer (length chunk.stripes)
+
+-- no chunk with parity has more stripes than these
+abbrev pub NoneIsWider : Layout → ℕ → Type 0
+NoneIsWider layout most = (i : ℕ) (chunk : Chunk) → slice_get layout.chunks i ≡ Some chunk → mirrors chunk ≡ None → length chunk.stripes ≤ most

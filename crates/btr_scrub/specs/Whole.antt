@@ -17,6 +17,7 @@ use Rattle.btr_mend.specs.Writes.{Images, Write}
 use Rattle.btr_scrub.specs.Filesystem.{Filesystem}
 use Rattle.btr_scrub.specs.Judging.{IsUnplaced}
 use Rattle.btr_chunk.specs.Table.{IsTable}
+use Rattle.btr_chunk.specs.declared.stripe.Stripe.{Stripe}
 use Rattle.btr_scrub.specs.Devices.{HaveLengths}
 use Rattle.btr_scrub.specs.Leaves.{KeepsOutside}
 use Rattle.btr_scrub.specs.Repair.{first_missing, met, stood_tally, tally, writes}
@@ -33,6 +34,10 @@ abbrev pub answer_of : Result (Unit {0}) MendFault → Tally → Result Tally St
 answer_of (Ok u) tally = Ok tally
 answer_of (Err (Image slot)) tally = Err (stop.Image slot)
 answer_of (Err Memory) tally = Err stop.Memory
+
+-- a stripe has no place on a device that is given: its device is the answer, and nothing was done
+abbrev pub Refuses : Seen → Seen → Result Tally Stop → Stripe → Type 0
+Refuses old new result stripe = (result ≡ Err (stop.Missing stripe.devid)) × (new ≡ old)
 
 -- the blocks of a list were mended, chunk by chunk: exactly the writes that follow from what the images held, or those up to a call that failed
 pub record WorksOn (layout : Layout) (write : Bool) (wants : List Want) (unchecked : ℕ) (old new : Seen) (result : Result Tally Stop) : Type 0 where

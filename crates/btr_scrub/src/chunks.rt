@@ -68,7 +68,8 @@ fn gather_chunk<R: Rack>(
     requires some { 1 ≤ span.now.length }
     requires chunk { IsSpanIn vol.old.store.layout span.now }
     ensures { (chunk : Chunk) → span.now ≡ span_of chunk → Contains vol.old.store.layout.chunks chunk
-        → Gathers (units.in_chunk vol.old.sup (tree_behind sums.entry) chunk extents.now) (scene (R.seen rack.old) vol.old gathered.old) (scene (R.seen rack.new) vol.new gathered.new) result }
+        → Gathers (units.in_chunk vol.old.sup (tree_behind sums.entry) chunk extents.now)
+        (scene (R.seen rack.old) vol.old gathered.old) (scene (R.seen rack.new) vol.new gathered.new) result }
 {
     let mut scan = Scan::new(&extents.place, first_key(span), last_key(span));
     let end = gather_items(sums, span, &mut scan, rack, vol, gathered);
@@ -90,7 +91,8 @@ pub(crate) fn gather_chunks<R: Rack>(
     requires room { 5 ≤ free_count vol.old.store }
     requires is_list { IsList gathered.old.list }
     requires kind { gathered.old.list.kind ≡ kind_in vol.old.sup }
-    ensures { Gathers (units.in_chunks vol.old.sup (tree_behind sums.entry) extents.now vol.old.store.layout.chunks) (scene (R.seen rack.old) vol.old gathered.old) (scene (R.seen rack.new) vol.new gathered.new) result }
+    ensures { Gathers (units.in_chunks vol.old.sup (tree_behind sums.entry) extents.now vol.old.store.layout.chunks)
+        (scene (R.seen rack.old) vol.old gathered.old) (scene (R.seen rack.new) vol.new gathered.new) result }
 {
     for i in 0..vol.store.chunks().count() {
         let span = span_at(vol, i);

@@ -1,5 +1,5 @@
 // The checked blocks of a filesystem: extent by extent, chunk by chunk.
-ghost use Rattle.std.specs.Prelude.{◌≡◌, ◌+◌, ◌<◌, ◌≤◌, ◌^◌, [], List, Contains, Some};
+ghost use Rattle.std.specs.Prelude.{◌≡◌, ◌+◌, ◌<◌, ◌≤◌, ◌^◌, [], Contains, Some};
 ghost use Rattle.btr_chunk.specs.declared.chunk.Chunk.{Chunk};
 ghost use Rattle.btr_rack.specs.Rack.{OnlyReads};
 ghost use Rattle.btr_read.specs.Serves.{Serves};
@@ -50,7 +50,8 @@ fn gather_blocks<R: Rack>(
     requires is_list { IsList gathered.old.list }
     requires kind { gathered.old.list.kind ≡ kind_in vol.old.sup }
     requires range { extent.now.addr + extent.now.len < 2 ^ 64 }
-    ensures { Gathers (units.blocks_of vol.old.sup (tree_behind sums.entry) extent.now extent.now.level) (scene (R.seen rack.old) vol.old gathered.old) (scene (R.seen rack.new) vol.new gathered.new) result }
+    ensures { Gathers (units.blocks_of vol.old.sup (tree_behind sums.entry) extent.now extent.now.level)
+        (scene (R.seen rack.old) vol.old gathered.old) (scene (R.seen rack.new) vol.new gathered.new) result }
 {
     let Some(level) = extent.level else {
         return gather_sectors(sums, extent.addr, extent.len / 4096, rack, vol, gathered);
@@ -81,7 +82,8 @@ fn gather_extent<R: Rack>(
     requires kind { gathered.old.list.kind ≡ kind_in vol.old.sup }
     requires span { span.now.start + span.now.length < 2 ^ 64 }
     ensures { (chunk : Chunk) → span.now ≡ span_of chunk → Contains vol.old.store.layout.chunks chunk
-        → Gathers (units.extent_met vol.old.sup (tree_behind sums.entry) chunk end leaf (Some extent.now)) (scene (R.seen rack.old) vol.old gathered.old) (scene (R.seen rack.new) vol.new gathered.new) result }
+        → Gathers (units.extent_met vol.old.sup (tree_behind sums.entry) chunk end leaf (Some extent.now))
+        (scene (R.seen rack.old) vol.old gathered.old) (scene (R.seen rack.new) vol.new gathered.new) result }
 {
     if is_malformed(&vol.sup, end, extent) {
         return Err(Stop::Tree(TreeFault::Malformed(leaf)));
@@ -152,7 +154,9 @@ pub(crate) fn gather_items<R: Rack>(
     requires chunk { IsSpanIn vol.old.store.layout span.now }
     ensures ready { IsReady (R.seen rack.new) vol.new.store scan.new }
     ensures scanned { (chunk : Chunk) → span.now ≡ span_of chunk → Contains vol.old.store.layout.chunks chunk
-        → Scanned vol.old.sup (tree_behind sums.entry) chunk (scene (R.seen rack.old) vol.old gathered.old) (scene (R.seen rack.new) vol.new gathered.new) scan.old scan.new result }
+        → Scanned vol.old.sup (tree_behind sums.entry) chunk
+        (scene (R.seen rack.old) vol.old gathered.old) (scene (R.seen rack.new) vol.new gathered.new)
+        scan.old scan.new result }
 {
     let mut end = 0;
     loop {

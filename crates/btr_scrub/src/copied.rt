@@ -1,16 +1,11 @@
 // The blocks of a chunk with copies.
-ghost use Rattle.std.specs.Prelude.{◌≡◌, Ok, Some, IsSome, IsSomeAnd, OnOk, slice_get, length};
-ghost use Rattle.btr_chunk.specs.Chunk.{mirrors};
-ghost use Rattle.btr_chunk.specs.declared.chunk.Chunk.{Chunk};
+ghost use Rattle.std.specs.Prelude.{◌≡◌, Ok, OnOk};
 ghost use Rattle.btr_read.specs.Candidates.{Target};
 ghost use Rattle.btr_read.specs.Fate.{sought};
-ghost use Rattle.btr_read.specs.Serves.{Serves};
 ghost use Rattle.btr_read.specs.Store.{SameLoans};
 ghost use Rattle.btr_mend.specs.Blocks.{block_writes};
 ghost use Rattle.btr_mend.specs.Mending.{IsCopied};
-ghost use Rattle.btr_mend.specs.Writes.{Images};
-ghost use Rattle.btr_scrub.specs.Order.{AreApart};
-ghost use Rattle.btr_scrub.specs.Scrubbing.{CanMend, GivesBelow, IsPastChunk, Scrubs, blocks_count, blocks_in, blocks_writes, count_block, counted};
+ghost use Rattle.btr_scrub.specs.Scrubbing.{CanMend, CopiesComeNext, GivesBelow, PassesChunk, Scrubs, ScrubsChunk, blocks_count, blocks_in, blocks_writes, count_block, counted};
 
 use crate::reader::Reader;
 use crate::tally::Tally;
@@ -59,7 +54,9 @@ fn mend_block<R: Rack>(
     ensures ready { CanMend write (R.seen rack.new) store.new marks.new }
     ensures loans { SameLoans store.old store.new }
     ensures scrubs { (t : Target) → sought store.old.layout want.now ≡ Ok t
-        → Scrubs store.old.layout write (λ images. block_writes images t) (λ images tally. count_block images write tally t) marks.old marks.new (R.seen rack.old) (R.seen rack.new) tally.old tally.new result }
+        → Scrubs store.old.layout write (λ images. block_writes images t)
+        (λ images tally. count_block images write tally t)
+        marks.old marks.new (R.seen rack.old) (R.seen rack.new) tally.old tally.new result }
 {
     match mend_copies(want, write, rack, store, marks) {
         Ok(mended) => {
@@ -83,12 +80,14 @@ pub(crate) fn mend_blocks<R: Rack>(
     tally: &mut Tally,
 ) -> Result<(), MendFault>
     requires ready { CanMend write (R.seen rack.old) store.old marks.old }
-    requires chunk { IsSomeAnd (slice_get store.old.layout.chunks number) (λ chunk. IsSome (mirrors chunk) × AreApart store.old.layout chunk.start blocks.old) }
+    requires chunk { CopiesComeNext store.old.layout number blocks.old }
     ensures ready { CanMend write (R.seen rack.new) store.new marks.new }
     ensures loans { SameLoans store.old store.new }
-    ensures past { OnOk result ((chunk : Chunk) → slice_get store.old.layout.chunks number ≡ Some chunk → IsPastChunk store.old.layout chunk blocks.old blocks.new) }
-    ensures scrubs { (chunk : Chunk) → slice_get store.old.layout.chunks number ≡ Some chunk
-        → Scrubs store.old.layout write (blocks_writes (blocks_in store.old.layout chunk blocks.old)) (blocks_count write (blocks_in store.old.layout chunk blocks.old)) marks.old marks.new (R.seen rack.old) (R.seen rack.new) tally.old tally.new result }
+    ensures past { OnOk result (PassesChunk store.old.layout number blocks.old blocks.new) }
+    ensures scrubs { ScrubsChunk store.old.layout number write
+        (λ chunk. blocks_writes (blocks_in store.old.layout chunk blocks.old))
+        (λ chunk. blocks_count write (blocks_in store.old.layout chunk blocks.old))
+        marks.old marks.new (R.seen rack.old) (R.seen rack.new) tally.old tally.new result }
 {
     let chunk = store.chunks().at(number);
     let end = chunk.start + chunk.length;

@@ -5,17 +5,12 @@ ghost use Rattle.btr_scrub.specs.Listed.{FewBytes};
 ghost use Rattle.btr_scrub.specs.Staying.{RightStays, RowOutlivesWrites, RowWritesAreWrong};
 ghost use Rattle.btr_scrub.specs.Leaves.{WritesKeepTheRest};
 ghost use Rattle.btr_scrub.specs.Whole.{ListedCounts, ListedWrites, WorksKeepTheRest};
-ghost use Rattle.btr_scrub.specs.Glue.{SomeCandidateIsRight, ParityOfRanges, BlockOfElement, PartStands, RowGivesBlocks};
+ghost use Rattle.btr_scrub.specs.Glue.{SomeCandidateIsRight, BlockOfElement, PartStands, RowGivesBlocks};
 
 /// Where at most as many elements of a full stripe are wrong as there is parity, some candidate of each block reads none of
 /// them, and gives the bytes as they should be (`docs/FORMAT.md`, "Full stripes").
 pub fn some_candidate_is_right()
     ensures { SomeCandidateIsRight }
-{}
-
-/// The parity of some bytes of each slice is those bytes of the parity (`docs/FORMAT.md`, "Parity").
-pub fn parity_of_ranges()
-    ensures { ParityOfRanges }
 {}
 
 /// The bytes that a block's candidates read of a part are those of the part's element, in the block's place (`docs/FORMAT.md`, "Full stripes").

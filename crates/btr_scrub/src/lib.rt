@@ -24,6 +24,7 @@ mod run;
 mod sectors;
 mod sync;
 mod tally;
+mod task;
 #[cfg(test)]
 mod tests;
 mod units;
@@ -32,8 +33,8 @@ mod whole;
 pub use gathered::Gathered;
 pub use laws::{
     bad_block_is_wrong, block_of_element, differing_parity_is_wrong, elements_apart,
-    elements_are_slices, few_bytes, listed_counts, listed_writes, parity_of_ranges, part_stands,
-    right_stays, row_gives_blocks, row_outlives_writes, row_survives, row_writes_are_wrong,
+    elements_are_slices, few_bytes, listed_counts, listed_writes, part_stands, right_stays,
+    row_gives_blocks, row_outlives_writes, row_survives, row_writes_are_wrong,
     some_candidate_is_right, works_keep_the_rest, writes_keep_the_rest,
 };
 pub use listed::Listed;

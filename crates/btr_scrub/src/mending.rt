@@ -1,16 +1,16 @@
 // All chunks, one after another.
-ghost use Rattle.std.specs.Prelude.{◌≡◌, ◌<◌, is_none, Some, IsSomeAnd, OnOk, slice_get, length};
+ghost use Rattle.std.specs.Prelude.{◌≡◌, ◌<◌, is_none, IsSomeAnd, OnOk, slice_get, length};
 ghost use Rattle.btr_chunk.specs.Chunk.{mirrors};
-ghost use Rattle.btr_chunk.specs.declared.chunk.Chunk.{Chunk};
 ghost use Rattle.btr_read.specs.Store.{SameLoans};
 ghost use Rattle.btr_scrub.specs.Order.{AreApart};
-ghost use Rattle.btr_scrub.specs.Scrubbing.{CanMend, HasRooms, IsPastChunk, Scrubs, Works, all_count_for, all_writes_for, chunk_count_for, chunk_writes_for};
+ghost use Rattle.btr_scrub.specs.Scrubbing.{CanMend, ComesNext, HasRooms, PassesChunk, ScrubsChunk, Works, WorksChunk, all_count_for, all_writes_for, chunk_count_for, chunk_writes_for};
 
 use crate::copied::mend_blocks;
 use crate::reader::Reader;
 use crate::rowed::{RowRoom, mend_rows};
 use crate::sync::sync_marked;
 use crate::tally::Tally;
+use crate::task::ChunkTask;
 use btr_mend::MendFault;
 use btr_rack::Rack;
 use btr_read::Store;
@@ -25,9 +25,7 @@ fn has_parity(number: usize, store: &Store) -> bool
 
 // Mends the blocks of the chunk of a number that a reader has next.
 fn mend_chunk<R: Rack>(
-    number: usize,
-    nodesize: u32,
-    write: bool,
+    task: ChunkTask,
     blocks: &mut Reader<'_>,
     rack: &mut R,
     store: &mut Store,
@@ -35,31 +33,29 @@ fn mend_chunk<R: Rack>(
     marks: &mut [bool],
     tally: &mut Tally,
 ) -> Result<(), MendFault>
-    requires ready { CanMend write (R.seen rack.old) store.old marks.old }
-    requires nodesize { nodesize ≡ store.old.layout.setting.nodesize }
+    requires ready { CanMend task.write (R.seen rack.old) store.old marks.old }
+    requires nodesize { task.nodesize ≡ store.old.layout.setting.nodesize }
     requires rooms { HasRooms store.old.layout room.old.buffer }
-    requires chunk { IsSomeAnd (slice_get store.old.layout.chunks number) (λ chunk. AreApart store.old.layout chunk.start blocks.old) }
-    ensures ready { CanMend write (R.seen rack.new) store.new marks.new }
+    requires chunk { ComesNext store.old.layout task.number blocks.old }
+    ensures ready { CanMend task.write (R.seen rack.new) store.new marks.new }
     ensures loans { SameLoans store.old store.new }
     ensures rooms { HasRooms store.old.layout room.new.buffer }
-    ensures past { OnOk result ((chunk : Chunk) → slice_get store.old.layout.chunks number ≡ Some chunk → IsPastChunk store.old.layout chunk blocks.old blocks.new) }
-    ensures scrubs { (chunk : Chunk) → slice_get store.old.layout.chunks number ≡ Some chunk
-        → Scrubs store.old.layout write (chunk_writes_for store.old.layout chunk blocks.old) (chunk_count_for store.old.layout write chunk blocks.old) marks.old marks.new (R.seen rack.old) (R.seen rack.new) tally.old tally.new result }
+    ensures past { OnOk result (PassesChunk store.old.layout task.number blocks.old blocks.new) }
+    ensures scrubs { ScrubsChunk store.old.layout task.number task.write
+        (λ chunk. chunk_writes_for store.old.layout chunk blocks.old)
+        (λ chunk. chunk_count_for store.old.layout task.write chunk blocks.old)
+        marks.old marks.new (R.seen rack.old) (R.seen rack.new) tally.old tally.new result }
 {
-    if has_parity(number, store) {
-        mend_rows(
-            number, nodesize, write, blocks, rack, store, room, marks, tally,
-        )
+    if has_parity(task.number, store) {
+        mend_rows(task, blocks, rack, store, room, marks, tally)
     } else {
-        mend_blocks(number, write, blocks, rack, store, marks, tally)
+        mend_blocks(task.number, task.write, blocks, rack, store, marks, tally)
     }
 }
 
 // The same, and where it writes syncs the images that were written.
 fn mend_and_sync<R: Rack>(
-    number: usize,
-    nodesize: u32,
-    write: bool,
+    task: ChunkTask,
     blocks: &mut Reader<'_>,
     rack: &mut R,
     store: &mut Store,
@@ -67,26 +63,26 @@ fn mend_and_sync<R: Rack>(
     marks: &mut [bool],
     tally: &mut Tally,
 ) -> Result<(), MendFault>
-    requires ready { CanMend write (R.seen rack.old) store.old marks.old }
+    requires ready { CanMend task.write (R.seen rack.old) store.old marks.old }
     requires marks { length marks.old ≡ length (R.seen rack.old).slots }
-    requires nodesize { nodesize ≡ store.old.layout.setting.nodesize }
+    requires nodesize { task.nodesize ≡ store.old.layout.setting.nodesize }
     requires rooms { HasRooms store.old.layout room.old.buffer }
-    requires chunk { IsSomeAnd (slice_get store.old.layout.chunks number) (λ chunk. AreApart store.old.layout chunk.start blocks.old) }
-    ensures ready { CanMend write (R.seen rack.new) store.new marks.new }
+    requires chunk { ComesNext store.old.layout task.number blocks.old }
+    ensures ready { CanMend task.write (R.seen rack.new) store.new marks.new }
     ensures slots { length (R.seen rack.new).slots ≡ length (R.seen rack.old).slots }
     ensures loans { SameLoans store.old store.new }
     ensures rooms { HasRooms store.old.layout room.new.buffer }
-    ensures past { OnOk result ((chunk : Chunk) → slice_get store.old.layout.chunks number ≡ Some chunk → IsPastChunk store.old.layout chunk blocks.old blocks.new) }
-    ensures works { (chunk : Chunk) → slice_get store.old.layout.chunks number ≡ Some chunk
-        → Works store.old.layout write (chunk_writes_for store.old.layout chunk blocks.old) (chunk_count_for store.old.layout write chunk blocks.old) (R.seen rack.old) (R.seen rack.new) tally.old tally.new result }
+    ensures past { OnOk result (PassesChunk store.old.layout task.number blocks.old blocks.new) }
+    ensures works { WorksChunk store.old.layout task.number task.write
+        (λ chunk. chunk_writes_for store.old.layout chunk blocks.old)
+        (λ chunk. chunk_count_for store.old.layout task.write chunk blocks.old)
+        (R.seen rack.old) (R.seen rack.new) tally.old tally.new result }
 {
-    match mend_chunk(
-        number, nodesize, write, blocks, rack, store, room, marks, tally,
-    ) {
+    match mend_chunk(task, blocks, rack, store, room, marks, tally) {
         Ok(()) => {}
         Err(fault) => return Err(fault),
     }
-    if !write {
+    if !task.write {
         return Ok(());
     }
     sync_marked(rack, marks)
@@ -112,12 +108,18 @@ pub(crate) fn mend_all<R: Rack>(
     requires apart { AreApart store.old.layout 0 blocks.old }
     ensures ready { CanMend write (R.seen rack.new) store.new marks.new }
     ensures loans { SameLoans store.old store.new }
-    ensures works { Works store.old.layout write (all_writes_for store.old.layout store.old.layout.chunks blocks.old) (all_count_for store.old.layout write store.old.layout.chunks blocks.old) (R.seen rack.old) (R.seen rack.new) tally.old tally.new result }
+    ensures works { Works store.old.layout write
+        (all_writes_for store.old.layout store.old.layout.chunks blocks.old)
+        (all_count_for store.old.layout write store.old.layout.chunks blocks.old)
+        (R.seen rack.old) (R.seen rack.new) tally.old tally.new result }
 {
     for number in 0..store.chunks().count() {
-        match mend_and_sync(
-            number, nodesize, write, blocks, rack, store, room, marks, tally,
-        ) {
+        let task = ChunkTask {
+            number,
+            nodesize,
+            write,
+        };
+        match mend_and_sync(task, blocks, rack, store, room, marks, tally) {
             Ok(()) => {}
             Err(fault) => return Err(fault),
         }

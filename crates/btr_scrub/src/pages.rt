@@ -1,6 +1,6 @@
 // A list that grows in pages.
-ghost use Rattle.std.specs.Prelude.{◌≡◌, ◌≤◌, OnErr, OnOk, [], ◌∷◌, ◌++◌, length, slice_get};
-ghost use Rattle.btr_scrub.specs.Pages.{AreFull, items_in};
+ghost use Rattle.std.specs.Prelude.{◌≡◌, ◌≤◌, OnErr, OnOk, [], ◌∷◌, ◌++◌, slice_get};
+ghost use Rattle.btr_scrub.specs.Pages.{AreFull, count_in, items_in};
 
 use btr_base::Memory;
 use std::alloc::Global;
@@ -26,14 +26,14 @@ pub(crate) struct Pages<T: Copy + Drop> {
 }
 
 impl<T: Copy + Drop> Model for Pages<T> {
-    ghost use Rattle.std.specs.Prelude.{◌<◌, ◌≤◌, ◌^◌, List, length};
-    ghost use Rattle.btr_scrub.specs.Pages.{AreFull, items_in};
+    ghost use Rattle.std.specs.Prelude.{◌<◌, ◌≤◌, ◌^◌, List};
+    ghost use Rattle.btr_scrub.specs.Pages.{AreFull, count_in, items_in};
 
     ghost Value = { List T };
 
     ghost view = { λ p. items_in p.full.items p.last.items };
 
-    ghost invariant = { λ p. AreFull p.full.items × (length (items_in p.full.items p.last.items) ≤ p.len) × (p.len < 2 ^ 63) };
+    ghost invariant = { λ p. AreFull p.full.items × (count_in p.full.items p.last.items ≤ p.len) × (p.len < 2 ^ 63) };
 }
 
 // The item at a place, if there is one.
@@ -67,7 +67,7 @@ fn make_room<T: Copy + Drop>(
     requires { AreFull full.old.items }
     ensures full { AreFull full.new.items }
     ensures same { OnOk result (items_in full.new.items last.new.items ≡ items_in full.old.items last.old.items) }
-    ensures fewer { OnErr result (length (items_in full.new.items last.new.items) ≤ length (items_in full.old.items last.old.items)) }
+    ensures fewer { OnErr result (count_in full.new.items last.new.items ≤ count_in full.old.items last.old.items) }
 {
     if last.len() != PAGE {
         return Ok(());

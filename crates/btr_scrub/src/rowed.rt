@@ -1,21 +1,21 @@
 // The full stripes of a chunk with parity.
-ghost use Rattle.std.specs.Prelude.{◌≡◌, ℕ, ◌∷◌, [], ◌++◌, ◌<◌, Some, None, IsSome, IfOk, IsSomeAnd, OnOk, slice_get, length};
-ghost use Rattle.btr_chunk.specs.Chunk.{IsChunk, mirrors};
+ghost use Rattle.std.specs.Prelude.{◌≡◌, ◌∷◌, [], ◌++◌, Some, IsSome, IfOk, OnOk, length};
+ghost use Rattle.btr_chunk.specs.Chunk.{IsChunk};
 ghost use Rattle.btr_chunk.specs.Table.{chunk_at};
 ghost use Rattle.btr_chunk.specs.declared.chunk.Chunk.{Chunk};
 ghost use Rattle.btr_read.specs.Store.{SameLoans};
 ghost use Rattle.btr_read.specs.Want.{addr_of};
-ghost use Rattle.btr_mend.specs.Writes.{Images};
 ghost use Rattle.btr_row.specs.Mending.{IsRow, IsRowOf, mended_row};
 ghost use Rattle.btr_row.specs.Rows.{Row, row_writes};
-ghost use Rattle.btr_scrub.specs.Order.{AreApart, targets};
+ghost use Rattle.btr_scrub.specs.Order.{targets};
 ghost use Rattle.btr_scrub.specs.Repair.{rows_in};
-ghost use Rattle.btr_scrub.specs.Rowing.{Collects, GivesInRow, row_in};
-ghost use Rattle.btr_scrub.specs.Scrubbing.{CanMend, HasRooms, IsPastChunk, Scrubs, counted_row, rows_count, rows_writes};
+ghost use Rattle.btr_scrub.specs.Rowing.{Collects, CollectsRow, GivesInRow, row_in};
+ghost use Rattle.btr_scrub.specs.Scrubbing.{CanMend, HasRooms, PassesChunk, RowsComeNext, Scrubs, ScrubsChunk, counted_row, rows_count, rows_writes};
 
 use crate::copied::next_below;
 use crate::reader::Reader;
 use crate::tally::Tally;
+use crate::task::ChunkTask;
 use btr_base::Memory;
 use btr_chunk::{Chunk, elements};
 use btr_mend::MendFault;
@@ -93,7 +93,7 @@ fn collect_row(
 ) -> Result<u64, Memory>
     requires { IsSome (chunk_at store.now.layout.chunks (addr_of first)) }
     ensures { (chunk : Chunk) → chunk_at store.now.layout.chunks (addr_of first) ≡ Some chunk
-        → IfOk result (λ row. (row_in chunk (addr_of first) ≡ Some row) × Collects chunk row first blocks.old blocks.new wants.new.items) }
+        → IfOk result (CollectsRow chunk first blocks.old blocks.new wants.new.items) }
 {
     let Some(chunk) = store.chunks().find(first.addr()) else {
         unreachable!();
@@ -139,7 +139,9 @@ fn mend_collected<R: Rack>(
     ensures loans { SameLoans store.old store.new }
     ensures rooms { HasRooms store.old.layout room.new.buffer }
     ensures scrubs { (r : Row) → IsRowOf store.old.layout at.chunk at.number room.old.wants.items r
-        → Scrubs store.old.layout write (λ images. row_writes images store.old.layout r) (λ images tally. counted_row tally (length r.blocks) (mended_row images store.old.layout r write)) marks.old marks.new (R.seen rack.old) (R.seen rack.new) tally.old tally.new result }
+        → Scrubs store.old.layout write (λ images. row_writes images store.old.layout r)
+        (λ images tally. counted_row tally (length r.blocks) (mended_row images store.old.layout r write))
+        marks.old marks.new (R.seen rack.old) (R.seen rack.new) tally.old tally.new result }
 {
     match mend_row(at, &room.wants, write, rack, store, &mut room.buffer, marks) {
         Ok(mended) => {
@@ -154,9 +156,7 @@ fn mend_collected<R: Rack>(
 ///
 /// `Image`: a read or a write of an image failed, and nothing was tried behind it. `Memory`: a write wanted memory.
 pub(crate) fn mend_rows<R: Rack>(
-    number: usize,
-    nodesize: u32,
-    write: bool,
+    task: ChunkTask,
     blocks: &mut Reader<'_>,
     rack: &mut R,
     store: &mut Store,
@@ -164,18 +164,20 @@ pub(crate) fn mend_rows<R: Rack>(
     marks: &mut [bool],
     tally: &mut Tally,
 ) -> Result<(), MendFault>
-    requires ready { CanMend write (R.seen rack.old) store.old marks.old }
-    requires nodesize { nodesize ≡ store.old.layout.setting.nodesize }
+    requires ready { CanMend task.write (R.seen rack.old) store.old marks.old }
+    requires nodesize { task.nodesize ≡ store.old.layout.setting.nodesize }
     requires rooms { HasRooms store.old.layout room.old.buffer }
-    requires chunk { IsSomeAnd (slice_get store.old.layout.chunks number) (λ chunk. (mirrors chunk ≡ None) × AreApart store.old.layout chunk.start blocks.old) }
-    ensures ready { CanMend write (R.seen rack.new) store.new marks.new }
+    requires chunk { RowsComeNext store.old.layout task.number blocks.old }
+    ensures ready { CanMend task.write (R.seen rack.new) store.new marks.new }
     ensures loans { SameLoans store.old store.new }
     ensures rooms { HasRooms store.old.layout room.new.buffer }
-    ensures past { OnOk result ((chunk : Chunk) → slice_get store.old.layout.chunks number ≡ Some chunk → IsPastChunk store.old.layout chunk blocks.old blocks.new) }
-    ensures scrubs { (chunk : Chunk) → slice_get store.old.layout.chunks number ≡ Some chunk
-        → Scrubs store.old.layout write (rows_writes store.old.layout (rows_in (targets store.old.layout blocks.old) chunk)) (rows_count store.old.layout write (rows_in (targets store.old.layout blocks.old) chunk)) marks.old marks.new (R.seen rack.old) (R.seen rack.new) tally.old tally.new result }
+    ensures past { OnOk result (PassesChunk store.old.layout task.number blocks.old blocks.new) }
+    ensures scrubs { ScrubsChunk store.old.layout task.number task.write
+        (λ chunk. rows_writes store.old.layout (rows_in (targets store.old.layout blocks.old) chunk))
+        (λ chunk. rows_count store.old.layout task.write (rows_in (targets store.old.layout blocks.old) chunk))
+        marks.old marks.new (R.seen rack.old) (R.seen rack.new) tally.old tally.new result }
 {
-    let chunk = store.chunks().at(number);
+    let chunk = store.chunks().at(task.number);
     let start = chunk.start;
     let end = start + chunk.length;
     while let Some(first) = next_below(blocks, end) {
@@ -186,9 +188,9 @@ pub(crate) fn mend_rows<R: Rack>(
         let at = RowAt {
             chunk: start,
             number: row,
-            nodesize,
+            nodesize: task.nodesize,
         };
-        match mend_collected(at, write, rack, store, room, marks, tally) {
+        match mend_collected(at, task.write, rack, store, room, marks, tally) {
             Ok(()) => {}
             Err(fault) => return Err(fault),
         }

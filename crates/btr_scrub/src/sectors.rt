@@ -24,7 +24,8 @@ fn gather_sector<R: Rack>(
     requires room { 4 ≤ free_count vol.old.store }
     requires is_list { IsList gathered.old.list }
     requires kind { gathered.old.list.kind ≡ kind_in vol.old.sup }
-    ensures { Gathers (units.sector vol.old.sup (tree_behind sums.entry) addr) (scene (R.seen rack.old) vol.old gathered.old) (scene (R.seen rack.new) vol.new gathered.new) result }
+    ensures { Gathers (units.sector vol.old.sup (tree_behind sums.entry) addr)
+        (scene (R.seen rack.old) vol.old gathered.old) (scene (R.seen rack.new) vol.new gathered.new) result }
 {
     match sum_of(sums, addr, rack, vol) {
         Err(fault) => Err(Stop::Tree(fault)),
@@ -55,7 +56,8 @@ pub(crate) fn gather_sectors<R: Rack>(
     requires is_list { IsList gathered.old.list }
     requires kind { gathered.old.list.kind ≡ kind_in vol.old.sup }
     requires range { addr + count * 4096 < 2 ^ 64 }
-    ensures { Gathers (units.sectors vol.old.sup (tree_behind sums.entry) count addr) (scene (R.seen rack.old) vol.old gathered.old) (scene (R.seen rack.new) vol.new gathered.new) result }
+    ensures { Gathers (units.sectors vol.old.sup (tree_behind sums.entry) count addr)
+        (scene (R.seen rack.old) vol.old gathered.old) (scene (R.seen rack.new) vol.new gathered.new) result }
 {
     for i in 0..count {
         match gather_sector(sums, addr + i * 4096, rack, vol, gathered) {

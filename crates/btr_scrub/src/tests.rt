@@ -1,16 +1,21 @@
-ghost use Rattle.std.specs.Prelude.{◌≡◌, ◌<◌, [], length, OnOk};
+ghost use Rattle.std.specs.Prelude.{◌<◌, length, OnOk};
 ghost use Rattle.btr_mend.specs.Writes.{AreWritable};
 ghost use Rattle.btr_rack.specs.Memory.{slots_of};
 ghost use Rattle.btr_scrub.specs.Listed.{IsList};
+
+mod copies;
+mod damage;
+mod one_row;
+mod shapes;
+mod stripes;
 
 use crate::listed::Listed;
 use crate::reader::{Reader, read_all};
 use crate::{
     Tally, bad_block_is_wrong, block_of_element, differing_parity_is_wrong, elements_apart,
-    elements_are_slices, few_bytes, list_blocks, listed_counts, listed_writes, parity_of_ranges,
-    part_stands, right_stays, row_gives_blocks, row_outlives_writes, row_survives,
-    row_writes_are_wrong, scrub, some_candidate_is_right, works_keep_the_rest,
-    writes_keep_the_rest,
+    elements_are_slices, few_bytes, list_blocks, listed_counts, listed_writes, part_stands,
+    right_stays, row_gives_blocks, row_outlives_writes, row_survives, row_writes_are_wrong, scrub,
+    some_candidate_is_right, works_keep_the_rest, writes_keep_the_rest,
 };
 use btr_base::{Sum, SumKind};
 use btr_make::{RowVolume, row};
@@ -104,7 +109,6 @@ fn laws_do_nothing(_: HostRuntime) -> Result<(), Fail> {
     few_bytes();
     listed_counts();
     listed_writes();
-    parity_of_ranges();
     part_stands();
     right_stays();
     row_gives_blocks();

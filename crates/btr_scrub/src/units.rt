@@ -32,7 +32,8 @@ fn gather_extents<R: Rack>(
     requires room { 5 ≤ free_count vol.old.store }
     requires is_list { IsList gathered.old.list }
     requires kind { gathered.old.list.kind ≡ kind_in vol.old.sup }
-    ensures { Gathers (units.with_extents vol.old.sup vol.old.store.layout.chunks (Some extents.now)) (scene (R.seen rack.old) vol.old gathered.old) (scene (R.seen rack.new) vol.new gathered.new) result }
+    ensures { Gathers (units.with_extents vol.old.sup vol.old.store.layout.chunks (Some extents.now))
+        (scene (R.seen rack.old) vol.old gathered.old) (scene (R.seen rack.new) vol.new gathered.new) result }
 {
     match vol.tree(CHECKSUM_TREE, rack) {
         Err(fault) => Err(Stop::Tree(fault)),
@@ -47,7 +48,8 @@ fn gather_all<R: Rack>(rack: &mut R, vol: &mut Volume, gathered: &mut Gathered) 
     requires room { 5 ≤ free_count vol.old.store }
     requires is_list { IsList gathered.old.list }
     requires kind { gathered.old.list.kind ≡ kind_in vol.old.sup }
-    ensures { Gathers (units.units_in vol.old.sup vol.old.store.layout.chunks) (scene (R.seen rack.old) vol.old gathered.old) (scene (R.seen rack.new) vol.new gathered.new) result }
+    ensures { Gathers (units.units_in vol.old.sup vol.old.store.layout.chunks)
+        (scene (R.seen rack.old) vol.old gathered.old) (scene (R.seen rack.new) vol.new gathered.new) result }
 {
     match vol.tree(EXTENT_TREE, rack) {
         Err(fault) => Err(Stop::Tree(fault)),
@@ -68,7 +70,8 @@ pub fn list_blocks<R: Rack>(alloc: Global, rack: &mut R, vol: &mut Volume) -> Re
     ensures serves { Serves (R.seen rack.new) vol.new.store }
     ensures reads { OnlyReads (R.seen rack.old) (R.seen rack.new) }
     ensures volume { SameVolume vol.old vol.new }
-    ensures lists { ListsUnits (units.units_in vol.old.sup vol.old.store.layout.chunks) vol.old.store.layout (R.seen rack.old) (R.seen rack.new) result }
+    ensures lists { ListsUnits (units.units_in vol.old.sup vol.old.store.layout.chunks)
+        vol.old.store.layout (R.seen rack.old) (R.seen rack.new) result }
 {
     let list = Listed::new(alloc, kind_of(&vol.sup));
     let mut gathered = Gathered { list, unchecked: 0 };

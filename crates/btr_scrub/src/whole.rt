@@ -1,20 +1,16 @@
 // Scrub as a whole.
-ghost use Rattle.std.specs.Prelude.{◌≡◌, ℕ, ◌≤◌, Some, None, Err, IfSome, IfOk, IsTrue, length, slice_get};
-ghost use Rattle.btr_chunk.specs.Chunk.{mirrors};
+ghost use Rattle.std.specs.Prelude.{◌≡◌, ◌≤◌, None, IfSome, IfOk, IsTrue};
 ghost use Rattle.btr_chunk.specs.Table.{IsTable};
-ghost use Rattle.btr_chunk.specs.declared.chunk.Chunk.{Chunk};
-ghost use Rattle.btr_row.specs.Mending.{HasRoom};
 ghost use Rattle.btr_read.specs.Serves.{Serves};
-ghost use Rattle.btr_read.specs.Store.{SameLoans, free_count};
+ghost use Rattle.btr_read.specs.Store.{free_count};
 ghost use Rattle.btr_mend.specs.Writes.{AreWritable};
 ghost use Rattle.btr_volume.specs.Looking.{SameVolume};
-ghost use Rattle.btr_volume.specs.declared.stop.Stop.TheVariants as stop;
 ghost use Rattle.btr_scrub.specs.Listed.{IsList, kept_wants};
 ghost use Rattle.btr_scrub.specs.Order.{AreApart};
 ghost use Rattle.btr_scrub.specs.Repair.{first_missing};
 ghost use Rattle.btr_scrub.specs.Scrubbed.{IsSafe, IsScrubbed, called};
-ghost use Rattle.btr_scrub.specs.Scrubbing.{CanMend, HasRooms};
-ghost use Rattle.btr_scrub.specs.Whole.{ScrubsAll, WorksOn, first_tally};
+ghost use Rattle.btr_scrub.specs.Scrubbing.{HasRooms, NoneIsWider};
+ghost use Rattle.btr_scrub.specs.Whole.{Refuses, ScrubsAll, WorksOn, first_tally};
 
 use crate::gathered::Gathered;
 use crate::judging::judge_blocks;
@@ -39,7 +35,7 @@ const ROW_BLOCKS: usize = 992;
 fn widest(store: &Store) -> usize
     ensures table { IsTable store.now.layout.chunks }
     ensures few { result ≤ 64 }
-    ensures wide { (i : ℕ) (chunk : Chunk) → slice_get store.now.layout.chunks i ≡ Some chunk → mirrors chunk ≡ None → length chunk.stripes ≤ result }
+    ensures wide { NoneIsWider store.now.layout result }
 {
     let mut most = 0;
     for i in 0..store.chunks().count() {
@@ -52,7 +48,7 @@ fn widest(store: &Store) -> usize
 }
 
 // Memory for the full stripes of a filesystem.
-fn make_room(alloc: Global, store: &Store) -> Result<RowRoom, Memory>
+pub(crate) fn make_room(alloc: Global, store: &Store) -> Result<RowRoom, Memory>
     ensures table { IfOk result (λ room. IsTable store.now.layout.chunks) }
     ensures rooms { IfOk result (λ room. HasRooms store.now.layout room.buffer) }
 {
@@ -94,7 +90,8 @@ fn mend_listed<R: Rack>(
     requires apart { AreApart vol.old.store.layout 0 (kept_wants gathered.now.list) }
     ensures serves { Serves (R.seen rack.new) vol.new.store }
     ensures volume { SameVolume vol.old vol.new }
-    ensures works { WorksOn vol.old.store.layout write (kept_wants gathered.now.list) gathered.now.unchecked (R.seen rack.old) (R.seen rack.new) result }
+    ensures works { WorksOn vol.old.store.layout write (kept_wants gathered.now.list) gathered.now.unchecked
+        (R.seen rack.old) (R.seen rack.new) result }
 {
     let Ok(mut room) = make_room(alloc, &vol.store) else {
         return Err(Stop::Memory);
@@ -172,8 +169,9 @@ pub fn scrub<R: Rack>(
     ensures volume { SameVolume vol.old vol.new }
     ensures table { IsTable vol.old.store.layout.chunks }
     ensures slots { (R.seen rack.new).slots ≡ (R.seen rack.old).slots }
-    ensures missing { IfSome (first_missing vol.old.store.layout) (λ stripe. (result ≡ Err (stop.Missing stripe.devid)) × (R.seen rack.new ≡ R.seen rack.old)) }
-    ensures scrubs { first_missing vol.old.store.layout ≡ None → ScrubsAll vol.old.sup vol.old.store.layout write (R.seen rack.old) (R.seen rack.new) result }
+    ensures missing { IfSome (first_missing vol.old.store.layout) (Refuses (R.seen rack.old) (R.seen rack.new) result) }
+    ensures scrubs { first_missing vol.old.store.layout ≡ None
+        → ScrubsAll vol.old.sup vol.old.store.layout write (R.seen rack.old) (R.seen rack.new) result }
     ensures scrubbed { IsScrubbed (called vol.old write (R.seen rack.old) (R.seen rack.new) result) }
     ensures safe { IsSafe (called vol.old write (R.seen rack.old) (R.seen rack.new) result) }
 {
