@@ -1,5 +1,5 @@
 // The fetching of a block from the image of a device, in a chunk of the profile single.
-ghost use Rattle.std.specs.Prelude.{◌≡◌, ◌<◌, ◌≤◌, length, IfOk, IsTrue};
+ghost use Rattle.std.specs.Prelude.{◌≡◌, ◌<◌, ◌≤◌, IfOk, IsTrue};
 ghost use Rattle.std.specs.Result.{is_ok};
 ghost use Rattle.btr_rack.specs.Rack.{Seen, Steady, OnlyReads};
 ghost use Rattle.btr_rack.specs.Memory.{seen_of, held_of};

@@ -1,6 +1,5 @@
 // The parity of RAID5 and RAID6, in slices as long as the piece.
 ghost use Rattle.std.specs.Prelude.{◌≡◌, ◌≤◌, ◌+◌, ◌%◌, length};
-ghost use Rattle.btr_parity.specs.Slices.{plus, scaled};
 ghost use Rattle.btr_parity.specs.Solutions.{IsTheOne, Weighs, WeighsWith};
 ghost use Rattle.btr_bench.specs.Parity.{front, index_of};
 

@@ -16,17 +16,16 @@ pub struct Plan {
 }
 
 impl Plan {
-    ghost use Rattle.std.specs.Prelude.{◌≡◌, IfOk, IsOk, IfSome, IsTrue, Some};
-    ghost use Rattle.btr_bench.specs.Task.{task_of, takes, Gives};
-    ghost use Rattle.btr_bench.specs.Plan.{IsNumber, number_of};
+    ghost use Rattle.std.specs.Prelude.{◌≡◌, IfOk, IsOk, Some};
+    ghost use Rattle.btr_bench.specs.Task.{task_of, Gives};
+    ghost use Rattle.btr_bench.specs.Plan.{IfPlanned, number_of};
 
     /// Reads the name of a task and two decimal numbers, of which the first is a size that the task takes.
     pub fn parse(task: &str, size: &str, times: &str) -> Result<Plan>
         ensures task { IfOk result (λ plan. task_of task.now ≡ Some plan.task) }
         ensures size { IfOk result (λ plan. plan.size ≡ number_of size.now) }
         ensures times { IfOk result (λ plan. plan.times ≡ number_of times.now) }
-        ensures succeeds { IfSome (task_of task.now) (λ found. IsNumber size.now → IsTrue (takes found (number_of size.now))
-            → IsNumber times.now → IsOk result) }
+        ensures succeeds { IfPlanned task.now size.now times.now (IsOk result) }
     {
         let Some(task) = Task::from_name(task) else {
             bail!("no kernel has this name");

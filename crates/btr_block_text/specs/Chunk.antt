@@ -8,13 +8,16 @@ use Rattle.btr_text.specs.Pieces.{hex_text, id_text}
 
 unfoldable pub chunk_line : List ℕ → List ℕ
 chunk_line body =
-    codes "\t\tlength " ++ decimal (number_at 8 0 body) ++ codes " owner " ++ decimal (number_at 8 8 body) ++ codes " stripe_len " ++ decimal (number_at 8 16 body)
-    ++ codes " type " ++ hex_text (number_at 8 24 body) ++ codes " stripes " ++ decimal (number_at 2 44 body) ++ codes " sub_stripes " ++ decimal (number_at 2 46 body) ++ codes "\n"
+    codes "\t\tlength " ++ decimal (number_at 8 0 body) ++ codes " owner " ++ decimal (number_at 8 8 body)
+    ++ codes " stripe_len " ++ decimal (number_at 8 16 body)
+    ++ codes " type " ++ hex_text (number_at 8 24 body) ++ codes " stripes " ++ decimal (number_at 2 44 body)
+    ++ codes " sub_stripes " ++ decimal (number_at 2 46 body) ++ codes "\n"
 
 -- stripe i, of 32 bytes
 unfoldable pub stripe_line : List ℕ → ℕ → List ℕ
 stripe_line body i =
-    codes "\t\tstripe " ++ decimal i ++ codes " devid " ++ decimal (number_at 8 (48 + 32 * i) body) ++ codes " offset " ++ decimal (number_at 8 (48 + 32 * i + 8) body)
+    codes "\t\tstripe " ++ decimal i ++ codes " devid " ++ decimal (number_at 8 (48 + 32 * i) body)
+    ++ codes " offset " ++ decimal (number_at 8 (48 + 32 * i + 8) body)
     ++ codes " uuid " ++ id_text (bytes_at 16 (48 + 32 * i + 16) body) ++ codes "\n"
 
 -- a chunk, and each of its stripes

@@ -1,17 +1,17 @@
 -- The lines of extents and of references to them. Each line stands behind two tabs.
 use Rattle.std.specs.Prelude.{ℕ, List, [], ◌++◌, codes, Option, Some, None}
 use Rattle.std.specs.Fmt.{decimal}
-use Rattle.std.specs.List.{flat_map}
 use Rattle.btr_base.specs.declared.key.Key.{Key}
-use Rattle.btr_items.specs.ExtentItem.{block_key}
+use Rattle.btr_items.specs.ExtentItem.{block_key, extent_item_of}
 use Rattle.btr_items.specs.InlineRef.{inline_refs_of}
+use Rattle.btr_items.specs.LooseRef.{loose_ref_of}
 use Rattle.btr_items.specs.declared.extent_item.ExtentItem.{ExtentItem}
 use Rattle.btr_items.specs.declared.inline_ref.InlineRef.{InlineRef}
 use Rattle.btr_items.specs.declared.link.Link.{Link}
 use Rattle.btr_items.specs.declared.link.Link.TheVariants.{Tree, File, SharedTree, SharedFile}
 use Rattle.btr_items.specs.declared.loose_ref.LooseRef.{LooseRef}
 use Rattle.btr_text.specs.Pieces.{hex_text, key_text}
-use Rattle.btr_block_text.specs.Read.{of_read}
+use Rattle.btr_block_text.specs.Read.{of_read, of_parts}
 
 -- a tree or a block that refers to a tree block, behind its words
 abbrev pub tree_line : List ℕ → ℕ → List ℕ
@@ -19,7 +19,8 @@ tree_line words id = words ++ decimal id ++ codes "\n"
 
 abbrev pub file_line : ℕ → ℕ → ℕ → ℕ → List ℕ
 file_line root objectid offset count =
-    codes "\t\tfile ref root " ++ decimal root ++ codes " objectid " ++ decimal objectid ++ codes " offset " ++ decimal offset ++ codes " count " ++ decimal count ++ codes "\n"
+    codes "\t\tfile ref root " ++ decimal root ++ codes " objectid " ++ decimal objectid ++ codes " offset " ++ decimal offset
+    ++ codes " count " ++ decimal count ++ codes "\n"
 
 abbrev pub shared_file_line : ℕ → ℕ → List ℕ
 shared_file_line parent count = codes "\t\tshared file ref parent " ++ decimal parent ++ codes " count " ++ decimal count ++ codes "\n"
@@ -47,9 +48,20 @@ tree_block_line (Some key) None = []
 tree_block_line (Some key) (Some level) = block_line key level
 
 abbrev pub extent_line : ExtentItem → List ℕ
-extent_line extent = codes "\t\trefs " ++ decimal extent.refs ++ codes " generation " ++ decimal extent.generation ++ codes " flags " ++ hex_text extent.flags ++ codes "\n"
+extent_line extent =
+    codes "\t\trefs " ++ decimal extent.refs ++ codes " generation " ++ decimal extent.generation
+    ++ codes " flags " ++ hex_text extent.flags ++ codes "\n"
 
 -- an extent, the tree block that it is, and the references that stand in its item
 abbrev pub extent_lines : List ℕ → ExtentItem → List ℕ
 extent_lines body extent =
-    extent_line extent ++ tree_block_line (block_key extent.first body) extent.level ++ flat_map (of_read (inline_ref_line body)) (inline_refs_of extent.first body)
+    extent_line extent ++ tree_block_line (block_key extent.first body) extent.level
+    ++ of_parts (inline_ref_line body) (inline_refs_of extent.first body)
+
+-- the lines of an EXTENT_ITEM or a METADATA_ITEM
+abbrev pub extent_text : ℕ → List ℕ → List ℕ
+extent_text kind body = of_read (extent_lines body) (extent_item_of kind body)
+
+-- the line of a reference in an item of its own
+abbrev pub loose_ref_text : Key → List ℕ → List ℕ
+loose_ref_text key body = of_read loose_ref_line (loose_ref_of key body)

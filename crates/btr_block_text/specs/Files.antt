@@ -2,6 +2,9 @@
 use Rattle.std.specs.Prelude.{ℕ, List, ◌++◌, codes}
 use Rattle.std.specs.Fmt.{decimal}
 use Rattle.btr_base.specs.Field.{bytes_at}
+use Rattle.btr_items.specs.Entry.{index_entry_of}
+use Rattle.btr_items.specs.FileExtent.{file_extent_of}
+use Rattle.btr_items.specs.Inode.{inode_of}
 use Rattle.btr_items.specs.declared.entry.Entry.{Entry}
 use Rattle.btr_items.specs.declared.ext_ref.ExtRef.{ExtRef}
 use Rattle.btr_items.specs.declared.file_extent.FileExtent.{FileExtent}
@@ -10,10 +13,12 @@ use Rattle.btr_items.specs.declared.inode_ref.InodeRef.{InodeRef}
 use Rattle.btr_items.specs.declared.shape.Shape.{Shape}
 use Rattle.btr_items.specs.declared.shape.Shape.TheVariants.{Inline, Regular, Prealloc}
 use Rattle.btr_text.specs.Pieces.{hex_text, octal_text, key_text, name_text}
+use Rattle.btr_block_text.specs.Read.{of_read}
 
 abbrev pub inode_line : Inode → List ℕ
 inode_line inode =
-    codes "\t\tsize " ++ decimal inode.size ++ codes " nlink " ++ decimal inode.nlink ++ codes " mode " ++ octal_text inode.mode ++ codes " flags " ++ hex_text inode.flags ++ codes "\n"
+    codes "\t\tsize " ++ decimal inode.size ++ codes " nlink " ++ decimal inode.nlink ++ codes " mode " ++ octal_text inode.mode
+    ++ codes " flags " ++ hex_text inode.flags ++ codes "\n"
 
 -- the name of a length at a place of the body, as each name ends a line
 abbrev pub named : List ℕ → ℕ → ℕ → List ℕ
@@ -23,16 +28,19 @@ abbrev pub inode_ref_line : List ℕ → InodeRef → List ℕ
 inode_ref_line body found = codes "\t\tindex " ++ decimal found.index ++ named body found.name_at found.name_len
 
 abbrev pub ext_ref_line : List ℕ → ExtRef → List ℕ
-ext_ref_line body found = codes "\t\tparent " ++ decimal found.parent ++ codes " index " ++ decimal found.index ++ named body found.name_at found.name_len
+ext_ref_line body found =
+    codes "\t\tparent " ++ decimal found.parent ++ codes " index " ++ decimal found.index ++ named body found.name_at found.name_len
 
 abbrev pub entry_line : List ℕ → Entry → List ℕ
 entry_line body entry =
-    codes "\t\tlocation " ++ key_text entry.location ++ codes " kind " ++ decimal entry.kind ++ codes " transid " ++ decimal entry.transid ++ codes " datalen " ++ decimal entry.extra_len
+    codes "\t\tlocation " ++ key_text entry.location ++ codes " kind " ++ decimal entry.kind
+    ++ codes " transid " ++ decimal entry.transid ++ codes " datalen " ++ decimal entry.extra_len
     ++ named body entry.name_at entry.name_len
 
 -- an extent on the disk, behind its word
 abbrev pub disk_text : List ℕ → ℕ → ℕ → ℕ → ℕ → List ℕ
-disk_text word addr disk_len skip len = word ++ decimal addr ++ codes " length " ++ decimal disk_len ++ codes " offset " ++ decimal skip ++ codes " bytes " ++ decimal len
+disk_text word addr disk_len skip len =
+    word ++ decimal addr ++ codes " length " ++ decimal disk_len ++ codes " offset " ++ decimal skip ++ codes " bytes " ++ decimal len
 
 -- where the bytes of a range of a file stand
 abbrev pub shape_text : Shape → List ℕ
@@ -45,3 +53,13 @@ range_end extent = codes " ram " ++ decimal extent.ram ++ codes " compression " 
 
 abbrev pub file_extent_line : FileExtent → List ℕ
 file_extent_line extent = codes "\t\tgeneration " ++ decimal extent.generation ++ shape_text extent.shape ++ range_end extent
+
+-- the lines of an INODE_ITEM, of a DIR_INDEX, and of an EXTENT_DATA whose key has an offset
+abbrev pub inode_text : List ℕ → List ℕ
+inode_text body = of_read inode_line (inode_of body)
+
+abbrev pub index_text : List ℕ → List ℕ
+index_text body = of_read (entry_line body) (index_entry_of body)
+
+abbrev pub file_extent_text : ℕ → List ℕ → List ℕ
+file_extent_text offset body = of_read file_extent_line (file_extent_of offset body)

@@ -1,10 +1,10 @@
 // The text of a block.
 ghost use Rattle.std.specs.Prelude.{◌≡◌, ◌≤◌, length, IsTrue, IsSome};
-ghost use Rattle.btr_node.specs.Block.{KeyPointer, is_leaf, is_inner};
+ghost use Rattle.btr_node.specs.Block.{is_leaf, is_inner};
 ghost use Rattle.btr_node.specs.Node.{node_of};
 ghost use Rattle.btr_rack.specs.Out.{Counts};
 ghost use Rattle.btr_text.specs.Pieces.{text_of};
-ghost use Rattle.btr_text.specs.Text.{Writes};
+ghost use Rattle.btr_block_text.specs.Read.{WritesTo};
 ghost use Rattle.btr_block_text.specs.Block as spec;
 
 use crate::items::write_item;
@@ -49,7 +49,7 @@ fn node_line(addr: u64, header: &Header) -> [Piece<'static>; 11]
 
 #[tactic(auto, unfolding(crate::specs::Block::pointer_line))]
 fn pointer_line(key: Key, child: &Pointer) -> [Piece<'static>; 7]
-    ensures { text_of result ≡ spec.pointer_line (record { key = key; addr = child.now.addr; generation = child.now.generation }) }
+    ensures { text_of result ≡ spec.pointer_line (spec.pointer_to key child.now) }
 {
     [
         Piece::Plain(b"\tkey "),
@@ -71,7 +71,7 @@ fn write_leaf<O: Out>(
 ) -> Result<(), SinkError>
     requires header { 101 ≤ length block.now }
     requires good { IsTrue (is_leaf block.now) }
-    ensures text { Writes (O.text out.old) (O.text out.new) text.old text.new (spec.leaf_text sums addr block.now) result }
+    ensures text { WritesTo O.text out.old out.new text.old text.new (spec.leaf_text sums addr block.now) result }
     ensures account { Counts (O.account out.old) (O.account out.new) result }
 {
     text.push_all(&leaf_line(addr, &Header::read(sums, block)), out)?;
@@ -91,7 +91,7 @@ fn write_inner<O: Out>(
 ) -> Result<(), SinkError>
     requires header { 101 ≤ length block.now }
     requires good { IsTrue (is_inner block.now) }
-    ensures text { Writes (O.text out.old) (O.text out.new) text.old text.new (spec.node_text sums addr block.now) result }
+    ensures text { WritesTo O.text out.old out.new text.old text.new (spec.node_text sums addr block.now) result }
     ensures account { Counts (O.account out.old) (O.account out.new) result }
 {
     text.push_all(&node_line(addr, &Header::read(sums, block)), out)?;
@@ -115,7 +115,7 @@ pub fn write_block<O: Out>(
 ) -> Result<(), SinkError>
     requires header { 101 ≤ length block.now }
     requires good { IsSome (node_of block.now) }
-    ensures text { Writes (O.text out.old) (O.text out.new) text.old text.new (spec.block_text sums addr block.now) result }
+    ensures text { WritesTo O.text out.old out.new text.old text.new (spec.block_text sums addr block.now) result }
     ensures account { Counts (O.account out.old) (O.account out.new) result }
 {
     if level(block) == 0 {

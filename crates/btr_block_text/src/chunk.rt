@@ -1,10 +1,9 @@
 // The lines of a chunk.
 ghost use Rattle.std.specs.Prelude.{◌≡◌, ◌+◌, ◌*◌, ◌≤◌, length, IsTrue};
-ghost use Rattle.btr_base.specs.Field.{number_at};
 ghost use Rattle.btr_items.specs.ChunkItem.{has_chunk_size};
 ghost use Rattle.btr_rack.specs.Out.{Counts};
 ghost use Rattle.btr_text.specs.Pieces.{text_of};
-ghost use Rattle.btr_text.specs.Text.{Writes};
+ghost use Rattle.btr_block_text.specs.Read.{WritesTo};
 ghost use Rattle.btr_block_text.specs.Chunk as spec;
 
 use btr_base::{array_at, u16_at, u64_at};
@@ -59,7 +58,7 @@ pub(crate) fn write_chunk<O: Out>(
     out: &mut O,
 ) -> Result<(), SinkError>
     requires { IsTrue (has_chunk_size body.now) }
-    ensures text { Writes (O.text out.old) (O.text out.new) text.old text.new (spec.chunk_lines body.now) result }
+    ensures text { WritesTo O.text out.old out.new text.old text.new (spec.chunk_lines body.now) result }
     ensures account { Counts (O.account out.old) (O.account out.new) result }
 {
     text.push_all(&chunk_line(body), out)?;

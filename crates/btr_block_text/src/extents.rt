@@ -1,12 +1,9 @@
 // The lines of extents and of references to them.
 ghost use Rattle.std.specs.Prelude.{◌≡◌, ◌≤◌, length};
-ghost use Rattle.btr_items.specs.ExtentItem.{extent_item_of};
-ghost use Rattle.btr_items.specs.LooseRef.{loose_ref_of};
 ghost use Rattle.btr_rack.specs.Out.{Counts};
 ghost use Rattle.btr_text.specs.Pieces.{text_of};
-ghost use Rattle.btr_text.specs.Text.{Writes};
+ghost use Rattle.btr_block_text.specs.Read.{WritesTo};
 ghost use Rattle.btr_block_text.specs.Extents as spec;
-ghost use Rattle.btr_block_text.specs.Read.{of_read};
 
 use crate::parts::write_parts;
 use btr_base::Key;
@@ -55,7 +52,7 @@ pub(crate) fn write_link<O: Out>(
     text: &mut TextBuffer,
     out: &mut O,
 ) -> Result<(), SinkError>
-    ensures text { Writes (O.text out.old) (O.text out.new) text.old text.new (spec.link_line link count) result }
+    ensures text { WritesTo O.text out.old out.new text.old text.new (spec.link_line link count) result }
     ensures account { Counts (O.account out.old) (O.account out.new) result }
 {
     match link {
@@ -106,7 +103,7 @@ fn write_tree_block<O: Out>(
     text: &mut TextBuffer,
     out: &mut O,
 ) -> Result<(), SinkError>
-    ensures text { Writes (O.text out.old) (O.text out.new) text.old text.new (spec.tree_block_line key level) result }
+    ensures text { WritesTo O.text out.old out.new text.old text.new (spec.tree_block_line key level) result }
     ensures account { Counts (O.account out.old) (O.account out.new) result }
 {
     let (Some(key), Some(level)) = (key, level) else {
@@ -123,7 +120,7 @@ fn write_all<O: Out>(
     out: &mut O,
 ) -> Result<(), SinkError>
     requires { extent.now.first ≤ length body.now }
-    ensures text { Writes (O.text out.old) (O.text out.new) text.old text.new (spec.extent_lines body.now extent.now) result }
+    ensures text { WritesTo O.text out.old out.new text.old text.new (spec.extent_lines body.now extent.now) result }
     ensures account { Counts (O.account out.old) (O.account out.new) result }
 {
     text.push_all(&extent_line(extent), out)?;
@@ -138,7 +135,7 @@ pub(crate) fn write_extent<O: Out>(
     text: &mut TextBuffer,
     out: &mut O,
 ) -> Result<(), SinkError>
-    ensures text { Writes (O.text out.old) (O.text out.new) text.old text.new (of_read (spec.extent_lines body.now) (extent_item_of kind body.now)) result }
+    ensures text { WritesTo O.text out.old out.new text.old text.new (spec.extent_text kind body.now) result }
     ensures account { Counts (O.account out.old) (O.account out.new) result }
 {
     match ExtentItem::read(kind, body) {
@@ -154,7 +151,7 @@ pub(crate) fn write_loose_ref<O: Out>(
     text: &mut TextBuffer,
     out: &mut O,
 ) -> Result<(), SinkError>
-    ensures text { Writes (O.text out.old) (O.text out.new) text.old text.new (of_read spec.loose_ref_line (loose_ref_of key body.now)) result }
+    ensures text { WritesTo O.text out.old out.new text.old text.new (spec.loose_ref_text key body.now) result }
     ensures account { Counts (O.account out.old) (O.account out.new) result }
 {
     match LooseRef::read(key, body) {

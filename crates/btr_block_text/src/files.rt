@@ -1,14 +1,10 @@
 // The lines of the items of files and directories.
 ghost use Rattle.std.specs.Prelude.{◌≡◌};
-ghost use Rattle.btr_items.specs.Entry.{index_entry_of};
-ghost use Rattle.btr_items.specs.FileExtent.{file_extent_of};
 ghost use Rattle.btr_items.specs.Form.{HasName};
-ghost use Rattle.btr_items.specs.Inode.{inode_of};
 ghost use Rattle.btr_rack.specs.Out.{Counts};
 ghost use Rattle.btr_text.specs.Pieces.{text_of};
-ghost use Rattle.btr_text.specs.Text.{Writes};
+ghost use Rattle.btr_block_text.specs.Read.{WritesTo};
 ghost use Rattle.btr_block_text.specs.Files as spec;
-ghost use Rattle.btr_block_text.specs.Read.{of_read};
 
 use btr_items::{Entry, ExtRef, FileExtent, Inode, InodeRef, Shape};
 use btr_rack::{Out, SinkError};
@@ -105,7 +101,7 @@ fn disk_text(
 }
 
 fn write_shape<O: Out>(shape: Shape, text: &mut TextBuffer, out: &mut O) -> Result<(), SinkError>
-    ensures text { Writes (O.text out.old) (O.text out.new) text.old text.new (spec.shape_text shape) result }
+    ensures text { WritesTo O.text out.old out.new text.old text.new (spec.shape_text shape) result }
     ensures account { Counts (O.account out.old) (O.account out.new) result }
 {
     match shape {
@@ -151,7 +147,7 @@ fn write_range<O: Out>(
     text: &mut TextBuffer,
     out: &mut O,
 ) -> Result<(), SinkError>
-    ensures text { Writes (O.text out.old) (O.text out.new) text.old text.new (spec.file_extent_line extent.now) result }
+    ensures text { WritesTo O.text out.old out.new text.old text.new (spec.file_extent_line extent.now) result }
     ensures account { Counts (O.account out.old) (O.account out.new) result }
 {
     let front = [
@@ -169,7 +165,7 @@ pub(crate) fn write_inode<O: Out>(
     text: &mut TextBuffer,
     out: &mut O,
 ) -> Result<(), SinkError>
-    ensures text { Writes (O.text out.old) (O.text out.new) text.old text.new (of_read spec.inode_line (inode_of body.now)) result }
+    ensures text { WritesTo O.text out.old out.new text.old text.new (spec.inode_text body.now) result }
     ensures account { Counts (O.account out.old) (O.account out.new) result }
 {
     match Inode::read(body) {
@@ -184,7 +180,7 @@ pub(crate) fn write_index<O: Out>(
     text: &mut TextBuffer,
     out: &mut O,
 ) -> Result<(), SinkError>
-    ensures text { Writes (O.text out.old) (O.text out.new) text.old text.new (of_read (spec.entry_line body.now) (index_entry_of body.now)) result }
+    ensures text { WritesTo O.text out.old out.new text.old text.new (spec.index_text body.now) result }
     ensures account { Counts (O.account out.old) (O.account out.new) result }
 {
     match Entry::index(body) {
@@ -200,7 +196,7 @@ pub(crate) fn write_file_extent<O: Out>(
     text: &mut TextBuffer,
     out: &mut O,
 ) -> Result<(), SinkError>
-    ensures text { Writes (O.text out.old) (O.text out.new) text.old text.new (of_read spec.file_extent_line (file_extent_of offset body.now)) result }
+    ensures text { WritesTo O.text out.old out.new text.old text.new (spec.file_extent_text offset body.now) result }
     ensures account { Counts (O.account out.old) (O.account out.new) result }
 {
     match FileExtent::read(offset, body) {

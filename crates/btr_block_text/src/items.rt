@@ -1,10 +1,10 @@
 // The text of an item: its line, and then the lines of its body.
-ghost use Rattle.std.specs.Prelude.{◌≡◌, length, IsTrue};
+ghost use Rattle.std.specs.Prelude.{◌≡◌, IsTrue};
 ghost use Rattle.btr_items.specs.Item.{body_fits};
 ghost use Rattle.btr_node.specs.LeafItem.{item_of};
 ghost use Rattle.btr_rack.specs.Out.{Counts};
 ghost use Rattle.btr_text.specs.Pieces.{text_of};
-ghost use Rattle.btr_text.specs.Text.{Writes};
+ghost use Rattle.btr_block_text.specs.Read.{WritesTo};
 ghost use Rattle.btr_block_text.specs.Items as spec;
 
 use crate::chunk::write_chunk;
@@ -22,7 +22,7 @@ use btr_text::{Piece, TextBuffer};
 
 // A body as it is, in hexadecimal digits.
 fn write_raw<O: Out>(body: &[u8], text: &mut TextBuffer, out: &mut O) -> Result<(), SinkError>
-    ensures text { Writes (O.text out.old) (O.text out.new) text.old text.new (spec.raw_line body.now) result }
+    ensures text { WritesTo O.text out.old out.new text.old text.new (spec.raw_line body.now) result }
     ensures account { Counts (O.account out.old) (O.account out.new) result }
 {
     if body.is_empty() {
@@ -46,7 +46,7 @@ fn write_form<O: Out>(
     out: &mut O,
 ) -> Result<(), SinkError>
     requires { IsTrue (body_fits form sums key body.now) }
-    ensures text { Writes (O.text out.old) (O.text out.new) text.old text.new (spec.form_lines form sums key body.now) result }
+    ensures text { WritesTo O.text out.old out.new text.old text.new (spec.form_lines form sums key body.now) result }
     ensures account { Counts (O.account out.old) (O.account out.new) result }
 {
     match form {
@@ -78,7 +78,7 @@ fn write_body<O: Out>(
     text: &mut TextBuffer,
     out: &mut O,
 ) -> Result<(), SinkError>
-    ensures text { Writes (O.text out.old) (O.text out.new) text.old text.new (spec.body_lines sums key body.now) result }
+    ensures text { WritesTo O.text out.old out.new text.old text.new (spec.body_lines sums key body.now) result }
     ensures account { Counts (O.account out.old) (O.account out.new) result }
 {
     if item_fits(sums, key, body) {
@@ -112,7 +112,7 @@ pub(crate) fn write_item<O: Out>(
     text: &mut TextBuffer,
     out: &mut O,
 ) -> Result<(), SinkError>
-    ensures text { Writes (O.text out.old) (O.text out.new) text.old text.new (spec.item_text sums i (item_of item.now)) result }
+    ensures text { WritesTo O.text out.old out.new text.old text.new (spec.item_text sums i (item_of item.now)) result }
     ensures account { Counts (O.account out.old) (O.account out.new) result }
 {
     text.push_all(&item_line(i, item), out)?;

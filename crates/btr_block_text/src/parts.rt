@@ -1,9 +1,7 @@
 // The entries and references that stand in a body one after another, a line each.
 ghost use Rattle.std.specs.Prelude.{All, IfOk};
-ghost use Rattle.std.specs.List.{flat_map};
 ghost use Rattle.btr_rack.specs.Out.{Counts};
-ghost use Rattle.btr_text.specs.Text.{Writes};
-ghost use Rattle.btr_block_text.specs.Read.{of_read};
+ghost use Rattle.btr_block_text.specs.Read.{WritesTo, of_parts};
 
 use crate::extents::write_link;
 use crate::files::{entry_line, ext_ref_line, inode_ref_line};
@@ -15,7 +13,7 @@ use btr_text::TextBuffer;
 pub(crate) trait Line: Part {
     ghost use Rattle.std.specs.Prelude.{ℕ, List};
     ghost use Rattle.btr_rack.specs.Out.{Counts};
-    ghost use Rattle.btr_text.specs.Text.{Writes};
+    ghost use Rattle.btr_block_text.specs.Read.{WritesTo};
 
     // The line of what was read from a body.
     ghost line: { List ℕ → Self → List ℕ };
@@ -31,7 +29,7 @@ pub(crate) trait Line: Part {
         out: &mut O,
     ) -> Result<(), SinkError>
         requires { stands body.now self.now }
-        ensures text { Writes (O.text out.old) (O.text out.new) text.old text.new (line body.now self.now) result }
+        ensures text { WritesTo O.text out.old out.new text.old text.new (line body.now self.now) result }
         ensures account { Counts (O.account out.old) (O.account out.new) result };
 }
 
@@ -114,7 +112,7 @@ pub(crate) fn write_parts<P: Line, O: Out>(
     out: &mut O,
 ) -> Result<(), SinkError>
     requires { All (λ read. IfOk read (P.stands body.now)) parts }
-    ensures text { Writes (O.text out.old) (O.text out.new) text.old text.new (flat_map (of_read (P.line body.now)) parts.entry) result }
+    ensures text { WritesTo O.text out.old out.new text.old text.new (of_parts (P.line body.now) parts.entry) result }
     ensures account { Counts (O.account out.old) (O.account out.new) result }
 {
     for read in parts {

@@ -1,16 +1,9 @@
 // The lines of the items of roots, checksums, block groups and devices.
 ghost use Rattle.std.specs.Prelude.{◌≡◌, ◌+◌, ◌*◌, ◌^◌, ◌<◌};
-ghost use Rattle.btr_items.specs.BlockGroup.{block_group_of};
-ghost use Rattle.btr_items.specs.DevExtent.{dev_extent_of};
-ghost use Rattle.btr_items.specs.DevItem.{dev_item_of};
 ghost use Rattle.btr_items.specs.Form.{HasName};
-ghost use Rattle.btr_items.specs.RootItem.{root_item_of};
-ghost use Rattle.btr_items.specs.RootRef.{root_ref_of};
-ghost use Rattle.btr_items.specs.SumRun.{sum_run_of};
 ghost use Rattle.btr_rack.specs.Out.{Counts};
 ghost use Rattle.btr_text.specs.Pieces.{text_of};
-ghost use Rattle.btr_text.specs.Text.{Writes};
-ghost use Rattle.btr_block_text.specs.Read.{of_read};
+ghost use Rattle.btr_block_text.specs.Read.{WritesTo};
 ghost use Rattle.btr_block_text.specs.Trees as spec;
 
 use btr_base::{Key, SumKind};
@@ -122,7 +115,7 @@ pub(crate) fn write_sums<O: Out>(
     text: &mut TextBuffer,
     out: &mut O,
 ) -> Result<(), SinkError>
-    ensures text { Writes (O.text out.old) (O.text out.new) text.old text.new (of_read spec.sums_line (sum_run_of kind key body.now)) result }
+    ensures text { WritesTo O.text out.old out.new text.old text.new (spec.sums_text kind key body.now) result }
     ensures account { Counts (O.account out.old) (O.account out.new) result }
 {
     match SumRun::read(kind, key, body) {
@@ -137,7 +130,7 @@ pub(crate) fn write_root<O: Out>(
     text: &mut TextBuffer,
     out: &mut O,
 ) -> Result<(), SinkError>
-    ensures text { Writes (O.text out.old) (O.text out.new) text.old text.new (of_read spec.root_line (root_item_of body.now)) result }
+    ensures text { WritesTo O.text out.old out.new text.old text.new (spec.root_text body.now) result }
     ensures account { Counts (O.account out.old) (O.account out.new) result }
 {
     match RootItem::read(body) {
@@ -152,7 +145,7 @@ pub(crate) fn write_root_ref<O: Out>(
     text: &mut TextBuffer,
     out: &mut O,
 ) -> Result<(), SinkError>
-    ensures text { Writes (O.text out.old) (O.text out.new) text.old text.new (of_read (spec.root_ref_line body.now) (root_ref_of body.now)) result }
+    ensures text { WritesTo O.text out.old out.new text.old text.new (spec.root_ref_text body.now) result }
     ensures account { Counts (O.account out.old) (O.account out.new) result }
 {
     match RootRef::read(body) {
@@ -167,7 +160,7 @@ pub(crate) fn write_block_group<O: Out>(
     text: &mut TextBuffer,
     out: &mut O,
 ) -> Result<(), SinkError>
-    ensures text { Writes (O.text out.old) (O.text out.new) text.old text.new (of_read spec.block_group_line (block_group_of body.now)) result }
+    ensures text { WritesTo O.text out.old out.new text.old text.new (spec.block_group_text body.now) result }
     ensures account { Counts (O.account out.old) (O.account out.new) result }
 {
     match BlockGroup::read(body) {
@@ -182,7 +175,7 @@ pub(crate) fn write_dev_extent<O: Out>(
     text: &mut TextBuffer,
     out: &mut O,
 ) -> Result<(), SinkError>
-    ensures text { Writes (O.text out.old) (O.text out.new) text.old text.new (of_read spec.dev_extent_line (dev_extent_of body.now)) result }
+    ensures text { WritesTo O.text out.old out.new text.old text.new (spec.dev_extent_text body.now) result }
     ensures account { Counts (O.account out.old) (O.account out.new) result }
 {
     match DevExtent::read(body) {
@@ -197,7 +190,7 @@ pub(crate) fn write_dev_item<O: Out>(
     text: &mut TextBuffer,
     out: &mut O,
 ) -> Result<(), SinkError>
-    ensures text { Writes (O.text out.old) (O.text out.new) text.old text.new (of_read spec.dev_item_line (dev_item_of body.now)) result }
+    ensures text { WritesTo O.text out.old out.new text.old text.new (spec.dev_item_text body.now) result }
     ensures account { Counts (O.account out.old) (O.account out.new) result }
 {
     match DevItem::read(body) {

@@ -1,7 +1,7 @@
 -- What calls that show a text answer, and what they put by then.
 use Rattle.std.specs.Prelude.{◌≡◌, ℕ, ◌<◌, Bool, true, false, List, [], ◌++◌, take, Option, Some, None, IfSome, Result, Ok, Err}
 use Rattle.std.specs.List.{flat_map}
-use Rattle.btr_prog.specs.Prog.{Mark, Run, prepend, steps_of, wants_of}
+use Rattle.btr_prog.specs.Prog.{Mark, Run, exec, prepend, steps_of, wants_of}
 use Rattle.btr_prog.specs.Answers.{Halt, Broke, Follows}
 use Rattle.btr_prog.specs.Calls.{Calls}
 use Rattle.btr_rack.specs.Out.{Adds}
@@ -9,13 +9,14 @@ use Rattle.btr_rack.specs.Rack.{Seen}
 use Rattle.btr_read.specs.Fate.{Fault, Agree}
 use Rattle.btr_read.specs.Layout.{Layout}
 use Rattle.btr_read.specs.Reading.{OnMap, shown}
+use Rattle.btr_read.specs.Store.{Blocks}
 use Rattle.btr_read.specs.declared.want.Want.{Want}
 use Rattle.btr_read.specs.declared.want.Want.TheVariants.{Block}
 use Rattle.btr_text.specs.Text.{Wrote, WasCut}
-use Rattle.btr_walk.specs.Reading.{Map, UnreadBlock, halt_of}
+use Rattle.btr_walk.specs.Reading.{Map, UnreadBlock, TellsOf, unread_by, halt_of}
 use Rattle.btr_volume.specs.declared.stop.Stop.{Stop}
 use Rattle.btr_volume.specs.declared.stop.Stop.TheVariants.{NoTree, Tree, Deletion, Balance, Missing, Image, Sink, Out, Memory}
-use Rattle.btr_dump.specs.Pieces.{Text}
+use Rattle.btr_dump.specs.Pieces.{Text, Shown}
 
 -- what stands of a piece that was broken off after n bytes
 abbrev pub part : Text → ℕ → Option Text
@@ -103,6 +104,25 @@ Writes Is seen r old new waited waits (Err Balance) = ⊥
 Writes Is seen r old new waited waits (Err (Missing n)) = ⊥
 Writes Is seen r old new waited waits (Err (Image slot)) = ⊥
 Writes Is seen r old new waited waits (Err Sink) = ⊥
+
+-- what a call wrote follows a program, so far as the calls over its store were steady
+abbrev pub WritesShown : Blocks → Seen → Seen → Shown → Option Text → Option Text → Text → Text → Result (Unit {0}) Stop → Type 0
+WritesShown store before now p old new waited waits result = TellsOf store before now (λ Is B. Writes Is [] (exec B p) old new waited waits result)
+
+-- .. and so does what a call put
+abbrev pub PutsShown : Blocks → Seen → Seen → Shown → Option Text → Option Text → Result (Unit {0}) Stop → Type 0
+PutsShown store before now p old new result = TellsOf store before now (λ Is B. Puts Is (exec B p) old new result)
+
+-- whatever was read, what a call wrote follows a program that wants nothing
+abbrev pub WritesAlways : Shown → Option Text → Option Text → Text → Text → Result (Unit {0}) Stop → Type 0
+WritesAlways p old new waited waits result =
+    (layout : Layout) (before now : Seen) (seen : List Want) (B : Map) → Writes (unread_by layout before now) seen (exec B p) old new waited waits result
+
+-- what was written follows a run; where what waits of it is put too, what was put follows it
+abbrev pub Finishes : Option Text → Option Text → Text → Result (Unit {0}) Stop → Result (Unit {0}) Stop → Type 0
+Finishes old new waits shown result =
+    (layout : Layout) (before now : Seen) (r : TextRun (Unit {0})) (begun : Option Text)
+    → Writes (unread_by layout before now) [] r begun old [] waits shown → Puts (unread_by layout before now) r begun new result
 
 -- some first marks are past, and their pieces were written behind what waited
 pub record Past (from to : TextRun (Unit {0})) (old new : Option Text) (waited waits : Text) : Type 0 where

@@ -1,15 +1,15 @@
 // The block at an address.
-ghost use Rattle.std.specs.Prelude.{◌≡◌, ◌≤◌, List, []};
+ghost use Rattle.std.specs.Prelude.{◌≤◌, []};
 ghost use Rattle.btr_prog.specs.Prog.{exec};
 ghost use Rattle.btr_rack.specs.Rack.{Seen, OnlyReads};
 ghost use Rattle.btr_read.specs.Layout.{Layout};
 ghost use Rattle.btr_read.specs.Serves.{Serves};
 ghost use Rattle.btr_read.specs.Store.{SameLoans, free_count};
 ghost use Rattle.btr_read.specs.declared.want.Want.{Want};
-ghost use Rattle.btr_walk.specs.Reading.{Map, unread_by};
+ghost use Rattle.btr_walk.specs.Reading.{unread_by};
 ghost use Rattle.btr_volume.specs.Looking.{SameVolume};
 ghost use Rattle.btr_dump.specs.Pieces.{kind_in, held_block, held_in, block_shown};
-ghost use Rattle.btr_dump.specs.Showing.{Grows, Writes, Puts, TellsBlock};
+ghost use Rattle.btr_dump.specs.Showing.{Grows, Writes, WritesAlways, Puts, TellsBlock};
 ghost use Rattle.btr_dump.specs.Stops.{StopCounts, StopCause};
 
 use crate::ending::{finish, stop_of};
@@ -35,7 +35,8 @@ pub(crate) fn write_held<O: Out>(
     text: &mut TextBuffer,
     out: &mut O,
 ) -> Result<(), Stop>
-    ensures text { (layout : Layout) (before now : Seen) (seen : List Want) (B : Map) → Writes (unread_by layout before now) seen (exec B (held_block kind addr block.now (held_in block.now))) (O.text out.old) (O.text out.new) text.old text.new result }
+    ensures text { WritesAlways (held_block kind addr block.now (held_in block.now))
+        (O.text out.old) (O.text out.new) text.old text.new result }
     ensures account { StopCounts (O.account out.old) (O.account out.new) result }
     ensures cause { (layout : Layout) (before now : Seen) → StopCause layout before now result }
 {
@@ -68,7 +69,9 @@ fn show_block<R: Rack, O: Out>(
     ensures account { StopCounts (O.account out.old) (O.account out.new) result }
     ensures cause { StopCause store.old.layout (R.seen rack.old) (R.seen rack.new) result }
     ensures grows { Grows (O.text out.old) (O.text out.new) }
-    ensures content { TellsBlock store.old.layout addr (R.seen rack.old) (R.seen rack.new) (λ B. Writes (unread_by store.old.layout (R.seen rack.old) (R.seen rack.new)) [] (exec B (block_shown kind addr)) (O.text out.old) (O.text out.new) text.old text.new result) }
+    ensures content { TellsBlock store.old.layout addr (R.seen rack.old) (R.seen rack.new)
+        (λ B. Writes (unread_by store.old.layout (R.seen rack.old) (R.seen rack.new)) [] (exec B (block_shown kind addr))
+        (O.text out.old) (O.text out.new) text.old text.new result) }
 {
     let loan = match fetch(&Want::Block { addr }, rack, store) {
         Ok(loan) => loan,
@@ -98,7 +101,9 @@ pub fn dump_block<R: Rack, O: Out>(
     ensures account { StopCounts (O.account out.old) (O.account out.new) result }
     ensures cause { StopCause vol.old.store.layout (R.seen rack.old) (R.seen rack.new) result }
     ensures grows { Grows (O.text out.old) (O.text out.new) }
-    ensures content { TellsBlock vol.old.store.layout addr (R.seen rack.old) (R.seen rack.new) (λ B. Puts (unread_by vol.old.store.layout (R.seen rack.old) (R.seen rack.new)) (exec B (block_shown (kind_in vol.old.sup) addr)) (O.text out.old) (O.text out.new) result) }
+    ensures content { TellsBlock vol.old.store.layout addr (R.seen rack.old) (R.seen rack.new)
+        (λ B. Puts (unread_by vol.old.store.layout (R.seen rack.old) (R.seen rack.new)) (exec B (block_shown (kind_in vol.old.sup) addr))
+        (O.text out.old) (O.text out.new) result) }
 {
     let mut text = TextBuffer::new();
     let kind = kind_in(&vol.sup);

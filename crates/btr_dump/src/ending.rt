@@ -1,11 +1,9 @@
 // How a text ends.
-ghost use Rattle.std.specs.Prelude.{◌≡◌, [], Option};
+ghost use Rattle.std.specs.Prelude.{◌≡◌};
 ghost use Rattle.btr_rack.specs.Out.{CallAccount};
 ghost use Rattle.btr_rack.specs.Rack.{Seen};
 ghost use Rattle.btr_read.specs.Layout.{Layout};
-ghost use Rattle.btr_walk.specs.Reading.{unread_by};
-ghost use Rattle.btr_dump.specs.Pieces.{Text};
-ghost use Rattle.btr_dump.specs.Showing.{Grows, TextRun, Writes, Puts};
+ghost use Rattle.btr_dump.specs.Showing.{Grows, Finishes};
 ghost use Rattle.btr_dump.specs.Stops.{stop_of, is_cut, StopCounts, StopCause};
 
 use btr_rack::{Out, SinkError};
@@ -35,10 +33,12 @@ pub(crate) fn finish<O: Out>(
     mut text: TextBuffer,
     out: &mut O,
 ) -> Result<(), Stop>
-    ensures text { (layout : Layout) (before now : Seen) (r : TextRun (Unit {0})) (begun : Option Text) → Writes (unread_by layout before now) [] r begun (O.text out.old) [] text shown → Puts (unread_by layout before now) r begun (O.text out.new) result }
+    ensures text { Finishes (O.text out.old) (O.text out.new) text shown result }
     ensures grows { Grows (O.text out.old) (O.text out.new) }
-    ensures account { (begun : CallAccount) → StopCounts begun (O.account out.old) shown → StopCounts begun (O.account out.new) result }
-    ensures cause { (layout : Layout) (before now : Seen) → StopCause layout before now shown → StopCause layout before now result }
+    ensures account { (begun : CallAccount)
+        → StopCounts begun (O.account out.old) shown → StopCounts begun (O.account out.new) result }
+    ensures cause { (layout : Layout) (before now : Seen)
+        → StopCause layout before now shown → StopCause layout before now result }
 {
     if is_cut(&shown) {
         return shown;

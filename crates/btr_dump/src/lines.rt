@@ -1,14 +1,11 @@
 // Lines of a text.
-ghost use Rattle.std.specs.Prelude.{◌≡◌, List};
-ghost use Rattle.btr_prog.specs.Prog.{exec};
+ghost use Rattle.std.specs.Prelude.{◌≡◌};
 ghost use Rattle.btr_rack.specs.Rack.{Seen};
 ghost use Rattle.btr_read.specs.Layout.{Layout};
-ghost use Rattle.btr_read.specs.declared.want.Want.{Want};
 ghost use Rattle.btr_text.specs.Pieces.{text_of};
-ghost use Rattle.btr_walk.specs.Reading.{Map, unread_by};
 ghost use Rattle.btr_walk.specs.Showing.{item_of};
 ghost use Rattle.btr_dump.specs.Pieces.{piece, root_text, item_line};
-ghost use Rattle.btr_dump.specs.Showing.{Writes};
+ghost use Rattle.btr_dump.specs.Showing.{WritesAlways};
 ghost use Rattle.btr_dump.specs.Stops.{StopCounts, StopCause};
 
 use crate::ending::stop_of;
@@ -24,7 +21,7 @@ pub(crate) fn write_line<O: Out>(
     text: &mut TextBuffer,
     out: &mut O,
 ) -> Result<(), Stop>
-    ensures text { (layout : Layout) (before now : Seen) (seen : List Want) (B : Map) → Writes (unread_by layout before now) seen (exec B (piece (text_of line.now))) (O.text out.old) (O.text out.new) text.old text.new result }
+    ensures text { WritesAlways (piece (text_of line.now)) (O.text out.old) (O.text out.new) text.old text.new result }
     ensures account { StopCounts (O.account out.old) (O.account out.new) result }
     ensures cause { (layout : Layout) (before now : Seen) → StopCause layout before now result }
 {
@@ -65,7 +62,8 @@ pub(crate) fn write_item<O: Out>(
     text: &mut TextBuffer,
     out: &mut O,
 ) -> Result<(), Stop>
-    ensures text { (layout : Layout) (before now : Seen) (seen : List Want) (B : Map) → Writes (unread_by layout before now) seen (exec B (item_line (item_of found.now))) (O.text out.old) (O.text out.new) text.old text.new result }
+    ensures text { WritesAlways (item_line (item_of found.now))
+        (O.text out.old) (O.text out.new) text.old text.new result }
     ensures account { StopCounts (O.account out.old) (O.account out.new) result }
     ensures cause { (layout : Layout) (before now : Seen) → StopCause layout before now result }
 {

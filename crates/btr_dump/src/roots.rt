@@ -1,5 +1,5 @@
 // The lines of the roots.
-ghost use Rattle.std.specs.Prelude.{◌≡◌, ◌<◌, ◌≤◌, List, [], ◌++◌};
+ghost use Rattle.std.specs.Prelude.{◌≡◌, ◌<◌, ◌≤◌, List, ◌++◌};
 ghost use Rattle.btr_prog.specs.Prog.{exec};
 ghost use Rattle.btr_rack.specs.Out.{Counts};
 ghost use Rattle.btr_rack.specs.Rack.{OnlyReads};
@@ -15,7 +15,7 @@ ghost use Rattle.btr_volume.specs.Looking.{SameVolume};
 ghost use Rattle.btr_volume.specs.Tree.{root_root, named_root};
 ghost use Rattle.btr_volume.specs.Table.{chunk_root};
 ghost use Rattle.btr_dump.specs.Pieces as spec;
-ghost use Rattle.btr_dump.specs.Showing.{Grows, Writes, Turns, TurnNears, Puts};
+ghost use Rattle.btr_dump.specs.Showing.{Grows, Writes, Turns, TurnNears, WritesShown, PutsShown};
 ghost use Rattle.btr_dump.specs.Stops.{StopCounts, StopCause};
 
 use crate::ending::{finish, stop_of};
@@ -49,7 +49,8 @@ fn top_line(id: u64, place: &RootPlace) -> [Piece<'static>; 11]
 
 // The lines of the root tree and of the chunk tree.
 fn write_tops<O: Out>(s: &Super, text: &mut TextBuffer, out: &mut O) -> Result<(), SinkError>
-    ensures text { WritesText (O.text out.old) (O.text out.new) text.old text.new (spec.root_line (named_root 1 (root_root s.now)) ++ spec.root_line (named_root 3 (chunk_root s.now))) result }
+    ensures text { WritesText (O.text out.old) (O.text out.new) text.old text.new
+        (spec.root_line (named_root 1 (root_root s.now)) ++ spec.root_line (named_root 3 (chunk_root s.now))) result }
     ensures account { Counts (O.account out.old) (O.account out.new) result }
 {
     text.push_all(&top_line(1, &root_root(s)), out)?;
@@ -134,7 +135,8 @@ fn show_roots<R: Rack, O: Out>(
     ensures account { StopCounts (O.account out.old) (O.account out.new) result }
     ensures cause { StopCause store.old.layout (R.seen rack.old) (R.seen rack.new) result }
     ensures grows { Grows (O.text out.old) (O.text out.new) }
-    ensures content { Tells store.old.layout (R.seen rack.old) (R.seen rack.new) (λ B. Writes (unread_by store.old.layout (R.seen rack.old) (R.seen rack.new)) [] (exec B (spec.roots_shown s.now)) (O.text out.old) (O.text out.new) text.old text.new result) }
+    ensures content { WritesShown store.old (R.seen rack.old) (R.seen rack.new) (spec.roots_shown s.now)
+        (O.text out.old) (O.text out.new) text.old text.new result }
 {
     match write_tops(s, text, out) {
         Ok(()) => {}
@@ -162,7 +164,8 @@ pub fn list_roots<R: Rack, O: Out>(rack: &mut R, vol: &mut Volume, out: &mut O) 
     ensures account { StopCounts (O.account out.old) (O.account out.new) result }
     ensures cause { StopCause vol.old.store.layout (R.seen rack.old) (R.seen rack.new) result }
     ensures grows { Grows (O.text out.old) (O.text out.new) }
-    ensures content { Tells vol.old.store.layout (R.seen rack.old) (R.seen rack.new) (λ B. Puts (unread_by vol.old.store.layout (R.seen rack.old) (R.seen rack.new)) (exec B (spec.roots_shown vol.old.sup)) (O.text out.old) (O.text out.new) result) }
+    ensures content { PutsShown vol.old.store (R.seen rack.old) (R.seen rack.new) (spec.roots_shown vol.old.sup)
+        (O.text out.old) (O.text out.new) result }
 {
     let mut text = TextBuffer::new();
     let shown = show_roots(&vol.sup, rack, &mut vol.store, &mut text, out);

@@ -1,5 +1,5 @@
 // A tree.
-ghost use Rattle.std.specs.Prelude.{◌≡◌, ◌<◌, ◌≤◌, List, [], IfSome};
+ghost use Rattle.std.specs.Prelude.{◌≡◌, ◌<◌, ◌≤◌, List};
 ghost use Rattle.btr_prog.specs.Prog.{exec};
 ghost use Rattle.btr_rack.specs.Rack.{OnlyReads};
 ghost use Rattle.btr_read.specs.Serves.{Serves};
@@ -8,9 +8,9 @@ ghost use Rattle.btr_read.specs.declared.want.Want.{Want};
 ghost use Rattle.btr_text.specs.Pieces.{text_of};
 ghost use Rattle.btr_volume.specs.Looking.{SameVolume};
 ghost use Rattle.btr_walk.specs.Preorder.{IsAmong, IsReadyFor, blocks_left, without_block, blocks_rank};
-ghost use Rattle.btr_walk.specs.Reading.{Tells, unread_by};
+ghost use Rattle.btr_walk.specs.Reading.{Tells, unread_by, TellsOf};
 ghost use Rattle.btr_dump.specs.Pieces.{tree_text, blocks_shown, tree_shown, asked_tree};
-ghost use Rattle.btr_dump.specs.Showing.{Grows, Writes, Turns, TurnNears, Puts, PutsAsked};
+ghost use Rattle.btr_dump.specs.Showing.{Grows, Writes, Turns, TurnNears, PutsAsked, WritesShown, PutsShown};
 ghost use Rattle.btr_dump.specs.Stops.{StopCounts, StopCause};
 
 use crate::block::write_held;
@@ -115,7 +115,8 @@ pub(crate) fn show_tree<R: Rack, O: Out>(
     ensures account { StopCounts (O.account out.old) (O.account out.new) result }
     ensures cause { StopCause store.old.layout (R.seen rack.old) (R.seen rack.new) result }
     ensures grows { Grows (O.text out.old) (O.text out.new) }
-    ensures content { Tells store.old.layout (R.seen rack.old) (R.seen rack.new) (λ B. Writes (unread_by store.old.layout (R.seen rack.old) (R.seen rack.new)) [] (exec B (tree_shown kind root.now)) (O.text out.old) (O.text out.new) text.old text.new result) }
+    ensures content { WritesShown store.old (R.seen rack.old) (R.seen rack.new) (tree_shown kind root.now)
+        (O.text out.old) (O.text out.new) text.old text.new result }
 {
     match text.push_all(&tree_line(root.id, root.offset), out) {
         Ok(()) => {}
@@ -143,7 +144,8 @@ fn put_tree<R: Rack, O: Out>(
     ensures account { StopCounts (O.account out.old) (O.account out.new) result }
     ensures cause { StopCause store.old.layout (R.seen rack.old) (R.seen rack.new) result }
     ensures grows { Grows (O.text out.old) (O.text out.new) }
-    ensures content { Tells store.old.layout (R.seen rack.old) (R.seen rack.new) (λ B. Puts (unread_by store.old.layout (R.seen rack.old) (R.seen rack.new)) (exec B (tree_shown kind root.now)) (O.text out.old) (O.text out.new) result) }
+    ensures content { PutsShown store.old (R.seen rack.old) (R.seen rack.new) (tree_shown kind root.now)
+        (O.text out.old) (O.text out.new) result }
 {
     let mut text = TextBuffer::new();
     let shown = show_tree(kind, root, rack, store, &mut text, out);
@@ -172,7 +174,8 @@ pub fn dump_tree<R: Rack, O: Out>(
     ensures account { StopCounts (O.account out.old) (O.account out.new) result }
     ensures cause { StopCause vol.old.store.layout (R.seen rack.old) (R.seen rack.new) result }
     ensures grows { Grows (O.text out.old) (O.text out.new) }
-    ensures content { Tells vol.old.store.layout (R.seen rack.old) (R.seen rack.new) (λ B. PutsAsked (unread_by vol.old.store.layout (R.seen rack.old) (R.seen rack.new)) (exec B (asked_tree vol.old.sup id)) (O.text out.old) (O.text out.new) result) }
+    ensures content { TellsOf vol.old.store (R.seen rack.old) (R.seen rack.new)
+        (λ Is B. PutsAsked Is (exec B (asked_tree vol.old.sup id)) (O.text out.old) (O.text out.new) result) }
 {
     match vol.tree(id, rack) {
         Err(fault) => Err(Stop::Tree(fault)),

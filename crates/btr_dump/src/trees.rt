@@ -1,5 +1,5 @@
 // All trees.
-ghost use Rattle.std.specs.Prelude.{◌≡◌, ◌≤◌, List, []};
+ghost use Rattle.std.specs.Prelude.{◌≡◌, ◌≤◌, List};
 ghost use Rattle.btr_prog.specs.Prog.{exec};
 ghost use Rattle.btr_rack.specs.Rack.{OnlyReads};
 ghost use Rattle.btr_read.specs.Serves.{Serves};
@@ -11,7 +11,7 @@ ghost use Rattle.btr_walk.specs.ScanEnds.{IsReady, without_leaf, left_of, rank_o
 ghost use Rattle.btr_walk.specs.Showing.{item_of};
 ghost use Rattle.btr_volume.specs.Looking.{SameVolume};
 ghost use Rattle.btr_dump.specs.Pieces.{item_root, item_trees, top_trees, all_trees};
-ghost use Rattle.btr_dump.specs.Showing.{Grows, Writes, Turns, TurnNears, Puts};
+ghost use Rattle.btr_dump.specs.Showing.{Grows, Writes, Turns, TurnNears, WritesShown, PutsShown};
 ghost use Rattle.btr_dump.specs.Stops.{StopCounts, StopCause};
 ghost use Rattle.btr_dump.specs.Trees.{ItemNears, NextItemBy};
 
@@ -163,7 +163,8 @@ fn show_tops<R: Rack, O: Out>(
     ensures account { StopCounts (O.account out.old) (O.account out.new) result }
     ensures cause { StopCause store.old.layout (R.seen rack.old) (R.seen rack.new) result }
     ensures grows { Grows (O.text out.old) (O.text out.new) }
-    ensures content { Tells store.old.layout (R.seen rack.old) (R.seen rack.new) (λ B. Writes (unread_by store.old.layout (R.seen rack.old) (R.seen rack.new)) [] (exec B (top_trees s.now)) (O.text out.old) (O.text out.new) text.old text.new result) }
+    ensures content { WritesShown store.old (R.seen rack.old) (R.seen rack.new) (top_trees s.now)
+        (O.text out.old) (O.text out.new) text.old text.new result }
 {
     let kind = kind_in(s);
     match show_tree(kind, &named_root(1, root_root(s)), rack, store, text, out) {
@@ -188,7 +189,8 @@ fn show_all<R: Rack, O: Out>(
     ensures account { StopCounts (O.account out.old) (O.account out.new) result }
     ensures cause { StopCause store.old.layout (R.seen rack.old) (R.seen rack.new) result }
     ensures grows { Grows (O.text out.old) (O.text out.new) }
-    ensures content { Tells store.old.layout (R.seen rack.old) (R.seen rack.new) (λ B. Writes (unread_by store.old.layout (R.seen rack.old) (R.seen rack.new)) [] (exec B (all_trees s.now)) (O.text out.old) (O.text out.new) text.old text.new result) }
+    ensures content { WritesShown store.old (R.seen rack.old) (R.seen rack.new) (all_trees s.now)
+        (O.text out.old) (O.text out.new) text.old text.new result }
 {
     match show_tops(s, rack, store, text, out) {
         Ok(()) => {}
@@ -215,7 +217,8 @@ pub fn dump_all<R: Rack, O: Out>(rack: &mut R, vol: &mut Volume, out: &mut O) ->
     ensures account { StopCounts (O.account out.old) (O.account out.new) result }
     ensures cause { StopCause vol.old.store.layout (R.seen rack.old) (R.seen rack.new) result }
     ensures grows { Grows (O.text out.old) (O.text out.new) }
-    ensures content { Tells vol.old.store.layout (R.seen rack.old) (R.seen rack.new) (λ B. Puts (unread_by vol.old.store.layout (R.seen rack.old) (R.seen rack.new)) (exec B (all_trees vol.old.sup)) (O.text out.old) (O.text out.new) result) }
+    ensures content { PutsShown vol.old.store (R.seen rack.old) (R.seen rack.new) (all_trees vol.old.sup)
+        (O.text out.old) (O.text out.new) result }
 {
     let mut text = TextBuffer::new();
     let shown = show_all(&vol.sup, rack, &mut vol.store, &mut text, out);

@@ -50,7 +50,8 @@ ahead_clear size item fields Compressed = Err (Malformed item.leaf)
 ahead_clear size item fields Encoded = Err (Malformed item.leaf)
 
 abbrev pub ahead_formed : ℕ → ℕ → TreeItem → Result FileExtent ItemFault → Result Ahead TreeFault
-ahead_formed size end item (Ok fields) = if nat_le end item.key.offset then ahead_clear size item fields (judged fields) else Err (Malformed item.leaf)
+ahead_formed size end item (Ok fields) =
+    if nat_le end item.key.offset then ahead_clear size item fields (judged fields) else Err (Malformed item.leaf)
 ahead_formed size end item (Err fault) = Err (Malformed item.leaf)
 
 -- what comes of an item behind an extent that ends at a position: a clear extent in its order, or its leaf is malformed
@@ -95,7 +96,8 @@ abbrev pub Onward : SumKind → Source → (ℕ → Map) → ℕ → ℕ → Run
 Onward kind source Bs at end items = Then kind source Bs (todo_prog kind source at end [] Next) items
 
 -- what is left behind an extent leads on to what is left of the next one, whose item was met last
-pub record LeadsOn (source : Source) (B : Map) (seen : List Want) (old new : Blocks) (scan scan' : Scan) (end : ℕ) (ahead : Ahead) : Type 0 where
+pub record LeadsOn
+    (source : Source) (B : Map) (seen : List Want) (old new : Blocks) (scan scan' : Scan) (end : ℕ) (ahead : Ahead) : Type 0 where
   pub past : List Want
   pub item : TreeItem
   pub goes : (kind : SumKind) (Bs : ℕ → Map) (at : ℕ) (q : Run Want Fault Piece (Unit {0}))
@@ -115,16 +117,21 @@ pub record LeadsOut (source : Source) (B : Map) (store : Blocks) (scan : Scan) (
 -- .. or a fault follows it
 abbrev pub HaltsAt : Source → (UnreadBlock → Want → Type 0) → Map → List Want → Blocks → Scan → ℕ → TreeFault → Type 0
 HaltsAt source Is B seen store scan end f =
-    (kind : SumKind) (Bs : ℕ → Map) (at : ℕ) → (q : Run Want Fault Piece (Unit {0})) × Onward kind source Bs at end (exec B (left_of B store scan)) q × Follows Is no_part seen q [] (Err (halt_of f))
+    (kind : SumKind) (Bs : ℕ → Map) (at : ℕ)
+    → (q : Run Want Fault Piece (Unit {0})) × Onward kind source Bs at end (exec B (left_of B store scan)) q
+    × Follows Is no_part seen q [] (Err (halt_of f))
 
-abbrev pub NextExtentBy : Source → (UnreadBlock → Want → Type 0) → Map → List Want → Blocks → Blocks → Scan → Scan → ℕ → Result (Option Ahead) TreeFault → Type 0
+abbrev pub NextExtentBy : Source → (UnreadBlock → Want → Type 0) → Map → List Want → Blocks → Blocks → Scan → Scan → ℕ
+    → Result (Option Ahead) TreeFault → Type 0
 NextExtentBy source Is B seen old new scan scan' end (Ok (Some ahead)) = LeadsOn source B seen old new scan scan' end ahead
 NextExtentBy source Is B seen old new scan scan' end (Ok None) = LeadsOut source B old scan end
 NextExtentBy source Is B seen old new scan scan' end (Err f) = HaltsAt source Is B seen old scan end f
 
 -- an extent more, the end or a fault, by a block map
-abbrev pub IsNextExtent : Source → (UnreadBlock → Want → Type 0) → Map → Blocks → Blocks → Scan → Scan → ℕ → Result (Option Ahead) TreeFault → Type 0
-IsNextExtent source Is B old new scan scan' end result = (seen : List Want) → IsOn scan.lo scan.hi B seen scan.place → NextExtentBy source Is B seen old new scan scan' end result
+abbrev pub IsNextExtent : Source → (UnreadBlock → Want → Type 0) → Map → Blocks → Blocks → Scan → Scan → ℕ
+    → Result (Option Ahead) TreeFault → Type 0
+IsNextExtent source Is B old new scan scan' end result =
+    (seen : List Want) → IsOn scan.lo scan.hi B seen scan.place → NextExtentBy source Is B seen old new scan scan' end result
 
 -- what is left of a file leads on to what is left of its next extent
 pub record LooksOn (source : Source) (B : Map) (seen : List Want) (p p' : Progress) : Type 0 where
@@ -136,7 +143,8 @@ pub record LooksOn (source : Source) (B : Map) (seen : List Want) (p p' : Progre
 abbrev pub LookedBy : Source → (UnreadBlock → Want → Type 0) → Map → List Want → Progress → Result Progress TreeFault → Type 0
 LookedBy source Is B seen p (Ok p') = LooksOn source B seen p p'
 LookedBy source Is B seen p (Err f) =
-    (kind : SumKind) (Bs : ℕ → Map) → (q : Run Want Fault Piece (Unit {0})) × LeftBy kind source Bs B p q × Follows Is no_part seen q [] (Err (halt_of f))
+    (kind : SumKind) (Bs : ℕ → Map)
+    → (q : Run Want Fault Piece (Unit {0})) × LeftBy kind source Bs B p q × Follows Is no_part seen q [] (Err (halt_of f))
 
 abbrev pub IsLooked : Source → (UnreadBlock → Want → Type 0) → Map → Progress → Result Progress TreeFault → Type 0
 IsLooked source Is B p result = (seen : List Want) → IsGoing B seen p → LookedBy source Is B seen p result

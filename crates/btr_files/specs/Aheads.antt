@@ -38,17 +38,20 @@ pub record IsFrom (kind : SumKind) (addr : ℕ) (body : List ℕ) (run : SumRun)
 
 -- each checksum that is kept is what a lookup in the tree with this root gives
 abbrev pub IsAheadIn : Map → RootPlace → SumsAhead → Type 0
-IsAheadIn B root ahead = (other : ℕ) (sum : Sum) → kept_sum ahead other ≡ Some sum → (exec B (sum_under ahead.kind root other)).ending ≡ Ok (Some sum)
+IsAheadIn B root ahead =
+    (other : ℕ) (sum : Sum) → kept_sum ahead other ≡ Some sum → (exec B (sum_under ahead.kind root other)).ending ≡ Ok (Some sum)
 
 -- where a lookup finds this item and reaches so far, the checksums that are kept are what lookups give
 abbrev pub IsReadAhead : SumKind → ℕ → Reach → SumsAhead → Type 0
 IsReadAhead kind addr reach ahead =
-    (B : Map) (root : RootPlace) → (exec B (le {S = ⊥} root (sum_key addr))).ending ≡ Ok (Some (item_of reach.found)) → SameUpTo B root (sum_key addr) reach.until
+    (B : Map) (root : RootPlace) → (exec B (le {S = ⊥} root (sum_key addr))).ending ≡ Ok (Some (item_of reach.found))
+    → SameUpTo B root (sum_key addr) reach.until
     → IsAheadIn B root ahead
 
 -- the same of the checksum tree, if there is one: without it none are kept
 abbrev pub IsSummed : Map → Option TreeRoot → SumsAhead → Type 0
-IsSummed B sums ahead = (other : ℕ) (sum : Sum) → kept_sum ahead other ≡ Some sum → (exec B (sum_at ahead.kind sums other)).ending ≡ Ok (Some sum)
+IsSummed B sums ahead =
+    (other : ℕ) (sum : Sum) → kept_sum ahead other ≡ Some sum → (exec B (sum_at ahead.kind sums other)).ending ≡ Ok (Some sum)
 
 -- an answer follows a lookup
 abbrev pub ComesOf : {A : Type 0} → (UnreadBlock → Want → Type 0) → Map → Lookup A → Result A TreeFault → Type 0

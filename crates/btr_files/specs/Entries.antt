@@ -27,7 +27,8 @@ entry_of item entry = record {
 
 -- a step for the entry in each of some items
 abbrev pub entries_in : RangeProg → Program DirEntry (Unit {0})
-entries_in items = each (λ (u : Unit {0}) item. formed item (index_entry_of item.body) (λ entry. Emit (entry_of item entry) (Return tt))) tt items
+entries_in items =
+    each (λ (u : Unit {0}) item. formed item (index_entry_of item.body) (λ entry. Emit (entry_of item entry) (Return tt))) tt items
 
 -- a step for each entry of a directory
 abbrev pub entries : TreeRoot → ℕ → Program DirEntry (Unit {0})

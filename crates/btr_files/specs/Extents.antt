@@ -30,7 +30,9 @@ in_order end x = if nat_le end x.start then Emit x (Return (Ok (end_of x.start x
 
 -- a step for the extent in each of some items, by its form and then its order, behind the end of one before
 abbrev pub extents_in : ℕ → RangeProg → Program Extent (Unit {0})
-extents_in end items = thread (λ end item. formed item (file_extent_of item.key.offset item.body) (λ fields. in_order end (extent item fields))) (λ end u. u) end items
+extents_in end items =
+    thread (λ end item. formed item (file_extent_of item.key.offset item.body) (λ fields. in_order end (extent item fields)))
+    (λ end u. u) end items
 
 -- a step for each extent of a file
 abbrev pub extents : TreeRoot → ℕ → Program Extent (Unit {0})

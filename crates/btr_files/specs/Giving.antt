@@ -59,7 +59,8 @@ body_at block at = (slice_index_or (items block) at (record { key = key 0 0 0; o
 
 -- a block has the bytes of a piece
 abbrev pub IsSpan : List ℕ → Span → Type 0
-IsSpan block (span.Inline at len) = (101 ≤ length block) × IsTrue (is_leaf block) × (at < length (items block)) × (0 < len) × (21 + len ≤ length (body_at block at))
+IsSpan block (span.Inline at len) =
+    (101 ≤ length block) × IsTrue (is_leaf block) × (at < length (items block)) × (0 < len) × (21 + len ≤ length (body_at block at))
 IsSpan block (span.Sector len verified) = (0 < len) × (len ≤ length block)
 
 abbrev pub span_piece : List ℕ → Span → Piece
@@ -136,7 +137,8 @@ module _ (kind : SumKind) (source : Source) (Is : UnreadBlock → Want → Type 
   pub record GivesStep (seen : List Want) (p : Progress) (store : Blocks) (step : Step) : Type 0 where
     pub past : List Want
     pub goes : (q : Run Want Fault Piece (Unit {0}))
-        → LeftBy kind source Bs (Bs 0) step.progress q → LeftBy kind source Bs (Bs 0) p (prepend (want_marks past) (first (Does (shown_piece store step.shown)) q))
+        → LeftBy kind source Bs (Bs 0) step.progress q
+        → LeftBy kind source Bs (Bs 0) p (prepend (want_marks past) (first (Does (shown_piece store step.shown)) q))
     pub on : IsGoing (Bs 0) (seen ++ past) step.progress
 
   -- what was answered without a piece follows a run of what was still to come

@@ -11,3 +11,4 @@ pub mod Maps
 pub mod Streaming
 pub mod Ahead
 pub mod Giving
+pub mod Told

@@ -73,17 +73,21 @@ IsNextEntry Is B dir dir' name result = (seen : List Want) → IsDirOn B seen di
 -- the same of the scan that a directory goes on by
 pub record GivesRow (B : Map) (seen : List Want) (old new : Blocks) (scan scan' : Scan) (entry : DirEntry) : Type 0 where
   pub past : List Want
-  pub is : exec B (entries_in (left_of B old scan)) ≡ prepend (want_marks past) (first (Does entry) (exec B (entries_in (left_of B new scan'))))
+  pub is : exec B (entries_in (left_of B old scan))
+      ≡ prepend (want_marks past) (first (Does entry) (exec B (entries_in (left_of B new scan'))))
   pub on : IsOn scan.lo scan.hi B (seen ++ past) scan'.place
   pub held : HoldsLeaf B seen old scan → HoldsLeaf B (seen ++ past) new scan'
 
-abbrev pub NextRowBy : (UnreadBlock → Want → Type 0) → Map → List Want → Blocks → Blocks → Scan → Scan → NameBuf → Result (Option DirRow) TreeFault → Type 0
+abbrev pub NextRowBy : (UnreadBlock → Want → Type 0) → Map → List Want → Blocks → Blocks → Scan → Scan → NameBuf
+    → Result (Option DirRow) TreeFault → Type 0
 NextRowBy Is B seen old new scan scan' name (Ok (Some row)) = GivesRow B seen old new scan scan' (named_row row name)
 NextRowBy Is B seen old new scan scan' name (Ok None) = EndsRows Is B seen (left_of B old scan) (Ok None)
 NextRowBy Is B seen old new scan scan' name (Err f) = EndsRows Is B seen (left_of B old scan) (Err f)
 
-abbrev pub IsNextRow : (UnreadBlock → Want → Type 0) → Map → Blocks → Blocks → Scan → Scan → NameBuf → Result (Option DirRow) TreeFault → Type 0
-IsNextRow Is B old new scan scan' name result = (seen : List Want) → IsOn scan.lo scan.hi B seen scan.place → NextRowBy Is B seen old new scan scan' name result
+abbrev pub IsNextRow : (UnreadBlock → Want → Type 0) → Map → Blocks → Blocks → Scan → Scan → NameBuf
+    → Result (Option DirRow) TreeFault → Type 0
+IsNextRow Is B old new scan scan' name result =
+    (seen : List Want) → IsOn scan.lo scan.hi B seen scan.place → NextRowBy Is B seen old new scan scan' name result
 
 -- the scan comes nearer to its end with each entry
 abbrev pub RowNears : Scan → Scan → Result (Option DirRow) TreeFault → Type 0

@@ -56,7 +56,8 @@ is_one (met.One is_wanted) = is_wanted
 is_one met.Several = false
 
 abbrev pub link_step : LinkSearch → TreeItem → Next LinkSearch Bool
-link_step s item = formed_next (links_of item.key item.body) (λ more. Go (record { wanted = s.wanted; met = met_links (link_in s.wanted) s.met more }))
+link_step s item =
+    formed_next (links_of item.key item.body) (λ more. Go (record { wanted = s.wanted; met = met_links (link_in s.wanted) s.met more }))
 
 -- the names that the parts of a body lead to, or that one breaks its form
 abbrev pub parts_met : {T : Type 0} → Link → (T → Link) → Met → List (Result T ItemFault) → Option Met

@@ -83,9 +83,11 @@ module _ (kind : SumKind) (source : Source) where
   -- what is still to come of the extent that was met last, whose bytes these are if it is inline, and where the file has been given then
   abbrev pub todo_prog : ℕ → ℕ → List ℕ → Todo → Program Piece (Result Given ℕ)
   todo_prog at end inline Next = Return (Ok (given at end))
-  todo_prog at end inline (Inline part) = gap (part.start - at) (Emit (Bytes (take (source.size - part.start) inline) true) (behind_bytes end))
+  todo_prog at end inline (Inline part) =
+      gap (part.start - at) (Emit (Bytes (take (source.size - part.start) inline) true) (behind_bytes end))
   todo_prog at end inline (Sectors part) =
-      gap (part.start - at) (bind (sectors kind source.sums source.nosum part.count part.addr (source.size - part.start)) (λ u. behind_bytes end))
+      gap (part.start - at)
+      (bind (sectors kind source.sums source.nosum part.count part.addr (source.size - part.start)) (λ u. behind_bytes end))
   todo_prog at end inline Over = Return (Err at)
 
   -- zeros up to the size
@@ -99,7 +101,9 @@ module _ (kind : SumKind) (source : Source) where
     -- a run of the pieces of the items of a run, and of the zeros behind them
     abbrev pub Treats : Given → Run Want Fault TreeItem (Unit {0}) → Run Want Fault Piece (Unit {0}) → Type 0
     Treats g items q =
-        (r : Run Want Fault Piece ℕ) × ThreadsTo (λ g' item. GoesTo Bs (item_pieces g' item)) (λ g' u. g'.at) g items.marks items.ending r × AfterTo r.marks r.ending EndsAt q
+        (r : Run Want Fault Piece ℕ)
+        × ThreadsTo (λ g' item. GoesTo Bs (item_pieces g' item)) (λ g' u. g'.at) g items.marks items.ending r
+        × AfterTo r.marks r.ending EndsAt q
 
     -- .. of a file that has been given up to a position, or has no extent more before its size
     abbrev pub Behind : Run Want Fault TreeItem (Unit {0}) → Result Given ℕ → Run Want Fault Piece (Unit {0}) → Type 0
@@ -184,31 +188,38 @@ pub record IsReading (rack : Seen) (store : Blocks) (file : FileBytes) : Type 0 
 -- some wants, and then the piece; what is left comes behind
 pub record GivesPiece (kind : SumKind) (Bs : ℕ → Map) (seen : List Want) (file file' : FileBytes) (piece : Piece) : Type 0 where
   pub past : List Want
-  pub goes : (q : Run Want Fault Piece (Unit {0})) → FileGoes kind Bs file' q → FileGoes kind Bs file (prepend (want_marks past) (first (Does piece) q))
+  pub goes : (q : Run Want Fault Piece (Unit {0})) → FileGoes kind Bs file' q
+      → FileGoes kind Bs file (prepend (want_marks past) (first (Does piece) q))
   pub on : IsFileOn (Bs 0) (seen ++ past) file'
 
 -- what was answered without a piece follows a run of what was still to come
-abbrev pub EndsBy : SumKind → (UnreadBlock → Want → Type 0) → (ℕ → Map) → List Want → FileBytes → Result (Unit {0}) (Halt Fault UnreadBlock) → Type 0
+abbrev pub EndsBy : SumKind → (UnreadBlock → Want → Type 0) → (ℕ → Map) → List Want → FileBytes
+    → Result (Unit {0}) (Halt Fault UnreadBlock) → Type 0
 EndsBy kind Is Bs seen file answer = (q : Run Want Fault Piece (Unit {0})) × FileGoes kind Bs file q × Follows Is no_part seen q [] answer
 
-abbrev pub NextPieceBy : SumKind → (UnreadBlock → Want → Type 0) → (ℕ → Map) → List Want → FileBytes → FileBytes → Result (Option Lending) TreeFault → Type 0
+abbrev pub NextPieceBy : SumKind → (UnreadBlock → Want → Type 0) → (ℕ → Map) → List Want → FileBytes → FileBytes
+    → Result (Option Lending) TreeFault → Type 0
 NextPieceBy kind Is Bs seen file file' (Ok (Some piece)) = GivesPiece kind Bs seen file file' (piece_of piece)
 NextPieceBy kind Is Bs seen file file' (Ok None) = EndsBy kind Is Bs seen file (Ok tt)
 NextPieceBy kind Is Bs seen file file' (Err f) = EndsBy kind Is Bs seen file (Err (halt_of f))
 
 -- a piece, the end or a fault, where a sector may come to what any of some maps says
-abbrev pub IsNextPiece : SumKind → (UnreadBlock → Want → Type 0) → (ℕ → Map) → FileBytes → FileBytes → Result (Option Lending) TreeFault → Type 0
+abbrev pub IsNextPiece : SumKind → (UnreadBlock → Want → Type 0) → (ℕ → Map) → FileBytes → FileBytes
+    → Result (Option Lending) TreeFault → Type 0
 IsNextPiece kind Is Bs file file' result = (seen : List Want) → IsFileOn (Bs 0) seen file → NextPieceBy kind Is Bs seen file file' result
 
 -- the file and its volume after a step: the superblock, the layout and the other loans are as before
-pub record Streamed (old new : Volume) (file file' : FileBytes) (before now : Seen) (result : Result (Option Lending) TreeFault) : Type 0 where
+pub record Streamed
+    (old new : Volume) (file file' : FileBytes) (before now : Seen) (result : Result (Option Lending) TreeFault) : Type 0 where
   pub sup : new.sup ≡ old.sup
   pub others : SameLoans (without_file old.store file) (without_file new.store file')
   pub reading : IsReading now new.store file'
-  pub content : TellsAll old.store.layout before now (λ Bs. IsNextPiece (kind_in old.sup) (unread_by old.store.layout before now) Bs file file' result)
+  pub content : TellsAll old.store.layout before now (λ Bs.
+      IsNextPiece (kind_in old.sup) (unread_by old.store.layout before now) Bs file file' result)
 
 abbrev pub StreamEnds : MutBor Volume → FileBytes → FileBytes → Seen → Seen → Result (Option Lending) TreeFault → Fml
-StreamEnds vol file file' before now result = follows_so the_row the_row vol.ghost_name none (λ _ _. ⊤) (λ new. Streamed vol.now new file file' before now result)
+StreamEnds vol file file' before now result =
+    follows_so the_row the_row vol.ghost_name none (λ _ _. ⊤) (λ new. Streamed vol.now new file file' before now result)
 
 -- a file's own numbers don't change
 abbrev pub SameFile : FileBytes → FileBytes → Type 0

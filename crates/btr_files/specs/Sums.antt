@@ -39,7 +39,9 @@ is_sums key = (key.objectid == sums_objectid) && (key.kind == extent_csum)
 -- the checksum in what was found for an address: none where it is another item
 abbrev pub sum_found : SumKind → ℕ → Option TreeItem → Lookup (Option Sum)
 sum_found kind addr None = Return None
-sum_found kind addr (Some item) = if is_sums item.key then formed item (sum_run_of kind item.key item.body) (λ run. Return (sum_in kind addr item.body run)) else Return None
+sum_found kind addr (Some item) =
+    if is_sums item.key then formed item (sum_run_of kind item.key item.body) (λ run. Return (sum_in kind addr item.body run))
+    else Return None
 
 -- the checksum of the sector at an address, in the tree with this root: none where no item covers it
 abbrev pub sum_under : SumKind → RootPlace → ℕ → Lookup (Option Sum)

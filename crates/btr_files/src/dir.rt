@@ -3,12 +3,13 @@ ghost use Rattle.std.specs.Prelude.{◌≡◌, ◌≤◌, []};
 ghost use Rattle.btr_rack.specs.Rack.{OnlyReads};
 ghost use Rattle.btr_read.specs.Serves.{Serves};
 ghost use Rattle.btr_read.specs.Store.{SameLoans, free_count};
-ghost use Rattle.btr_walk.specs.Reading.{Map, Tells, unread_by, HasCause};
+ghost use Rattle.btr_walk.specs.Reading.{Map, HasCause};
 ghost use Rattle.btr_walk.specs.ScanEnds.{IsReady, without_leaf};
 ghost use Rattle.btr_walk.specs.Showing.{item_of};
 ghost use Rattle.btr_volume.specs.Looking.{SameVolume};
 ghost use Rattle.btr_files.specs.Entries.{entries};
-ghost use Rattle.btr_files.specs.Listing.{dir_left, DirNears, IsDirOn, IsDir, IsNextEntry, IsNextRow, IsRow, KeepsName, RowNears, StaysIn};
+ghost use Rattle.btr_files.specs.Listing.{dir_left, DirNears, IsDirOn, IsDir, IsRow, KeepsName, RowNears, StaysIn};
+ghost use Rattle.btr_files.specs.Told.{TellsRow, TellsEntry};
 
 use crate::lookup::key_of;
 use crate::{DirRow, NameBuf};
@@ -53,7 +54,8 @@ fn read_row<R: Rack>(
     ensures name { KeepsName name.old name.new result }
     ensures nears { RowNears scan.old scan.new result }
     ensures cause { HasCause store.old.layout (R.seen rack.old) (R.seen rack.new) result }
-    ensures content { Tells store.old.layout (R.seen rack.old) (R.seen rack.new) (λ B. IsNextRow (unread_by store.old.layout (R.seen rack.old) (R.seen rack.new)) B store.old store.new scan.old scan.new name.new result) }
+    ensures content { TellsRow store.old store.new (R.seen rack.old) (R.seen rack.new)
+        scan.old scan.new name.new result }
 {
     match next(store, scan, rack) {
         Err(fault) => Err(fault),
@@ -104,7 +106,7 @@ impl Dir {
         ensures place { StaysIn self.old self.new result }
         ensures nears { DirNears self.old self.new result }
         ensures cause { HasCause vol.old.store.layout (R.seen rack.old) (R.seen rack.new) result }
-        ensures content { Tells vol.old.store.layout (R.seen rack.old) (R.seen rack.new) (λ B. IsNextEntry (unread_by vol.old.store.layout (R.seen rack.old) (R.seen rack.new)) B self.old self.new name.new result) }
+        ensures content { TellsEntry vol.old (R.seen rack.old) (R.seen rack.new) self.old self.new name.new result }
     {
         let mut scan = self.rest.scan();
         match read_row(&mut scan, rack, &mut vol.store, name) {

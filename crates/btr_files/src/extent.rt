@@ -3,12 +3,13 @@ ghost use Rattle.std.specs.Prelude.{◌≡◌, ◌≤◌, ◌<◌, IfOk};
 ghost use Rattle.btr_rack.specs.Rack.{OnlyReads};
 ghost use Rattle.btr_read.specs.Serves.{Serves};
 ghost use Rattle.btr_read.specs.Store.{SameLoans, free_count};
-ghost use Rattle.btr_walk.specs.Reading.{HasCause, Tells, unread_by};
+ghost use Rattle.btr_walk.specs.Reading.{HasCause};
 ghost use Rattle.btr_walk.specs.ScanEnds.{IsReady, without_leaf};
 ghost use Rattle.btr_walk.specs.Showing.{item_of};
-ghost use Rattle.btr_files.specs.Ahead.{ahead_of, todo_of, AheadNears, FitsAhead, FitsShape, HasFound, IsLooked, IsNextExtent, KeepsItem, LookedAhead};
+ghost use Rattle.btr_files.specs.Ahead.{ahead_of, todo_of, AheadNears, FitsAhead, FitsShape, HasFound, KeepsItem, LookedAhead};
 ghost use Rattle.btr_files.specs.Content.{sector_count};
 ghost use Rattle.btr_files.specs.Streaming.{IsUnderway};
+ghost use Rattle.btr_files.specs.Told.{TellsExtent, TellsLooked};
 
 use crate::Survey;
 use crate::progress::{InlinePart, Progress, SectorPart, Source, Todo};
@@ -108,7 +109,8 @@ fn next_extent<R: Rack>(
     ensures nears { AheadNears scan.old scan.new result }
     ensures fits { FitsAhead source.now.size end result }
     ensures cause { HasCause store.old.layout (R.seen rack.old) (R.seen rack.new) result }
-    ensures content { Tells store.old.layout (R.seen rack.old) (R.seen rack.new) (λ B. IsNextExtent source.now (unread_by store.old.layout (R.seen rack.old) (R.seen rack.new)) B store.old store.new scan.old scan.new end result) }
+    ensures content { TellsExtent source.now store.old store.new (R.seen rack.old) (R.seen rack.new)
+        scan.old scan.new end result }
 {
     match next(store, scan, rack) {
         Err(fault) => Err(fault),
@@ -139,7 +141,8 @@ fn find_extent<R: Rack>(
     ensures fits { FitsAhead source.now.size end result }
     ensures found { HasFound result }
     ensures cause { HasCause store.old.layout (R.seen rack.old) (R.seen rack.new) result }
-    ensures content { Tells store.old.layout (R.seen rack.old) (R.seen rack.new) (λ B. IsNextExtent source.now (unread_by store.old.layout (R.seen rack.old) (R.seen rack.new)) B store.old store.new scan.old scan.new end result) }
+    ensures content { TellsExtent source.now store.old store.new (R.seen rack.old) (R.seen rack.new)
+        scan.old scan.new end result }
 {
     let mut end = end;
     loop {
@@ -170,7 +173,7 @@ fn find_next<R: Rack>(
     ensures loans { SameLoans store.old store.new }
     ensures ahead { IfOk result (LookedAhead source.now progress.now) }
     ensures cause { HasCause store.old.layout (R.seen rack.old) (R.seen rack.new) result }
-    ensures content { Tells store.old.layout (R.seen rack.old) (R.seen rack.new) (λ B. IsLooked source.now (unread_by store.old.layout (R.seen rack.old) (R.seen rack.new)) B progress.now result) }
+    ensures content { TellsLooked source.now store.old.layout (R.seen rack.old) (R.seen rack.new) progress.now result }
 {
     let mut scan = progress.rest.scan();
     match find_extent(source, progress.end, &mut scan, rack, store) {
@@ -214,7 +217,7 @@ pub(crate) fn look_ahead<R: Rack>(
     ensures loans { SameLoans store.old store.new }
     ensures ahead { IfOk result (LookedAhead source.now progress.now) }
     ensures cause { HasCause store.old.layout (R.seen rack.old) (R.seen rack.new) result }
-    ensures content { Tells store.old.layout (R.seen rack.old) (R.seen rack.new) (λ B. IsLooked source.now (unread_by store.old.layout (R.seen rack.old) (R.seen rack.new)) B progress.now result) }
+    ensures content { TellsLooked source.now store.old.layout (R.seen rack.old) (R.seen rack.new) progress.now result }
 {
     match progress.todo {
         Todo::Next => find_next(source, progress, rack, store),

@@ -1,5 +1,5 @@
 // The bytes of a file, piece by piece.
-ghost use Rattle.std.specs.Prelude.{◌≡◌, ℕ, []};
+ghost use Rattle.std.specs.Prelude.{◌≡◌, []};
 ghost use Rattle.btr_base.specs.declared.kind.SumKind.{SumKind};
 ghost use Rattle.btr_rack.specs.Rack.{Seen};
 ghost use Rattle.btr_read.specs.Serves.{Serves};

@@ -6,8 +6,9 @@ ghost use Rattle.btr_read.specs.Store.{IsLiveIn, free_count};
 ghost use Rattle.btr_walk.specs.Lending.{base};
 ghost use Rattle.btr_walk.specs.Folds.{folded};
 ghost use Rattle.btr_walk.specs.Reading.{HasCause};
-ghost use Rattle.btr_volume.specs.Looking.{Looks, SameVolume};
+ghost use Rattle.btr_volume.specs.Looking.{SameVolume};
 ghost use Rattle.btr_volume.specs.Tree.{key};
+ghost use Rattle.btr_files.specs.Told.{LooksIn};
 
 use btr_base::Key;
 use btr_rack::Rack;
@@ -63,7 +64,8 @@ pub(crate) fn lookup<R: Rack, Out, F: Folder<Out, Infallible> + Drop>(
     ensures reads { OnlyReads (R.seen rack.old) (R.seen rack.new) }
     ensures volume { SameVolume vol.old vol.new }
     ensures cause { HasCause vol.old.store.layout (R.seen rack.old) (R.seen rack.new) result }
-    ensures content { Looks vol.old.store.layout (R.seen rack.old) (R.seen rack.new) (folded F.step F.answer state root.now lo hi) result }
+    ensures content { LooksIn vol.old (R.seen rack.old) (R.seen rack.new)
+        (folded F.step F.answer state root.now lo hi) result }
 {
     match fold(root, lo, hi, rack, &mut vol.store, state) {
         Ok(out) => Ok(out),

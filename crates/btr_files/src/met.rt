@@ -1,6 +1,5 @@
 // Names that are met, and the one that is wanted.
 ghost use Rattle.std.specs.Prelude.{◌≡◌};
-ghost use Rattle.btr_files.specs.Entries.{name_in};
 ghost use Rattle.btr_files.specs.Names.{link, same_link};
 ghost use Rattle.btr_files.specs.Steps.{is_one, link_in, met_more};
 

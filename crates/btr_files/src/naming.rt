@@ -4,12 +4,12 @@ ghost use Rattle.btr_rack.specs.Rack.{OnlyReads};
 ghost use Rattle.btr_read.specs.Serves.{Serves};
 ghost use Rattle.btr_read.specs.Store.{free_count};
 ghost use Rattle.btr_walk.specs.Reading.{HasCause};
-ghost use Rattle.btr_volume.specs.Looking.{Looks, SameVolume};
-ghost use Rattle.btr_files.specs.Entries.{name_in};
-ghost use Rattle.btr_files.specs.Names.{ext_link, inode_link, link, linked, links_of, mount, mounted};
+ghost use Rattle.btr_volume.specs.Looking.{SameVolume};
+ghost use Rattle.btr_files.specs.Names.{ext_link, inode_link, linked, links_of, mounted};
 ghost use Rattle.btr_files.specs.Steps.{link_in, links_met, parts_met};
 ghost use Rattle.btr_items.specs.ExtRef.{ext_refs_of};
 ghost use Rattle.btr_items.specs.InodeRef.{inode_refs_of};
+ghost use Rattle.btr_files.specs.Told.{TellsLink, TellsMount};
 
 use crate::NameBuf;
 use crate::lookup::{key_of, lookup};
@@ -147,7 +147,7 @@ pub fn linked<R: Rack>(
     ensures reads { OnlyReads (R.seen rack.old) (R.seen rack.new) }
     ensures volume { SameVolume vol.old vol.new }
     ensures cause { HasCause vol.old.store.layout (R.seen rack.old) (R.seen rack.new) result }
-    ensures content { Looks vol.old.store.layout (R.seen rack.old) (R.seen rack.new) (linked (link parent index (name_in name.now)) tree.now ino) result }
+    ensures content { TellsLink vol.old (R.seen rack.old) (R.seen rack.new) parent index name.now tree.now ino result }
 {
     let wanted = Wanted {
         parent,
@@ -183,7 +183,7 @@ pub fn mounted<R: Rack>(
     ensures reads { OnlyReads (R.seen rack.old) (R.seen rack.new) }
     ensures volume { SameVolume vol.old vol.new }
     ensures cause { HasCause vol.old.store.layout (R.seen rack.old) (R.seen rack.new) result }
-    ensures content { Looks vol.old.store.layout (R.seen rack.old) (R.seen rack.new) (mounted (mount parent (link dirid index (name_in name.now))) vol.old.sup id) result }
+    ensures content { TellsMount vol.old (R.seen rack.old) (R.seen rack.new) parent dirid index name.now id result }
 {
     let wanted = Wanted {
         parent: dirid,

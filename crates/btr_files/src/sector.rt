@@ -4,13 +4,10 @@ ghost use Rattle.btr_rack.specs.Rack.{OnlyReads};
 ghost use Rattle.btr_read.specs.Fate.{is_plain};
 ghost use Rattle.btr_read.specs.Serves.{Serves};
 ghost use Rattle.btr_read.specs.Store.{free_count};
-ghost use Rattle.btr_walk.specs.Reading.{HasCause, Tells, unread_by};
+ghost use Rattle.btr_walk.specs.Reading.{HasCause};
 ghost use Rattle.btr_volume.specs.Looking.{SameVolume};
-ghost use Rattle.btr_files.specs.Aheads.{ComesOf, IsSummed};
-ghost use Rattle.btr_files.specs.Content.{sector_want};
-ghost use Rattle.btr_files.specs.Giving.{IsSectorWant, LendsSector, SectorComes};
-ghost use Rattle.btr_files.specs.Maps.{TellsAll};
-ghost use Rattle.btr_files.specs.Sums.{kind_in};
+ghost use Rattle.btr_files.specs.Giving.{IsSectorWant, LendsSector};
+ghost use Rattle.btr_files.specs.Told.{KeepsSums, TellsWant, TellsSector};
 
 use crate::progress::Source;
 use crate::sums::{kind_of, sum_ahead};
@@ -46,8 +43,8 @@ pub(crate) fn want_of<R: Rack>(
     ensures volume { SameVolume vol.old vol.new }
     ensures sector { IfOk result IsSectorWant }
     ensures cause { HasCause vol.old.store.layout (R.seen rack.old) (R.seen rack.new) result }
-    ensures ahead { Tells vol.old.store.layout (R.seen rack.old) (R.seen rack.new) (λ B. IsSummed B source.now.sums ahead.old → IsSummed B source.now.sums ahead.new) }
-    ensures content { Tells vol.old.store.layout (R.seen rack.old) (R.seen rack.new) (λ B. IsSummed B source.now.sums ahead.old → ComesOf (unread_by vol.old.store.layout (R.seen rack.old) (R.seen rack.new)) B (sector_want (kind_in vol.old.sup) source.now.sums source.now.nosum addr) result) }
+    ensures ahead { KeepsSums vol.old (R.seen rack.old) (R.seen rack.new) source.now.sums ahead.old ahead.new }
+    ensures content { TellsWant vol.old (R.seen rack.old) (R.seen rack.new) source.now ahead.old addr result }
 {
     if source.nosum {
         return Ok(Want::Plain { addr });
@@ -75,7 +72,7 @@ pub(crate) fn read_sector<R: Rack>(
     ensures reads { OnlyReads (R.seen rack.old) (R.seen rack.new) }
     ensures lent { LendsSector store.old store.new result }
     ensures cause { HasCause store.old.layout (R.seen rack.old) (R.seen rack.new) result }
-    ensures content { TellsAll store.old.layout (R.seen rack.old) (R.seen rack.new) (λ Bs. SectorComes (unread_by store.old.layout (R.seen rack.old) (R.seen rack.new)) Bs want.now store.new result) }
+    ensures content { TellsSector store.old.layout (R.seen rack.old) (R.seen rack.new) want.now store.new result }
 {
     Ok(fetch(want, rack, store)?)
 }

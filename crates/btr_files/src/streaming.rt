@@ -5,14 +5,11 @@ ghost use Rattle.btr_node.specs.Block.{items, is_leaf};
 ghost use Rattle.btr_rack.specs.Rack.{OnlyReads};
 ghost use Rattle.btr_read.specs.Serves.{Serves};
 ghost use Rattle.btr_read.specs.Store.{free_count};
-ghost use Rattle.btr_walk.specs.Reading.{HasCause, unread_by};
-ghost use Rattle.btr_walk.specs.Rests.{HasMet};
-ghost use Rattle.btr_files.specs.Giving.{behind_end, behind_sector, behind_zeros, body_at, span_piece, zeros_at, IsGiven, IsNextStep, IsSpan, LendsNext, LendsStep, StepsOn, NextStepsOn};
+ghost use Rattle.btr_walk.specs.Reading.{HasCause};
+ghost use Rattle.btr_files.specs.Giving.{behind_end, behind_sector, behind_zeros, body_at, span_piece, zeros_at, IsSpan, LendsNext, LendsStep, StepsOn, NextStepsOn};
 ghost use Rattle.btr_files.specs.Ahead.{IsFound};
-ghost use Rattle.btr_files.specs.Aheads.{IsSummed};
-ghost use Rattle.btr_files.specs.Maps.{TellsAll};
 ghost use Rattle.btr_files.specs.Streaming.{piece_of, without_file, FitsTodo, IsPiece, IsReading, IsUnderway, PieceNears, SameFile, StreamEnds};
-ghost use Rattle.btr_files.specs.Sums.{kind_in};
+ghost use Rattle.btr_files.specs.Told.{TellsStep, TellsSummed, TellsNextStep};
 
 use crate::extent::look_ahead;
 use crate::lookup::{give_back, keep};
@@ -147,7 +144,8 @@ fn give_inline<R: Rack>(
     ensures lent { LendsStep vol.old.store vol.new.store result }
     ensures on { IfOk result (StepsOn source.now progress.now) }
     ensures cause { HasCause vol.old.store.layout (R.seen rack.old) (R.seen rack.new) result }
-    ensures content { TellsAll vol.old.store.layout (R.seen rack.old) (R.seen rack.new) (λ Bs. IsGiven (kind_in vol.old.sup) source.now (unread_by vol.old.store.layout (R.seen rack.old) (R.seen rack.new)) Bs progress.now vol.new.store result) }
+    ensures content { TellsStep vol.old (R.seen rack.old) (R.seen rack.new) source.now
+        progress.now vol.new.store result }
 {
     let MetAgain { loan, at } = progress.rest.met_again(rack, &mut vol.store)?;
     if !has_inline(vol.store.bytes(&loan), at, part.len) {
@@ -181,7 +179,8 @@ fn give_sector<R: Rack>(
     ensures lent { LendsStep vol.old.store vol.new.store result }
     ensures on { IfOk result (StepsOn source.now progress.now) }
     ensures cause { HasCause vol.old.store.layout (R.seen rack.old) (R.seen rack.new) result }
-    ensures content { TellsAll vol.old.store.layout (R.seen rack.old) (R.seen rack.new) (λ Bs. IsSummed (Bs 0) source.now.sums ahead.old → IsGiven (kind_in vol.old.sup) source.now (unread_by vol.old.store.layout (R.seen rack.old) (R.seen rack.new)) Bs progress.now vol.new.store result × IsSummed (Bs 0) source.now.sums ahead.new) }
+    ensures content { TellsSummed vol.old (R.seen rack.old) (R.seen rack.new) source.now
+        ahead.old ahead.new progress.now vol.new.store result }
 {
     let want = want_of(source, part.addr, ahead, rack, vol)?;
     let loan = read_sector(&want, rack, &mut vol.store)?;
@@ -212,7 +211,8 @@ fn give<R: Rack>(
     ensures lent { LendsNext vol.old.store vol.new.store result }
     ensures on { NextStepsOn source.now progress.now result }
     ensures cause { HasCause vol.old.store.layout (R.seen rack.old) (R.seen rack.new) result }
-    ensures content { TellsAll vol.old.store.layout (R.seen rack.old) (R.seen rack.new) (λ Bs. IsSummed (Bs 0) source.now.sums ahead.old → IsNextStep (kind_in vol.old.sup) source.now (unread_by vol.old.store.layout (R.seen rack.old) (R.seen rack.new)) Bs progress.now vol.new.store result × IsSummed (Bs 0) source.now.sums ahead.new) }
+    ensures content { TellsNextStep vol.old (R.seen rack.old) (R.seen rack.new) source.now
+        ahead.old ahead.new progress.now vol.new.store result }
 {
     let zeros = zeros_at(source.size, progress);
     if zeros > 0 {
@@ -252,7 +252,8 @@ fn next_step<R: Rack>(
     ensures lent { LendsNext vol.old.store vol.new.store result }
     ensures on { NextStepsOn source.now progress.now result }
     ensures cause { HasCause vol.old.store.layout (R.seen rack.old) (R.seen rack.new) result }
-    ensures content { TellsAll vol.old.store.layout (R.seen rack.old) (R.seen rack.new) (λ Bs. IsSummed (Bs 0) source.now.sums ahead.old → IsNextStep (kind_in vol.old.sup) source.now (unread_by vol.old.store.layout (R.seen rack.old) (R.seen rack.new)) Bs progress.now vol.new.store result × IsSummed (Bs 0) source.now.sums ahead.new) }
+    ensures content { TellsNextStep vol.old (R.seen rack.old) (R.seen rack.new) source.now
+        ahead.old ahead.new progress.now vol.new.store result }
 {
     match look_ahead(source, progress, rack, &mut vol.store) {
         Err(fault) => Err(fault),

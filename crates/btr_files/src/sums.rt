@@ -4,11 +4,11 @@ ghost use Rattle.btr_base.specs.Sum.{sum_size};
 ghost use Rattle.btr_rack.specs.Rack.{OnlyReads};
 ghost use Rattle.btr_read.specs.Serves.{Serves};
 ghost use Rattle.btr_read.specs.Store.{SameLoans, free_count};
-ghost use Rattle.btr_walk.specs.Reading.{HasCause, Tells};
+ghost use Rattle.btr_walk.specs.Reading.{HasCause};
 ghost use Rattle.btr_walk.specs.Showing.{item_of};
 ghost use Rattle.btr_volume.specs.Looking.{Judges, Looks, SameVolume};
-ghost use Rattle.btr_files.specs.Aheads.{IsAheadIn, IsSummed};
-ghost use Rattle.btr_files.specs.Sums.{is_sums, kind_in, sum_at, sum_found, sum_in, sum_under, tree_behind};
+ghost use Rattle.btr_files.specs.Sums.{is_sums, kind_in, sum_found, sum_in, sum_under, tree_behind};
+ghost use Rattle.btr_files.specs.Told.{TellsSum, KeepsAhead, KeepsSums};
 
 use crate::lookup::{give_back, key_of};
 use crate::reading_ahead::read_ahead;
@@ -113,7 +113,7 @@ fn find_ahead<R: Rack>(
     ensures reads { OnlyReads (R.seen rack.old) (R.seen rack.new) }
     ensures loans { SameLoans store.old store.new }
     ensures cause { HasCause store.old.layout (R.seen rack.old) (R.seen rack.new) result }
-    ensures ahead { Tells store.old.layout (R.seen rack.old) (R.seen rack.new) (λ B. IsAheadIn B root.now ahead.old → IsAheadIn B root.now ahead.new) }
+    ensures ahead { KeepsAhead store.old.layout (R.seen rack.old) (R.seen rack.new) root.now ahead.old ahead.new }
     ensures content { Looks store.old.layout (R.seen rack.old) (R.seen rack.new) (sum_under kind root.now addr) result }
 {
     let mut loan = None;
@@ -145,8 +145,8 @@ pub fn sum_ahead<R: Rack>(
     ensures reads { OnlyReads (R.seen rack.old) (R.seen rack.new) }
     ensures volume { SameVolume vol.old vol.new }
     ensures cause { HasCause vol.old.store.layout (R.seen rack.old) (R.seen rack.new) result }
-    ensures ahead { Tells vol.old.store.layout (R.seen rack.old) (R.seen rack.new) (λ B. IsSummed B (tree_behind sums.entry) ahead.old → IsSummed B (tree_behind sums.entry) ahead.new) }
-    ensures content { Looks vol.old.store.layout (R.seen rack.old) (R.seen rack.new) (sum_at (kind_in vol.old.sup) (tree_behind sums.entry) addr) result }
+    ensures ahead { KeepsSums vol.old (R.seen rack.old) (R.seen rack.new) (tree_behind sums.entry) ahead.old ahead.new }
+    ensures content { TellsSum vol.old (R.seen rack.old) (R.seen rack.new) (tree_behind sums.entry) addr result }
 {
     match sums {
         None => Ok(None),
@@ -178,7 +178,7 @@ pub fn sum_of<R: Rack>(
     ensures reads { OnlyReads (R.seen rack.old) (R.seen rack.new) }
     ensures volume { SameVolume vol.old vol.new }
     ensures cause { HasCause vol.old.store.layout (R.seen rack.old) (R.seen rack.new) result }
-    ensures content { Looks vol.old.store.layout (R.seen rack.old) (R.seen rack.new) (sum_at (kind_in vol.old.sup) (tree_behind sums.entry) addr) result }
+    ensures content { TellsSum vol.old (R.seen rack.old) (R.seen rack.new) (tree_behind sums.entry) addr result }
 {
     match sums {
         None => Ok(None),

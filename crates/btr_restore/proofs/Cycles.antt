@@ -1,7 +1,7 @@
 -- A directory in another one.
-use Rattle.std.proofs.Common.{◌≡◌, ℕ, ◌+◌, ◌-◌, ◌<◌, Bool, true, false, zero, suc, List, length, Option, Result, Ok, Err, refl, sym, ap, ◌∙◌, subst, arith}
+use Rattle.std.proofs.Common.{◌≡◌, ℕ, ◌+◌, ◌-◌, ◌<◌, Bool, true, false, zero, suc, List, Option, Result, Ok, Err, refl, sym, ap, ◌∙◌, subst, arith}
 use Rattle.std.specs.Prelude.{◌==◌, OnOk}
-use Rattle.btr_prog.specs.Prog.{Return, bind}
+use Rattle.btr_prog.specs.Prog.{Return}
 use Rattle.btr_rack.specs.Sink.{Sink, left}
 use Rattle.btr_super.specs.declared.superblock.Super.{Super}
 use Rattle.btr_volume.specs.declared.root.TreeRoot.{TreeRoot}
@@ -19,7 +19,8 @@ use Rattle.btr_restore.specs.Treating.{IsOver}
 use Rattle.btr_restore.specs.Listing.{StandsIf, ended_with, is_deep, listing_in, treat_in}
 use Rattle.btr_restore.specs.Running.{Outside, World, world, Ran, Stands, StandsAfter, Wrote}
 use Rattle.btr_restore.specs.Step.{Step, Up}
-use Rattle.btr_restore.proofs.Rans.{is_other, ran_halt, ran_then, ran_wrote, row_halt, row_then, wrote_none}
+use Rattle.btr_restore.proofs.Numbers.{is_other}
+use Rattle.btr_restore.proofs.Rans.{ran_halt, ran_then, ran_wrote, row_halt, row_then, wrote_none}
 
 -- the way up, and then a value
 pub wrote_up : (plan : RestorePlan) (s : Super) (sums : Option TreeRoot) (counts : Counts) (x y : Outside) (r : Result (Unit {0}) TheStop) → Wrote (row plan s sums Up (Return tt)) x y r → Wrote (row plan s sums Up (Return counts)) x y (ended_with counts r)

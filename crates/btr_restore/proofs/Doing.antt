@@ -1,31 +1,17 @@
 -- Calls one after another, each of which does what a program says.
-use Rattle.std.proofs.Common.{◌≡◌, ℕ, Bool, true, false, cond, List, [], ◌∷◌, ◌++◌, Option, Some, None, Result, Ok, Err, refl, sym, ap, ◌∙◌, subst, append-nil, append_assoc}
-use Rattle.std.specs.Prelude.{fold, IfSome, flat_map}
-use Rattle.btr_prog.specs.Answers.{Halt, Follows, no_part}
-use Rattle.btr_prog.specs.Calls.{Sure, First, Any, Calls}
-use Rattle.btr_prog.specs.Goes.{GoesTo, Goes}
-use Rattle.btr_prog.specs.Prog.{Prog, Return, Stop, Need, Emit, Run, run, bind, exec, wants_of}
-use Rattle.btr_prog.specs.Quiet.{quiet}
-use Rattle.btr_prog.proofs.Choices.{goes_then, goes_halt, goes_alone, goes_map}
-use Rattle.btr_prog.proofs.Follow.{follows_as}
-use Rattle.btr_prog.proofs.Quieting.{goes_quiet}
-use Rattle.btr_prog.proofs.Successive.{calls_then, calls_as, calls_none}
-use Rattle.btr_rack.specs.Rack.{Seen, OnlyReads}
+use Rattle.std.proofs.Common.{◌≡◌, ℕ, List, [], ◌∷◌, ◌++◌, Option, Some, None, Result, Ok, Err, refl, sym, ap, ◌∙◌, append_assoc}
+use Rattle.std.specs.Prelude.{fold}
+use Rattle.btr_prog.specs.Answers.{Halt}
+use Rattle.btr_prog.specs.Goes.{Goes}
+use Rattle.btr_prog.specs.Prog.{Prog, bind, wants_of}
+use Rattle.btr_prog.proofs.Choices.{goes_then, goes_halt, goes_alone}
 use Rattle.btr_rack.specs.Sink.{Sink}
-use Rattle.btr_read.specs.Fate.{Fault, fate, choices}
-use Rattle.btr_read.specs.Layout.{Layout}
-use Rattle.btr_read.specs.Reading.{AgreedOn, OnMap, shown}
-use Rattle.btr_read.specs.declared.want.Want.{Want}
-use Rattle.btr_walk.specs.Reading.{Map, UnreadBlock, Tells, unread_by, answer_of}
-use Rattle.btr_walk.specs.declared.fault.TreeFault.{TreeFault}
-use Rattle.btr_volume.specs.Looking.{Looks}
-use Rattle.btr_volume.specs.Lookup.{Program, Lookup, looks}
-use Rattle.btr_files.specs.Maps.{maps_by, TellsAll}
-use Rattle.btr_files.proofs.AllMaps.{choices-zero}
+use Rattle.btr_read.specs.Fate.{Fault}
+use Rattle.btr_walk.specs.Reading.{UnreadBlock, unread_by}
+use Rattle.btr_volume.specs.Lookup.{Program}
 use Rattle.btr_restore.specs.Outcome.{text_in, text_of}
-use Rattle.btr_restore.specs.Restoring.{sink_after, text_after, Scene, Did, Does, Emits}
+use Rattle.btr_restore.specs.Restoring.{sink_after, text_after, Emits}
 use Rattle.btr_restore.specs.Step.{Step, part}
-use Rattle.btr_restore.proofs.Emitting.{text_none}
 
 -- the steps of two calls
 pub fold-append : {A B : Type 0} (f : A → B → A) (a : A) (xs ys : List B) → fold f a (xs ++ ys) ≡ fold f (fold f a xs) ys

@@ -1,8 +1,7 @@
 -- Steps that calls do which read nothing.
 use Rattle.std.proofs.Common.{◌≡◌, ℕ, Bool, true, false, cond, List, [], ◌∷◌, ◌++◌, Option, Some, None, Result, Ok, Err, refl, sym, ap, ◌∙◌, subst, append-nil}
-use Rattle.std.specs.Prelude.{fold, take}
+use Rattle.std.specs.Prelude.{take}
 use Rattle.btr_prog.specs.Answers.{Halt, Broke}
-use Rattle.btr_prog.specs.Goes.{Goes}
 use Rattle.btr_prog.specs.Prog.{Return, Emit, run}
 use Rattle.btr_prog.proofs.Choices.{goes_step, goes_broke, goes_nowhere}
 use Rattle.btr_rack.specs.Out.{Adds}
@@ -10,9 +9,7 @@ use Rattle.btr_rack.specs.Sink.{Sink}
 use Rattle.btr_rack.specs.declared.error.SinkError.{SinkError}
 use Rattle.btr_rack.specs.declared.error.SinkError.TheVariants.{Failed, Memory}
 use Rattle.btr_read.specs.Fate.{Fault}
-use Rattle.btr_read.specs.Layout.{Layout}
-use Rattle.btr_rack.specs.Rack.{Seen}
-use Rattle.btr_walk.specs.Reading.{Map, UnreadBlock, unread_by}
+use Rattle.btr_walk.specs.Reading.{UnreadBlock, unread_by}
 use Rattle.btr_volume.specs.Lookup.{Program}
 use Rattle.btr_volume.specs.declared.stop.Stop.{Stop}
 use Rattle.btr_restore.specs.Outcome.{text_of}

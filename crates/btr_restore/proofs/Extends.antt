@@ -14,7 +14,7 @@ use Rattle.btr_chunk.specs.Item.{chunk_of}
 use Rattle.btr_chunk.specs.Mapping.{holds}
 use Rattle.btr_chunk.specs.Table.{chunks_meet, some_meet, overlaps, same_chunk, placed, added, chunk_at, stripes_meet}
 use Rattle.btr_prog.specs.Prog.{BlockMap, Prog, Return, Stop, Need, Emit, given, exec, bind}
-use Rattle.btr_prog.specs.Thread.{thread, go_on}
+use Rattle.btr_prog.specs.Thread.{go_on}
 use Rattle.btr_read.specs.Fate.{Fault, sought, sought_in, passing_for}
 use Rattle.btr_read.specs.Want.{addr_of}
 use Rattle.btr_read.specs.declared.want.Want.{Want}

@@ -1,9 +1,9 @@
 -- The headline of restore.
-use Rattle.std.proofs.Common.{◌≡◌, ℕ, ◌⊎◌, inl, inr, append-nil, List, [], ◌∷◌, ◌++◌, Result, Ok, Err, sym, ap, ◌∙◌, subst}
+use Rattle.std.proofs.Common.{◌≡◌, ℕ, ◌⊎◌, inl, inr, append-nil, List, [], ◌∷◌, Result, Err, sym, ap, ◌∙◌, subst}
 use Rattle.btr_chunk.specs.declared.chunk.Chunk.{Chunk}
 use Rattle.btr_files.specs.declared.counts.Counts.{Counts}
 use Rattle.btr_files.specs.declared.plan.RestorePlan.{RestorePlan}
-use Rattle.btr_prog.specs.Prog.{Run, Wants, exec, needs, steps_of, wants_of}
+use Rattle.btr_prog.specs.Prog.{Run, Wants, exec, steps_of, wants_of}
 use Rattle.btr_prog.specs.Maps.{Each, IsWhole, cut, Loses}
 use Rattle.btr_prog.proofs.Lost.{missing}
 use Rattle.btr_prog.proofs.Runs.{cut_law, cut-whole, wants_of-append, steps_of-append}

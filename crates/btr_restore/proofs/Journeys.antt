@@ -10,7 +10,7 @@ use Rattle.btr_prog.specs.Blind.{IsBlind}
 use Rattle.btr_super.specs.declared.superblock.Super.{Super}
 use Rattle.btr_prog.specs.Quiet.{quiet}
 use Rattle.btr_volume.specs.declared.root.TreeRoot.{TreeRoot}
-use Rattle.btr_volume.specs.Lookup.{Program, looks}
+use Rattle.btr_volume.specs.Lookup.{Program}
 use Rattle.btr_volume.specs.declared.fault.OpenFault.{OpenFault}
 use Rattle.btr_volume.specs.Maps.{VolumeWant}
 use Rattle.btr_volume.specs.Start.{Start}

@@ -1,5 +1,5 @@
 -- Programs whose steps a sink may take one after another, whatever the blocks are.
-use Rattle.std.proofs.Common.{◌≡◌, ℕ, Bool, true, false, cond, List, [], ◌∷◌, Result, Ok, Err, refl, sym, ap, subst}
+use Rattle.std.proofs.Common.{◌≡◌, ℕ, Bool, true, false, cond, List, Result, Ok, Err, refl, sym, subst}
 use Rattle.std.specs.Prelude.{fold}
 use Rattle.btr_files.specs.declared.counts.Counts.{Counts}
 use Rattle.btr_prog.specs.Goes.{goes_given, GoesTo}

@@ -14,6 +14,9 @@ pub mod Samples
 mod Names
 mod Emitting
 mod Doing
+mod Goings
+mod Stopping
+mod Numbers
 mod Rans
 mod Listings
 mod Treats

@@ -1,18 +1,15 @@
 -- A listing entry by entry.
-use Rattle.std.proofs.Common.{◌≡◌, ℕ, zero, suc, List, [], ◌∷◌, ◌++◌, Option, Some, None, IfSome, Result, Ok, Err, refl, sym, ap, ◌∙◌, subst, append-nil}
+use Rattle.std.proofs.Common.{◌≡◌, ℕ, zero, suc, List, [], ◌++◌, Option, Some, None, Result, Ok, Err, refl, sym, ap, ◌∙◌, subst}
 use Rattle.std.specs.Prelude.{fold}
 use Rattle.btr_prog.specs.Answers.{Halt, Follows, no_part}
-use Rattle.btr_prog.specs.Calls.{Sure, Calls}
 use Rattle.btr_prog.specs.Goes.{GoesTo, Goes, ThreadsTo}
-use Rattle.btr_prog.specs.Maps.{Each}
-use Rattle.btr_prog.specs.Prog.{Prog, Return, Mark, Does, Run, run, first, prepend, bind, exec, needs, steps_of, wants_of, want_marks}
-use Rattle.btr_prog.specs.Thread.{thread}
+use Rattle.btr_prog.specs.Prog.{Does, Run, run, first, exec, needs, wants_of}
 use Rattle.btr_prog.proofs.Choices.{goes_some, goes_value, with_value}
 use Rattle.btr_prog.proofs.ChoiceThreads.{goes_thread}
 use Rattle.btr_prog.proofs.Cursors.{so_far_past, so_far_cursor}
 use Rattle.btr_prog.proofs.Follow.{follows_alone, follows_value, follows_halt, follows_as}
-use Rattle.btr_prog.proofs.SoFars.{SoFar, so_far_none, so_far_more, so_far_step, so_far_halts, so_far_last, so_far_ended, Answers, threads_map, some_run}
-use Rattle.btr_prog.proofs.Successive.{calls_then, calls_as, calls_none}
+use Rattle.btr_prog.proofs.SoFars.{SoFar, so_far_none, so_far_more, so_far_step, so_far_halts, so_far_last, so_far_ended, threads_map, some_run}
+use Rattle.btr_prog.proofs.Successive.{calls_then, calls_none}
 use Rattle.btr_rack.specs.Rack.{Seen, OnlyReads}
 use Rattle.btr_read.specs.Fate.{Fault, fate}
 use Rattle.btr_read.specs.Layout.{Layout}
@@ -36,14 +33,15 @@ use Rattle.btr_volume.specs.declared.root.TreeRoot.{TreeRoot}
 use Rattle.btr_volume.specs.declared.volume.Volume.{Volume}
 use Rattle.btr_restore.specs.Journey.{directory}
 use Rattle.btr_files.proofs.Nextward.{rest_more}
-use Rattle.btr_files.specs.Listing.{dir_left, IsDirOn, GivesEntry, EndsRows, NextEntryBy, IsNextEntry, named_row}
+use Rattle.btr_files.specs.Listing.{dir_left, IsDirOn, GivesEntry, IsNextEntry, named_row}
 use Rattle.btr_restore.specs.Listing.{maps_of, TellsBoth, body_of, last_of, treat_in, Left, LeftOf, MetOf, Listed}
-use Rattle.btr_restore.specs.Restoring.{sink_after, text_after, Did, SinkCounts, OutCounts, stop_halt, ended}
-use Rattle.btr_restore.specs.Running.{Outside, World, world, IsReady, Ran}
+use Rattle.btr_restore.specs.Restoring.{sink_after, text_after, SinkCounts, OutCounts, stop_halt}
+use Rattle.btr_restore.specs.Running.{World, world, IsReady, Ran}
 use Rattle.btr_restore.specs.Step.{Step, part}
 use Rattle.btr_restore.proofs.Doing.{fold-append, text_then}
 use Rattle.btr_restore.proofs.Emitting.{text_none}
-use Rattle.btr_restore.proofs.Rans.{if_some, if_both, first_map, each_all, goes_as, reads_self, same_self, reads_then, same_then, stop_cause_since, sinks_then, outs_then}
+use Rattle.btr_restore.proofs.Goings.{if_some, if_both, first_map, each_all, goes_as}
+use Rattle.btr_restore.proofs.Stopping.{reads_self, same_self, reads_then, same_then, stop_cause_since}
 
 -- facts of calls in a row, over one layout
 module _ (layout : Layout) (a b c : Seen) where

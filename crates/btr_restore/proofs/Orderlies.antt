@@ -4,17 +4,15 @@ use Rattle.std.specs.Prelude.{nat_eq, nat_le, nat_lt, codes}
 use Rattle.btr_items.specs.declared.inode.Inode.{Inode}
 use Rattle.btr_items.specs.Types.{inode_item}
 use Rattle.btr_chunk.specs.declared.chunk.Chunk.{Chunk}
-use Rattle.btr_prog.specs.Prog.{Prog, Return, Emit, bind}
+use Rattle.btr_prog.specs.Prog.{Return, Emit, bind}
 use Rattle.btr_prog.specs.Quiet.{quiet}
 use Rattle.btr_prog.specs.Stages.{Early, Late, renamed, unless_refused}
 use Rattle.btr_rack.specs.Sink.{Sink, NotStarted, BetweenFiles, InFile}
 use Rattle.btr_read.specs.Fate.{Fault}
-use Rattle.btr_read.specs.declared.want.Want.{Want}
 use Rattle.btr_super.specs.declared.superblock.Super.{Super}
 use Rattle.btr_volume.specs.declared.fault.OpenFault.{OpenFault}
 use Rattle.btr_volume.specs.declared.root.TreeRoot.{TreeRoot}
 use Rattle.btr_volume.specs.Lookup.{Program}
-use Rattle.btr_volume.specs.Maps.{VolumeWant}
 use Rattle.btr_volume.specs.Start.{Start}
 use Rattle.btr_volume.specs.Table.{TableResult, refusal_of, table_scan}
 use Rattle.btr_volume.specs.Tree.{tree_of}
@@ -28,8 +26,8 @@ use Rattle.btr_files.specs.Extents.{survey}
 use Rattle.btr_files.specs.Names.{inode_in, link, linked, mount, mounted}
 use Rattle.btr_files.specs.Sums.{kind_in}
 use Rattle.btr_restore.specs.Journey.{Listing, Treated, Over, Within, has_no_sums, row, told, skip, put, pieces, unverified, closed, written, surveyed, file_found, entered, empty, directory_entry, subvolume_found, subvolume_entry, folder_entry, treated, listed_in, treat, listed, directory, restored, sums_lookup, from_root, listing, journey, most_depth}
-use Rattle.btr_restore.specs.Lines.{is_bad, path_in, line, skip_line, no_counts, with_dir, with_file, with_skip, counts_line}
-use Rattle.btr_restore.specs.Orderly.{counted, begins_with, IsOrderly, IfCounts, OrderlyLaw}
+use Rattle.btr_restore.specs.Lines.{is_bad, path_in, line, no_counts, with_dir, with_file, with_skip, counts_line}
+use Rattle.btr_restore.specs.Orderly.{begins_with, IfCounts, OrderlyLaw}
 use Rattle.btr_restore.specs.Restoring.{sink_after}
 use Rattle.btr_restore.specs.Step.{Step, Dir, Up, File, Done, Line}
 use Rattle.btr_restore.specs.Step as step

@@ -1,5 +1,5 @@
 -- Over honest images what restore did follows the committed journey.
-use Rattle.std.proofs.Common.{◌≡◌, ◌⊎◌, inl, inr, ℕ, Bool, List, [], ◌∷◌, Result, Ok, Err, sym, ap, ◌∙◌, subst}
+use Rattle.std.proofs.Common.{◌≡◌, ◌⊎◌, inl, inr, ℕ, Bool, List, [], ◌∷◌, Result, Err, sym, ap, ◌∙◌, subst}
 use Rattle.btr_chunk.specs.declared.chunk.Chunk.{Chunk}
 use Rattle.btr_files.specs.declared.counts.Counts.{Counts}
 use Rattle.btr_files.specs.declared.plan.RestorePlan.{RestorePlan}

@@ -23,7 +23,7 @@ use Rattle.btr_walk.specs.Spot.{judged}
 use Rattle.btr_volume.specs.declared.root.TreeRoot.{TreeRoot}
 use Rattle.btr_volume.specs.Lookup.{Program, Lookup, looks, formed, each}
 use Rattle.btr_volume.specs.Start.{Start}
-use Rattle.btr_volume.specs.Table.{TableResult, table_scan, table_step, whole_table, first_key, chunk_root}
+use Rattle.btr_volume.specs.Table.{table_scan, table_step, whole_table, first_key, chunk_root}
 use Rattle.btr_volume.specs.Tree.{key, last, root_root, named_root, described, is_root_of, root_found, tree_of}
 use Rattle.btr_base.specs.Key.{last_key}
 use Rattle.btr_files.specs.declared.clearness.Survey.{Survey}

@@ -1,194 +1,29 @@
 -- Calls of restore one after another.
-use Rattle.std.proofs.Common.{◌≡◌, ℕ, zero, suc, ◌≤◌, Bool, true, false, cond, count_by, is_none, List, [], ◌∷◌, ◌++◌, Option, Some, None, IfSome, Result, Ok, Err, refl, sym, ap, ◌∙◌, subst, append-nil, arith}
-use Rattle.std.specs.Prelude.{fold, min, take, replicate, nat_le, nat_lt, ◌==◌, ◌<◌, ◌≢◌}
-use Rattle.std.proofs.lemmas.Bool.Decides.{nat_tests}
-use Rattle.btr_prog.specs.Answers.{Halt, Broke, Follows, no_part}
-use Rattle.btr_prog.specs.Calls.{Sure, First, Any, Calls}
-use Rattle.btr_prog.specs.Goes.{GoesTo, Goes}
-use Rattle.btr_prog.specs.Maps.{Each}
-use Rattle.btr_prog.specs.Prog.{Prog, Return, Stop, Need, Emit, Run, run, bind, exec, needs}
+use Rattle.std.proofs.Common.{◌≡◌, ℕ, Bool, true, false, cond, List, [], ◌∷◌, ◌++◌, Option, Some, None, Result, Ok, Err, refl, sym, ap, ◌∙◌, subst, append-nil}
+use Rattle.btr_prog.specs.Answers.{Broke}
+use Rattle.btr_prog.specs.Prog.{Return, Stop, Emit, run, bind}
 use Rattle.btr_prog.specs.Quiet.{quiet}
-use Rattle.btr_prog.proofs.Choices.{goes_some, goes_halt, goes_nowhere, goes_step, goes_broke}
-use Rattle.btr_prog.proofs.Follow.{follows_as}
-use Rattle.btr_prog.proofs.Quieting.{follows_quiet, needs-quiet}
-use Rattle.btr_prog.proofs.Successive.{calls_then, calls_as, calls_none}
-use Rattle.btr_rack.specs.Out.{CallAccount, Counts}
+use Rattle.btr_prog.proofs.Choices.{goes_nowhere, goes_step, goes_broke}
 use Rattle.btr_rack.specs.Rack.{Seen, OnlyReads}
 use Rattle.btr_rack.specs.Sink.{Sink}
-use Rattle.btr_rack.specs.declared.error.SinkError.{SinkError}
-use Rattle.btr_rack.specs.declared.error.SinkError.TheVariants.{Failed, Memory as NoMemory}
 use Rattle.btr_read.specs.Fate as fate
 use Rattle.btr_read.specs.Fate.{choices}
-use Rattle.btr_read.specs.Layout.{Layout}
-use Rattle.btr_read.specs.Reading.{AgreedOn, OnMap, shown}
 use Rattle.btr_read.specs.Serves.{Serves}
-use Rattle.btr_read.specs.Store.{Blocks, SameLoans, free_count}
-use Rattle.btr_read.specs.declared.want.Want.{Want}
-use Rattle.btr_walk.specs.Reading.{Map, UnreadBlock, Tells, unread_by, answer_of, halt_of, HasCause}
+use Rattle.btr_walk.specs.Reading.{unread_by, HasCause}
 use Rattle.btr_walk.specs.declared.fault.TreeFault.{TreeFault}
-use Rattle.btr_walk.proofs.Fetched.{since, cause_since}
 use Rattle.btr_volume.specs.Looking.{Looks, SameVolume}
 use Rattle.btr_volume.specs.Lookup.{Program, Lookup, looks}
 use Rattle.btr_volume.specs.declared.stop.Stop.{Stop as TheStop}
 use Rattle.btr_volume.specs.declared.stop.Stop.TheVariants as stop
 use Rattle.btr_volume.specs.declared.volume.Volume.{Volume}
-use Rattle.btr_files.specs.Maps.{maps_by, TellsAll}
-use Rattle.btr_files.proofs.AllMaps.{choices-zero}
 use Rattle.btr_restore.specs.Outcome.{text_of}
-use Rattle.btr_restore.specs.Restoring.{sink_after, text_after, Scene, scene, Did, Does, Emits, StopCause, SinkCounts, OutCounts, stop_halt, ended, stops_out, stops_sink}
-use Rattle.btr_restore.specs.Running.{Outside, outside, World, world, scene_of, IsReady, StopsOutside, Wrote, Ran}
+use Rattle.btr_restore.specs.Restoring.{sink_after, text_after, Emits, stop_halt, ended}
+use Rattle.btr_restore.specs.Running.{Outside, World, world, scene_of, IsReady, StopsOutside, Wrote, Ran}
 use Rattle.btr_restore.specs.Step.{Step, part}
-use Rattle.btr_restore.proofs.Doing.{goes_on, fold-append, text_then, emits_then, emits_halt}
+use Rattle.btr_restore.proofs.Doing.{emits_then, emits_halt}
 use Rattle.btr_restore.proofs.Emitting.{text_none, emits_none}
-
-pub if_some : {X : Type 0} (P : X → Type 0) (o : Option X) → ((x : X) → P x) → IfSome o P
-if_some P None f = tt
-if_some P (Some x) f = f x
-
-pub if_map : {X : Type 0} (P Q : X → Type 0) (o : Option X) → ((x : X) → P x → Q x) → IfSome o P → IfSome o Q
-if_map P Q None f h = tt
-if_map P Q (Some x) f h = f x h
-
-pub if_both : {X : Type 0} (P Q R : X → Type 0) (o : Option X) → ((x : X) → P x → Q x → R x) → IfSome o P → IfSome o Q → IfSome o R
-if_both P Q R None f h g = tt
-if_both P Q R (Some x) f h g = f x h g
-
--- the maps of some images, so surely known
-abbrev pub maps_of : Layout → Sure → List (List ℕ) → ℕ → Map
-maps_of layout sure images n = maps_by sure images n layout
-
--- the first of them says what the images hold
-pub first_map : (layout : Layout) (sure : Sure) (images : List (List ℕ)) (want : Want) → maps_of layout sure images 0 want ≡ fate.fate images layout want
-first_map layout First images want = refl
-first_map layout Any images want = choices-zero images layout want
-
-pub each_all : {W : Type 0} (P : W → Type 0) (ws : List W) → ((w : W) → P w) → Each P ws
-each_all P [] f = tt
-each_all P (w ∷ ws) f = (f w, each_all P ws f)
-
--- a lookup that was answered by the images is one where blocks may come to more
-pub goes_look : {A : Type 0} (layout : Layout) (sure : Sure) (images : List (List ℕ)) (Is : UnreadBlock → Want → Type 0) (p : Lookup A) (ans : Result A (Halt fate.Fault UnreadBlock)) → Follows {S = ⊥} Is no_part [] (exec (fate.fate images layout) p) [] ans → Goes Is part [] (maps_of layout sure images) (quiet {S = Step} p) [] ans
-goes_look layout sure images Is p ans f = (
-  exec (fate.fate images layout) (quiet {S = Step} p),
-  goes_some (maps_of layout sure images) (fate.fate images layout) (quiet {S = Step} p) (each_all (λ w. (i : ℕ) × (maps_of layout sure images i w ≡ fate.fate images layout w)) (needs (fate.fate images layout) (quiet {S = Step} p)) (λ w. (0, first_map layout sure images w))),
-  follows_quiet Is part [] (fate.fate images layout) p [] ans f,
-)
-
--- less may be said of the want that could not be read
-pub goes_as : {A : Type 0} (One Is : UnreadBlock → Want → Type 0) (Bs : ℕ → Map) (p : Program Step A) (done : List Step) (ans : Result A (Halt fate.Fault UnreadBlock)) → ((u : UnreadBlock) (w : Want) → One u w → Is u w) → Goes One part [] Bs p done ans → Goes Is part [] Bs p done ans
-goes_as One Is Bs p done ans f h = (h.0, h.1, follows_as One Is f part [] h.0 done ans h.2)
-
-module _ {A : Type 0} where
-  -- a call that reads nothing, beside a rack
-  pub does_emits : (layout : Layout) (rack : Seen) (p : Program Step A) (s s' : Sink) (told told' : Option (List ℕ)) (ans : Result A (Halt fate.Fault UnreadBlock)) → Emits p s s' told told' ans → Does layout p (scene rack s told) (scene rack s' told') ans
-  does_emits layout rack p s s' told told' ans e = record {
-    done = e.done;
-    sink = e.sink;
-    text = e.text;
-    content = record { calls = calls_none (λ sure. if_some (λ images. Goes (unread_by layout rack rack) part [] (maps_of layout sure images) p e.done ans) rack.held (λ images. e.goes layout rack rack (maps_of layout sure images))) };
-  }
-
-  -- a lookup, which does no step
-  pub does_look : (layout : Layout) (old new : Seen) (p : Lookup A) (s : Sink) (told : Option (List ℕ)) (result : Result A TreeFault) → Looks layout old new p result → Does layout (quiet p) (scene old s told) (scene new s told) (answer_of result)
-  does_look layout old new p s told result l = record {
-    done = [];
-    sink = refl;
-    text = text_none told;
-    content = record {
-      calls = calls_as (λ sure h f.
-          if_map (λ images. Follows {S = ⊥} (unread_by layout old new) no_part [] (exec (fate.fate images layout) p) [] (answer_of result)) (λ images. Goes (unread_by layout old new) part [] (maps_of layout sure images) (quiet p) [] (answer_of result)) h
-          (λ images g. goes_look layout sure images (unread_by layout old new) p (answer_of result) g) f) l.calls;
-    };
-  }
-
-  module _ {C : Type 0} (layout layout' : Layout) (same : layout' ≡ layout) (p : Program Step A) (k : A → Program Step C) (x y z : Scene) where
-    pub does_then : (a : A) (ans : Result C (Halt fate.Fault UnreadBlock)) → OnlyReads x.rack y.rack → Does layout p x y (Ok a) → Does layout' (k a) y z ans → Does layout (bind p k) x z ans
-    does_then a ans reads h g =
-        let g' = subst (λ (l : Layout). Does l (k a) y z ans) same g in
-        record {
-          done = h.done ++ g'.done;
-          sink = g'.sink ∙ (ap (λ (s : Sink). fold sink_after s g'.done) h.sink ∙ sym (fold-append sink_after x.sink h.done g'.done));
-          text = g'.text ∙ (ap (λ t. text_after t g'.done) h.text ∙ text_then x.text h.done g'.done);
-          content = record {
-            calls = calls_then (λ sure held f f'.
-                if_both (λ images. Goes (unread_by layout x.rack y.rack) part [] (maps_of layout sure images) p h.done (Ok a)) (λ images. Goes (unread_by layout y.rack z.rack) part [] (maps_of layout sure images) (k a) g'.done ans) (λ images. Goes (unread_by layout x.rack z.rack) part [] (maps_of layout sure images) (bind p k) (h.done ++ g'.done) ans) held
-                (λ images one two. goes_on (maps_of layout sure images) (unread_by layout x.rack y.rack) (unread_by layout x.rack z.rack) p k a h.done g'.done ans one
-                (goes_as (unread_by layout y.rack z.rack) (unread_by layout x.rack z.rack) (maps_of layout sure images) (k a) g'.done ans (λ u w i. since layout layout refl reads u w i) two)) f f')
-                h.content.calls g'.content.calls;
-          };
-        }
-
-    pub does_halt : (halt : Halt fate.Fault UnreadBlock) → Does layout p x y (Err halt) → Does layout (bind p k) x y (Err halt)
-    does_halt halt h = record {
-      done = h.done;
-      sink = h.sink;
-      text = h.text;
-      content = record {
-        calls = calls_as (λ sure held f.
-            if_map (λ images. Goes (unread_by layout x.rack y.rack) part [] (maps_of layout sure images) p h.done (Err halt)) (λ images. Goes (unread_by layout x.rack y.rack) part [] (maps_of layout sure images) (bind p k) h.done (Err halt)) held
-            (λ images g. goes_halt (maps_of layout sure images) (unread_by layout x.rack y.rack) part [] p k 0 h.done halt g) f) h.content.calls;
-      };
-    }
-
--- accounts of calls in a row
-pub sinks_then : {A C : Type 0} (a b c : CallAccount) (v : A) (r : Result C TheStop) → SinkCounts a b (Ok v) → SinkCounts b c r → SinkCounts a c r
-sinks_then a b c v r e h = subst (λ (x : CallAccount). SinkCounts x c r) e h
-
-pub outs_then : {A C : Type 0} (a b c : CallAccount) (v : A) (r : Result C TheStop) → OutCounts a b (Ok v) → OutCounts b c r → OutCounts a c r
-outs_then a b c v r e h = subst (λ (x : CallAccount). OutCounts x c r) e h
-
--- what lies behind a stop of a later call
-pub stop_cause_since : {C : Type 0} {a b : Seen} (c : Seen) (layout layout' : Layout) (r : Result C TheStop) → layout' ≡ layout → OnlyReads a b → StopCause layout' b c r → StopCause layout a c r
-stop_cause_since c layout layout' (Ok v) e reads h = tt
-stop_cause_since c layout layout' (Err (stop.NoTree id)) e reads h = tt
-stop_cause_since c layout layout' (Err (stop.Tree f)) e reads h = cause_since c layout layout' f e reads h
-stop_cause_since c layout layout' (Err (stop.Deletion id)) e reads h = absurd h
-stop_cause_since c layout layout' (Err stop.Balance) e reads h = absurd h
-stop_cause_since c layout layout' (Err (stop.Missing id)) e reads h = absurd h
-stop_cause_since c layout layout' (Err (stop.Image slot)) e reads h = absurd h
-stop_cause_since c layout layout' (Err stop.Sink) e reads h = tt
-stop_cause_since c layout layout' (Err stop.Out) e reads h = tt
-stop_cause_since c layout layout' (Err stop.Memory) e reads h = tt
-
--- a stop has the same behind it, whatever was to be answered
-pub cause_kept : (A C : Type 0) (layout : Layout) (a b : Seen) (s : TheStop) → StopCause {A = A} layout a b (Err s) → StopCause {A = C} layout a b (Err s)
-cause_kept A C layout a b (stop.NoTree id) h = h
-cause_kept A C layout a b (stop.Tree f) h = h
-cause_kept A C layout a b (stop.Deletion id) h = h
-cause_kept A C layout a b stop.Balance h = h
-cause_kept A C layout a b (stop.Missing id) h = h
-cause_kept A C layout a b (stop.Image slot) h = h
-cause_kept A C layout a b stop.Sink h = h
-cause_kept A C layout a b stop.Out h = h
-cause_kept A C layout a b stop.Memory h = h
-
-pub sinks_kept : (A C : Type 0) (a b : CallAccount) (s : TheStop) → SinkCounts {A = A} a b (Err s) → SinkCounts {A = C} a b (Err s)
-sinks_kept A C a b (stop.NoTree id) h = h
-sinks_kept A C a b (stop.Tree f) h = h
-sinks_kept A C a b (stop.Deletion id) h = h
-sinks_kept A C a b stop.Balance h = h
-sinks_kept A C a b (stop.Missing id) h = h
-sinks_kept A C a b (stop.Image slot) h = h
-sinks_kept A C a b stop.Sink h = h
-sinks_kept A C a b stop.Out h = h
-sinks_kept A C a b stop.Memory h = h
-
-pub outs_kept : (A C : Type 0) (a b : CallAccount) (s : TheStop) → OutCounts {A = A} a b (Err s) → OutCounts {A = C} a b (Err s)
-outs_kept A C a b (stop.NoTree id) h = h
-outs_kept A C a b (stop.Tree f) h = h
-outs_kept A C a b (stop.Deletion id) h = h
-outs_kept A C a b stop.Balance h = h
-outs_kept A C a b (stop.Missing id) h = h
-outs_kept A C a b (stop.Image slot) h = h
-outs_kept A C a b stop.Sink h = h
-outs_kept A C a b stop.Out h = h
-outs_kept A C a b stop.Memory h = h
-
-pub same_then : {a b c : Volume} → SameVolume a b → SameVolume b c → SameVolume a c
-same_then one two = record { sup = two.sup ∙ one.sup; store = record { layout = two.store.layout ∙ one.store.layout; loans = two.store.loans ∙ one.store.loans } }
-
-pub reads_then : {a b c : Seen} → OnlyReads a b → OnlyReads b c → OnlyReads a c
-reads_then {c = c} one two = record { later = omega (arith, one.later, two.later); same = two.same ∙ ap (λ (s : Seen). record s { account = c.account }) one.same; same_shut = two.same_shut ∙ one.same_shut }
+use Rattle.btr_restore.proofs.Goings.{does_emits, does_halt, does_look, does_then}
+use Rattle.btr_restore.proofs.Stopping.{cause_kept, no_cause, outs_kept, outs_then, reads_self, reads_then, room_kept, same_self, same_then, sinks_kept, sinks_then, stop_cause_since}
 
 -- calls that write only, one after another
 module _ {A C : Type 0} (p : Program Step A) (k : A → Program Step C) (x y z : Outside) where
@@ -243,27 +78,6 @@ module _ {A C : Type 0} (p : Program Step A) (k : A → Program Step C) (x y z :
     out_calls = outs_kept A C x.out.out_calls y.out.out_calls s h.out_calls;
   }
 
-pub room_kept : (vol after : Volume) → SameVolume vol after → 6 ≤ free_count vol.store → 6 ≤ free_count after.store
-room_kept vol after same h = subst (λ l. 6 ≤ count_by is_none l) (sym same.store.loans) h
-
-pub same_self : (vol : Volume) → SameVolume vol vol
-same_self vol = record { sup = refl; store = record { layout = refl; loans = refl } }
-
-pub reads_self : (rack : Seen) → OnlyReads rack rack
-reads_self rack = record { later = omega arith; same = refl; same_shut = refl }
-
-pub no_cause : {A : Type 0} (layout : Layout) (old new : Seen) (r : Result A TheStop) → StopsOutside r → StopCause layout old new r
-no_cause layout old new (Ok v) h = tt
-no_cause layout old new (Err (stop.NoTree id)) h = tt
-no_cause layout old new (Err (stop.Tree f)) h = absurd h
-no_cause layout old new (Err (stop.Deletion id)) h = absurd h
-no_cause layout old new (Err stop.Balance) h = absurd h
-no_cause layout old new (Err (stop.Missing id)) h = absurd h
-no_cause layout old new (Err (stop.Image slot)) h = absurd h
-no_cause layout old new (Err stop.Sink) h = tt
-no_cause layout old new (Err stop.Out) h = tt
-no_cause layout old new (Err stop.Memory) h = tt
-
 -- a call that reads nothing, beside a rack and a volume
 module _ {A : Type 0} (p : Program Step A) (rack : Seen) (vol : Volume) (x y : Outside) where
   pub ran_wrote : (r : Result A TheStop) → IsReady rack vol → Wrote p x y r → Ran p (world rack vol x) (world rack vol y) r
@@ -309,31 +123,6 @@ wrote_memory p x = record {
   out_calls = refl;
   stops = tt;
 }
-
--- a refusal of the output, and one of the sink
-pub sinks_of_out : (A : Type 0) (a : CallAccount) (s : TheStop) (e : SinkError) → s ≡ stops_out e → SinkCounts {A = A} a a (Err s)
-sinks_of_out A a s Failed is = subst (λ (x : TheStop). SinkCounts {A = A} a a (Err x)) (sym is) refl
-sinks_of_out A a s NoMemory is = subst (λ (x : TheStop). SinkCounts {A = A} a a (Err x)) (sym is) refl
-
-pub outs_of_sink : (A : Type 0) (a : CallAccount) (s : TheStop) (e : SinkError) → s ≡ stops_sink e → OutCounts {A = A} a a (Err s)
-outs_of_sink A a s Failed is = subst (λ (x : TheStop). OutCounts {A = A} a a (Err x)) (sym is) refl
-outs_of_sink A a s NoMemory is = subst (λ (x : TheStop). OutCounts {A = A} a a (Err x)) (sym is) refl
-
-pub out_stops : (A : Type 0) (s : TheStop) (e : SinkError) → s ≡ stops_out e → StopsOutside {A = A} (Err s)
-out_stops A s Failed is = subst (λ (x : TheStop). StopsOutside {A = A} (Err x)) (sym is) tt
-out_stops A s NoMemory is = subst (λ (x : TheStop). StopsOutside {A = A} (Err x)) (sym is) tt
-
-pub sink_stops : (A : Type 0) (s : TheStop) (e : SinkError) → s ≡ stops_sink e → StopsOutside {A = A} (Err s)
-sink_stops A s Failed is = subst (λ (x : TheStop). StopsOutside {A = A} (Err x)) (sym is) tt
-sink_stops A s NoMemory is = subst (λ (x : TheStop). StopsOutside {A = A} (Err x)) (sym is) tt
-
-pub outs_of_out : (T A : Type 0) (a b : CallAccount) (s : TheStop) (e : SinkError) → s ≡ stops_out e → Counts {T = T} a b (Err e) → OutCounts {A = A} a b (Err s)
-outs_of_out T A a b s Failed is h = subst (λ (x : TheStop). OutCounts {A = A} a b (Err x)) (sym is) h
-outs_of_out T A a b s NoMemory is h = subst (λ (x : TheStop). OutCounts {A = A} a b (Err x)) (sym is) h.1
-
-pub sinks_of_sink : (T A : Type 0) (a b : CallAccount) (s : TheStop) (e : SinkError) → s ≡ stops_sink e → Counts {T = T} a b (Err e) → SinkCounts {A = A} a b (Err s)
-sinks_of_sink T A a b s Failed is h = subst (λ (x : TheStop). SinkCounts {A = A} a b (Err x)) (sym is) h
-sinks_of_sink T A a b s NoMemory is h = subst (λ (x : TheStop). SinkCounts {A = A} a b (Err x)) (sym is) h.1
 
 -- the calls of the sink and the lines that come before the rest of a program
 module _ {C : Type 0} (b : Bool) (step : Step) (rest : Program Step C) where
@@ -412,25 +201,6 @@ module _ {A : Type 0} (p q : Program Step A) (x y : Outside) (r : Result A TheSt
   wrote_else true e h = cc
   wrote_else false e h = h
 
--- tests of numbers
-pub is_equal : (a b : ℕ) → a ≡ b → (a == b) ≡ true
-is_equal a b e = grind (arith, nat_tests)
-
-pub is_other : (a b : ℕ) → a ≢ b → (a == b) ≡ false
-is_other a b e = grind (arith, nat_tests)
-
-pub is_most : (a b : ℕ) → a ≤ b → nat_le a b ≡ true
-is_most a b h = grind (arith, nat_tests)
-
-pub is_above : (a b : ℕ) → b < a → nat_le a b ≡ false
-is_above a b h = grind (arith, nat_tests)
-
-pub is_less : (a b : ℕ) → a < b → nat_lt a b ≡ true
-is_less a b h = grind (arith, nat_tests)
-
-pub is_least : (a b : ℕ) → b ≤ a → nat_lt a b ≡ false
-is_least a b h = grind (arith, nat_tests)
-
 -- want of memory, before anything was done
 pub ran_memory : {A : Type 0} (p : Program Step A) (rack : Seen) (vol : Volume) (x : Outside) → IsReady rack vol → Ran p (world rack vol x) (world rack vol x) (Err stop.Memory)
 ran_memory p rack vol x ready = ran_wrote p rack vol x x (Err stop.Memory) ready (wrote_memory p x)
@@ -460,27 +230,6 @@ module _ {A : Type 0} (step : Step) (s s' : Sink) (told : Option (List ℕ)) whe
     text = silent_text t silent told;
     goes = λ layout old new Bs. goes_broke Bs (unread_by layout old new) part [] 0 step t n p cut;
   }
-
--- some of so many zeros
-abbrev zeros : ℕ → List ℕ
-zeros n = replicate n 0
-
-pub zeros_cut : (count n : ℕ) → take {A = ℕ} n (replicate count 0) ≡ replicate (min n count) 0
-zeros_cut count n = cut n count
-  where
-    none_of : (m : ℕ) → 0 ≡ min 0 m
-    none_of m = omega arith
-
-    of_none : (k : ℕ) → 0 ≡ min (suc k) 0
-    of_none k = omega arith
-
-    one_more : (k m : ℕ) → suc (min k m) ≡ min (suc k) (suc m)
-    one_more k m = omega arith
-
-    cut : (k m : ℕ) → take {A = ℕ} k (replicate m 0) ≡ replicate (min k m) 0
-    cut zero m = ap zeros (none_of m)
-    cut (suc k) zero = ap zeros (of_none k)
-    cut (suc k) (suc m) = ap (λ l. 0 ∷ l) (cut k m) ∙ ap zeros (one_more k m)
 
 -- a lookup where a test decides
 module _ {A : Type 0} (p q : Lookup A) (x y : World) (r : Result A TheStop) where

@@ -3,12 +3,11 @@ use Rattle.std.proofs.Common.{◌≡◌, ℕ, List, [], ◌∷◌, Result, Ok, E
 use Rattle.btr_chunk.specs.declared.chunk.Chunk.{Chunk}
 use Rattle.btr_files.specs.declared.counts.Counts.{Counts}
 use Rattle.btr_files.specs.declared.plan.RestorePlan.{RestorePlan}
-use Rattle.btr_prog.specs.Answers.{Halt, Fault as halt_fault, Unread, Broke, Follows as run_follows}
+use Rattle.btr_prog.specs.Answers.{Halt, Follows as run_follows}
 use Rattle.btr_prog.specs.Goes.{Goes}
 use Rattle.btr_prog.specs.Prog.{BlockMap, Return, Run, bind, exec, needs, steps_of}
 use Rattle.btr_prog.specs.Maps.{Each}
 use Rattle.btr_prog.specs.Quiet.{quiet}
-use Rattle.btr_prog.specs.Stages.{Early, Late}
 use Rattle.btr_prog.proofs.Choices.{goes_one, goes_halt, with_value, goes_value}
 use Rattle.btr_prog.proofs.Follow.{follows_value}
 use Rattle.btr_prog.proofs.Quieting.{goes_quiet}

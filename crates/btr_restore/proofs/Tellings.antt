@@ -1,6 +1,6 @@
 -- Each entry has a row or the line that it is skipped.
-use Rattle.std.proofs.Common.{◌≡◌, ℕ, zero, suc, ◌^◌, ◌<◌, Bool, true, false, cond, not, ◌&&◌, ◌||◌, length, List, [], ◌∷◌, Option, Some, None, Result, Ok, Err, refl, sym, ap, ◌∙◌, subst, arith}
-use Rattle.std.specs.Prelude.{nat_eq, nat_le, nat_lt, codes, slice_get, Contains}
+use Rattle.std.proofs.Common.{◌≡◌, ℕ, ◌^◌, Bool, true, false, cond, not, ◌&&◌, List, ◌∷◌, Option, Some, None, Result, Ok, Err, refl, sym, ap, ◌∙◌, arith}
+use Rattle.std.specs.Prelude.{nat_eq, nat_le, nat_lt, codes}
 use Rattle.btr_items.specs.declared.inode.Inode.{Inode}
 use Rattle.btr_items.specs.Types.{inode_item}
 use Rattle.btr_prog.specs.Goes.{goes_given, GoesTo}
@@ -17,10 +17,9 @@ use Rattle.btr_files.specs.declared.clearness.Survey.TheVariants.{Clear, Compres
 use Rattle.btr_files.specs.Entries.{DirEntry}
 use Rattle.btr_files.specs.Extents.{survey}
 use Rattle.btr_files.specs.Names.{inode_in, link, linked, mount, mounted}
-use Rattle.btr_files.specs.Sums.{kind_in}
-use Rattle.btr_restore.specs.Journey.{Treated, row, skip, surveyed, written, file_found, entered, empty, directory_entry, subvolume_found, subvolume_entry, folder_entry, treated}
+use Rattle.btr_restore.specs.Journey.{Treated, skip, surveyed, written, file_found, entered, empty, directory_entry, subvolume_found, subvolume_entry, folder_entry, treated}
 use Rattle.btr_restore.specs.Lines.{is_bad, path_in}
-use Rattle.btr_restore.specs.Orderly.{causes, IsOfEntry, IsTold, ToldLaw}
+use Rattle.btr_restore.specs.Orderly.{IsOfEntry, ToldLaw}
 use Rattle.btr_restore.specs.Step.{Step, Dir, File}
 
 -- a step that P holds of comes first

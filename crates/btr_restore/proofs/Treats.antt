@@ -1,5 +1,5 @@
 -- What becomes of an entry, by its name.
-use Rattle.std.proofs.Common.{◌≡◌, ℕ, Bool, true, false, List, Option, Result, Ok, Err, sym, ap, ◌∙◌, subst}
+use Rattle.std.proofs.Common.{◌≡◌, ℕ, Bool, true, false, List, Option, Result, subst}
 use Rattle.std.specs.Prelude.{codes}
 use Rattle.btr_super.specs.declared.superblock.Super.{Super}
 use Rattle.btr_volume.specs.declared.root.TreeRoot.{TreeRoot}

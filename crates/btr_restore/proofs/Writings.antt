@@ -1,12 +1,11 @@
 -- A file piece by piece.
-use Rattle.std.proofs.Common.{◌≡◌, ℕ, ◌<◌, zero, suc, Bool, true, false, List, [], ◌∷◌, ◌++◌, Option, Some, None, IfSome, Result, Ok, Err, refl, sym, ap, ◌∙◌, subst, append-nil}
+use Rattle.std.proofs.Common.{◌≡◌, ℕ, Bool, false, List, [], ◌∷◌, ◌++◌, Option, Some, None, Result, Ok, Err, refl, sym, ap, ◌∙◌, subst, append-nil}
 use Rattle.std.specs.Prelude.{fold}
 use Rattle.btr_base.specs.declared.kind.SumKind.{SumKind}
-use Rattle.btr_prog.specs.Answers.{Halt, Follows, no_part}
-use Rattle.btr_prog.specs.Calls.{Sure, Calls}
+use Rattle.btr_prog.specs.Answers.{Halt, no_part}
 use Rattle.btr_prog.specs.Goes.{GoesTo, Goes, AfterTo, GoOnTo, ThreadsTo}
-use Rattle.btr_prog.specs.Prog.{Prog, Return, Mark, Wants, Does, Run, run, first, prepend, after, bind, exec, steps_of, wants_of, want_marks}
-use Rattle.btr_prog.specs.Thread.{thread, go_on_run}
+use Rattle.btr_prog.specs.Prog.{Mark, Wants, Does, Run, run, first, prepend, after, exec, steps_of, wants_of, want_marks}
+use Rattle.btr_prog.specs.Thread.{go_on_run}
 use Rattle.btr_prog.proofs.Choices.{goes_value, with_value}
 use Rattle.btr_prog.proofs.ChoiceThreads.{goes_thread}
 use Rattle.btr_prog.proofs.Cursors.{cursor_halts}
@@ -17,7 +16,7 @@ use Rattle.btr_rack.specs.Rack.{Seen, OnlyReads}
 use Rattle.btr_read.specs.Fate.{Fault}
 use Rattle.btr_read.specs.Layout.{Layout}
 use Rattle.btr_read.specs.Serves.{Serves}
-use Rattle.btr_read.specs.Store.{Blocks, SameLoans}
+use Rattle.btr_read.specs.Store.{SameLoans}
 use Rattle.btr_read.specs.declared.want.Want.{Want}
 use Rattle.btr_super.specs.declared.superblock.Super.{Super}
 use Rattle.btr_walk.specs.declared.fault.TreeFault.{TreeFault}
@@ -36,19 +35,20 @@ use Rattle.btr_files.specs.declared.piece.Piece.{Piece as Lending}
 use Rattle.btr_files.specs.declared.plan.RestorePlan.{RestorePlan}
 use Rattle.btr_files.specs.Content.{Piece}
 use Rattle.btr_files.specs.Maps.{TellsAll}
-use Rattle.btr_files.specs.Streaming.{Begins, FileGoes, GivesPiece, EndsBy, IsFileOn, IsNextPiece, IsReading, SameFile, Streamed, inline_of, piece_of, todo_prog, without_file}
+use Rattle.btr_files.specs.Streaming.{Begins, FileGoes, GivesPiece, EndsBy, IsFileOn, IsNextPiece, IsReading, Streamed, inline_of, piece_of, todo_prog, without_file}
 use Rattle.btr_files.specs.Sums.{kind_in}
 use Rattle.btr_files.proofs.Nextward.{rest_more}
 use Rattle.btr_files.proofs.Onwards.{then_some}
 use Rattle.btr_restore.specs.Journey.{put}
 use Rattle.btr_restore.specs.Listing.{maps_of}
-use Rattle.btr_restore.specs.Restoring.{sink_after, text_after, Did, Emits, StopCause, SinkCounts, OutCounts, stop_halt, ended}
-use Rattle.btr_restore.specs.Running.{Outside, World, world, scene_of, IsReady, Wrote, Ran, StopsOutside}
+use Rattle.btr_restore.specs.Restoring.{sink_after, text_after, SinkCounts, OutCounts, stop_halt, ended}
+use Rattle.btr_restore.specs.Running.{Outside, World, world, IsReady, Wrote, Ran}
 use Rattle.btr_restore.specs.Step.{Step, part}
-use Rattle.btr_restore.specs.Writing.{put_of, last_plain, Puts, PutsLeft, PutsFrom, LeftToPut, PieceToPut, IsWriting, WasWritten, WritesOn}
+use Rattle.btr_restore.specs.Writing.{put_of, last_plain, Puts, PutsLeft, PutsFrom, LeftToPut, PieceToPut, IsWriting, WasWritten}
 use Rattle.btr_restore.proofs.Doing.{fold-append, text_then}
 use Rattle.btr_restore.proofs.Emitting.{text_none}
-use Rattle.btr_restore.proofs.Rans.{if_some, if_map, if_both, reads_then, reads_self, no_cause, room_kept}
+use Rattle.btr_restore.proofs.Goings.{if_some, if_map, if_both}
+use Rattle.btr_restore.proofs.Stopping.{reads_then, reads_self, no_cause, room_kept}
 
 wants_back : {W : Type 0} (ws : List W) → wants_of {S = Step} (want_marks ws) ≡ ws
 wants_back [] = refl

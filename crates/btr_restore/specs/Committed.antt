@@ -1,5 +1,5 @@
 -- Blocks as they were committed, and what the images have of them.
-use Rattle.std.specs.Prelude.{◌≡◌, ℕ, Bool, true, false, IsTrue, if◌then◌else◌, List, slice_get, Option, Some, IsSome, Contains, Result, Ok, Err}
+use Rattle.std.specs.Prelude.{◌≡◌, ℕ, Bool, true, false, IsTrue, if◌then◌else◌, List, Option, Some, IsSome, Contains, Result, Ok, Err}
 use Rattle.btr_prog.specs.Prog.{exec, needs}
 use Rattle.btr_prog.specs.Maps.{Each, IsWhole, EndsWell}
 use Rattle.btr_prog.specs.Stages.{Early, Late}
@@ -35,7 +35,8 @@ committed C images = committed_choices C images 0
 -- each candidate that passes its test is the committed block
 abbrev pub IsHonest : Commit → Images → Layout → Type 0
 IsHonest C images layout =
-    (want : Want) (bytes candidate : List ℕ) → C want ≡ Some bytes → Contains (passing_for images (sought layout want)) candidate → candidate ≡ bytes
+    (want : Want) (bytes candidate : List ℕ) → C want ≡ Some bytes → Contains (passing_for images (sought layout want)) candidate
+    → candidate ≡ bytes
 
 -- a checked want has committed bytes
 abbrev pub IsIn : Commit → Want → Type 0
@@ -71,4 +72,5 @@ module _ (plan : RestorePlan) (dest : List ℕ) (images : Images) (start : Start
 
   -- the images have a candidate that passes for each need
   abbrev pub AreWhole : Type 0
-  AreWhole = Each (λ want. IsWhole (volume_map start (fate images) want)) (needs (volume_map start (committed C images)) (journey plan dest start))
+  AreWhole =
+      Each (λ want. IsWhole (volume_map start (fate images) want)) (needs (volume_map start (committed C images)) (journey plan dest start))

@@ -45,22 +45,26 @@ module _ (plan : RestorePlan) (dest : List ℕ) (start : Start) (old new : Seen)
   abbrev pub OpenedThen : Type 0
   OpenedThen =
       (maps : ℕ → Maps) (table : List Chunk) (done : List Step) (answer : Result Counts (Halt Fault UnreadBlock))
-      → Goes {S = ⊥} (unread_by (array_layout start) old new) no_part [] (λ n. maps n (array_layout start)) (table_scan start) [] (Ok (Ok table))
-      → Goes (unread_by (layout_by start table) old new) part [] (λ n. maps n (layout_by start table)) (listing plan dest start.sup) done answer
+      → Goes {S = ⊥} (unread_by (array_layout start) old new) no_part [] (λ n. maps n (array_layout start))
+      (table_scan start) [] (Ok (Ok table))
+      → Goes (unread_by (layout_by start table) old new) part [] (λ n. maps n (layout_by start table))
+      (listing plan dest start.sup) done answer
       → Follows maps done (opened answer)
 
   -- a volume was refused, and nothing was done
   abbrev pub OpenRefused : Type 0
   OpenRefused =
       (maps : ℕ → Maps) (fault : TableFault)
-      → Goes {S = ⊥} (unread_by (array_layout start) old new) no_part [] (λ n. maps n (array_layout start)) (table_scan start) [] (Ok (Err fault))
+      → Goes {S = ⊥} (unread_by (array_layout start) old new) no_part [] (λ n. maps n (array_layout start))
+      (table_scan start) [] (Ok (Err fault))
       → Follows maps [] (Ok (Err (refusal_of fault)))
 
   -- the chunk tree could not be read, and nothing was done
   abbrev pub OpenHalted : Type 0
   OpenHalted =
       (maps : ℕ → Maps) (halt : Halt Fault UnreadBlock)
-      → Goes {S = ⊥} (unread_by (array_layout start) old new) no_part [] (λ n. maps n (array_layout start)) (table_scan start) [] (Err halt)
+      → Goes {S = ⊥} (unread_by (array_layout start) old new) no_part [] (λ n. maps n (array_layout start))
+      (table_scan start) [] (Err halt)
       → Follows maps [] (Err halt)
 
 -- how a call ends where the images alone decide
@@ -77,7 +81,9 @@ SettledLaw =
     → outcome_by done ending ≡ restore_outcome plan dest images
 
 -- the call stopped at a want of a run of the committed journey that the images lack: exactly the steps before it were done, and the answer names it
-pub record LostAt (plan : RestorePlan) (dest : List ℕ) (images : Images) (start : Start) (C : Commit) (done : List Step) (answer : Answer) : Type 0 where
+pub record LostAt
+    (plan : RestorePlan) (dest : List ℕ) (images : Images) (start : Start) (C : Commit) (done : List Step)
+    (answer : Answer) : Type 0 where
   pub run : Run VolumeWant Fault Step (Result Counts OpenFault)
   pub goes : GoesTo (λ n. volume_map start (committed_choices C images n)) (journey plan dest start) run
   pub want : VolumeWant
@@ -92,8 +98,19 @@ pub record LostAt (plan : RestorePlan) (dest : List ℕ) (images : Images) (star
 -- over honest images what follows the images' journey follows the committed one, or stops where the images lack a want of it
 abbrev pub CommittedOrder : Type 0
 CommittedOrder =
-    (plan : RestorePlan) (dest : List ℕ) (images : Images) (start : Start) (C : Commit) (table : List Chunk) (old new : Seen) (done : List Step) (answer : Answer)
+    (plan : RestorePlan) (dest : List ℕ) (images : Images) (start : Start) (C : Commit) (table : List Chunk)
+    (old new : Seen) (done : List Step) (answer : Answer)
     → IsHonest C images (layout_by start table)
     → IsClosed plan dest images start C table
     → Follows plan dest start old new (choices images) done answer
     → Follows plan dest start old new (committed_choices C images) done answer ⊎ LostAt plan dest images start C done answer
+
+-- whatever the plan, the destination, the start and the calls are
+abbrev pub OpenedThenLaw : Type 0
+OpenedThenLaw = (plan : RestorePlan) (dest : List ℕ) (start : Start) (old new : Seen) → OpenedThen plan dest start old new
+
+abbrev pub OpenRefusedLaw : Type 0
+OpenRefusedLaw = (plan : RestorePlan) (dest : List ℕ) (start : Start) (old new : Seen) → OpenRefused plan dest start old new
+
+abbrev pub OpenHaltedLaw : Type 0
+OpenHaltedLaw = (plan : RestorePlan) (dest : List ℕ) (start : Start) (old new : Seen) → OpenHalted plan dest start old new

@@ -66,7 +66,8 @@ module _ (plan : RestorePlan) (s : Super) (sums : Option TreeRoot) where
 
   -- the pieces of a file, of which a dry run reads none
   abbrev pub pieces : TreeRoot → ℕ → Inode → Program Step Bool
-  pieces tree ino inode = if plan.dry then Return false else each put false (content (kind_in s) sums (has_no_sums inode) inode.size tree ino)
+  pieces tree ino inode =
+      if plan.dry then Return false else each put false (content (kind_in s) sums (has_no_sums inode) inode.size tree ino)
 
   abbrev pub unverified : {A : Type 0} → Bool → List ℕ → Program Step A → Program Step A
   unverified plain path rest = if plain then Emit (Line (line (codes "unverified") path)) rest else rest
@@ -104,13 +105,15 @@ module _ (plan : RestorePlan) (s : Super) (sums : Option TreeRoot) where
   abbrev pub directory_entry : TreeRoot → ℕ → DirEntry → List ℕ → Counts → Program Step Treated
   directory_entry tree dirid entry path counts =
       let ino = entry.row.location.objectid in
-      looks (linked (link dirid entry.row.index entry.name) tree ino) (λ is. if is then entered entry.name path tree ino counts else skip (codes "link") path counts)
+      looks (linked (link dirid entry.row.index entry.name) tree ino)
+      (λ is. if is then entered entry.name path tree ino counts else skip (codes "link") path counts)
 
   -- a subvolume by its root, if that is there
   abbrev pub subvolume_found : List ℕ → List ℕ → Counts → Option TreeRoot → Program Step Treated
   subvolume_found name path counts None = skip (codes "missing") path counts
   subvolume_found name path counts (Some inner) =
-      if not (inner.offset == 0) && not plan.snapshots then skip (codes "snapshot") path counts else entered name path inner inner.dirid counts
+      if not (inner.offset == 0) && not plan.snapshots then skip (codes "snapshot") path counts
+      else entered name path inner inner.dirid counts
 
   -- a subvolume, where this entry is its one name; else an empty directory
   abbrev pub subvolume_entry : TreeRoot → ℕ → DirEntry → List ℕ → Counts → Program Step Treated
@@ -148,7 +151,8 @@ module _ (plan : RestorePlan) (s : Super) (sums : Option TreeRoot) where
 
   -- an entry, and what is in it
   abbrev pub treat : Bool → Listing → TreeRoot → ℕ → List ℕ → Counts → DirEntry → Program Step Counts
-  treat deep below tree dirid path counts entry = bind (treated deep tree dirid path counts entry) (listed_in below (path_in path entry.name))
+  treat deep below tree dirid path counts entry =
+      bind (treated deep tree dirid path counts entry) (listed_in below (path_in path entry.name))
 
   -- each entry of a directory is treated wholly before the next is sought
   abbrev pub listed : Bool → Listing → Listing
@@ -181,4 +185,5 @@ module _ (plan : RestorePlan) (dest : List ℕ) (s : Super) where
 -- restore: the table of chunks, or a refusal; and then the listing
 abbrev pub journey : RestorePlan → List ℕ → Start → Prog VolumeWant Fault Step (Result Counts OpenFault)
 journey plan dest start =
-    staged (λ fault. Err (refusal_of fault)) (quiet (table_scan start)) (λ (table : List Chunk). bind (listing plan dest start.sup) (λ counts. Return (Ok counts)))
+    staged (λ fault. Err (refusal_of fault)) (quiet (table_scan start))
+    (λ (table : List Chunk). bind (listing plan dest start.sup) (λ counts. Return (Ok counts)))

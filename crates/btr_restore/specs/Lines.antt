@@ -46,4 +46,6 @@ abbrev pub with_skip : Counts → Counts
 with_skip counts = record counts { skipped = more counts.skipped }
 
 abbrev pub counts_line : Counts → List ℕ
-counts_line counts = codes "directories " ++ decimal counts.dirs ++ codes " files " ++ decimal counts.files ++ codes " skipped " ++ decimal counts.skipped ++ codes "\n"
+counts_line counts =
+    codes "directories " ++ decimal counts.dirs ++ codes " files " ++ decimal counts.files
+    ++ codes " skipped " ++ decimal counts.skipped ++ codes "\n"

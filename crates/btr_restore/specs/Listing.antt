@@ -1,8 +1,8 @@
 -- How far the listing of a directory has come.
-use Rattle.std.specs.Prelude.{◌≡◌, ℕ, zero, suc, Bool, true, false, List, fold, Option, IfSome, Result, Ok, Err}
+use Rattle.std.specs.Prelude.{◌≡◌, ℕ, ◌+◌, zero, suc, Bool, true, false, List, fold, Option, IfSome, Result, Ok, Err}
 use Rattle.btr_prog.specs.Calls.{Sure, Calls}
 use Rattle.btr_prog.specs.Goes.{GoesTo, ThreadsTo}
-use Rattle.btr_prog.specs.Prog.{Prog, Return, Does, Run, bind, exec, first}
+use Rattle.btr_prog.specs.Prog.{Return, Does, Run, bind, exec, first}
 use Rattle.btr_prog.proofs.SoFars.{SoFar}
 use Rattle.btr_rack.specs.Rack.{Seen, OnlyReads}
 use Rattle.btr_rack.specs.Sink.{Sink}
@@ -18,11 +18,14 @@ use Rattle.btr_volume.specs.Looking.{SameVolume}
 use Rattle.btr_volume.specs.declared.root.TreeRoot.{TreeRoot}
 use Rattle.btr_files.specs.declared.counts.Counts.{Counts}
 use Rattle.btr_files.specs.declared.dir.Dir.{Dir}
+use Rattle.btr_files.specs.declared.dir_row.DirRow.{DirRow}
+use Rattle.btr_files.specs.declared.name.NameBuf.{NameBuf}
 use Rattle.btr_files.specs.declared.plan.RestorePlan.{RestorePlan}
 use Rattle.btr_files.specs.Entries.{DirEntry, entries}
-use Rattle.btr_files.specs.Listing.{dir_left, IsDir, IsDirOn}
+use Rattle.btr_files.specs.Listing.{dir_left, named_row, IsDir, IsDirOn}
 use Rattle.btr_files.specs.Maps.{maps_by}
-use Rattle.btr_restore.specs.Journey.{Listing, directory, treat}
+use Rattle.btr_restore.specs.declared.job.Job.{Job}
+use Rattle.btr_restore.specs.Journey.{Listing, Within, directory, listed_in, treat}
 use Rattle.btr_restore.specs.Restoring.{sink_after, text_after}
 use Rattle.btr_restore.specs.Running.{World, IsReady, Stands}
 use Rattle.btr_restore.specs.Step.{Step}
@@ -42,6 +45,18 @@ module _ (plan : RestorePlan) (s : Super) (sums : Option TreeRoot) where
   abbrev pub treat_in : ℕ → TreeRoot → ℕ → List ℕ → Counts → DirEntry → Program Step Counts
   treat_in n = treat plan s sums (is_deep n) (listing_in n)
 
+-- what is listed by the superblock, in a directory that has one of so many places: what is in one that was entered, and the way up; an entry, and what
+-- is in it; and a directory, below which so many more may be entered
+abbrev pub within_for : Job → ℕ → List ℕ → TreeRoot → ℕ → Counts → Super → Program Step Counts
+within_for job n path inner dirid counts s =
+    listed_in job.plan s job.sums (listing_in job.plan s job.sums n) path (Within inner dirid counts)
+
+abbrev pub entry_for : Job → ℕ → TreeRoot → ℕ → List ℕ → Counts → DirRow → NameBuf → Super → Program Step Counts
+entry_for job n tree dirid path counts row name s = treat_in job.plan s job.sums n tree dirid path counts (named_row row name)
+
+abbrev pub listing_for : Job → ℕ → TreeRoot → ℕ → List ℕ → Counts → Super → Program Step Counts
+listing_for job n tree dirid path counts s = directory job.plan s job.sums n tree dirid path counts
+
 -- how a listing ended, with the counts then
 abbrev pub ended_with : Counts → Result (Unit {0}) Stop → Result Counts Stop
 ended_with counts (Ok u) = Ok counts
@@ -52,13 +67,21 @@ abbrev pub StandsIf : Bool → ℕ → Sink → Result (Unit {0}) Stop → Type 
 StandsIf dry n sink (Ok u) = Stands dry n sink
 StandsIf dry n sink (Err stop) = Unit {0}
 
+-- where a sink stood, it stands as deep after a listing; and one less deep, where the listing leaves its directory
+abbrev pub KeepsDepth : Bool → Sink → Sink → Result (Unit {0}) Stop → Type 0
+KeepsDepth dry old new result = (n : ℕ) → Stands dry n old → StandsIf dry n new result
+
+abbrev pub LeavesDepth : Bool → Sink → Sink → Result (Unit {0}) Stop → Type 0
+LeavesDepth dry old new result = (n : ℕ) → Stands dry (n + 1) old → StandsIf dry n new result
+
 -- the maps of some images, so surely known
 abbrev pub maps_of : Layout → Sure → List (List ℕ) → ℕ → Map
 maps_of layout sure images n = maps_by sure images n layout
 
 -- so far as the calls were steady, P holds of the block map of the images, and of what a block may come to
 abbrev pub TellsBoth : Layout → Seen → Seen → (Map → (ℕ → Map) → Type 0) → Type 0
-TellsBoth layout old new P = Calls (AgreedOn layout) (shown old) (shown new) (λ sure held. IfSome held (λ images. P (fate images layout) (maps_of layout sure images)))
+TellsBoth layout old new P =
+    Calls (AgreedOn layout) (shown old) (shown new) (λ sure held. IfSome held (λ images. P (fate images layout) (maps_of layout sure images)))
 
 module _ (treat : Counts → DirEntry → Program Step Counts) where
   abbrev pub body_of : Counts → DirEntry → Program Step (Result Counts Counts)
@@ -78,7 +101,9 @@ module _ (treat : Counts → DirEntry → Program Step Counts) where
     pub on : IsDirOn B seen dir
 
   -- .. after an entry was met
-  pub record MetOf (whole : Program Step Counts) (B : Map) (Bs : ℕ → Map) (counts : Counts) (entry : DirEntry) (dir : Dir) (done : List Step) : Type 0 where
+  pub record MetOf
+      (whole : Program Step Counts) (B : Map) (Bs : ℕ → Map) (counts : Counts) (entry : DirEntry) (dir : Dir)
+      (done : List Step) : Type 0 where
     pub seen : List Want
     pub so_far : SoFar (GoesTo Bs whole) (Left Bs counts (first (Does entry) (exec B (dir_left B dir)))) seen done
     pub on : IsDirOn B seen dir
@@ -96,10 +121,14 @@ module _ (treat : Counts → DirEntry → Program Step Counts) where
     pub out_calls : y.out.out_calls ≡ x.out.out_calls
 
 -- a listing is under way: its directory can be read on, its path is as it began, and the sink stands where it stood
-pub record IsUnderway (plan : RestorePlan) (sums : Option TreeRoot) (deeper : ℕ) (tree : TreeRoot) (dirid : ℕ) (path : List ℕ) (first : Counts) (x y : World) (counts : Counts) (dir : Dir) (here : List ℕ) (below : ℕ) : Type 0 where
+pub record IsUnderway
+    (plan : RestorePlan) (sums : Option TreeRoot) (deeper : ℕ) (tree : TreeRoot) (dirid : ℕ) (path : List ℕ)
+    (first : Counts) (x y : World) (counts : Counts) (dir : Dir) (here : List ℕ) (below : ℕ) : Type 0 where
   pub ready : IsReady y.rack y.vol
   pub reads_on : IsDir dir
   pub same_path : here ≡ path
   pub same_below : below ≡ deeper
   pub stands : (n : ℕ) → Stands plan.dry n x.out.sink → Stands plan.dry n y.out.sink
-  pub listed : (s : Super) → s ≡ x.vol.sup → Listed (treat_in plan s sums deeper tree dirid path) (each (treat_in plan s sums deeper tree dirid path) first (entries tree dirid)) x y counts dir
+  pub listed : (s : Super) → s ≡ x.vol.sup
+      → Listed (treat_in plan s sums deeper tree dirid path)
+      (each (treat_in plan s sums deeper tree dirid path) first (entries tree dirid)) x y counts dir

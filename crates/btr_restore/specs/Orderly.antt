@@ -1,5 +1,5 @@
 -- The steps of restore are calls that a sink may take, and its counts are those of the steps.
-use Rattle.std.specs.Prelude.{◌≡◌, ℕ, ◌<◌, Bool, true, false, ◌&&◌, ◌==◌, if◌then◌else◌, List, [], ◌∷◌, ◌++◌, fold, codes, Contains, Option, Result, Ok, Err}
+use Rattle.std.specs.Prelude.{◌≡◌, ℕ, ◌<◌, Bool, true, false, ◌&&◌, ◌==◌, if◌then◌else◌, List, [], ◌∷◌, fold, codes, Contains, Option, Result, Ok, Err}
 use Rattle.btr_files.specs.declared.counts.Counts.{Counts}
 use Rattle.btr_files.specs.declared.plan.RestorePlan.{RestorePlan}
 use Rattle.btr_files.specs.Entries.{DirEntry}
@@ -67,7 +67,8 @@ pub record IsOrderly (sink : Sink) (run : Run VolumeWant Fault Step (Result Coun
 
 abbrev pub OrderlyLaw : Type 0
 OrderlyLaw =
-    (plan : RestorePlan) (dest : List ℕ) (start : VolumeStart) (maps : ℕ → BlockMap VolumeWant Fault) (sink : Sink) (run : Run VolumeWant Fault Step (Result Counts OpenFault))
+    (plan : RestorePlan) (dest : List ℕ) (start : VolumeStart) (maps : ℕ → BlockMap VolumeWant Fault) (sink : Sink)
+    (run : Run VolumeWant Fault Step (Result Counts OpenFault))
     → plan.dry ≡ false
     → sink.stage ≡ NotStarted
     → GoesTo maps (journey plan dest start) run
@@ -76,8 +77,8 @@ OrderlyLaw =
 -- why an entry is left out
 abbrev pub causes : List (List ℕ)
 causes =
-    codes "name" ∷ codes "symlink" ∷ codes "special" ∷ codes "missing" ∷ codes "size" ∷ codes "compressed" ∷ codes "encoded" ∷ codes "depth" ∷ codes "link"
-    ∷ codes "snapshot" ∷ []
+    codes "name" ∷ codes "symlink" ∷ codes "special" ∷ codes "missing" ∷ codes "size" ∷ codes "compressed" ∷ codes "encoded" ∷ codes "depth"
+    ∷ codes "link" ∷ codes "snapshot" ∷ []
 
 -- the step that an entry is told by: its file or its directory, or the line that it is skipped
 abbrev pub IsOfEntry : List ℕ → List ℕ → Step → Type 0
@@ -99,7 +100,8 @@ pub record IsTold (path name : List ℕ) (done : List Step) : Type 0 where
 
 abbrev pub ToldLaw : Type 0
 ToldLaw =
-    (plan : RestorePlan) (s : Super) (sums : Option TreeRoot) (deep : Bool) (tree : TreeRoot) (dirid : ℕ) (path : List ℕ) (counts : Counts) (entry : DirEntry) (came : Treated)
+    (plan : RestorePlan) (s : Super) (sums : Option TreeRoot) (deep : Bool) (tree : TreeRoot) (dirid : ℕ) (path : List ℕ) (counts : Counts)
+    (entry : DirEntry) (came : Treated)
     (maps : ℕ → BlockMap Want Fault) (run : Run Want Fault Step Treated)
     → plan.dry ≡ false
     → GoesTo maps (treated plan s sums deep tree dirid path counts entry) run

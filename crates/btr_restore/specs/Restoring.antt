@@ -118,7 +118,9 @@ abbrev pub OutCounts : {A : Type 0} → CallAccount → CallAccount → Result A
 OutCounts old new result = Counts old new (out_answer result)
 
 -- Calls that read nothing did the steps of a program, whatever a block may come to.
-pub record Emits {A : Type 0} (p : Program Step A) (s s' : Sink) (told told' : Option (List ℕ)) (answer : Result A (Halt fate.Fault UnreadBlock)) : Type 0 where
+pub record Emits
+    {A : Type 0} (p : Program Step A) (s s' : Sink) (told told' : Option (List ℕ))
+    (answer : Result A (Halt fate.Fault UnreadBlock)) : Type 0 where
   pub done : List Step
   pub sink : s' ≡ fold sink_after s done
   pub text : told' ≡ text_after told done

@@ -1,11 +1,20 @@
 -- What a call of restore did and how it answered, in one word.
 use Rattle.std.specs.Prelude.{◌≡◌, ℕ, ◌+◌, ◌≤◌, Bool, false, List, Option, Result, Ok, Err}
+use Rattle.btr_prog.specs.Prog.{Return}
+use Rattle.btr_prog.specs.Quiet.{quiet}
 use Rattle.btr_rack.specs.Out.{CallAccount}
 use Rattle.btr_rack.specs.Rack.{Seen, OnlyReads}
 use Rattle.btr_rack.specs.Sink.{Sink, BetweenFiles}
 use Rattle.btr_read.specs.Serves.{Serves}
 use Rattle.btr_read.specs.Store.{free_count}
-use Rattle.btr_volume.specs.Lookup.{Program}
+use Rattle.btr_super.specs.declared.superblock.Super.{Super}
+use Rattle.btr_volume.specs.Lookup.{Lookup, Program}
+use Rattle.btr_volume.specs.declared.root.TreeRoot.{TreeRoot}
+use Rattle.btr_files.specs.declared.name.NameBuf.{NameBuf}
+use Rattle.btr_files.specs.declared.plan.RestorePlan.{RestorePlan}
+use Rattle.btr_files.specs.Entries.{name_in}
+use Rattle.btr_restore.specs.Journey.{row, sums_lookup}
+use Rattle.btr_restore.specs.Lines.{path_in}
 use Rattle.btr_volume.specs.Looking.{SameVolume}
 use Rattle.btr_volume.specs.declared.stop.Stop.{Stop}
 use Rattle.btr_volume.specs.declared.stop.Stop.TheVariants.{NoTree, Tree, Deletion, Balance, Missing, Image, Sink as SinkStop, Out as OutStop, Memory}
@@ -25,6 +34,10 @@ pub record Outside : Type 0 where
 abbrev pub outside : Sink → CallAccount → Option (List ℕ) → CallAccount → Outside
 outside sink sink_calls text out_calls = record { sink = sink; sink_calls = sink_calls; text = text; out_calls = out_calls }
 
+-- what is seen of a sink and an output, each by what its calls show
+abbrev pub outside_of : {T O : Type 0} → (T → Sink) → (T → CallAccount) → (O → Option (List ℕ)) → (O → CallAccount) → T → O → Outside
+outside_of sink sink_calls text out_calls tree out = outside (sink tree) (sink_calls tree) (text out) (out_calls out)
+
 -- what is seen of a rack, a volume, a sink and an output
 pub record World : Type 0 where
   pub rack : Seen
@@ -33,6 +46,10 @@ pub record World : Type 0 where
 
 abbrev pub world : Seen → Volume → Outside → World
 world rack vol out = record { rack = rack; vol = vol; out = out }
+
+-- the same of a rack, a volume and a sink, beside an output
+abbrev pub beside : {R T : Type 0} → (R → Seen) → (T → Sink) → (T → CallAccount) → R → Volume → T → Option (List ℕ) → CallAccount → World
+beside seen sink sink_calls rack vol tree text out_calls = world (seen rack) vol (outside (sink tree) (sink_calls tree) text out_calls)
 
 abbrev pub scene_of : World → Scene
 scene_of x = scene x.rack x.out.sink x.out.text
@@ -72,6 +89,73 @@ pub record Ran {A : Type 0} (p : Program Step A) (x y : World) (answer : Result 
   pub sink_calls : SinkCounts x.out.sink_calls y.out.sink_calls answer
   pub out_calls : OutCounts x.out.out_calls y.out.out_calls answer
 
+-- a call that reads nothing did the steps of a program, whatever the superblock is, and whatever the checksum tree
+abbrev pub WroteFor : {A : Type 0} → (Super → Program Step A) → Outside → Outside → Result A Stop → Type 0
+WroteFor p x y answer = (s : Super) → Wrote (p s) x y answer
+
+abbrev pub WroteBy : {A : Type 0} → (Super → Option TreeRoot → Program Step A) → Outside → Outside → Result A Stop → Type 0
+WroteBy p x y answer = (s : Super) (sums : Option TreeRoot) → Wrote (p s sums) x y answer
+
+-- the same of a call of the sink, whatever the output is
+abbrev pub WroteRow : {T : Type 0} → RestorePlan → Step → (T → Sink) → (T → CallAccount) → T → T → Result (Unit {0}) Stop → Type 0
+WroteRow plan step sink calls tree tree' answer =
+    (s : Super) (sums : Option TreeRoot) (text : Option (List ℕ)) (out_calls : CallAccount)
+    → Wrote (row plan s sums step (Return tt)) (outside (sink tree) (calls tree) text out_calls)
+    (outside (sink tree') (calls tree') text out_calls) answer
+
+-- .. and of calls of the output, whatever the sink is: by a program, by one that asks for the superblock and the checksum tree, and by one that
+-- asks for the plan too
+abbrev pub WroteLines : {A O : Type 0} → Program Step A → (O → Option (List ℕ)) → (O → CallAccount) → O → O → Result A Stop → Type 0
+WroteLines p text calls out out' answer =
+    (sink : Sink) (sink_calls : CallAccount)
+    → Wrote p (outside sink sink_calls (text out) (calls out)) (outside sink sink_calls (text out') (calls out')) answer
+
+abbrev pub WroteLinesBy : {A O : Type 0} → (Super → Option TreeRoot → Program Step A) → (O → Option (List ℕ)) → (O → CallAccount)
+    → O → O → Result A Stop → Type 0
+WroteLinesBy p text calls out out' answer = (s : Super) (sums : Option TreeRoot) → WroteLines (p s sums) text calls out out' answer
+
+abbrev pub WroteLinesOf : {A O : Type 0} → (RestorePlan → Super → Option TreeRoot → Program Step A) → (O → Option (List ℕ))
+    → (O → CallAccount) → O → O → Result A Stop → Type 0
+WroteLinesOf p text calls out out' answer = (plan : RestorePlan) → WroteLinesBy (p plan) text calls out out' answer
+
+-- a call did the steps of a program by the superblock of its volume
+abbrev pub RanFor : {A : Type 0} → (Super → Program Step A) → World → World → Result A Stop → Type 0
+RanFor p x y answer = (s : Super) → s ≡ x.vol.sup → Ran (p s) x y answer
+
+-- .. whatever the output is
+abbrev pub RanBeside : {A : Type 0} → Super → (Super → Program Step A) → (Option (List ℕ) → CallAccount → World)
+    → (Option (List ℕ) → CallAccount → World) → Result A Stop → Type 0
+RanBeside sup p x y answer =
+    (s : Super) (text : Option (List ℕ)) (calls : CallAccount) → s ≡ sup → Ran (p s) (x text calls) (y text calls) answer
+
+-- .. of an entry of this path, by the path of its directory
+abbrev pub RanIn : {A : Type 0} → List ℕ → NameBuf → (Super → List ℕ → Program Step A) → World → World → Result A Stop → Type 0
+RanIn here name p x y answer =
+    (s : Super) (path : List ℕ) → s ≡ x.vol.sup → here ≡ path_in path (name_in name) → Ran (p s path) x y answer
+
+-- a lookup was done, whatever the sink and the output are: by a program, by one that asks for the superblock, for a name, for both, and that of the
+-- checksum tree
+abbrev pub Looked : {A : Type 0} → Lookup A → Seen → Volume → Seen → Volume → Result A Stop → Type 0
+Looked p rack vol rack' vol' answer = (x : Outside) → Ran (quiet p) (world rack vol x) (world rack' vol' x) answer
+
+abbrev pub LookedFor : {A : Type 0} → (Super → Lookup A) → Seen → Volume → Seen → Volume → Result A Stop → Type 0
+LookedFor p rack vol rack' vol' answer =
+    (x : Outside) (s : Super) → s ≡ vol.sup → Ran (quiet (p s)) (world rack vol x) (world rack' vol' x) answer
+
+abbrev pub LookedBy : {A : Type 0} → NameBuf → (List ℕ → Lookup A) → Seen → Volume → Seen → Volume → Result A Stop → Type 0
+LookedBy name p rack vol rack' vol' answer =
+    (x : Outside) (n : List ℕ) → n ≡ name_in name → Ran (quiet (p n)) (world rack vol x) (world rack' vol' x) answer
+
+abbrev pub LookedForBy : {A : Type 0} → NameBuf → (Super → List ℕ → Lookup A) → Seen → Volume → Seen → Volume → Result A Stop → Type 0
+LookedForBy name p rack vol rack' vol' answer =
+    (x : Outside) (s : Super) (n : List ℕ) → s ≡ vol.sup → n ≡ name_in name
+    → Ran (quiet (p s n)) (world rack vol x) (world rack' vol' x) answer
+
+abbrev pub LookedForSums : RestorePlan → Seen → Volume → Seen → Volume → Result (Option TreeRoot) Stop → Type 0
+LookedForSums plan rack vol rack' vol' answer =
+    (x : Outside) (dest : List ℕ) (s : Super) → s ≡ vol.sup
+    → Ran (quiet (sums_lookup plan dest s)) (world rack vol x) (world rack' vol' x) answer
+
 -- a sink stands between two files, so deep below the destination, unless the run is dry
 abbrev pub Stands : Bool → ℕ → Sink → Type 0
 Stands dry depth s = dry ≡ false → (s.stage ≡ BetweenFiles) × (s.depth ≡ depth)
@@ -81,3 +165,7 @@ abbrev pub StandsAfter : Bool → ℕ → Sink → Result Treated Stop → Type 
 StandsAfter dry depth s (Ok Over) = Stands dry depth s
 StandsAfter dry depth s (Ok (Within tree dirid)) = Stands dry (depth + 1) s
 StandsAfter dry depth s (Err stop) = Unit {0}
+
+-- where a sink stood, it stands so after an entry
+abbrev pub KeepsStanding : Bool → Sink → Sink → Result Treated Stop → Type 0
+KeepsStanding dry old new result = (depth : ℕ) → Stands dry depth old → StandsAfter dry depth new result

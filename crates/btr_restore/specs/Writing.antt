@@ -1,10 +1,12 @@
 -- How far the bytes of a file have been written.
-use Rattle.std.specs.Prelude.{◌≡◌, ℕ, Bool, List, fold, Option, Some, None, Result, Ok, Err}
+use Rattle.std.specs.Prelude.{◌≡◌, ℕ, Bool, false, List, fold, Option, Some, None, Result, Ok, Err}
 use Rattle.btr_base.specs.declared.kind.SumKind.{SumKind}
 use Rattle.btr_prog.specs.Goes.{GoesTo, ThreadsTo}
-use Rattle.btr_prog.specs.Prog.{Prog, Return, Does, Run, bind, first}
+use Rattle.btr_prog.specs.Prog.{Return, Does, Run, bind, first}
 use Rattle.btr_prog.proofs.SoFars.{SoFar}
+use Rattle.btr_rack.specs.Out.{CallAccount}
 use Rattle.btr_rack.specs.Rack.{OnlyReads}
+use Rattle.btr_rack.specs.Sink.{Sink}
 use Rattle.btr_read.specs.Fate.{Fault}
 use Rattle.btr_read.specs.Store.{SameLoans}
 use Rattle.btr_read.specs.declared.want.Want.{Want}
@@ -21,7 +23,7 @@ use Rattle.btr_files.specs.Streaming.{FileGoes, IsFileOn, IsReading, without_fil
 use Rattle.btr_files.specs.Sums.{kind_in}
 use Rattle.btr_restore.specs.Journey.{put}
 use Rattle.btr_restore.specs.Restoring.{sink_after, text_after, Does as Did, StopCause, SinkCounts, OutCounts, ended}
-use Rattle.btr_restore.specs.Running.{World, scene_of}
+use Rattle.btr_restore.specs.Running.{World, Wrote, outside, scene_of}
 use Rattle.btr_restore.specs.Step.{Step}
 
 module _ (plan : RestorePlan) (s : Super) (sums : Option TreeRoot) where
@@ -41,16 +43,20 @@ module _ (plan : RestorePlan) (s : Super) (sums : Option TreeRoot) where
 
   -- .. behind a piece that was given
   abbrev pub PutsFrom : SumKind → (ℕ → Map) → Bool → Piece → FileBytes → Run Want Fault Step Bool → Type 0
-  PutsFrom kind Bs plain piece file r = (q : Run Want Fault Piece (Unit {0})) × FileGoes kind Bs file q × Puts Bs plain (first (Does piece) q) r
+  PutsFrom kind Bs plain piece file r =
+      (q : Run Want Fault Piece (Unit {0})) × FileGoes kind Bs file q × Puts Bs plain (first (Does piece) q) r
 
   -- of the runs of a whole program these steps are done, and what is left are the pieces of a file
-  pub record LeftToPut (whole : Program Step Bool) (kind : SumKind) (Bs : ℕ → Map) (plain : Bool) (file : FileBytes) (done : List Step) : Type 0 where
+  pub record LeftToPut
+      (whole : Program Step Bool) (kind : SumKind) (Bs : ℕ → Map) (plain : Bool) (file : FileBytes) (done : List Step) : Type 0 where
     pub seen : List Want
     pub so_far : SoFar (GoesTo Bs whole) (PutsLeft kind Bs plain file) seen done
     pub on : IsFileOn (Bs 0) seen file
 
   -- .. after a piece was given
-  pub record PieceToPut (whole : Program Step Bool) (kind : SumKind) (Bs : ℕ → Map) (plain : Bool) (piece : Piece) (file : FileBytes) (done : List Step) : Type 0 where
+  pub record PieceToPut
+      (whole : Program Step Bool) (kind : SumKind) (Bs : ℕ → Map) (plain : Bool) (piece : Piece) (file : FileBytes)
+      (done : List Step) : Type 0 where
     pub seen : List Want
     pub so_far : SoFar (GoesTo Bs whole) (PutsFrom kind Bs plain piece file) seen done
     pub on : IsFileOn (Bs 0) seen file
@@ -84,3 +90,25 @@ module _ (plan : RestorePlan) (s : Super) (sums : Option TreeRoot) where
   WritesOn whole x y plain file (Ok (Some after)) = IsWriting whole x y after file
   WritesOn whole x y plain file (Ok None) = WasWritten whole x y file (Ok plain)
   WritesOn whole x y plain file (Err stop) = WasWritten whole x y file (Err stop)
+
+-- a piece was put, whatever the plan, the superblock, the checksum tree and the output are
+abbrev pub PutsPiece : {T : Type 0} → Bool → Piece → (T → Sink) → (T → CallAccount) → T → T → Result Bool Stop → Type 0
+PutsPiece plain piece sink calls tree tree' answer =
+    (plan : RestorePlan) (s : Super) (sums : Option TreeRoot) (text : Option (List ℕ)) (out_calls : CallAccount)
+    → Wrote (put plan s sums plain piece) (outside (sink tree) (calls tree) text out_calls)
+    (outside (sink tree') (calls tree') text out_calls) answer
+
+-- a step of a file that is being written, and all that is still to come of it, whatever its whole program is and where that began
+abbrev pub PutsNext : Bool → FileBytes → FileBytes → (Option (List ℕ) → CallAccount → World)
+    → (Option (List ℕ) → CallAccount → World) → Result (Option Bool) Stop → Type 0
+PutsNext plain file file' before now answer =
+    (plan : RestorePlan) (s : Super) (sums : Option TreeRoot) (whole : Program Step Bool) (x : World)
+    (text : Option (List ℕ)) (calls : CallAccount)
+    → IsWriting plan s sums whole x (before text calls) plain file → WritesOn plan s sums whole x (now text calls) plain file' answer
+
+abbrev pub PutsRest : FileBytes → FileBytes → (Option (List ℕ) → CallAccount → World) → (Option (List ℕ) → CallAccount → World)
+    → Result Bool Stop → Type 0
+PutsRest file file' before now answer =
+    (plan : RestorePlan) (s : Super) (sums : Option TreeRoot) (whole : Program Step Bool) (x : World)
+    (text : Option (List ℕ)) (calls : CallAccount)
+    → IsWriting plan s sums whole x (before text calls) false file → WasWritten plan s sums whole x (now text calls) file' answer

@@ -1,10 +1,8 @@
 // What is written for an entry.
-ghost use Rattle.std.specs.Prelude.{◌≡◌, false, ℕ, OnOk, Option};
+ghost use Rattle.std.specs.Prelude.{◌≡◌, false, OnOk};
 ghost use Rattle.btr_rack.specs.Sink.{BetweenFiles, InFile};
-ghost use Rattle.btr_super.specs.declared.superblock.Super.{Super};
-ghost use Rattle.btr_volume.specs.declared.root.TreeRoot.{TreeRoot as Tree};
 ghost use Rattle.btr_restore.specs.Journey.{closed, empty, entered};
-ghost use Rattle.btr_restore.specs.Running.{Stands, StandsAfter, Wrote, outside};
+ghost use Rattle.btr_restore.specs.Running.{KeepsStanding, WroteBy, outside_of};
 ghost use Rattle.btr_restore.specs.Treating.{IsOver, came};
 
 use crate::job::Job;
@@ -27,8 +25,11 @@ pub(crate) fn enter<T: TreeSink, O: Out>(
     out: &mut O,
 ) -> Result<Treated, Stop>
     requires between { job.now.plan.dry ≡ false → (T.sink tree.old).stage ≡ BetweenFiles }
-    ensures wrote { (s : Super) (sums : Option Tree) → Wrote (entered job.now.plan s sums name.now path.now inner dirid counts.old) (outside (T.sink tree.old) (T.account tree.old) (O.text out.old) (O.account out.old)) (outside (T.sink tree.new) (T.account tree.new) (O.text out.new) (O.account out.new)) (came counts.new result) }
-    ensures stands { (n : ℕ) → Stands job.now.plan.dry n (T.sink tree.old) → StandsAfter job.now.plan.dry n (T.sink tree.new) result }
+    ensures wrote { WroteBy (λ s sums. entered job.now.plan s sums name.now path.now inner dirid counts.old)
+        (outside_of T.sink T.account O.text O.account tree.old out.old)
+        (outside_of T.sink T.account O.text O.account tree.new out.new)
+        (came counts.new result) }
+    ensures stands { KeepsStanding job.now.plan.dry (T.sink tree.old) (T.sink tree.new) result }
 {
     match make_dir(&job.plan, name, tree) {
         Ok(()) => {}
@@ -52,8 +53,11 @@ pub(crate) fn enter_empty<T: TreeSink, O: Out>(
     out: &mut O,
 ) -> Result<Treated, Stop>
     requires between { job.now.plan.dry ≡ false → (T.sink tree.old).stage ≡ BetweenFiles }
-    ensures wrote { (s : Super) (sums : Option Tree) → Wrote (empty job.now.plan s sums name.now path.now counts.old) (outside (T.sink tree.old) (T.account tree.old) (O.text out.old) (O.account out.old)) (outside (T.sink tree.new) (T.account tree.new) (O.text out.new) (O.account out.new)) (came counts.new result) }
-    ensures stands { (n : ℕ) → Stands job.now.plan.dry n (T.sink tree.old) → StandsAfter job.now.plan.dry n (T.sink tree.new) result }
+    ensures wrote { WroteBy (λ s sums. empty job.now.plan s sums name.now path.now counts.old)
+        (outside_of T.sink T.account O.text O.account tree.old out.old)
+        (outside_of T.sink T.account O.text O.account tree.new out.new)
+        (came counts.new result) }
+    ensures stands { KeepsStanding job.now.plan.dry (T.sink tree.old) (T.sink tree.new) result }
     ensures over { IsOver result }
 {
     match make_dir(&job.plan, name, tree) {
@@ -82,7 +86,10 @@ pub(crate) fn finish_file<T: TreeSink, O: Out>(
     out: &mut O,
 ) -> Result<Treated, Stop>
     requires begun { job.now.plan.dry ≡ false → (T.sink tree.old).stage ≡ InFile }
-    ensures wrote { (s : Super) (sums : Option Tree) → Wrote (closed job.now.plan s sums path.now counts.old plain) (outside (T.sink tree.old) (T.account tree.old) (O.text out.old) (O.account out.old)) (outside (T.sink tree.new) (T.account tree.new) (O.text out.new) (O.account out.new)) (came counts.new result) }
+    ensures wrote { WroteBy (λ s sums. closed job.now.plan s sums path.now counts.old plain)
+        (outside_of T.sink T.account O.text O.account tree.old out.old)
+        (outside_of T.sink T.account O.text O.account tree.new out.new)
+        (came counts.new result) }
     ensures over { IsOver result }
     ensures between { job.now.plan.dry ≡ false → OnOk result ((T.sink tree.new).stage ≡ BetweenFiles) }
     ensures depth { job.now.plan.dry ≡ false → OnOk result ((T.sink tree.new).depth ≡ (T.sink tree.old).depth) }

@@ -1,12 +1,8 @@
 // What becomes of a file.
-ghost use Rattle.std.specs.Prelude.{◌≡◌, false, ℕ, Some};
-ghost use Rattle.btr_files.specs.Names.{inode_in};
+ghost use Rattle.std.specs.Prelude.{◌≡◌, false, Some};
 ghost use Rattle.btr_rack.specs.Sink.{BetweenFiles};
-ghost use Rattle.btr_super.specs.declared.superblock.Super.{Super};
-ghost use Rattle.btr_volume.specs.Lookup.{looks};
-ghost use Rattle.btr_restore.specs.Journey.{file_found, written};
-ghost use Rattle.btr_restore.specs.Running.{IsReady, Ran, Stands, StandsAfter, outside, world};
-ghost use Rattle.btr_restore.specs.Treating.{IsOver, came};
+ghost use Rattle.btr_restore.specs.Running.{IsReady, world, KeepsStanding, RanFor, outside_of};
+ghost use Rattle.btr_restore.specs.Treating.{IsOver, came, file_for, found_for, written_for};
 
 use crate::cause::Cause;
 use crate::entering::finish_file;
@@ -39,8 +35,11 @@ fn write_file<R: Rack, T: TreeSink, O: Out>(
 ) -> Result<Treated, Stop>
     requires ready { IsReady (R.seen rack.old) vol.old }
     requires between { job.now.plan.dry ≡ false → (T.sink tree.old).stage ≡ BetweenFiles }
-    ensures ran { (s : Super) → s ≡ vol.old.sup → Ran (written job.now.plan s job.now.sums entry.now.tree entry.now.row.location.objectid name.now entry.now.path.now found.now counts.old) (world (R.seen rack.old) vol.old (outside (T.sink tree.old) (T.account tree.old) (O.text out.old) (O.account out.old))) (world (R.seen rack.new) vol.new (outside (T.sink tree.new) (T.account tree.new) (O.text out.new) (O.account out.new))) (came counts.new result) }
-    ensures stands { (n : ℕ) → Stands job.now.plan.dry n (T.sink tree.old) → StandsAfter job.now.plan.dry n (T.sink tree.new) result }
+    ensures ran { RanFor (written_for job.now entry.now name.now found.now counts.old)
+        (world (R.seen rack.old) vol.old (outside_of T.sink T.account O.text O.account tree.old out.old))
+        (world (R.seen rack.new) vol.new (outside_of T.sink T.account O.text O.account tree.new out.new))
+        (came counts.new result) }
+    ensures stands { KeepsStanding job.now.plan.dry (T.sink tree.old) (T.sink tree.new) result }
     ensures over { IsOver result }
 {
     match make_file(&job.plan, name, tree) {
@@ -68,8 +67,11 @@ fn treat_inode<R: Rack, T: TreeSink, O: Out>(
 ) -> Result<Treated, Stop>
     requires ready { IsReady (R.seen rack.old) vol.old }
     requires between { job.now.plan.dry ≡ false → (T.sink tree.old).stage ≡ BetweenFiles }
-    ensures ran { (s : Super) → s ≡ vol.old.sup → Ran (file_found job.now.plan s job.now.sums entry.now.tree entry.now.row.location.objectid name.now entry.now.path.now counts.old (Some found.now)) (world (R.seen rack.old) vol.old (outside (T.sink tree.old) (T.account tree.old) (O.text out.old) (O.account out.old))) (world (R.seen rack.new) vol.new (outside (T.sink tree.new) (T.account tree.new) (O.text out.new) (O.account out.new))) (came counts.new result) }
-    ensures stands { (n : ℕ) → Stands job.now.plan.dry n (T.sink tree.old) → StandsAfter job.now.plan.dry n (T.sink tree.new) result }
+    ensures ran { RanFor (λ s. found_for job.now entry.now name.now counts.old s (Some found.now))
+        (world (R.seen rack.old) vol.old (outside_of T.sink T.account O.text O.account tree.old out.old))
+        (world (R.seen rack.new) vol.new (outside_of T.sink T.account O.text O.account tree.new out.new))
+        (came counts.new result) }
+    ensures stands { KeepsStanding job.now.plan.dry (T.sink tree.old) (T.sink tree.new) result }
     ensures over { IsOver result }
 {
     if found.size > MOST_BYTES {
@@ -96,8 +98,11 @@ pub(crate) fn treat_file<R: Rack, T: TreeSink, O: Out>(
 ) -> Result<Treated, Stop>
     requires ready { IsReady (R.seen rack.old) vol.old }
     requires between { job.now.plan.dry ≡ false → (T.sink tree.old).stage ≡ BetweenFiles }
-    ensures ran { (s : Super) → s ≡ vol.old.sup → Ran (looks (inode_in entry.now.tree entry.now.row.location.objectid) (file_found job.now.plan s job.now.sums entry.now.tree entry.now.row.location.objectid name.now entry.now.path.now counts.old)) (world (R.seen rack.old) vol.old (outside (T.sink tree.old) (T.account tree.old) (O.text out.old) (O.account out.old))) (world (R.seen rack.new) vol.new (outside (T.sink tree.new) (T.account tree.new) (O.text out.new) (O.account out.new))) (came counts.new result) }
-    ensures stands { (n : ℕ) → Stands job.now.plan.dry n (T.sink tree.old) → StandsAfter job.now.plan.dry n (T.sink tree.new) result }
+    ensures ran { RanFor (file_for job.now entry.now name.now counts.old)
+        (world (R.seen rack.old) vol.old (outside_of T.sink T.account O.text O.account tree.old out.old))
+        (world (R.seen rack.new) vol.new (outside_of T.sink T.account O.text O.account tree.new out.new))
+        (came counts.new result) }
+    ensures stands { KeepsStanding job.now.plan.dry (T.sink tree.old) (T.sink tree.new) result }
     ensures over { IsOver result }
 {
     match find_inode(&entry.tree, entry.row.location.objectid, rack, vol) {

@@ -1,13 +1,10 @@
 // What becomes of a directory or a subvolume.
-ghost use Rattle.std.specs.Prelude.{◌≡◌, ◌&&◌, ◌==◌, not, false, true, ℕ};
+ghost use Rattle.std.specs.Prelude.{◌≡◌, ◌&&◌, ◌==◌, not, false, true};
 ghost use Rattle.btr_files.specs.Entries.{name_in};
 ghost use Rattle.btr_rack.specs.Sink.{BetweenFiles};
-ghost use Rattle.btr_super.specs.declared.superblock.Super.{Super};
-ghost use Rattle.btr_volume.specs.Lookup.{looks};
-ghost use Rattle.btr_volume.specs.Tree.{tree_of};
-ghost use Rattle.btr_restore.specs.Journey.{directory_entry, folder_entry, subvolume_entry, subvolume_found};
-ghost use Rattle.btr_restore.specs.Running.{IsReady, Ran, Stands, StandsAfter, Wrote, outside, world};
-ghost use Rattle.btr_restore.specs.Treating.{IsOver, came, entry_as};
+ghost use Rattle.btr_restore.specs.Journey.{subvolume_found};
+ghost use Rattle.btr_restore.specs.Running.{IsReady, world, KeepsStanding, RanFor, WroteFor, outside_of};
+ghost use Rattle.btr_restore.specs.Treating.{IsOver, came, directory_for, folder_for, root_for, subvolume_for};
 
 use crate::cause::Cause;
 use crate::entering::{enter, enter_empty};
@@ -35,8 +32,11 @@ fn treat_directory<R: Rack, T: TreeSink, O: Out>(
     requires ready { IsReady (R.seen rack.old) vol.old }
     requires between { job.now.plan.dry ≡ false → (T.sink tree.old).stage ≡ BetweenFiles }
     requires named { name.now ≡ name_in entry.now.name.now }
-    ensures ran { (s : Super) → s ≡ vol.old.sup → Ran (directory_entry job.now.plan s job.now.sums entry.now.tree entry.now.dirid (entry_as entry.now.row name.now) entry.now.path.now counts.old) (world (R.seen rack.old) vol.old (outside (T.sink tree.old) (T.account tree.old) (O.text out.old) (O.account out.old))) (world (R.seen rack.new) vol.new (outside (T.sink tree.new) (T.account tree.new) (O.text out.new) (O.account out.new))) (came counts.new result) }
-    ensures stands { (n : ℕ) → Stands job.now.plan.dry n (T.sink tree.old) → StandsAfter job.now.plan.dry n (T.sink tree.new) result }
+    ensures ran { RanFor (directory_for job.now entry.now name.now counts.old)
+        (world (R.seen rack.old) vol.old (outside_of T.sink T.account O.text O.account tree.old out.old))
+        (world (R.seen rack.new) vol.new (outside_of T.sink T.account O.text O.account tree.new out.new))
+        (came counts.new result) }
+    ensures stands { KeepsStanding job.now.plan.dry (T.sink tree.old) (T.sink tree.new) result }
 {
     match is_linked(entry, rack, vol) {
         Err(stop) => Err(stop),
@@ -66,8 +66,11 @@ fn enter_subvolume<T: TreeSink, O: Out>(
     out: &mut O,
 ) -> Result<Treated, Stop>
     requires between { job.now.plan.dry ≡ false → (T.sink tree.old).stage ≡ BetweenFiles }
-    ensures wrote { (s : Super) → Wrote (subvolume_found job.now.plan s job.now.sums name.now path.now counts.old found) (outside (T.sink tree.old) (T.account tree.old) (O.text out.old) (O.account out.old)) (outside (T.sink tree.new) (T.account tree.new) (O.text out.new) (O.account out.new)) (came counts.new result) }
-    ensures stands { (n : ℕ) → Stands job.now.plan.dry n (T.sink tree.old) → StandsAfter job.now.plan.dry n (T.sink tree.new) result }
+    ensures wrote { WroteFor (λ s. subvolume_found job.now.plan s job.now.sums name.now path.now counts.old found)
+        (outside_of T.sink T.account O.text O.account tree.old out.old)
+        (outside_of T.sink T.account O.text O.account tree.new out.new)
+        (came counts.new result) }
+    ensures stands { KeepsStanding job.now.plan.dry (T.sink tree.old) (T.sink tree.new) result }
 {
     match found {
         None => leave_out(Cause::Missing, path, counts, out),
@@ -94,8 +97,11 @@ fn find_subvolume<R: Rack, T: TreeSink, O: Out>(
     requires ready { IsReady (R.seen rack.old) vol.old }
     requires between { job.now.plan.dry ≡ false → (T.sink tree.old).stage ≡ BetweenFiles }
     requires named { name.now ≡ name_in entry.now.name.now }
-    ensures ran { (s : Super) → s ≡ vol.old.sup → Ran (looks (tree_of s entry.now.row.location.objectid) (subvolume_found job.now.plan s job.now.sums name.now entry.now.path.now counts.old)) (world (R.seen rack.old) vol.old (outside (T.sink tree.old) (T.account tree.old) (O.text out.old) (O.account out.old))) (world (R.seen rack.new) vol.new (outside (T.sink tree.new) (T.account tree.new) (O.text out.new) (O.account out.new))) (came counts.new result) }
-    ensures stands { (n : ℕ) → Stands job.now.plan.dry n (T.sink tree.old) → StandsAfter job.now.plan.dry n (T.sink tree.new) result }
+    ensures ran { RanFor (root_for job.now entry.now name.now counts.old)
+        (world (R.seen rack.old) vol.old (outside_of T.sink T.account O.text O.account tree.old out.old))
+        (world (R.seen rack.new) vol.new (outside_of T.sink T.account O.text O.account tree.new out.new))
+        (came counts.new result) }
+    ensures stands { KeepsStanding job.now.plan.dry (T.sink tree.old) (T.sink tree.new) result }
 {
     match find_tree(entry.row.location.objectid, rack, vol) {
         Err(stop) => Err(stop),
@@ -117,8 +123,11 @@ fn treat_subvolume<R: Rack, T: TreeSink, O: Out>(
     requires ready { IsReady (R.seen rack.old) vol.old }
     requires between { job.now.plan.dry ≡ false → (T.sink tree.old).stage ≡ BetweenFiles }
     requires named { name.now ≡ name_in entry.now.name.now }
-    ensures ran { (s : Super) → s ≡ vol.old.sup → Ran (subvolume_entry job.now.plan s job.now.sums entry.now.tree entry.now.dirid (entry_as entry.now.row name.now) entry.now.path.now counts.old) (world (R.seen rack.old) vol.old (outside (T.sink tree.old) (T.account tree.old) (O.text out.old) (O.account out.old))) (world (R.seen rack.new) vol.new (outside (T.sink tree.new) (T.account tree.new) (O.text out.new) (O.account out.new))) (came counts.new result) }
-    ensures stands { (n : ℕ) → Stands job.now.plan.dry n (T.sink tree.old) → StandsAfter job.now.plan.dry n (T.sink tree.new) result }
+    ensures ran { RanFor (subvolume_for job.now entry.now name.now counts.old)
+        (world (R.seen rack.old) vol.old (outside_of T.sink T.account O.text O.account tree.old out.old))
+        (world (R.seen rack.new) vol.new (outside_of T.sink T.account O.text O.account tree.new out.new))
+        (came counts.new result) }
+    ensures stands { KeepsStanding job.now.plan.dry (T.sink tree.old) (T.sink tree.new) result }
 {
     match is_mounted(entry, rack, vol) {
         Err(stop) => Err(stop),
@@ -141,8 +150,11 @@ pub(crate) fn treat_folder<R: Rack, T: TreeSink, O: Out>(
     requires ready { IsReady (R.seen rack.old) vol.old }
     requires between { job.now.plan.dry ≡ false → (T.sink tree.old).stage ≡ BetweenFiles }
     requires named { name.now ≡ name_in entry.now.name.now }
-    ensures ran { (s : Super) → s ≡ vol.old.sup → Ran (folder_entry job.now.plan s job.now.sums entry.now.deep entry.now.tree entry.now.dirid (entry_as entry.now.row name.now) entry.now.path.now counts.old) (world (R.seen rack.old) vol.old (outside (T.sink tree.old) (T.account tree.old) (O.text out.old) (O.account out.old))) (world (R.seen rack.new) vol.new (outside (T.sink tree.new) (T.account tree.new) (O.text out.new) (O.account out.new))) (came counts.new result) }
-    ensures stands { (n : ℕ) → Stands job.now.plan.dry n (T.sink tree.old) → StandsAfter job.now.plan.dry n (T.sink tree.new) result }
+    ensures ran { RanFor (folder_for job.now entry.now name.now counts.old)
+        (world (R.seen rack.old) vol.old (outside_of T.sink T.account O.text O.account tree.old out.old))
+        (world (R.seen rack.new) vol.new (outside_of T.sink T.account O.text O.account tree.new out.new))
+        (came counts.new result) }
+    ensures stands { KeepsStanding job.now.plan.dry (T.sink tree.old) (T.sink tree.new) result }
     ensures flat { entry.now.deep ≡ true → IsOver result }
 {
     if entry.deep {

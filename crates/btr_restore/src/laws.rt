@@ -1,10 +1,6 @@
 //! What restore's definitions come to. Each function here is a law: its contract is the law, and its body is empty.
-ghost use Rattle.std.specs.Prelude.{ℕ, List};
-ghost use Rattle.btr_rack.specs.Rack.{Seen};
-ghost use Rattle.btr_files.specs.declared.plan.RestorePlan.{RestorePlan};
-ghost use Rattle.btr_volume.specs.Start.{Start};
 ghost use Rattle.btr_restore.specs.Headline.{Headline};
-ghost use Rattle.btr_restore.specs.InOrder.{OpenedThen, OpenRefused, OpenHalted, SettledLaw, CommittedOrder};
+ghost use Rattle.btr_restore.specs.InOrder.{SettledLaw, CommittedOrder, OpenHaltedLaw, OpenRefusedLaw, OpenedThenLaw};
 ghost use Rattle.btr_restore.specs.Orderly.{OrderlyLaw, ToldLaw};
 
 /// Over honest images, restore writes exactly the committed directories and files, or stops before the first block that has no candidate.
@@ -24,9 +20,9 @@ pub fn settled()
 
 /// A volume that was opened with a table and then listed: what was done and answered follows the journey.
 pub fn opened_then()
-    ensures listed { (plan : RestorePlan) (dest : List ℕ) (start : Start) (old new : Seen) → OpenedThen plan dest start old new }
-    ensures refused { (plan : RestorePlan) (dest : List ℕ) (start : Start) (old new : Seen) → OpenRefused plan dest start old new }
-    ensures halted { (plan : RestorePlan) (dest : List ℕ) (start : Start) (old new : Seen) → OpenHalted plan dest start old new }
+    ensures listed { OpenedThenLaw }
+    ensures refused { OpenRefusedLaw }
+    ensures halted { OpenHaltedLaw }
 {}
 
 /// The steps of restore are calls that a sink may take, no deeper than 512 directories and with no bad name, and its counts are theirs.

@@ -1,5 +1,4 @@
 // The lines of restore.
-ghost use Rattle.std.specs.Prelude.{◌≡◌};
 ghost use Rattle.btr_rack.specs.Out.{Puts, Counts as Accounts};
 ghost use Rattle.btr_restore.specs.Causes.{cause_text};
 ghost use Rattle.btr_restore.specs.Lines.{line, skip_line, counts_line};

@@ -1,13 +1,8 @@
 // The listing of directories, from the top directory of a tree down.
-ghost use Rattle.std.specs.Prelude.{◌≡◌, ◌<◌, ◌+◌, false, ℕ, List, OnOk, length, take};
+ghost use Rattle.std.specs.Prelude.{◌≡◌, ◌<◌, false, OnOk, length, take};
 ghost use Rattle.btr_rack.specs.Sink.{BetweenFiles};
-ghost use Rattle.btr_super.specs.declared.superblock.Super.{Super};
-ghost use Rattle.btr_files.specs.Listing.{named_row};
-ghost use Rattle.btr_restore.specs.Journey.{directory, listed_in};
-ghost use Rattle.btr_restore.specs.Journey as journey;
-ghost use Rattle.btr_restore.specs.Lines.{path_in};
-ghost use Rattle.btr_restore.specs.Listing.{StandsIf, ended_with, listing_in, treat_in};
-ghost use Rattle.btr_restore.specs.Running.{IsReady, Ran, Stands, outside, world};
+ghost use Rattle.btr_restore.specs.Listing.{ended_with, listing_for, entry_for, within_for, KeepsDepth, LeavesDepth};
+ghost use Rattle.btr_restore.specs.Running.{IsReady, world, RanFor, outside_of};
 
 use crate::entry::Entry;
 use crate::job::Job;
@@ -44,9 +39,12 @@ fn list_within<R: Rack, T: TreeSink, O: Out>(
     requires between { job.now.plan.dry ≡ false → (T.sink tree.old).stage ≡ BetweenFiles }
     requires some { 0 < length frames.old }
     requires below { job.now.plan.dry ≡ false → 0 < (T.sink tree.old).depth }
-    ensures ran { (s : Super) → s ≡ vol.old.sup → Ran (listed_in job.now.plan s job.now.sums (listing_in job.now.plan s job.now.sums (length frames.old)) path.old (journey.Within inner dirid counts.old)) (world (R.seen rack.old) vol.old (outside (T.sink tree.old) (T.account tree.old) (O.text out.old) (O.account out.old))) (world (R.seen rack.new) vol.new (outside (T.sink tree.new) (T.account tree.new) (O.text out.new) (O.account out.new))) (ended_with counts.new result) }
+    ensures ran { RanFor (within_for job.now (length frames.old) path.old inner dirid counts.old)
+        (world (R.seen rack.old) vol.old (outside_of T.sink T.account O.text O.account tree.old out.old))
+        (world (R.seen rack.new) vol.new (outside_of T.sink T.account O.text O.account tree.new out.new))
+        (ended_with counts.new result) }
     ensures path { OnOk result (path.new ≡ path.old) }
-    ensures stands { (n : ℕ) → Stands job.now.plan.dry (n + 1) (T.sink tree.old) → StandsIf job.now.plan.dry n (T.sink tree.new) result }
+    ensures stands { LeavesDepth job.now.plan.dry (T.sink tree.old) (T.sink tree.new) result }
 {
     let Some((here, below)) = frames.split_first_mut() else {
         unreachable!();
@@ -77,9 +75,12 @@ fn list_entry<R: Rack, T: TreeSink, O: Out>(
 ) -> Result<(), Stop>
     requires ready { IsReady (R.seen rack.old) vol.old }
     requires between { job.now.plan.dry ≡ false → (T.sink tree.old).stage ≡ BetweenFiles }
-    ensures ran { (s : Super) → s ≡ vol.old.sup → Ran (treat_in job.now.plan s job.now.sums (length below.old) root.now dirid path.old counts.old (named_row row name.now)) (world (R.seen rack.old) vol.old (outside (T.sink tree.old) (T.account tree.old) (O.text out.old) (O.account out.old))) (world (R.seen rack.new) vol.new (outside (T.sink tree.new) (T.account tree.new) (O.text out.new) (O.account out.new))) (ended_with counts.new result) }
+    ensures ran { RanFor (entry_for job.now (length below.old) root.now dirid path.old counts.old row name.now)
+        (world (R.seen rack.old) vol.old (outside_of T.sink T.account O.text O.account tree.old out.old))
+        (world (R.seen rack.new) vol.new (outside_of T.sink T.account O.text O.account tree.new out.new))
+        (ended_with counts.new result) }
     ensures path { OnOk result (take (length path.old) path.new ≡ path.old) }
-    ensures stands { (n : ℕ) → Stands job.now.plan.dry n (T.sink tree.old) → StandsIf job.now.plan.dry n (T.sink tree.new) result }
+    ensures stands { KeepsDepth job.now.plan.dry (T.sink tree.old) (T.sink tree.new) result }
 {
     match path.push(name.as_bytes()) {
         Ok(()) => {}
@@ -119,9 +120,12 @@ pub(crate) fn list<R: Rack, T: TreeSink, O: Out>(
 ) -> Result<(), Stop>
     requires ready { IsReady (R.seen rack.old) vol.old }
     requires between { job.now.plan.dry ≡ false → (T.sink tree.old).stage ≡ BetweenFiles }
-    ensures ran { (s : Super) → s ≡ vol.old.sup → Ran (directory job.now.plan s job.now.sums (length below.old) root dirid path.old counts.old) (world (R.seen rack.old) vol.old (outside (T.sink tree.old) (T.account tree.old) (O.text out.old) (O.account out.old))) (world (R.seen rack.new) vol.new (outside (T.sink tree.new) (T.account tree.new) (O.text out.new) (O.account out.new))) (ended_with counts.new result) }
+    ensures ran { RanFor (listing_for job.now (length below.old) root dirid path.old counts.old)
+        (world (R.seen rack.old) vol.old (outside_of T.sink T.account O.text O.account tree.old out.old))
+        (world (R.seen rack.new) vol.new (outside_of T.sink T.account O.text O.account tree.new out.new))
+        (ended_with counts.new result) }
     ensures path { OnOk result (path.new ≡ path.old) }
-    ensures stands { (n : ℕ) → Stands job.now.plan.dry n (T.sink tree.old) → StandsIf job.now.plan.dry n (T.sink tree.new) result }
+    ensures stands { KeepsDepth job.now.plan.dry (T.sink tree.old) (T.sink tree.new) result }
 {
     here.dir = Dir::new(root, dirid);
     let len = path.len();

@@ -1,12 +1,8 @@
 // The lookups of a listing, whose fault ends it.
-ghost use Rattle.std.specs.Prelude.{◌≡◌, ℕ, List};
-ghost use Rattle.btr_prog.specs.Quiet.{quiet};
-ghost use Rattle.btr_files.specs.Entries.{name_in};
 ghost use Rattle.btr_files.specs.Extents.{survey};
 ghost use Rattle.btr_files.specs.Names.{inode_in, link, linked, mount, mounted};
-ghost use Rattle.btr_super.specs.declared.superblock.Super.{Super};
 ghost use Rattle.btr_volume.specs.Tree.{tree_of};
-ghost use Rattle.btr_restore.specs.Running.{IsReady, Outside, Ran, world};
+ghost use Rattle.btr_restore.specs.Running.{IsReady, Looked, LookedBy, LookedFor, LookedForBy};
 
 use crate::entry::Entry;
 use btr_files::{Survey, inode, linked, mounted, survey};
@@ -22,7 +18,7 @@ pub(crate) fn find_inode<R: Rack>(
     vol: &mut Volume,
 ) -> Result<Option<Inode>, Stop>
     requires { IsReady (R.seen rack.old) vol.old }
-    ensures { (x : Outside) → Ran (quiet (inode_in tree.now ino)) (world (R.seen rack.old) vol.old x) (world (R.seen rack.new) vol.new x) result }
+    ensures { Looked (inode_in tree.now ino) (R.seen rack.old) vol.old (R.seen rack.new) vol.new result }
 {
     match inode(tree, ino, rack, vol) {
         Ok(found) => Ok(found),
@@ -38,7 +34,7 @@ pub(crate) fn survey_file<R: Rack>(
     vol: &mut Volume,
 ) -> Result<Survey, Stop>
     requires { IsReady (R.seen rack.old) vol.old }
-    ensures { (x : Outside) → Ran (quiet (survey tree.now ino)) (world (R.seen rack.old) vol.old x) (world (R.seen rack.new) vol.new x) result }
+    ensures { Looked (survey tree.now ino) (R.seen rack.old) vol.old (R.seen rack.new) vol.new result }
 {
     match survey(tree, ino, rack, vol) {
         Ok(found) => Ok(found),
@@ -53,7 +49,9 @@ pub(crate) fn is_linked<R: Rack>(
     vol: &mut Volume,
 ) -> Result<bool, Stop>
     requires { IsReady (R.seen rack.old) vol.old }
-    ensures { (x : Outside) (n : List ℕ) → n ≡ name_in entry.now.name.now → Ran (quiet (linked (link entry.now.dirid entry.now.row.index n) entry.now.tree entry.now.row.location.objectid)) (world (R.seen rack.old) vol.old x) (world (R.seen rack.new) vol.new x) result }
+    ensures { LookedBy entry.now.name.now
+        (λ n. linked (link entry.now.dirid entry.now.row.index n) entry.now.tree entry.now.row.location.objectid)
+        (R.seen rack.old) vol.old (R.seen rack.new) vol.new result }
 {
     let ino = entry.row.location.objectid;
     match linked(
@@ -77,7 +75,10 @@ pub(crate) fn is_mounted<R: Rack>(
     vol: &mut Volume,
 ) -> Result<bool, Stop>
     requires { IsReady (R.seen rack.old) vol.old }
-    ensures { (x : Outside) (s : Super) (n : List ℕ) → s ≡ vol.old.sup → n ≡ name_in entry.now.name.now → Ran (quiet (mounted (mount entry.now.tree.id (link entry.now.dirid entry.now.row.index n)) s entry.now.row.location.objectid)) (world (R.seen rack.old) vol.old x) (world (R.seen rack.new) vol.new x) result }
+    ensures { LookedForBy entry.now.name.now
+        (λ s n. mounted (mount entry.now.tree.id (link entry.now.dirid entry.now.row.index n)) s
+        entry.now.row.location.objectid)
+        (R.seen rack.old) vol.old (R.seen rack.new) vol.new result }
 {
     let id = entry.row.location.objectid;
     match mounted(
@@ -101,7 +102,7 @@ pub(crate) fn find_tree<R: Rack>(
     vol: &mut Volume,
 ) -> Result<Option<TreeRoot>, Stop>
     requires { IsReady (R.seen rack.old) vol.old }
-    ensures { (x : Outside) (s : Super) → s ≡ vol.old.sup → Ran (quiet (tree_of s id)) (world (R.seen rack.old) vol.old x) (world (R.seen rack.new) vol.new x) result }
+    ensures { LookedFor (λ s. tree_of s id) (R.seen rack.old) vol.old (R.seen rack.new) vol.new result }
 {
     match vol.tree(id, rack) {
         Ok(found) => Ok(found),

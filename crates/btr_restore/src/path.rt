@@ -1,5 +1,5 @@
 // The path of what is restored.
-ghost use Rattle.std.specs.Prelude.{◌≡◌, ◌≤◌, [], IfOk, OnOk, length, take};
+ghost use Rattle.std.specs.Prelude.{◌≡◌, [], IfOk, OnOk, length, take};
 ghost use Rattle.btr_restore.specs.Lines.{path_in};
 
 use btr_base::Memory;

@@ -1,13 +1,10 @@
 // The call restore.
-ghost use Rattle.std.specs.Prelude.{◌≡◌, false, ℕ, List, IfOk, [], length, Some};
+ghost use Rattle.std.specs.Prelude.{◌≡◌, false, IfOk, [], length, Some};
 ghost use Rattle.btr_prog.specs.Prog.{Emit, Return};
-ghost use Rattle.btr_prog.specs.Quiet.{quiet};
-ghost use Rattle.btr_rack.specs.Out.{CallAccount};
-ghost use Rattle.btr_rack.specs.Sink.{NotStarted, Sink};
-ghost use Rattle.btr_super.specs.declared.superblock.Super.{Super};
-ghost use Rattle.btr_restore.specs.Journey.{from_root, listing, restored, sums_lookup};
+ghost use Rattle.btr_rack.specs.Sink.{NotStarted};
+ghost use Rattle.btr_restore.specs.Journey.{from_root, listing, restored};
 ghost use Rattle.btr_restore.specs.Lines.{counts_line};
-ghost use Rattle.btr_restore.specs.Running.{IsReady, Outside, Ran, Wrote, outside, world};
+ghost use Rattle.btr_restore.specs.Running.{IsReady, Ran, world, LookedForSums, RanFor, WroteLines, outside_of};
 ghost use Rattle.btr_restore.specs.Step.{Line};
 
 use crate::job::Job;
@@ -61,7 +58,8 @@ fn free_frames(alloc: Global) -> Result<Vec<Frame>, Memory>
 
 // Tells how much was restored.
 fn tell_counts<O: Out>(counts: &Counts, out: &mut O) -> Result<Counts, Stop>
-    ensures { (sink : Sink) (calls : CallAccount) → Wrote (Emit (Line (counts_line counts.now)) (Return counts.now)) (outside sink calls (O.text out.old) (O.account out.old)) (outside sink calls (O.text out.new) (O.account out.new)) result }
+    ensures { WroteLines (Emit (Line (counts_line counts.now)) (Return counts.now))
+        O.text O.account out.old out.new result }
 {
     match put_counts(counts, out) {
         Ok(()) => Ok(*counts),
@@ -76,7 +74,7 @@ fn find_sums<R: Rack>(
     vol: &mut Volume,
 ) -> Result<Option<TreeRoot>, Stop>
     requires { IsReady (R.seen rack.old) vol.old }
-    ensures { (x : Outside) (dest : List ℕ) (s : Super) → s ≡ vol.old.sup → Ran (quiet (sums_lookup plan.now dest s)) (world (R.seen rack.old) vol.old x) (world (R.seen rack.new) vol.new x) result }
+    ensures { LookedForSums plan.now (R.seen rack.old) vol.old (R.seen rack.new) vol.new result }
 {
     if plan.dry {
         return Ok(None);
@@ -100,7 +98,10 @@ fn list_into<R: Rack, T: TreeSink, O: Out>(
     requires fresh { job.now.plan.dry ≡ false → (T.sink tree.old).stage ≡ NotStarted }
     requires frames { length frames.old ≡ 513 }
     requires path { path.old ≡ [] }
-    ensures { (s : Super) → s ≡ vol.old.sup → Ran (restored job.now.plan dest.now s root.now job.now.sums) (world (R.seen rack.old) vol.old (outside (T.sink tree.old) (T.account tree.old) (O.text out.old) (O.account out.old))) (world (R.seen rack.new) vol.new (outside (T.sink tree.new) (T.account tree.new) (O.text out.new) (O.account out.new))) result }
+    ensures { RanFor (λ s. restored job.now.plan dest.now s root.now job.now.sums)
+        (world (R.seen rack.old) vol.old (outside_of T.sink T.account O.text O.account tree.old out.old))
+        (world (R.seen rack.new) vol.new (outside_of T.sink T.account O.text O.account tree.new out.new))
+        result }
 {
     match start_in(&job.plan, dest, tree) {
         Ok(()) => {}
@@ -148,7 +149,10 @@ fn restore_tree<R: Rack, T: TreeSink, O: Out>(
     requires fresh { plan.now.dry ≡ false → (T.sink tree.old).stage ≡ NotStarted }
     requires frames { length frames.old ≡ 513 }
     requires path { path.old ≡ [] }
-    ensures { (s : Super) → s ≡ vol.old.sup → Ran (from_root plan.now dest.now s (Some root.now)) (world (R.seen rack.old) vol.old (outside (T.sink tree.old) (T.account tree.old) (O.text out.old) (O.account out.old))) (world (R.seen rack.new) vol.new (outside (T.sink tree.new) (T.account tree.new) (O.text out.new) (O.account out.new))) result }
+    ensures { RanFor (λ s. from_root plan.now dest.now s (Some root.now))
+        (world (R.seen rack.old) vol.old (outside_of T.sink T.account O.text O.account tree.old out.old))
+        (world (R.seen rack.new) vol.new (outside_of T.sink T.account O.text O.account tree.new out.new))
+        result }
 {
     match find_sums(plan, rack, vol) {
         Err(stop) => Err(stop),
@@ -178,7 +182,10 @@ pub fn restore<R: Rack, T: TreeSink, O: Out>(
 ) -> Result<Counts, Stop>
     requires ready { IsReady (R.seen rack.old) vol.old }
     requires fresh { plan.now.dry ≡ false → (T.sink tree.old).stage ≡ NotStarted }
-    ensures { Ran (listing plan.now dest.now vol.old.sup) (world (R.seen rack.old) vol.old (outside (T.sink tree.old) (T.account tree.old) (O.text out.old) (O.account out.old))) (world (R.seen rack.new) vol.new (outside (T.sink tree.new) (T.account tree.new) (O.text out.new) (O.account out.new))) result }
+    ensures { Ran (listing plan.now dest.now vol.old.sup)
+        (world (R.seen rack.old) vol.old (outside_of T.sink T.account O.text O.account tree.old out.old))
+        (world (R.seen rack.new) vol.new (outside_of T.sink T.account O.text O.account tree.new out.new))
+        result }
 {
     let mut path = match Path::new(alloc) {
         Ok(path) => path,

@@ -1,15 +1,12 @@
 // What restore tells, and what it counts.
-ghost use Rattle.std.specs.Prelude.{◌≡◌, ◌||◌, Option};
-ghost use Rattle.btr_rack.specs.Out.{CallAccount};
+ghost use Rattle.std.specs.Prelude.{◌≡◌, ◌||◌};
 ghost use Rattle.btr_rack.specs.Sink.{Sink};
-ghost use Rattle.btr_super.specs.declared.superblock.Super.{Super};
-ghost use Rattle.btr_volume.specs.declared.root.TreeRoot.{TreeRoot as Tree};
 ghost use Rattle.btr_restore.specs.Causes.{cause_text};
 ghost use Rattle.btr_prog.specs.Prog.{Return};
 ghost use Rattle.btr_restore.specs.Journey.{told, skip, unverified};
 ghost use Rattle.btr_restore.specs.Lines.{more};
 ghost use Rattle.btr_restore.specs.Restoring.{stops_out, stops_sink};
-ghost use Rattle.btr_restore.specs.Running.{Wrote, outside};
+ghost use Rattle.btr_restore.specs.Running.{WroteLinesBy, WroteLinesOf};
 ghost use Rattle.btr_restore.specs.Treating.{IsOver, came};
 
 use crate::cause::Cause;
@@ -60,7 +57,8 @@ pub(crate) fn tell<O: Out>(
     path: &[u8],
     out: &mut O,
 ) -> Result<(), Stop>
-    ensures { (s : Super) (sums : Option Tree) (sink : Sink) (calls : CallAccount) → Wrote (told plan.now s sums word.now path.now (Return tt)) (outside sink calls (O.text out.old) (O.account out.old)) (outside sink calls (O.text out.new) (O.account out.new)) result }
+    ensures { WroteLinesBy (λ s sums. told plan.now s sums word.now path.now (Return tt))
+        O.text O.account out.old out.new result }
 {
     if !tells(plan) {
         return Ok(());
@@ -78,7 +76,8 @@ pub(crate) fn leave_out<O: Out>(
     counts: &mut Counts,
     out: &mut O,
 ) -> Result<Treated, Stop>
-    ensures wrote { (plan : RestorePlan) (s : Super) (sums : Option Tree) (sink : Sink) (calls : CallAccount) → Wrote (skip plan s sums (cause_text cause) path.now counts.old) (outside sink calls (O.text out.old) (O.account out.old)) (outside sink calls (O.text out.new) (O.account out.new)) (came counts.new result) }
+    ensures wrote { WroteLinesOf (λ plan s sums. skip plan s sums (cause_text cause) path.now counts.old)
+        O.text O.account out.old out.new (came counts.new result) }
     ensures over { IsOver result }
 {
     match put_skip(cause, path, out) {
@@ -92,7 +91,8 @@ pub(crate) fn leave_out<O: Out>(
 
 /// Names a file of which some sector was read without a checksum.
 pub(crate) fn tell_unverified<O: Out>(plain: bool, path: &[u8], out: &mut O) -> Result<(), Stop>
-    ensures { (plan : RestorePlan) (s : Super) (sums : Option Tree) (sink : Sink) (calls : CallAccount) → Wrote (unverified plan s sums plain path.now (Return tt)) (outside sink calls (O.text out.old) (O.account out.old)) (outside sink calls (O.text out.new) (O.account out.new)) result }
+    ensures { WroteLinesOf (λ plan s sums. unverified plan s sums plain path.now (Return tt))
+        O.text O.account out.old out.new result }
 {
     if !plain {
         return Ok(());

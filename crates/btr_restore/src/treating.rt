@@ -1,13 +1,10 @@
 // What becomes of an entry, by its name and its kind.
-ghost use Rattle.std.specs.Prelude.{◌≡◌, false, true, ℕ, List};
+ghost use Rattle.std.specs.Prelude.{◌≡◌, false, true};
 ghost use Rattle.btr_files.specs.Entries.{name_in};
-ghost use Rattle.btr_files.specs.Listing.{named_row};
 ghost use Rattle.btr_rack.specs.Sink.{BetweenFiles};
-ghost use Rattle.btr_super.specs.declared.superblock.Super.{Super};
-ghost use Rattle.btr_restore.specs.Journey.{treated, treated_named};
-ghost use Rattle.btr_restore.specs.Lines.{path_in};
-ghost use Rattle.btr_restore.specs.Running.{IsReady, Ran, Stands, StandsAfter, outside, world};
-ghost use Rattle.btr_restore.specs.Treating.{IsOver, came, entry_as};
+ghost use Rattle.btr_restore.specs.Journey.{treated};
+ghost use Rattle.btr_restore.specs.Running.{IsReady, world, KeepsStanding, RanFor, RanIn, outside_of};
+ghost use Rattle.btr_restore.specs.Treating.{IsOver, came, named_for, treated_for};
 
 use crate::cause::Cause;
 use crate::entry::Entry;
@@ -35,8 +32,11 @@ fn treat_named<R: Rack, T: TreeSink, O: Out>(
     requires ready { IsReady (R.seen rack.old) vol.old }
     requires between { job.now.plan.dry ≡ false → (T.sink tree.old).stage ≡ BetweenFiles }
     requires named { name.now ≡ name_in entry.now.name.now }
-    ensures ran { (s : Super) → s ≡ vol.old.sup → Ran (treated_named job.now.plan s job.now.sums entry.now.deep entry.now.tree entry.now.dirid entry.now.path.now counts.old (entry_as entry.now.row name.now)) (world (R.seen rack.old) vol.old (outside (T.sink tree.old) (T.account tree.old) (O.text out.old) (O.account out.old))) (world (R.seen rack.new) vol.new (outside (T.sink tree.new) (T.account tree.new) (O.text out.new) (O.account out.new))) (came counts.new result) }
-    ensures stands { (n : ℕ) → Stands job.now.plan.dry n (T.sink tree.old) → StandsAfter job.now.plan.dry n (T.sink tree.new) result }
+    ensures ran { RanFor (named_for job.now entry.now name.now counts.old)
+        (world (R.seen rack.old) vol.old (outside_of T.sink T.account O.text O.account tree.old out.old))
+        (world (R.seen rack.new) vol.new (outside_of T.sink T.account O.text O.account tree.new out.new))
+        (came counts.new result) }
+    ensures stands { KeepsStanding job.now.plan.dry (T.sink tree.old) (T.sink tree.new) result }
     ensures flat { entry.now.deep ≡ true → IsOver result }
 {
     if entry.row.kind == 7 {
@@ -63,8 +63,11 @@ pub(crate) fn treat<R: Rack, T: TreeSink, O: Out>(
 ) -> Result<Treated, Stop>
     requires ready { IsReady (R.seen rack.old) vol.old }
     requires between { job.now.plan.dry ≡ false → (T.sink tree.old).stage ≡ BetweenFiles }
-    ensures ran { (s : Super) (path : List ℕ) → s ≡ vol.old.sup → entry.now.path.now ≡ path_in path (name_in entry.now.name.now) → Ran (treated job.now.plan s job.now.sums entry.now.deep entry.now.tree entry.now.dirid path counts.old (named_row entry.now.row entry.now.name.now)) (world (R.seen rack.old) vol.old (outside (T.sink tree.old) (T.account tree.old) (O.text out.old) (O.account out.old))) (world (R.seen rack.new) vol.new (outside (T.sink tree.new) (T.account tree.new) (O.text out.new) (O.account out.new))) (came counts.new result) }
-    ensures stands { (n : ℕ) → Stands job.now.plan.dry n (T.sink tree.old) → StandsAfter job.now.plan.dry n (T.sink tree.new) result }
+    ensures ran { RanIn entry.now.path.now entry.now.name.now (treated_for job.now entry.now counts.old)
+        (world (R.seen rack.old) vol.old (outside_of T.sink T.account O.text O.account tree.old out.old))
+        (world (R.seen rack.new) vol.new (outside_of T.sink T.account O.text O.account tree.new out.new))
+        (came counts.new result) }
+    ensures stands { KeepsStanding job.now.plan.dry (T.sink tree.old) (T.sink tree.new) result }
     ensures flat { entry.now.deep ≡ true → IsOver result }
 {
     match good_name(entry.name.as_bytes()) {

@@ -1,16 +1,11 @@
 // The bytes of a file.
-ghost use Rattle.std.specs.Prelude.{◌≡◌, ◌≤◌, ◌<◌, ◌||◌, not, false, ℕ, Bool, IfOk, IfSome, List, Option};
-ghost use Rattle.btr_rack.specs.Out.{CallAccount};
+ghost use Rattle.std.specs.Prelude.{◌≡◌, ◌≤◌, ◌<◌, ◌||◌, not, false, IfOk, IfSome, Option};
 ghost use Rattle.btr_rack.specs.Sink.{InFile};
 ghost use Rattle.btr_read.specs.Store.{SameLoans, free_count};
-ghost use Rattle.btr_super.specs.declared.superblock.Super.{Super};
-ghost use Rattle.btr_volume.specs.Lookup.{Program};
-ghost use Rattle.btr_volume.specs.declared.root.TreeRoot.{TreeRoot as Tree};
 ghost use Rattle.btr_files.specs.Streaming.{bytes_left, IsPiece, IsReading, piece_of, without_file};
-ghost use Rattle.btr_restore.specs.Journey.{has_no_sums, pieces, put};
-ghost use Rattle.btr_restore.specs.Running.{IsReady, Outside, Ran, World, Wrote, outside, world};
-ghost use Rattle.btr_restore.specs.Step.{Step};
-ghost use Rattle.btr_restore.specs.Writing.{IsWriting, WasWritten, WritesOn};
+ghost use Rattle.btr_restore.specs.Journey.{has_no_sums, pieces};
+ghost use Rattle.btr_restore.specs.Running.{IsReady, RanBeside, beside};
+ghost use Rattle.btr_restore.specs.Writing.{PutsNext, PutsPiece, PutsRest};
 
 use crate::job::Job;
 use crate::telling::sink_stop;
@@ -30,7 +25,7 @@ fn is_plain(plain: bool, verified: bool) -> bool
 fn put_piece<T: TreeSink>(piece: Piece<'_>, plain: bool, tree: &mut T) -> Result<bool, Stop>
     requires begun { (T.sink tree.old).stage ≡ InFile }
     requires some { IsPiece piece }
-    ensures wrote { (plan : RestorePlan) (s : Super) (sums : Option Tree) (text : Option (List ℕ)) (calls : CallAccount) → Wrote (put plan s sums plain (piece_of piece.entry)) (outside (T.sink tree.old) (T.account tree.old) text calls) (outside (T.sink tree.new) (T.account tree.new) text calls) result }
+    ensures wrote { PutsPiece plain (piece_of piece.entry) T.sink T.account tree.old tree.new result }
     ensures stage { (T.sink tree.new).stage ≡ InFile }
     ensures depth { (T.sink tree.new).depth ≡ (T.sink tree.old).depth }
 {
@@ -57,7 +52,9 @@ fn put_next<R: Rack, T: TreeSink>(
     requires ready { IsReading (R.seen rack.old) vol.old.store file.old }
     requires room { 5 ≤ free_count (without_file vol.old.store file.old) }
     requires begun { (T.sink tree.old).stage ≡ InFile }
-    ensures writes { (plan : RestorePlan) (s : Super) (sums : Option Tree) (whole : Program Step Bool) (x : World) (text : Option (List ℕ)) (calls : CallAccount) → IsWriting plan s sums whole x (world (R.seen rack.old) vol.old (outside (T.sink tree.old) (T.account tree.old) text calls)) plain file.old → WritesOn plan s sums whole x (world (R.seen rack.new) vol.new (outside (T.sink tree.new) (T.account tree.new) text calls)) plain file.new result }
+    ensures writes { PutsNext plain file.old file.new
+        (beside R.seen T.sink T.account rack.old vol.old tree.old)
+        (beside R.seen T.sink T.account rack.new vol.new tree.new) result }
     ensures ready { IsReading (R.seen rack.new) vol.new.store file.new }
     ensures room { SameLoans (without_file vol.old.store file.old) (without_file vol.new.store file.new) }
     ensures nears { IfOk result (λ on. IfSome on (λ after. bytes_left file.new < bytes_left file.old)) }
@@ -84,7 +81,9 @@ fn put_pieces<R: Rack, T: TreeSink>(
     requires ready { IsReading (R.seen rack.old) vol.old.store file.old }
     requires room { 5 ≤ free_count (without_file vol.old.store file.old) }
     requires begun { (T.sink tree.old).stage ≡ InFile }
-    ensures writes { (plan : RestorePlan) (s : Super) (sums : Option Tree) (whole : Program Step Bool) (x : World) (text : Option (List ℕ)) (calls : CallAccount) → IsWriting plan s sums whole x (world (R.seen rack.old) vol.old (outside (T.sink tree.old) (T.account tree.old) text calls)) false file.old → WasWritten plan s sums whole x (world (R.seen rack.new) vol.new (outside (T.sink tree.new) (T.account tree.new) text calls)) file.new result }
+    ensures writes { PutsRest file.old file.new
+        (beside R.seen T.sink T.account rack.old vol.old tree.old)
+        (beside R.seen T.sink T.account rack.new vol.new tree.new) result }
     ensures ready { IsReading (R.seen rack.new) vol.new.store file.new }
     ensures stage { (T.sink tree.new).stage ≡ InFile }
     ensures depth { (T.sink tree.new).depth ≡ (T.sink tree.old).depth }
@@ -118,7 +117,9 @@ pub(crate) fn write_bytes<R: Rack, T: TreeSink>(
 ) -> Result<bool, Stop>
     requires ready { IsReady (R.seen rack.old) vol.old }
     requires begun { job.now.plan.dry ≡ false → (T.sink tree.old).stage ≡ InFile }
-    ensures ran { (s : Super) (text : Option (List ℕ)) (calls : CallAccount) → s ≡ vol.old.sup → Ran (pieces job.now.plan s job.now.sums root.now ino inode.now) (world (R.seen rack.old) vol.old (outside (T.sink tree.old) (T.account tree.old) text calls)) (world (R.seen rack.new) vol.new (outside (T.sink tree.new) (T.account tree.new) text calls)) result }
+    ensures ran { RanBeside vol.old.sup (λ s. pieces job.now.plan s job.now.sums root.now ino inode.now)
+        (beside R.seen T.sink T.account rack.old vol.old tree.old)
+        (beside R.seen T.sink T.account rack.new vol.new tree.new) result }
     ensures stage { job.now.plan.dry ≡ false → (T.sink tree.new).stage ≡ InFile }
     ensures depth { job.now.plan.dry ≡ false → (T.sink tree.new).depth ≡ (T.sink tree.old).depth }
 {

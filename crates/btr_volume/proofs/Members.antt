@@ -1,9 +1,9 @@
 -- The devices of the images, slot by slot.
-use Rattle.std.proofs.Common.{◌≡◌, ℕ, ◌+◌, ◌<◌, ◌≤◌, Bool, true, false, List, [], ◌∷◌, ◌++◌, length, map, take, drop, get_or, Option, Some, None, refl, sym, ap, ◌∙◌, subst, arith, add-one, if◌then◌else◌, ◌==◌, ◌||◌}
+use Rattle.std.proofs.Common.{◌≡◌, ℕ, ◌+◌, ◌<◌, Bool, true, false, List, [], ◌∷◌, ◌++◌, length, map, take, drop, get_or, Option, Some, None, refl, sym, ap, ◌∙◌, subst, arith, add-one, if◌then◌else◌, ◌==◌, ◌||◌}
 use Rattle.std.proofs.Math.Seq.{drop-cons}
 use Rattle.std.proofs.lemmas.List.{take_more, get_or-map, length-map, length-take-le}
 use Rattle.btr_rack.specs.Rack.{Slot, len_of, no_slot}
-use Rattle.btr_read.specs.Layout.{Layout, IsOpen, AreOpen, HaveOwnSlots}
+use Rattle.btr_read.specs.Layout.{Layout, AreOpen, HaveOwnSlots}
 use Rattle.std.specs.Option.{IsNone}
 use Rattle.btr_read.specs.declared.device.Device.{Device}
 use Rattle.btr_read.specs.declared.device.Member.{Member}

@@ -36,7 +36,7 @@ use Rattle.btr_read.specs.Fate.{fate, Agreed}
 use Rattle.btr_read.specs.Reading.{AgreedOn, OnMap}
 use Rattle.btr_volume.specs.Maps.{array_layout}
 use Rattle.btr_volume.specs.Table.{table_scan}
-use Rattle.btr_volume.specs.Opening.{OpenedIsOfImages, IsVolumeOf, Opened}
+use Rattle.btr_volume.specs.Opening.{OpenedIsOfImages}
 use Rattle.btr_volume.proofs.Readings.{Sized}
 use Rattle.btr_rack.specs.Rack.{Slot, Account, OnlyCounts, NoneFailed}
 use Rattle.btr_read.specs.Serves.{Serves}

@@ -1,5 +1,5 @@
 -- Bodies of ROOT_ITEMs.
-use Rattle.std.proofs.Common.{◌≡◌, ℕ, ◌<◌, Bool, true, false, List, length, Option, Some, None, Result, Ok, Err, refl, sym, ap, ◌∙◌, subst, arith, slice_index}
+use Rattle.std.proofs.Common.{◌≡◌, ℕ, ◌<◌, Bool, true, false, List, length, Option, Some, None, Result, Ok, Err, refl, sym, ap, ◌∙◌, arith, slice_index}
 use Rattle.btr_base.specs.declared.key.Key.{Key}
 use Rattle.btr_items.specs.Form.{fields_if, map_ok}
 use Rattle.btr_items.specs.RootItem.{is_root_size, root_item_of}

@@ -2,12 +2,11 @@
 use Rattle.std.specs.Prelude.{◌≡◌, [], Result, Ok, Err}
 use Rattle.btr_prog.specs.Prog.{Return, Stop, exec}
 use Rattle.btr_prog.specs.Answers.{Follows, no_part}
-use Rattle.btr_rack.specs.Rack.{Seen, OnlyReads}
+use Rattle.btr_rack.specs.Rack.{Seen}
 use Rattle.btr_read.specs.Fate as fate
 use Rattle.btr_read.specs.Layout.{Layout}
-use Rattle.btr_read.specs.Serves.{Serves}
 use Rattle.btr_read.specs.Store.{SameLoans}
-use Rattle.btr_walk.specs.Reading.{Map, Tells, unread_by, answer_of}
+use Rattle.btr_walk.specs.Reading.{Tells, unread_by, answer_of}
 use Rattle.btr_walk.specs.declared.fault.TreeFault.{TreeFault}
 use Rattle.btr_walk.specs.declared.fault.TreeFault.TheVariants.{Lost, Unread, Unmapped, Crosses, Malformed}
 use Rattle.btr_volume.specs.Lookup.{Lookup}

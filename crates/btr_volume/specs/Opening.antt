@@ -1,5 +1,5 @@
 -- What opening the images of a rack answers.
-use Rattle.std.specs.Prelude.{◌≡◌, ◌⊎◌, ℕ, ◌≤◌, false, List, [], replicate, Contains, Option, Some, None, IfSome, Result, Ok, Err, ⊤, Vec}
+use Rattle.std.specs.Prelude.{◌≡◌, ◌⊎◌, ℕ, ◌≤◌, false, List, [], replicate, Contains, Some, None, Result, Ok, Err, ⊤, Vec}
 use Rattle.std.specs.declared.alloc.Global.{Global}
 use Rattle.btr_base.specs.Key.{last_key}
 use Rattle.btr_base.specs.Sum.{kind_of_type}
@@ -7,7 +7,7 @@ use Rattle.btr_chunk.specs.declared.array.ArrayFault.{ArrayFault}
 use Rattle.btr_chunk.specs.declared.chunk.Chunk.{Chunk}
 use Rattle.btr_prog.specs.Prog.{exec}
 use Rattle.btr_prog.specs.Answers.{Halt, Follows, no_part}
-use Rattle.btr_rack.specs.Rack.{Account, Seen, Rose, NoneFailed, range_in}
+use Rattle.btr_rack.specs.Rack.{Seen, Rose, NoneFailed, range_in}
 use Rattle.btr_prog.specs.Calls.{IsCalm}
 use Rattle.btr_read.specs.Fate.{Fault, fate, Agreed}
 use Rattle.btr_read.specs.Layout.{Layout}
@@ -19,7 +19,6 @@ use Rattle.btr_super.specs.Slot.{places}
 use Rattle.btr_super.specs.declared.superblock.Super.{Super}
 use Rattle.btr_walk.specs.Reading.{UnreadBlock, Tells, FaultCause, unread_by, halt_of}
 use Rattle.btr_walk.specs.Folds.{folded}
-use Rattle.btr_walk.specs.declared.fault.TreeFault.{TreeFault}
 use Rattle.btr_volume.specs.Start.{Images, Start, start_of, start_by, supers_from, layout_by, no_array, with_kind}
 use Rattle.btr_volume.specs.declared.fault.TableFault.{TableFault}
 use Rattle.btr_volume.specs.declared.which.Which.{Which}
@@ -27,7 +26,7 @@ use Rattle.btr_volume.specs.declared.which.Which.TheVariants as limit
 use Rattle.btr_volume.specs.Table.{TableResult, refusal_of, table_scan, table_step, whole_table, first_key, chunk_root}
 use Rattle.btr_volume.specs.Maps.{array_layout}
 use Rattle.btr_volume.specs.declared.fault.OpenFault.{OpenFault}
-use Rattle.btr_volume.specs.declared.fault.OpenFault.TheVariants.{ImageFault, NoSuper, SumKind, Foreign, Twin, Unsupported, Geometry, LogPending, BadArray, BadChunk, Limit, Tree, Memory}
+use Rattle.btr_volume.specs.declared.fault.OpenFault.TheVariants.{ImageFault, BadChunk, Limit, Tree, Memory}
 use Rattle.btr_volume.specs.declared.volume.Volume.{Volume}
 
 -- a superblock could not be read, of a rack that isn't sure: this was the last failed call

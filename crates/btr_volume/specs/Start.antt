@@ -14,6 +14,7 @@ use Rattle.btr_chunk.specs.Array.{array_of}
 use Rattle.btr_chunk.specs.declared.chunk.Chunk.{Chunk}
 use Rattle.btr_chunk.specs.declared.array.ArrayFault.{ArrayFault}
 use Rattle.btr_chunk.specs.declared.array.ArrayFault.TheVariants as array_fault
+use Rattle.btr_rack.specs.Rack.{Seen}
 use Rattle.btr_read.specs.Layout.{Layout}
 use Rattle.btr_read.specs.declared.device.Member.{Member}
 use Rattle.btr_read.specs.declared.setting.Setting.{Setting}
@@ -109,6 +110,10 @@ abbrev pub devices_from : ℕ → List Super → List ℕ → List Member
 devices_from slot [] lens = []
 devices_from slot (s ∷ supers) [] = []
 devices_from slot (s ∷ supers) (len ∷ lens) = member slot s len ∷ devices_from (slot + 1) supers lens
+
+-- a layout with the devices of these superblocks, whose images stand in the first slots of a rack
+abbrev pub over_slots : Layout → List Super → Seen → Layout
+over_slots layout supers rack = record layout { devices = devices_from 0 supers (map (λ slot. slot.len) rack.slots) }
 
 -- why a system array has no chunks
 abbrev pub no_array : ArrayFault → OpenFault

@@ -1,7 +1,7 @@
 // The devices of the images.
-ghost use Rattle.std.specs.Prelude.{◌≡◌, ◌≤◌, None, [], IfOk, length, map};
+ghost use Rattle.std.specs.Prelude.{◌≡◌, ◌≤◌, None, [], IfOk, length};
 ghost use Rattle.btr_read.specs.Store.{none_kept};
-ghost use Rattle.btr_volume.specs.Start.{twin_from, devices_from};
+ghost use Rattle.btr_volume.specs.Start.{twin_from, over_slots};
 
 use btr_base::Memory;
 use btr_rack::Rack;
@@ -17,7 +17,7 @@ pub(crate) fn add_devices<R: Rack>(
     requires count { length supers.now ≤ length (R.seen rack.now).slots }
     requires own { twin_from 0 [] supers.now ≡ None }
     requires empty { store.old.layout.devices ≡ [] }
-    ensures devices { IfOk result (λ _. store.new.layout ≡ record store.old.layout { devices = devices_from 0 supers.now (map (λ slot. slot.len) (R.seen rack.now).slots) }) }
+    ensures devices { IfOk result (λ _. store.new.layout ≡ over_slots store.old.layout supers.now (R.seen rack.now)) }
     ensures loans { store.new.loans ≡ store.old.loans }
     ensures kept { store.old.kept ≡ none_kept → store.new.kept ≡ none_kept }
 {

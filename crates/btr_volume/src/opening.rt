@@ -152,7 +152,8 @@ impl Volume {
         ensures reads { OnlyReads (R.seen rack.old) (R.seen rack.new) }
         ensures fresh { IfOk result (IsFresh (R.seen rack.new)) }
         ensures cause { OpenCause (R.seen rack.old) (R.seen rack.new) result }
-        ensures content { IfSome (R.seen rack.old).held (λ images. Opens images (R.seen rack.old) (R.seen rack.new) result) }
+        ensures content { IfSome (R.seen rack.old).held
+            (λ images. Opens images (R.seen rack.old) (R.seen rack.new) result) }
     {
         let mut volume = prepare(alloc, rack)?;
         let chunks = read_table(alloc, &volume.sup, rack, &mut volume.store)?;

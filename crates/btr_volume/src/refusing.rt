@@ -1,5 +1,5 @@
 // Whether superblocks are those of a filesystem that can be read.
-ghost use Rattle.std.specs.Prelude.{◌≡◌, ℕ, [], true, None, IfOk};
+ghost use Rattle.std.specs.Prelude.{◌≡◌, [], true, None, IfOk};
 ghost use Rattle.btr_volume.specs.Start.{has_device, foreign_from, twin_from, is_nodesize, is_geometry, refusals, first_refusal};
 ghost use Rattle.btr_volume.specs.Refusing.{IsRefusal};
 ghost use Rattle.btr_volume.specs.Opening.{NoneAtFault};

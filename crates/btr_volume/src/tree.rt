@@ -172,7 +172,8 @@ impl Volume {
         ensures reads { OnlyReads (R.seen rack.old) (R.seen rack.new) }
         ensures same { SameVolume self.old self.new }
         ensures cause { HasCause self.old.store.layout (R.seen rack.old) (R.seen rack.new) result }
-        ensures content { Looks self.old.store.layout (R.seen rack.old) (R.seen rack.new) (tree_of self.old.sup id) result }
+        ensures content { Looks self.old.store.layout (R.seen rack.old) (R.seen rack.new)
+            (tree_of self.old.sup id) result }
     {
         match id {
             ROOT_TREE => Ok(Some(named_root(id, root_root(&self.sup)))),
@@ -187,7 +188,8 @@ impl Volume {
         ensures hi { result.hi ≡ last_key }
         ensures leaf { result.leaf ≡ None }
         ensures ready { (rack : Seen) (store : Blocks) → Serves rack store → IsReady rack store result }
-        ensures program { (B : Map) (store : Blocks) → left_of B store result ≡ range first_key last_key (root_root self.now.sup) }
+        ensures program { (B : Map) (store : Blocks)
+            → left_of B store result ≡ range first_key last_key (root_root self.now.sup) }
         ensures on { (B : Map) → IsOn first_key last_key B [] result.place }
     {
         Scan::new(&root_root(&self.sup), FIRST_KEY, LAST_KEY)

@@ -1,5 +1,5 @@
 use Rattle.std.proofs.Common.{◌≡◌, ◌≤◌}
-use Rattle.btr_rack.specs.Rack.{Steady, OnlyReads}
+use Rattle.btr_rack.specs.Rack.{Steady}
 use Rattle.btr_rack.specs.Memory.{seen_of, held_of}
 use Rattle.btr_read.specs.Fate.{fate}
 use Rattle.btr_read.specs.Store.{SameLoans}

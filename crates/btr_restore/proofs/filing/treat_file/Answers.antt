@@ -1,4 +1,4 @@
-use Rattle.std.proofs.Common.{Ok, Err, Option, Some, None, true, false, refl, ap, sym, ◌∙◌, subst}
+use Rattle.std.proofs.Common.{Ok, Some, None, ap, sym, ◌∙◌}
 use Rattle.btr_restore.specs.Running.{outside}
 use Rattle.btr_restore.proofs.Rans.{look_halt, look_then, look_wrote}
 use Rattle.btr_restore.proofs.filing.treat_file.Goals as goal

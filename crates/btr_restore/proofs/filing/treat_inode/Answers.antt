@@ -1,7 +1,8 @@
-use Rattle.std.proofs.Common.{Ok, Err, Option, Some, None, true, false, refl, ap, sym, ◌∙◌, subst}
+use Rattle.std.proofs.Common.{Ok, ap, sym, ◌∙◌}
 use Rattle.btr_files.specs.declared.clearness.Survey.TheVariants.{Clear, Compressed, Encoded}
 use Rattle.btr_restore.specs.Running.{outside}
-use Rattle.btr_restore.proofs.Rans.{is_less, is_least, look_halt, look_then, look_wrote, ran_else, ran_if, ran_wrote}
+use Rattle.btr_restore.proofs.Numbers.{is_less, is_least}
+use Rattle.btr_restore.proofs.Rans.{look_halt, look_then, look_wrote, ran_else, ran_if, ran_wrote}
 use Rattle.btr_restore.proofs.filing.treat_inode.Goals as goal
 
 pub write_file-requires-clause-ready : goal.write_file-requires-clause-ready

@@ -1,4 +1,3 @@
-use Rattle.std.proofs.Common.{Ok, Err}
 use Rattle.btr_prog.specs.Prog.{bind}
 use Rattle.btr_restore.specs.Journey.{closed, pieces}
 use Rattle.btr_restore.specs.Running.{outside, world}

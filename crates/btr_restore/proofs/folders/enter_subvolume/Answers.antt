@@ -1,4 +1,4 @@
-use Rattle.std.proofs.Common.{Ok, Err, Option, Some, None, true, false, ap, sym, ◌∙◌, subst}
+use Rattle.std.proofs.Common.{Option, sym, ◌∙◌, subst}
 use Rattle.btr_volume.specs.declared.root.TreeRoot.{TreeRoot}
 use Rattle.btr_restore.specs.Journey.{subvolume_found}
 use Rattle.btr_restore.specs.Running.{Wrote, outside}

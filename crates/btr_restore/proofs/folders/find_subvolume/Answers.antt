@@ -1,4 +1,3 @@
-use Rattle.std.proofs.Common.{Ok, Err, Option, Some, None, true, false, ap, sym, ◌∙◌, subst}
 use Rattle.btr_restore.proofs.Rans.{look_halt, look_wrote}
 use Rattle.btr_restore.proofs.folders.find_subvolume.Goals as goal
 

@@ -1,4 +1,4 @@
-use Rattle.std.proofs.Common.{Ok, Err, Option, Some, None, true, false, ap, sym, ◌∙◌, subst}
+use Rattle.std.proofs.Common.{Ok, true, false, ap, ◌∙◌}
 use Rattle.btr_restore.proofs.Rans.{look_halt, look_wrote}
 use Rattle.btr_restore.proofs.folders.treat_directory.Goals as goal
 

@@ -1,5 +1,5 @@
-use Rattle.std.proofs.Common.{Ok, Err, Option, Some, None, true, false, ap, sym, ◌∙◌, subst}
-use Rattle.btr_restore.proofs.Rans.{is_equal, is_other, ran_if, ran_else, ran_wrote}
+use Rattle.btr_restore.proofs.Numbers.{is_equal, is_other}
+use Rattle.btr_restore.proofs.Rans.{ran_if, ran_else, ran_wrote}
 use Rattle.btr_restore.proofs.folders.treat_folder.Goals as goal
 
 pub returns-then-entry-clause-ran : goal.returns-then-entry-clause-ran

@@ -1,4 +1,4 @@
-use Rattle.std.proofs.Common.{◌≡◌, ℕ, ◌+◌, ◌*◌, ◌<◌, ◌≤◌, zero, suc, List, length, take, Option, Some, None, Result, Ok, Err, refl, sym, ap, ◌∙◌, subst, arith}
+use Rattle.std.proofs.Common.{ℕ, ◌+◌, ◌<◌, List, length, take, Option, Ok, Err, refl, sym, ap, ◌∙◌, subst, arith}
 use Rattle.std.specs.Prelude.{◌==◌}
 use Rattle.btr_volume.specs.Lookup.{Program, each}
 use Rattle.btr_volume.specs.declared.stop.Stop.TheVariants.{Tree}
@@ -12,12 +12,12 @@ use Rattle.btr_restore.specs.Journey.{listed_in, treated}
 use Rattle.btr_restore.specs.Journey as journey
 use Rattle.btr_restore.specs.Lines.{path_in}
 use Rattle.btr_restore.specs.Treating.{came_to}
-use Rattle.btr_restore.specs.Listing.{ended_with, treat_in, listing_in, is_deep}
+use Rattle.btr_restore.specs.Listing.{ended_with, treat_in, listing_in}
 use Rattle.btr_restore.specs.Running.{Ran, outside, world}
 use Rattle.btr_restore.specs.Step.{Step}
 use Rattle.btr_restore.proofs.Listings.{directory_is, listed_first, listed_fault, listed_end, listed_step, listed_halt}
 use Rattle.btr_restore.proofs.Cycles.{deep_is, entry_halts, entry_over, entry_within, some_place, stands_over, stands_up, stands_within, within_halts, within_up}
-use Rattle.btr_restore.proofs.Rans.{ran_halt, ran_memory, ran_then, ran_wrote, ready_next, wrote_none}
+use Rattle.btr_restore.proofs.Rans.{ran_memory, ready_next}
 use Rattle.btr_restore.proofs.listing.+listing.Goals as goal
 
 pub list-loop-fault-init : goal.list-loop-fault-init

@@ -1,5 +1,4 @@
-use Rattle.std.proofs.Common.{ℕ, List, Ok, Err, sym, subst}
-use Rattle.btr_files.specs.Names.{link, linked, mount, mounted}
+use Rattle.std.proofs.Common.{Ok, Err, sym, subst}
 use Rattle.btr_prog.specs.Quiet.{quiet}
 use Rattle.btr_super.specs.declared.superblock.Super.{Super}
 use Rattle.btr_volume.specs.Tree.{tree_of}

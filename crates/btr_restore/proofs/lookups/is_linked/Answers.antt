@@ -1,8 +1,6 @@
 use Rattle.std.proofs.Common.{ℕ, List, Ok, Err, sym, subst}
-use Rattle.btr_files.specs.Names.{link, linked, mount, mounted}
+use Rattle.btr_files.specs.Names.{link, linked}
 use Rattle.btr_prog.specs.Quiet.{quiet}
-use Rattle.btr_super.specs.declared.superblock.Super.{Super}
-use Rattle.btr_volume.specs.Tree.{tree_of}
 use Rattle.btr_volume.specs.declared.stop.Stop.TheVariants.{Tree}
 use Rattle.btr_restore.specs.Running.{Ran, world}
 use Rattle.btr_restore.proofs.Rans.{ran_found, ran_fault}

@@ -1,4 +1,4 @@
-use Rattle.std.proofs.Common.{None, refl}
+use Rattle.std.proofs.Common.{None}
 use Rattle.btr_restore.proofs.Rans.{look_else, look_if, ran_wrote, wrote_none}
 use Rattle.btr_restore.proofs.restoring.find_sums.Goals as goal
 

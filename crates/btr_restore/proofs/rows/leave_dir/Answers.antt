@@ -1,6 +1,6 @@
 use Rattle.std.proofs.Common.{refl}
 use Rattle.btr_restore.proofs.Emitting.{row_dry, row_whole, row_broke}
-use Rattle.btr_restore.proofs.Rans.{outs_of_sink, sinks_of_sink, sink_stops}
+use Rattle.btr_restore.proofs.Stopping.{outs_of_sink, sinks_of_sink, sink_stops}
 use Rattle.btr_restore.proofs.rows.leave_dir.Goals as goal
 
 pub returns-then-plan-clause-wrote : goal.returns-then-plan-clause-wrote

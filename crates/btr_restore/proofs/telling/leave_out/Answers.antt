@@ -1,7 +1,7 @@
 use Rattle.std.proofs.Common.{refl}
 use Rattle.btr_restore.specs.Journey.{Treated}
 use Rattle.btr_restore.proofs.Emitting.{left_out, left_broke}
-use Rattle.btr_restore.proofs.Rans.{sinks_of_out, outs_of_out, out_stops}
+use Rattle.btr_restore.proofs.Stopping.{sinks_of_out, outs_of_out, out_stops}
 use Rattle.btr_restore.proofs.telling.leave_out.Goals as goal
 
 pub returns-in-Ok-clause-wrote : goal.returns-in-Ok-clause-wrote

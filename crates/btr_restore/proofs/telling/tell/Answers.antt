@@ -1,6 +1,6 @@
 use Rattle.std.proofs.Common.{refl}
 use Rattle.btr_restore.proofs.Emitting.{untold, told_whole, told_broke}
-use Rattle.btr_restore.proofs.Rans.{sinks_of_out, outs_of_out, out_stops}
+use Rattle.btr_restore.proofs.Stopping.{sinks_of_out, outs_of_out, out_stops}
 use Rattle.btr_restore.proofs.telling.tell.Goals as goal
 
 pub returns-then-not-tells : goal.returns-then-not-tells

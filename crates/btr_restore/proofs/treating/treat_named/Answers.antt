@@ -1,5 +1,5 @@
-use Rattle.std.proofs.Common.{Ok, Err, Option, Some, None, true, false, refl, ap, sym, ◌∙◌, subst}
-use Rattle.btr_restore.proofs.Rans.{is_above, is_equal, is_most, is_other, ran_else, ran_if, ran_wrote}
+use Rattle.btr_restore.proofs.Numbers.{is_above, is_equal, is_most, is_other}
+use Rattle.btr_restore.proofs.Rans.{ran_else, ran_if, ran_wrote}
 use Rattle.btr_restore.proofs.treating.treat_named.Goals as goal
 
 pub returns-then-entry-eq7-clause-ran : goal.returns-then-entry-eq7-clause-ran

@@ -1,4 +1,4 @@
-use Rattle.std.proofs.Common.{ℕ, Bool, List, Ok, Err, refl, sym, ap, ◌∙◌, subst}
+use Rattle.std.proofs.Common.{Bool, Ok, Err, refl, sym, ap, ◌∙◌, subst}
 use Rattle.std.specs.Prelude.{◌||◌, not, min, take}
 use Rattle.btr_prog.specs.Prog.{Return}
 use Rattle.btr_rack.specs.Sink.{grown}
@@ -10,7 +10,9 @@ use Rattle.btr_restore.specs.Restoring.{Emits}
 use Rattle.btr_restore.specs.Running.{Wrote, outside}
 use Rattle.btr_restore.specs.Step.{Bytes, Zeros}
 use Rattle.btr_restore.proofs.Emitting.{as_sink}
-use Rattle.btr_restore.proofs.Rans.{emits_part, emits_step, outs_of_sink, sinks_of_sink, sink_stops, zeros_cut}
+use Rattle.btr_restore.proofs.Numbers.{zeros_cut}
+use Rattle.btr_restore.proofs.Rans.{emits_part, emits_step}
+use Rattle.btr_restore.proofs.Stopping.{outs_of_sink, sinks_of_sink, sink_stops}
 use Rattle.btr_restore.proofs.writing.put_piece.Goals as goal
 
 pub returns-in-Ok-clause-wrote : goal.returns-in-Ok-clause-wrote

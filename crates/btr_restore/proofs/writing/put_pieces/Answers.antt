@@ -1,4 +1,4 @@
-use Rattle.std.proofs.Common.{Bool, Option, Ok, Err, subst}
+use Rattle.std.proofs.Common.{Bool, Option, Ok, subst}
 use Rattle.btr_restore.specs.Running.{outside, world}
 use Rattle.btr_restore.specs.Writing.{WritesOn}
 use Rattle.btr_restore.proofs.writing.put_pieces.Goals as goal

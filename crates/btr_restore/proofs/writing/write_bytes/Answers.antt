@@ -1,5 +1,4 @@
-use Rattle.std.proofs.Common.{Bool, false, sym, ap, ◌∙◌, subst}
-use Rattle.btr_base.specs.declared.kind.SumKind.{SumKind}
+use Rattle.std.proofs.Common.{Bool, false, sym, subst}
 use Rattle.btr_super.specs.declared.superblock.Super.{Super}
 use Rattle.btr_volume.specs.Lookup.{each}
 use Rattle.btr_files.specs.Content.{content}

@@ -1,4 +1,4 @@
-use Rattle.std.proofs.Common.{◌∙◌, refl, sym, ap, arith}
+use Rattle.std.proofs.Common.{◌∙◌, ap, arith}
 use Rattle.btr_read.specs.Store.{Blocks}
 use Rattle.btr_volume.proofs.Members.{blank, none_is, own_next, device_new, layout_pushed}
 use Rattle.btr_volume.proofs.devices.add_devices.Goals as goal

@@ -1,10 +1,9 @@
-use Rattle.std.proofs.Common.{◌∙◌, Ok, Err, refl, sym, ap, subst, map}
+use Rattle.std.proofs.Common.{◌∙◌, Ok, sym, ap, subst, map}
 use Rattle.btr_read.specs.Layout.{Layout}
-use Rattle.btr_read.specs.Store.{Blocks}
 use Rattle.btr_read.proofs.Serving.{serves_anew}
 use Rattle.btr_read.specs.Layout.{AreOpen, HaveOwnSlots}
 use Rattle.btr_volume.proofs.Members.{are_open, own_slots}
-use Rattle.btr_volume.proofs.Opened.{begun, begun_refused, begun_unstored, array_made, nodes_fit, array_fits}
+use Rattle.btr_volume.proofs.Opened.{begun, array_made}
 use Rattle.btr_volume.proofs.opening.begin.Goals as goal
 
 pub returns-in-Ok-clause-content : goal.returns-in-Ok-clause-content

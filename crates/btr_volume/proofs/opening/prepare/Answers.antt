@@ -1,6 +1,6 @@
-use Rattle.std.proofs.Common.{◌∙◌, Ok, Err, refl, sym, ap, subst, map, length, get_or, arith, List}
+use Rattle.std.proofs.Common.{◌∙◌, sym, ap, subst, map, length, get_or, arith, List}
 use Rattle.btr_rack.specs.Rack.{Slot, Seen}
-use Rattle.btr_super.specs.Newest.{newest, newest_index}
+use Rattle.btr_super.specs.Newest.{newest_index}
 use Rattle.btr_super.specs.declared.superblock.Super.{Super}
 use Rattle.btr_volume.specs.Opening.{Begins}
 use Rattle.btr_volume.proofs.Opened.{newest_at, prepared}

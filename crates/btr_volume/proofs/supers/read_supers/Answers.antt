@@ -1,7 +1,7 @@
-use Rattle.std.proofs.Common.{◌∙◌, length, Ok, Err, refl, sym, ap, subst, arith}
+use Rattle.std.proofs.Common.{Err, sym, ap, subst, arith}
 use Rattle.std.specs.Option.{IfSome}
-use Rattle.btr_volume.specs.Opening.{ReadsSupers, SupersCause}
-use Rattle.btr_volume.proofs.Readings.{Found, ReadSoFar, none_read, read_fault, read_more, refused_cause, none_failed_yet, none_failed_twice, only_counts_twice}
+use Rattle.btr_volume.specs.Opening.{ReadsSupers}
+use Rattle.btr_volume.proofs.Readings.{Found, read_fault}
 use Rattle.btr_volume.proofs.supers.read_supers.Goals as goal
 
 pub returns-in-Err-clause-supers : goal.returns-in-Err-clause-supers

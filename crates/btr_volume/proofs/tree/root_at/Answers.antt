@@ -1,4 +1,4 @@
-use Rattle.std.proofs.Common.{◌∙◌, sym, arith}
+use Rattle.std.proofs.Common.{◌∙◌, sym}
 use Rattle.btr_volume.proofs.Roots.{root_long, root_read}
 use Rattle.btr_volume.proofs.tree.root_at.Goals as goal
 

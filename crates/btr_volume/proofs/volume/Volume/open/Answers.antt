@@ -1,4 +1,4 @@
-use Rattle.std.proofs.Common.{◌∙◌, ◌≡◌, Ok, Err, refl, sym, ap, subst}
+use Rattle.std.proofs.Common.{◌∙◌, ◌≡◌, Ok, Err, sym, ap, subst}
 use Rattle.std.specs.Option.{IfSome}
 use Rattle.std.proofs.Common.{List}
 use Rattle.btr_chunk.specs.declared.chunk.Chunk.{Chunk}
@@ -6,7 +6,6 @@ use Rattle.btr_volume.specs.declared.volume.Volume.{Volume}
 use Rattle.btr_rack.specs.Rack.{Seen}
 use Rattle.btr_read.specs.Layout.{Layout}
 use Rattle.btr_read.specs.Store.{Blocks}
-use Rattle.btr_volume.specs.Start.{Images}
 use Rattle.btr_volume.specs.Opening.{Opens, OpenCause, TableCause, ReadsTable}
 use Rattle.btr_volume.proofs.Opened.{same_seen, refused_early, told_early, refused_late, told_late, told_opened, served_anew, passed}
 use Rattle.btr_volume.proofs.volume.Volume.open.Goals as goal
