@@ -9,4 +9,5 @@ pub mod Shown
 pub mod ShownNames
 pub mod Subvolume
 pub mod Subvolumes
+pub mod Standing
 pub mod Unpaired

@@ -121,6 +121,17 @@ links_of refs number = count_by (λ (ref : NameRef). ref.inode == number) refs
 abbrev pub names_size : List Entry → ℕ → ℕ
 names_size indexed dir = sum_by (λ (entry : Entry). cond (entry.dir == dir) (2 * length entry.name) 0) indexed
 
+-- the inode that an entry leads to has its reference, or is there and of the entry's kind, if it leads to one
+abbrev pub ref_kept : List NameRef → Entry → Bool
+ref_kept refs entry = not (leads_to_inode entry) || list_any (same_ref (ref_to entry)) refs
+
+abbrev pub mode_kept : List InodeAt → Entry → Bool
+mode_kept inodes entry = not (leads_to_inode entry) || list_any (fits_mode entry) inodes
+
+-- an inode has links, or is an orphan
+abbrev pub orphan_kept : List ℕ → InodeAt → Bool
+orphan_kept orphans at = not (at.inode.nlink == 0) || list_any (λ number. at.number == number) orphans
+
 module _ (tree : ℕ) where
   -- 15: the directory has the entry under its name's hash too
   abbrev pub entry_item : List Entry → Entry → Option Finding
@@ -132,7 +143,7 @@ module _ (tree : ℕ) where
 
   -- 17: the inode that an entry leads to has its reference
   abbrev pub entry_ref : List NameRef → Entry → Option Finding
-  entry_ref refs entry = unless (not (leads_to_inode entry) || list_any (same_ref (ref_to entry)) refs) (found 17 (tree ∷ entry.dir ∷ entry.offset ∷ []))
+  entry_ref refs entry = unless (ref_kept refs entry) (found 17 (tree ∷ entry.dir ∷ entry.offset ∷ []))
 
   -- 18: a reference has its entry
   abbrev pub ref_entry : ℕ → List Entry → NameRef → Option Finding
@@ -140,7 +151,7 @@ module _ (tree : ℕ) where
 
   -- 19: the inode that an entry leads to is there, and of the entry's kind
   abbrev pub entry_mode : List InodeAt → Entry → Option Finding
-  entry_mode inodes entry = unless (not (leads_to_inode entry) || list_any (fits_mode entry) inodes) (found 19 (tree ∷ entry.dir ∷ entry.offset ∷ []))
+  entry_mode inodes entry = unless (mode_kept inodes entry) (found 19 (tree ∷ entry.dir ∷ entry.offset ∷ []))
 
   -- 20: an inode states how many references it has
   abbrev pub link_count : List NameRef → InodeAt → Option Finding
@@ -154,7 +165,7 @@ module _ (tree : ℕ) where
 
   -- 22: an inode without links is an orphan
   abbrev pub orphan : List ℕ → InodeAt → Option Finding
-  orphan orphans at = unless (not (at.inode.nlink == 0) || list_any (λ number. at.number == number) orphans) (found 22 (tree ∷ at.number ∷ []))
+  orphan orphans at = unless (orphan_kept orphans at) (found 22 (tree ∷ at.number ∷ []))
 
 abbrev pub names_findings : Names → List Finding
 names_findings names =

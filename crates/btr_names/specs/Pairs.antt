@@ -63,9 +63,13 @@ abbrev pub met_left : List (Claim × Half) → Option Half → Claim → Bool �
 met_left waiting None claim is_first name = insert_entry claim_cmp waiting claim (record { is_first = is_first; name = name })
 met_left waiting (Some half) claim is_first name = remove_entry (is_at (claim_cmp claim)) waiting
 
+-- what waits then
+abbrev pub waiting_then : List (Claim × Half) → Claim → Bool → List ℕ → List (Claim × Half)
+waiting_then waiting claim is_first name = met_left waiting (waiting_at waiting claim) claim is_first name
+
 abbrev pub met : Pairs → Claim → Bool → List ℕ → Pairs
 met pairs claim is_first name = record {
-  waiting = met_left pairs.waiting (waiting_at pairs.waiting claim) claim is_first name;
+  waiting = waiting_then pairs.waiting claim is_first name;
   differ = pairs.differ || not (met_fits (waiting_at pairs.waiting claim) is_first name);
 }
 

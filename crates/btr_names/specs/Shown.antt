@@ -1,5 +1,7 @@
 -- What rows with a buffer of names say.
-use Rattle.std.specs.Prelude.{ℕ, List, All, map}
+use Rattle.std.specs.Prelude.{◌≡◌, ℕ, List, [], ◌∷◌, ◌++◌, All, map}
+use Rattle.std.specs.declared.alloc.Global.{Global}
+use Rattle.std.specs.declared.vec.Vec.{Vec}
 use Rattle.btr_names.specs.declared.entry_list.EntryRow.{EntryRow}
 use Rattle.btr_names.specs.declared.link_list.LinkRow.{LinkRow}
 use Rattle.btr_names.specs.Entry.{Entry, NameRef, location_of}
@@ -12,6 +14,10 @@ row_entry names row = record { dir = row.dir; offset = row.offset; location = lo
 abbrev pub row_entries : List ℕ → List EntryRow → List Entry
 row_entries names rows = map (row_entry names) rows
 
+-- one more stands behind the others
+abbrev pub AddsEntry : Vec ℕ Global → Vec EntryRow Global → Vec ℕ Global → Vec EntryRow Global → Entry → Type 0
+AddsEntry names rows names' rows' one = row_entries names'.items rows'.items ≡ row_entries names.items rows.items ++ one ∷ []
+
 abbrev pub HasEntryNames : List ℕ → List EntryRow → Type 0
 HasEntryNames names rows = All (λ (row : EntryRow). IsWithin names row.name) rows
 
@@ -21,6 +27,10 @@ row_ref names row = record { inode = row.inode; parent = row.parent; index = row
 
 abbrev pub row_refs : List ℕ → List LinkRow → List NameRef
 row_refs names rows = map (row_ref names) rows
+
+-- one more stands behind the others
+abbrev pub AddsRef : Vec ℕ Global → Vec LinkRow Global → Vec ℕ Global → Vec LinkRow Global → NameRef → Type 0
+AddsRef names rows names' rows' one = row_refs names'.items rows'.items ≡ row_refs names.items rows.items ++ one ∷ []
 
 abbrev pub HasRefNames : List ℕ → List LinkRow → Type 0
 HasRefNames names rows = All (λ (row : LinkRow). IsWithin names row.name) rows

@@ -1,5 +1,5 @@
 // The inode whose items come.
-ghost use Rattle.std.specs.Prelude.{◌≡◌, ◌+◌, ◌*◌, length, OnOk};
+ghost use Rattle.std.specs.Prelude.{◌≡◌, ◌+◌, ◌*◌, OnOk};
 ghost use Rattle.btr_names.specs.Inodes.{begun_with, is_counted};
 
 use crate::InodeAt;

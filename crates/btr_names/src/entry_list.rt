@@ -1,7 +1,7 @@
 // Entries of directories, whose names lie in one buffer.
 ghost use Rattle.std.specs.Prelude.{◌≡◌, ◌∷◌, ◌++◌, [], OnOk};
 ghost use Rattle.btr_names.specs.Entry.{entry_of};
-ghost use Rattle.btr_names.specs.Shown.{row_entries, HasEntryNames};
+ghost use Rattle.btr_names.specs.Shown.{HasEntryNames, AddsEntry};
 
 use crate::name_place::{NamePlace, push_name};
 use crate::{DirEntry, Target};
@@ -99,7 +99,7 @@ fn push_row(
 ) -> Result<(), Memory>
     requires { HasEntryNames names.old.items rows.old.items }
     ensures names { HasEntryNames names.new.items rows.new.items }
-    ensures ok { OnOk result (row_entries names.new.items rows.new.items ≡ row_entries names.old.items rows.old.items ++ entry_of entry.now ∷ []) }
+    ensures ok { OnOk result (AddsEntry names.old rows.old names.new rows.new (entry_of entry.now)) }
 {
     let row = EntryRow {
         dir: entry.dir,

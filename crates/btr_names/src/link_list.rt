@@ -1,7 +1,7 @@
 // Names of inodes, in one buffer.
 ghost use Rattle.std.specs.Prelude.{◌≡◌, ◌∷◌, ◌++◌, [], OnOk};
 ghost use Rattle.btr_names.specs.Entry.{ref_of};
-ghost use Rattle.btr_names.specs.Shown.{row_refs, HasRefNames};
+ghost use Rattle.btr_names.specs.Shown.{HasRefNames, AddsRef};
 
 use crate::LinkName;
 use crate::name_place::{NamePlace, push_name};
@@ -94,7 +94,7 @@ impl LinkList {
 fn push_row(rows: &mut Vec<LinkRow>, names: &mut Vec<u8>, link: &LinkName<'_>) -> Result<(), Memory>
     requires { HasRefNames names.old.items rows.old.items }
     ensures names { HasRefNames names.new.items rows.new.items }
-    ensures ok { OnOk result (row_refs names.new.items rows.new.items ≡ row_refs names.old.items rows.old.items ++ ref_of link.now ∷ []) }
+    ensures ok { OnOk result (AddsRef names.old rows.old names.new rows.new (ref_of link.now)) }
 {
     let row = LinkRow {
         inode: link.inode,

@@ -1,5 +1,5 @@
 // The names of many entries in one buffer.
-ghost use Rattle.std.specs.Prelude.{◌≡◌, ◌++◌, length, OnOk, OnErr, IfOk, IsTrue};
+ghost use Rattle.std.specs.Prelude.{◌≡◌, ◌++◌, length, OnOk, OnErr, IfOk};
 ghost use Rattle.btr_base.specs.Field.{bytes_at};
 ghost use Rattle.btr_names.specs.Packed.{IsWithin};
 

@@ -1,6 +1,6 @@
 // Names that two items each are to give.
 ghost use Rattle.std.specs.Prelude.{◌≡◌, OnOk, IfOk};
-ghost use Rattle.btr_names.specs.Pairs.{no_pairs, met, met_fits, met_left, waiting_at, are_met};
+ghost use Rattle.btr_names.specs.Pairs.{no_pairs, met, met_fits, waiting_at, waiting_then, are_met};
 
 use crate::claim::Claim;
 use crate::half::Half;
@@ -64,7 +64,7 @@ fn meet_other(
     name: &[u8],
 ) -> Result<bool, Memory>
     ensures fits { IfOk result (λ same. same ≡ met_fits (waiting_at waiting.old.entries claim) is_first name.now) }
-    ensures left { OnOk result (waiting.new.entries ≡ met_left waiting.old.entries (waiting_at waiting.old.entries claim) claim is_first name.now) }
+    ensures left { OnOk result (waiting.new.entries ≡ waiting_then waiting.old.entries claim is_first name.now) }
 {
     if let Some(half) = waiting.remove(&claim) {
         return Ok(half.fits(is_first, name));

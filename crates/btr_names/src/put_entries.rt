@@ -1,9 +1,8 @@
 // What is wrong with the entries of directories and with the references of inodes: kinds 15 to 18.
-ghost use Rattle.std.specs.Prelude.{◌≡◌, ◌∷◌, ◌||◌, [], not, List, OnOk};
-ghost use Rattle.std.specs.List.{list_any};
+ghost use Rattle.std.specs.Prelude.{◌≡◌, ◌∷◌, ◌||◌, [], List, OnOk};
 ghost use Rattle.btr_refs.specs.Findings.{found};
 ghost use Rattle.btr_names.specs.Entry.{entry_of, ref_of, NameRef};
-ghost use Rattle.btr_names.specs.Names.{entry_item, entry_index, entry_ref, ref_entry, leads_to_inode, ref_to, same_ref, asked};
+ghost use Rattle.btr_names.specs.Names.{entry_item, entry_index, entry_ref, ref_entry, ref_kept, asked};
 ghost use Rattle.btr_names.specs.Names as words;
 ghost use Rattle.btr_names.specs.Sets.{HasRefs, AddsBy};
 
@@ -54,7 +53,7 @@ pub(crate) fn put_entry_indexes(
 
 // Whether the inode that an entry leads to has its reference, if it leads to one.
 fn has_ref<'a>(refs: &BTreeSet<LinkName<'a>>, entry: &DirEntry<'a>) -> bool
-    ensures { (list : List NameRef) → HasRefs list refs.now → result ≡ (not (leads_to_inode (entry_of entry.now)) || list_any (same_ref (ref_to (entry_of entry.now))) list) }
+    ensures { (list : List NameRef) → HasRefs list refs.now → result ≡ ref_kept list (entry_of entry.now) }
 {
     entry.target.kind != item::INODE_ITEM || refs.contains(&link_to(entry))
 }

@@ -1,8 +1,7 @@
 // What is wrong with the inodes of a tree of files: kinds 19 to 22.
 ghost use Rattle.std.specs.Prelude.{◌≡◌, ◌==◌, ◌||◌, ℕ, not, List, OnOk};
-ghost use Rattle.std.specs.List.{list_any};
 ghost use Rattle.btr_names.specs.Entry.{entry_of};
-ghost use Rattle.btr_names.specs.Names.{entry_mode, link_count, dir_size, orphan, leads_to_inode, fits_mode, format_of};
+ghost use Rattle.btr_names.specs.Names.{entry_mode, link_count, dir_size, orphan, mode_kept, orphan_kept, format_of};
 ghost use Rattle.btr_names.specs.Sets.{HasModes, HasNumbers, AddsBy};
 
 use crate::findings::{of_entry, of_orphan, of_sum};
@@ -17,7 +16,7 @@ use std::collections::BTreeSet;
 
 // Whether the inode that an entry leads to is there, and of its kind, if it leads to one.
 fn has_mode(modes: &BTreeSet<ModeAt>, entry: &DirEntry<'_>) -> bool
-    ensures { (inodes : List InodeAt) → HasModes inodes modes.now → result ≡ (not (leads_to_inode (entry_of entry.now)) || list_any (fits_mode (entry_of entry.now)) inodes) }
+    ensures { (inodes : List InodeAt) → HasModes inodes modes.now → result ≡ mode_kept inodes (entry_of entry.now) }
 {
     let mode = ModeAt {
         number: entry.target.objectid,
@@ -93,7 +92,7 @@ fn has_size(at: &InodeAt, size: u128) -> bool
 
 // Whether an inode without links is an orphan.
 fn is_kept(orphans: &BTreeSet<u64>, at: &InodeAt) -> bool
-    ensures { (list : List ℕ) → HasNumbers list orphans.now → result ≡ (not (at.now.inode.nlink == 0) || list_any (λ number. at.now.number == number) list) }
+    ensures { (list : List ℕ) → HasNumbers list orphans.now → result ≡ orphan_kept list at.now }
 {
     at.inode.nlink != 0 || orphans.contains(&at.number)
 }

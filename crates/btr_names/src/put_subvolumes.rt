@@ -1,8 +1,8 @@
 // What is wrong with the names of subvolumes: kind 23.
 ghost use Rattle.std.specs.Prelude.{◌≡◌, ◌∷◌, [], OnOk, IfOk};
 ghost use Rattle.btr_refs.specs.Findings.{found, Adds};
-ghost use Rattle.btr_names.specs.Subvolumes.{Subvolumes, name_kept, subvolume_findings, HasNames};
-ghost use Rattle.btr_names.specs.Sets.{AddsBy};
+ghost use Rattle.btr_names.specs.Subvolumes.{subvolume_findings, HasNames};
+ghost use Rattle.btr_names.specs.Standing.{PutsNames};
 
 use crate::{SubvolumeList, SubvolumeName, SubvolumeNames};
 use btr_base::Memory;
@@ -48,7 +48,7 @@ fn put_names<'a>(
     list: &'a SubvolumeList,
     standing: &Standing<'a>,
 ) -> Result<(), Memory>
-    ensures { (names : Subvolumes) → HasNames names.refs standing.now.refs → HasNames names.backrefs standing.now.backrefs → HasNames names.entries standing.now.entries → OnOk result (AddsBy (name_kept names) list.now found.old found.new) }
+    ensures { PutsNames standing.now list.now found.old found.new result }
 {
     for name in list.iter() {
         let kept = standing.refs.contains(&name)

@@ -1,7 +1,7 @@
 // Names of subvolumes, in one buffer.
 ghost use Rattle.std.specs.Prelude.{◌≡◌, ◌∷◌, ◌++◌, [], OnOk};
 ghost use Rattle.btr_names.specs.Subvolume.{name_of};
-ghost use Rattle.btr_names.specs.ShownNames.{row_names, HasSubvolumeNames};
+ghost use Rattle.btr_names.specs.ShownNames.{HasSubvolumeNames, AddsName};
 
 use crate::SubvolumeName;
 use crate::name_place::{NamePlace, push_name};
@@ -99,7 +99,7 @@ fn push_row(
 ) -> Result<(), Memory>
     requires { HasSubvolumeNames names.old.items rows.old.items }
     ensures names { HasSubvolumeNames names.new.items rows.new.items }
-    ensures ok { OnOk result (row_names names.new.items rows.new.items ≡ row_names names.old.items rows.old.items ++ name_of name.now ∷ []) }
+    ensures ok { OnOk result (AddsName names.old rows.old names.new rows.new (name_of name.now)) }
 {
     let row = SubvolumeRow {
         parent: name.parent,

@@ -30,12 +30,11 @@ pub struct Unpaired {
 
 impl Unpaired {
     ghost use Rattle.std.specs.Prelude.{◌≡◌, ◌∷◌, [], fold, OnOk};
-    ghost use Rattle.btr_items.specs.Entry.{entries_of, index_entry_of};
+    ghost use Rattle.btr_items.specs.Entry.{entries_of};
     ghost use Rattle.btr_items.specs.ExtRef.{ext_refs_of};
-    ghost use Rattle.btr_items.specs.Inode.{inode_of};
     ghost use Rattle.btr_items.specs.InodeRef.{inode_refs_of};
     ghost use Rattle.btr_names.specs.Entry.{entry_of, ref_of};
-    ghost use Rattle.btr_names.specs.Items.{entries_read, refs_read, ext_refs_read, inodes_read, inodes_in, indexed_in, hashed_in, refs_in, orphans_in};
+    ghost use Rattle.btr_names.specs.Items.{entries_read, refs_read, ext_refs_read, inodes_in, indexed_in, hashed_in, refs_in, orphans_in};
     ghost use Rattle.btr_names.specs.Unpaired.{nothing_unpaired, unpaired_with, with_inode, with_indexed, with_hashed, with_ref, with_orphan, are_paired};
 
     /// No item of the tree came yet, whose first directory has the inode `dirid`.

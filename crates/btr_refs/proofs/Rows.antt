@@ -9,7 +9,7 @@ use Rattle.std.specs.Map.{keys_of}
 use Rattle.std.specs.Ordering.{is_eq, nat_cmp}
 use Rattle.btr_refs.specs.declared.extent.Extent.{Extent}
 use Rattle.btr_refs.specs.declared.finding.Finding.{Finding}
-use Rattle.btr_refs.specs.Differences.{is_row, is_shown, ref_count, ref_total, ref_alone, has_extent}
+use Rattle.btr_refs.specs.Differences.{is_row, is_shown, ref_count, ref_total, ref_alone, has_extent, count_findings, total_findings}
 use Rattle.btr_refs.specs.Counts.{RefCounts}
 use Rattle.btr_refs.specs.Findings.{is_one_of, is_same}
 
@@ -34,50 +34,39 @@ rows-any rule one (x ∷ xs) = by (rule x) (rows-any rule one xs)
     by None rest = rest
     by (Some finding) rest = ap (λ b. is_same one finding || b) rest
 
-or_order : (f s t a : Bool) → (a || (t || (s || (f || false)))) ≡ (((f || s) || t) || a)
-or_order true true true true = refl
-or_order true true true false = refl
-or_order true true false true = refl
-or_order true true false false = refl
-or_order true false true true = refl
-or_order true false true false = refl
-or_order true false false true = refl
-or_order true false false false = refl
-or_order false true true true = refl
-or_order false true true false = refl
-or_order false true false true = refl
-or_order false true false false = refl
-or_order false false true true = refl
-or_order false false true false = refl
-or_order false false false true = refl
-or_order false false false false = refl
+or_two : (f s e : Bool) → (s || (f || e)) ≡ ((f || s) || e)
+or_two true true e = refl
+or_two true false e = refl
+or_two false true e = refl
+or_two false false e = refl
 
 module _ (forward stored : RefCounts) (extents : List Extent) (one : Finding) where
-  -- the rows that were put, in the order of the definition
-  pub all_rows : (empty first second third last : Bool) → empty ≡ false
+  -- the rows of the references that are counted, and of those that are stored
+  pub count_rows : (empty first second : Bool)
       → first ≡ (list_any (is_row (ref_count forward stored) one) (keys_of forward) || empty)
       → second ≡ (list_any (is_row (ref_count forward stored) one) (keys_of stored) || first)
-      → third ≡ (list_any (is_row (ref_total stored) one) extents || second)
-      → last ≡ (list_any (is_row (ref_alone extents stored) one) (keys_of stored) || third)
-      → last ≡ is_one_of (filter_map (ref_count forward stored) (keys_of forward ++ keys_of stored) ++ filter_map (ref_total stored) extents ++ filter_map (ref_alone extents stored) (keys_of stored)) one
-  all_rows empty first second third last is-empty is-first is-second is-third is-last =
-      let counts : List Finding = filter_map (ref_count forward stored) (keys_of forward ++ keys_of stored) in
-      let totals : List Finding = filter_map (ref_total stored) extents in
-      let alone : List Finding = filter_map (ref_alone extents stored) (keys_of stored) in
+      → second ≡ (is_one_of (count_findings forward stored) one || empty)
+  count_rows empty first second is-first is-second =
       let f : Bool = list_any (is_row (ref_count forward stored) one) (keys_of forward) in
       let s : Bool = list_any (is_row (ref_count forward stored) one) (keys_of stored) in
+      is-second ∙ ap (λ b. s || b) is-first ∙ or_two f s empty
+      ∙ ap (λ b. b || empty) (sym (rows-any (ref_count forward stored) one (keys_of forward ++ keys_of stored) ∙ list_any-append (is_row (ref_count forward stored) one) (keys_of forward) (keys_of stored)))
+
+  -- the rows of the extents, and of the references where there is none
+  pub total_rows : (empty first second : Bool)
+      → first ≡ (list_any (is_row (ref_total stored) one) extents || empty)
+      → second ≡ (list_any (is_row (ref_alone extents stored) one) (keys_of stored) || first)
+      → second ≡ (is_one_of (total_findings extents stored) one || empty)
+  total_rows empty first second is-first is-second =
+      let totals : List Finding = filter_map (ref_total stored) extents in
+      let alone : List Finding = filter_map (ref_alone extents stored) (keys_of stored) in
       let t : Bool = list_any (is_row (ref_total stored) one) extents in
       let a : Bool = list_any (is_row (ref_alone extents stored) one) (keys_of stored) in
-      let put : last ≡ (a || (t || (s || (f || false)))) =
-      is-last ∙ ap (λ b. a || b) (is-third ∙ ap (λ b. t || b) (is-second ∙ ap (λ b. s || b) (is-first ∙ ap (λ b. f || b) is-empty))) in
-      let parts : is_one_of (counts ++ totals ++ alone) one ≡ (((f || s) || t) || a) =
-      list_any-append (is_same one) (counts ++ totals) alone
-      ∙ ap (λ b. b || is_one_of alone one)
-      (list_any-append (is_same one) counts totals
-      ∙ ap (λ b. b || is_one_of totals one) (rows-any (ref_count forward stored) one (keys_of forward ++ keys_of stored) ∙ list_any-append (is_row (ref_count forward stored) one) (keys_of forward) (keys_of stored))
-      ∙ ap (λ b. (f || s) || b) (rows-any (ref_total stored) one extents))
-      ∙ ap (λ b. ((f || s) || t) || b) (rows-any (ref_alone extents stored) one (keys_of stored)) in
-      put ∙ or_order f s t a ∙ sym parts
+      is-second ∙ ap (λ b. a || b) is-first ∙ or_two t a empty
+      ∙ ap (λ b. b || empty)
+      (sym (list_any-append (is_same one) totals alone
+      ∙ ap (λ b. b || is_one_of alone one) (rows-any (ref_total stored) one extents)
+      ∙ ap (λ b. t || b) (rows-any (ref_alone extents stored) one (keys_of stored))))
 
 -- one more address
 same_number : (x y : ℕ) → is_eq (nat_cmp x y) ≡ eqb x y

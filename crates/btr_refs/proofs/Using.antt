@@ -7,10 +7,7 @@ use Rattle.std.specs.List.{HoldsAt}
 use Rattle.btr_items.specs.declared.link.Link.{Link}
 use Rattle.btr_node.specs.Block.{KeyPointer}
 use Rattle.btr_refs.specs.declared.forward.Origin.{Origin}
-use Rattle.btr_refs.specs.Forward.{Use, Uses, TreeBlock, tree_link, child_use, with_use}
-
-abbrev block_use : ℕ → Link → ℕ → Use
-block_use addr link level = record { addr = addr; link = link; what = TreeBlock level }
+use Rattle.btr_refs.specs.Forward.{Use, Uses, block_use, tree_link, child_use, with_use}
 
 none : KeyPointer
 none = record { key = record { objectid = 0; kind = 0; offset = 0 }; addr = 0; generation = 0 }

@@ -9,6 +9,8 @@ use Rattle.btr_read.specs.Fate as fate
 use Rattle.btr_read.specs.Layout.{Layout}
 use Rattle.btr_volume.specs.Lookup.{Lookup}
 use Rattle.btr_volume.specs.Table.{first_key}
+use Rattle.btr_volume.specs.declared.root.TreeRoot.{TreeRoot}
+use Rattle.btr_volume.specs.declared.volume.Volume.{Volume}
 use Rattle.btr_walk.specs.Folds.{folded}
 use Rattle.btr_walk.specs.Le.{TreeItem}
 use Rattle.btr_walk.specs.Range.{range}
@@ -43,6 +45,10 @@ collect_answer (Err Memory) = Err Broke
 -- so far as its calls were steady, what was collected follows a program
 abbrev pub Collects : {A : Type 0} → Layout → Seen → Seen → Lookup A → Result A CollectFault → Type 0
 Collects layout old new program result = Tells layout old new (λ B. Follows {S = ⊥} (unread_by layout old new) no_part [] (exec B program) [] (collect_answer result))
+
+-- .. of a volume, what the extent tree with a root says
+abbrev pub CollectsStored : Volume → TreeRoot → Seen → Seen → Result Kept CollectFault → Type 0
+CollectsStored vol tree old new result = Collects vol.store.layout old new (stored_of vol.sup.nodesize tree.place) result
 
 -- a fault of a tree has its cause
 abbrev pub CollectCause : {A : Type 0} → Layout → Seen → Seen → Result A CollectFault → Type 0

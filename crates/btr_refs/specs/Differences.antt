@@ -1,14 +1,20 @@
 -- Where the references that are counted and those that are stored differ.
-use Rattle.std.specs.Prelude.{◌≡◌, ℕ, ◌==◌, Bool, false, cond, List, [], ◌∷◌, ◌++◌, sum_by, Option, Some, None, filter_map}
+use Rattle.std.specs.Prelude.{◌≡◌, ℕ, ◌==◌, ◌||◌, Bool, false, cond, List, [], ◌∷◌, ◌++◌, sum_by, Option, Some, None, Result, OnOk, IfOk, filter_map}
+use Rattle.std.specs.BTreeMap.{BTreeMap}
 use Rattle.std.specs.BTreeSet.{BTreeSet, contains}
 use Rattle.std.specs.List.{list_any}
 use Rattle.std.specs.Map.{keys_of}
 use Rattle.std.specs.Ordering.{nat_cmp}
+use Rattle.std.specs.declared.alloc.Global.{Global}
+use Rattle.std.specs.declared.vec.Vec.{Vec}
+use Rattle.btr_base.specs.declared.memory.Memory.{Memory}
 use Rattle.btr_refs.specs.declared.extent.Extent.{Extent}
 use Rattle.btr_refs.specs.declared.finding.Finding.{Finding}
 use Rattle.btr_refs.specs.declared.ref_key.RefKey.{RefKey}
 use Rattle.btr_refs.specs.Counts.{RefCounts, count_in}
-use Rattle.btr_refs.specs.Findings.{found, unless, shown_sum, is_same, in_order}
+use Rattle.btr_refs.specs.Extents.{Kept}
+use Rattle.btr_refs.specs.Forward.{Uses}
+use Rattle.btr_refs.specs.Findings.{found, has, unless, shown_sum, is_same, in_order}
 
 -- a reference as it is printed
 abbrev pub key_numbers : RefKey → List ℕ
@@ -39,10 +45,17 @@ has_extent extents addr = list_any (λ (extent : Extent). extent.addr == addr) e
 abbrev pub ref_alone : List Extent → RefCounts → RefKey → Option Finding
 ref_alone extents stored key = unless (has_extent extents key.addr) (total_row key.addr 0 (total_at stored key.addr))
 
+-- 7: the findings on references that are counted or stored
+abbrev pub count_findings : RefCounts → RefCounts → List Finding
+count_findings forward stored = filter_map (ref_count forward stored) (keys_of forward ++ keys_of stored)
+
+-- 8: the findings on sums of references that are stored
+abbrev pub total_findings : List Extent → RefCounts → List Finding
+total_findings extents stored = filter_map (ref_total stored) extents ++ filter_map (ref_alone extents stored) (keys_of stored)
+
 -- the findings on references
 abbrev pub differences : RefCounts → List Extent → RefCounts → List Finding
-differences forward extents stored =
-    in_order (filter_map (ref_count forward stored) (keys_of forward ++ keys_of stored) ++ filter_map (ref_total stored) extents ++ filter_map (ref_alone extents stored) (keys_of stored))
+differences forward extents stored = in_order (count_findings forward stored ++ total_findings extents stored)
 
 -- whether a rule's finding on something is this one
 abbrev pub is_shown : Finding → Option Finding → Bool
@@ -52,6 +65,24 @@ is_shown one (Some finding) = is_same one finding
 abbrev pub is_row : {X : Type 0} → (X → Option Finding) → Finding → X → Bool
 is_row rule one x = is_shown one (rule x)
 
+-- a set has just what it had, and the finding of a rule on something, on some things, or on the references of a map
+abbrev pub PutsRow : {X : Type 0} → (X → Option Finding) → X → BTreeSet Finding → BTreeSet Finding → Type 0
+PutsRow rule x old new = (one : Finding) → has new one ≡ (is_row rule one x || has old one)
+
+abbrev pub PutsRows : {X : Type 0} → (X → Option Finding) → List X → BTreeSet Finding → BTreeSet Finding → Type 0
+PutsRows rule xs old new = (one : Finding) → has new one ≡ (list_any (is_row rule one) xs || has old one)
+
+abbrev pub PutsRefs : (RefKey → Option Finding) → BTreeMap RefKey ℕ → BTreeSet Finding → BTreeSet Finding → Type 0
+PutsRefs rule refs old new = PutsRows rule (keys_of refs.entries) old new
+
 -- a set has the addresses of extents
 abbrev pub Addresses : List Extent → BTreeSet ℕ → Type 0
 Addresses extents addresses = (addr : ℕ) → contains nat_cmp addresses addr ≡ has_extent extents addr
+
+-- by such a set, the findings of references where there is no extent were put
+abbrev pub PutsAlone : BTreeMap RefKey ℕ → BTreeSet ℕ → BTreeSet Finding → BTreeSet Finding → Result (Unit {0}) Memory → Type 0
+PutsAlone refs addresses old new result = (extents : List Extent) → Addresses extents addresses → OnOk result (PutsRefs (ref_alone extents refs.entries) refs old new)
+
+-- what was counted and what is stored differ by just these findings
+abbrev pub ListsDifferences : Uses → Kept → Result (Vec Finding Global) Memory → Type 0
+ListsDifferences forward stored result = IfOk result (λ findings. findings.items ≡ differences forward.refs stored.extents stored.refs)

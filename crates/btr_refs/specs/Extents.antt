@@ -1,6 +1,10 @@
 -- The extents of the extent tree, and the references to them that it stores.
 use Rattle.std.specs.Prelude.{◌≡◌, ℕ, ◌==◌, ◌||◌, ◌&&◌, Bool, true, false, is_ok, List, [], ◌++◌, map, Some, Result, Ok, Err, filter_map, flat_map, option_map, option_to_list, if◌then◌else◌, ⊤}
+use Rattle.std.specs.BTreeMap.{BTreeMap}
+use Rattle.std.specs.List.{list_all}
 use Rattle.std.specs.Result.{result_ok}
+use Rattle.std.specs.declared.alloc.Global.{Global}
+use Rattle.std.specs.declared.vec.Vec.{Vec}
 use Rattle.btr_base.specs.declared.key.Key.{Key}
 use Rattle.btr_base.specs.declared.memory.Memory.{Memory}
 use Rattle.btr_items.specs.ExtentItem.{extent_item_of}
@@ -18,6 +22,7 @@ use Rattle.btr_walk.specs.Le.{TreeItem}
 use Rattle.btr_refs.specs.declared.extent.Extent.{Extent}
 use Rattle.btr_refs.specs.Counts.{Counted, RefCounts, counted_all}
 use Rattle.btr_refs.specs.RefKey.{key_of}
+use Rattle.btr_refs.specs.declared.ref_key.RefKey.{RefKey}
 
 abbrev pub is_extent : ℕ → Bool
 is_extent kind = (kind == extent_item) || (kind == metadata_item)
@@ -107,8 +112,23 @@ AddsRefs formed more old new (Ok true) = (formed ≡ true) × (new ≡ counted_a
 AddsRefs formed more old new (Ok false) = formed ≡ false
 AddsRefs formed more old new (Err e) = ⊤
 
+-- .. those in an extent's item, from a place on, and the one in an item of its own
+abbrev pub AddsInline : ℕ → ℕ → List ℕ → RefCounts → RefCounts → Result Bool Memory → Type 0
+AddsInline addr first body old new result = AddsRefs (list_all is_ok (inline_refs_of first body)) (parts_counted addr (inline_refs_of first body)) old new result
+
+abbrev pub AddsLoose : Key → List ℕ → RefCounts → RefCounts → Result Bool Memory → Type 0
+AddsLoose key body old new result = AddsRefs (is_ok (loose_ref_of key body)) (loose_refs key body) old new result
+
 -- an item is kept, if it is formed
 abbrev pub AddsItem : Bool → List Counted → List Extent → RefCounts → RefCounts → List Extent → List Extent → Result Bool Memory → Type 0
 AddsItem formed refs extents old new listed listed' (Ok true) = (formed ≡ true) × (new ≡ counted_all old refs) × (listed' ≡ listed ++ extents)
 AddsItem formed refs extents old new listed listed' (Ok false) = formed ≡ false
 AddsItem formed refs extents old new listed listed' (Err e) = ⊤
+
+-- .. one that is an extent, and any one
+abbrev pub AddsExtent : ℕ → Key → List ℕ → BTreeMap RefKey ℕ → BTreeMap RefKey ℕ → Vec Extent Global → Vec Extent Global → Result Bool Memory → Type 0
+AddsExtent nodesize key body old new listed listed' result =
+    AddsItem (key_fits key && extent_fits key.kind body) (inline_refs key.objectid body (extent_item_of key.kind body)) (extent_of nodesize key body) old.entries new.entries listed.items listed'.items result
+
+abbrev pub AddsAny : ℕ → Key → List ℕ → BTreeMap RefKey ℕ → BTreeMap RefKey ℕ → Vec Extent Global → Vec Extent Global → Result Bool Memory → Type 0
+AddsAny nodesize key body old new listed listed' result = AddsItem (is_formed key body) (refs_in key body) (extent_in nodesize key body) old.entries new.entries listed.items listed'.items result

@@ -1,10 +1,13 @@
 -- Findings, and the order that they are printed in.
-use Rattle.std.specs.Prelude.{◌≡◌, ℕ, ◌^◌, ◌-◌, min, Bool, List, [], ◌∷◌, ◌||◌, ◌++◌, take, replicate, Option, Some, None, if◌then◌else◌}
+use Rattle.std.specs.Prelude.{◌≡◌, ℕ, ◌^◌, ◌-◌, min, Bool, List, [], ◌∷◌, ◌||◌, ◌++◌, take, replicate, Option, Some, None, Result, IfOk, if◌then◌else◌}
 use Rattle.std.specs.BTreeSet.{BTreeSet, insert_key, contains}
 use Rattle.std.specs.List.{list_any}
 use Rattle.std.specs.Ordering.{is_eq, nat_cmp, on, then_cmp}
 use Rattle.std.specs.declared.cmp.Ordering.{Ordering}
 use Rattle.std.specs.Cmp.Lexicographic.{slice_cmp}
+use Rattle.std.specs.declared.alloc.Global.{Global}
+use Rattle.std.specs.declared.vec.Vec.{Vec}
+use Rattle.btr_base.specs.declared.memory.Memory.{Memory}
 use Rattle.btr_refs.specs.declared.finding.Finding.{Finding}
 
 -- a finding of a kind with these numbers, and zeros behind them
@@ -42,6 +45,14 @@ has set one = contains finding_cmp set one
 -- a set has just these findings
 abbrev pub HasJust : List Finding → BTreeSet Finding → Type 0
 HasJust findings set = (one : Finding) → has set one ≡ is_one_of findings one
+
+-- a list is the set of findings, in ascending order
+abbrev pub ListsSet : BTreeSet Finding → Result (Vec Finding Global) Memory → Type 0
+ListsSet set result = (findings : List Finding) → HasJust findings set → IfOk result (λ list. list.items ≡ in_order findings)
+
+-- which findings are in a list says what their set is
+abbrev pub SetLaw : Type 0
+SetLaw = (xs ys : List Finding) → ((one : Finding) → is_one_of xs one ≡ is_one_of ys one) → in_order xs ≡ in_order ys
 
 -- a set has just what it had, and some findings
 abbrev pub Adds : List Finding → BTreeSet Finding → BTreeSet Finding → Type 0

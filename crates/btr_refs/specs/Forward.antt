@@ -1,5 +1,5 @@
 -- What uses extents: trees use their root blocks, inner nodes their children, and files their data.
-use Rattle.std.specs.Prelude.{ℕ, ◌+◌, ◌-◌, ◌^◌, ◌%◌, ◌==◌, Bool, List, [], ◌∷◌, map, flat_map, Option, Some, None, Result, Ok, Err, if◌then◌else◌}
+use Rattle.std.specs.Prelude.{ℕ, ◌+◌, ◌-◌, ◌^◌, ◌%◌, ◌==◌, ◌≡◌, Bool, List, [], ◌∷◌, fold, map, flat_map, Option, Some, None, Result, Ok, Err, if◌then◌else◌}
 use Rattle.std.specs.BTreeSet.{insert_key}
 use Rattle.std.specs.Ordering.{nat_cmp, ordering_then}
 use Rattle.std.specs.declared.cmp.Ordering.{Ordering}
@@ -21,6 +21,7 @@ use Rattle.btr_volume.specs.declared.root.TreeRoot.{TreeRoot}
 use Rattle.btr_refs.specs.declared.forward.Origin.{Origin}
 use Rattle.btr_refs.specs.declared.uses.BlockUse.{BlockUse}
 use Rattle.btr_refs.specs.declared.uses.DataUse.{DataUse}
+use Rattle.btr_refs.specs.declared.uses.UsedExtents.{UsedExtents}
 use Rattle.btr_refs.specs.Counts.{Counted, RefCounts, counted}
 use Rattle.btr_refs.specs.RefKey.{key_of}
 
@@ -35,9 +36,16 @@ pub record Use : Type 0 where
   pub link : Link
   pub what : Used
 
+-- a use as a tree block of a level, and as data of a length
+abbrev pub block_use : ℕ → Link → ℕ → Use
+block_use addr link level = record { addr = addr; link = link; what = TreeBlock level }
+
+abbrev pub data_use : ℕ → Link → ℕ → Use
+data_use addr link len = record { addr = addr; link = link; what = Data len }
+
 -- a tree refers to its root block by its id
 abbrev pub root_use : TreeRoot → Use
-root_use tree = record { addr = tree.place.addr; link = Tree tree.id; what = TreeBlock tree.place.level }
+root_use tree = block_use tree.place.addr (Tree tree.id) tree.place.level
 
 -- a block's references to tree blocks and to data are by its address, or by its owner; data's by the owner are by the inode too,
 -- and by where in the file the extent would begin, modulo 2^64
@@ -52,13 +60,13 @@ begin_of offset skip = (offset + (2 ^ 64 - skip)) % 2 ^ 64
 
 -- a node uses its children
 abbrev pub child_use : Origin → ℕ → KeyPointer → Use
-child_use from level pointer = record { addr = pointer.addr; link = tree_link from; what = TreeBlock (level - 1) }
+child_use from level pointer = block_use pointer.addr (tree_link from) (level - 1)
 
 -- a file uses data that has an address; else it is a hole
 abbrev pub range_uses : Origin → Key → ℕ → ℕ → ℕ → List Use
 range_uses from key addr disk_len skip =
     if addr == 0 then []
-    else record { addr = addr; link = file_link from key.objectid (begin_of key.offset skip); what = Data disk_len } ∷ []
+    else data_use addr (file_link from key.objectid (begin_of key.offset skip)) disk_len ∷ []
 
 abbrev pub shape_uses : Origin → Key → Shape → List Use
 shape_uses from key (Inline len) = []
@@ -72,9 +80,12 @@ extent_uses from key (Err fault) = []
 abbrev pub item_uses : Origin → Key → List ℕ → List Use
 item_uses from key body = if key.kind == extent_data then extent_uses from key (file_extent_of key.offset body) else []
 
+abbrev pub leaf_uses : Origin → List Item → List Use
+leaf_uses from items = flat_map (λ (item : Item). item_uses from item.key item.body) items
+
 abbrev pub node_uses : Origin → ℕ → Option Node → List Use
 node_uses from level None = []
-node_uses from level (Some (Leaf items)) = flat_map (λ (item : Item). item_uses from item.key item.body) items
+node_uses from level (Some (Leaf items)) = leaf_uses from items
 node_uses from level (Some (Inner pointers)) = map (child_use from level) pointers
 
 -- a block's header names the tree that owns it
@@ -118,3 +129,12 @@ with_use uses one = record {
   tree_blocks = blocks_with uses.tree_blocks one.addr one.what;
   data_extents = data_with uses.data_extents one.addr one.what;
 }
+
+-- what is kept of some uses, from nothing on
+abbrev pub used_by : List Use → Uses
+used_by uses = fold with_use no_uses uses
+
+-- these are the extents that some uses use
+pub record AreUsedBy (uses : List Use) (used : UsedExtents) : Type 0 where
+  pub tree_blocks : used.tree_blocks.keys ≡ (used_by uses).tree_blocks
+  pub data_extents : used.data_extents.keys ≡ (used_by uses).data_extents

@@ -4,7 +4,7 @@ ghost use Rattle.btr_rack.specs.Rack.{OnlyReads};
 ghost use Rattle.btr_read.specs.Serves.{Serves};
 ghost use Rattle.btr_read.specs.Store.{free_count};
 ghost use Rattle.btr_volume.specs.Looking.{SameVolume};
-ghost use Rattle.btr_refs.specs.Collecting.{stored_of, Collects, CollectCause, StoredLaw};
+ghost use Rattle.btr_refs.specs.Collecting.{CollectsStored, CollectCause, StoredLaw};
 
 use crate::{CollectFault, Stored};
 use btr_base::{Key, Memory};
@@ -27,12 +27,13 @@ const LAST_KEY: Key = Key {
 };
 
 impl Stored {
-    /// Collects what the extent tree with this root says of extents. Four slots are free.
+    /// Collects what the extent tree with this root says of extents, and makes room for some of them ahead. Four slots are free.
     ///
     /// The faults of the tree are those of its blocks, in their order, and `Malformed` of the leaf of an item that breaks its form,
     /// where the item is an extent or a reference. `Memory`: there is no memory for what is collected.
     pub fn collect<R: Rack>(
         alloc: Global,
+        room: usize,
         extents: &TreeRoot,
         rack: &mut R,
         vol: &mut Volume,
@@ -43,9 +44,9 @@ impl Stored {
         ensures reads { OnlyReads (R.seen rack.old) (R.seen rack.new) }
         ensures same { SameVolume vol.old vol.new }
         ensures cause { CollectCause vol.old.store.layout (R.seen rack.old) (R.seen rack.new) result }
-        ensures content { Collects vol.old.store.layout (R.seen rack.old) (R.seen rack.new) (stored_of vol.old.sup.nodesize extents.now.place) result }
+        ensures content { CollectsStored vol.old extents.now (R.seen rack.old) (R.seen rack.new) result }
     {
-        let nothing = Stored::new(alloc, u64::from(vol.sup.nodesize));
+        let nothing = Stored::with_room(alloc, u64::from(vol.sup.nodesize), room);
         match fold(
             &extents.place,
             FIRST_KEY,

@@ -1,11 +1,7 @@
 // Where the references that are counted and those that are stored differ.
-ghost use Rattle.std.specs.Prelude.{◌≡◌, ◌+◌, ◌==◌, ◌||◌, cond, List, OnOk, IfOk};
-ghost use Rattle.std.specs.Map.{keys_of};
-ghost use Rattle.std.specs.List.{list_any};
-ghost use Rattle.btr_refs.specs.declared.extent.Extent.{Extent};
-ghost use Rattle.btr_refs.specs.declared.finding.Finding.{Finding};
-ghost use Rattle.btr_refs.specs.Findings.{has, shown_sum};
-ghost use Rattle.btr_refs.specs.Differences.{ref_count, ref_total, ref_alone, is_row, Addresses};
+ghost use Rattle.std.specs.Prelude.{◌≡◌, ◌+◌, ◌==◌, cond, OnOk, IfOk};
+ghost use Rattle.btr_refs.specs.Findings.{shown_sum, Adds};
+ghost use Rattle.btr_refs.specs.Differences.{ref_count, ref_total, count_findings, total_findings, Addresses, ListsDifferences, PutsAlone, PutsRow, PutsRows, PutsRefs};
 ghost use Rattle.btr_refs.specs.Differences as rows;
 
 use crate::counts::count_in;
@@ -23,7 +19,7 @@ fn put_ref_count(
     forward: &BTreeMap<RefKey, u64>,
     stored: &BTreeMap<RefKey, u64>,
 ) -> Result<(), Memory>
-    ensures { OnOk result ((one : Finding) → has found.new one ≡ (is_row (ref_count forward.now.entries stored.now.entries) one key.now || has found.old one)) }
+    ensures { OnOk result (PutsRow (ref_count forward.now.entries stored.now.entries) key.now found.old found.new) }
 {
     let counted = count_in(forward, key);
     let kept = count_in(stored, key);
@@ -49,7 +45,7 @@ fn put_ref_counts(
     forward: &BTreeMap<RefKey, u64>,
     stored: &BTreeMap<RefKey, u64>,
 ) -> Result<(), Memory>
-    ensures { OnOk result ((one : Finding) → has found.new one ≡ (list_any (is_row (ref_count forward.now.entries stored.now.entries) one) (keys_of refs.now.entries) || has found.old one)) }
+    ensures { OnOk result (PutsRefs (ref_count forward.now.entries stored.now.entries) refs.now found.old found.new) }
 {
     for key in refs.keys() {
         put_ref_count(found, key, forward, stored)?;
@@ -139,7 +135,7 @@ fn put_ref_total(
     extent: &Extent,
     refs: &BTreeMap<RefKey, u64>,
 ) -> Result<(), Memory>
-    ensures { OnOk result ((one : Finding) → has found.new one ≡ (is_row (ref_total refs.now.entries) one extent.now || has found.old one)) }
+    ensures { OnOk result (PutsRow (ref_total refs.now.entries) extent.now found.old found.new) }
 {
     let sum = total_at(refs, extent.addr)?;
     if u128::from(extent.refs) == sum {
@@ -154,7 +150,7 @@ fn put_ref_totals(
     extents: &[Extent],
     refs: &BTreeMap<RefKey, u64>,
 ) -> Result<(), Memory>
-    ensures { OnOk result ((one : Finding) → has found.new one ≡ (list_any (is_row (ref_total refs.now.entries) one) extents.now || has found.old one)) }
+    ensures { OnOk result (PutsRows (ref_total refs.now.entries) extents.now found.old found.new) }
 {
     for extent in extents {
         put_ref_total(found, extent, refs)?;
@@ -168,7 +164,7 @@ fn put_ref_alone(
     refs: &BTreeMap<RefKey, u64>,
     addresses: &BTreeSet<u64>,
 ) -> Result<(), Memory>
-    ensures { (extents : List Extent) → Addresses extents addresses.now → OnOk result ((one : Finding) → has found.new one ≡ (list_any (is_row (ref_alone extents refs.now.entries) one) (keys_of refs.now.entries) || has found.old one)) }
+    ensures { PutsAlone refs.now addresses.now found.old found.new result }
 {
     for key in refs.keys() {
         if !addresses.contains(&key.addr) {
@@ -179,6 +175,37 @@ fn put_ref_alone(
     Ok(())
 }
 
+/// Puts the findings on references into a set, kind 7: a reference that is counted and stored differently. `Memory`: there is no memory;
+/// then nothing is said of the set.
+pub fn put_count_findings(
+    found: &mut BTreeSet<Finding>,
+    forward: &Forward,
+    stored: &BTreeMap<RefKey, u64>,
+) -> Result<(), Memory>
+    ensures { OnOk result (Adds (count_findings forward.now.refs stored.now.entries) found.old found.new) }
+{
+    let counted = forward.refs();
+    put_ref_counts(found, counted, counted, stored)?;
+    put_ref_counts(found, stored, counted, stored)
+}
+
+/// Puts the findings on sums of references into a set, kind 8: an extent that states another sum than that of the references to its
+/// address that are stored; and an address that has such references, be it 0 times, and no extent. `Memory`: there is no memory; then
+/// nothing is said of the set.
+pub fn put_total_findings(
+    alloc: Global,
+    found: &mut BTreeSet<Finding>,
+    stored: &Stored,
+) -> Result<(), Memory>
+    ensures { OnOk result (Adds (total_findings stored.now.extents stored.now.refs) found.old found.new) }
+{
+    let refs = stored.refs();
+    let extents = stored.extents();
+    put_ref_totals(found, extents, refs)?;
+    let addresses = addresses_of(alloc, extents)?;
+    put_ref_alone(found, refs, &addresses)
+}
+
 /// The findings on references, kinds 7 and 8, in ascending order and each once: a reference that is counted and stored
 /// differently; an extent that states another sum than that of the references to its address that are stored; and an address
 /// that has such references, be it 0 times, and no extent. `Memory`: there is no memory for them.
@@ -187,16 +214,10 @@ pub fn differences(
     forward: &Forward,
     stored: &Stored,
 ) -> Result<Vec<Finding>, Memory>
-    ensures { IfOk result (λ findings. findings.items ≡ rows.differences forward.now.refs stored.now.extents stored.now.refs) }
+    ensures { ListsDifferences forward.now stored.now result }
 {
-    let counted = forward.refs();
-    let refs = stored.refs();
-    let extents = stored.extents();
     let mut found = BTreeSet::new(alloc);
-    put_ref_counts(&mut found, counted, counted, refs)?;
-    put_ref_counts(&mut found, refs, counted, refs)?;
-    put_ref_totals(&mut found, extents, refs)?;
-    let addresses = addresses_of(alloc, extents)?;
-    put_ref_alone(&mut found, refs, &addresses)?;
+    put_count_findings(&mut found, forward, stored.refs())?;
+    put_total_findings(alloc, &mut found, stored)?;
     listed(alloc, &found)
 }

@@ -1,11 +1,9 @@
 // What uses extents: trees use their root blocks, nodes their children, and files their data.
-ghost use Rattle.std.specs.Prelude.{◌≡◌, ℕ, ◌≤◌, length, fold, flat_map, map, OnOk};
-ghost use Rattle.btr_node.specs.Block.{Item};
-ghost use Rattle.btr_refs.specs.Forward.{tree_link, file_link, begin_of, with_use, root_use, TreeBlock, Data, item_uses, child_use, origin_of, block_uses};
-ghost use Rattle.btr_refs.specs.Forward as words;
+ghost use Rattle.std.specs.Prelude.{◌≡◌, ◌≤◌, length, fold, map, OnOk};
+ghost use Rattle.btr_refs.specs.Forward.{tree_link, file_link, with_use, root_use, block_use, data_use, range_uses, item_uses, leaf_uses, child_use, block_uses};
 
 use crate::counts::add;
-use crate::{BlockUse, DataUse, RefKey};
+use crate::{BlockUse, DataUse, RefKey, UsedExtents};
 use btr_base::{Key, Memory, u64_at};
 use btr_items::{FileExtent, Link, Shape, item};
 use btr_node::{Inner, Leaf, Node};
@@ -69,7 +67,7 @@ fn file_link(from: &Origin, objectid: u64, offset: u64) -> Link
 
 impl Forward {
     ghost use Rattle.std.specs.Prelude.{◌≡◌, ◌≤◌, length, fold, OnOk};
-    ghost use Rattle.btr_refs.specs.Forward.{no_uses, with_use, root_use, TreeBlock, Data, block_uses};
+    ghost use Rattle.btr_refs.specs.Forward.{no_uses, with_use, root_use, block_use, data_use, block_uses};
 
     /// Nothing is counted yet.
     pub fn new(alloc: Global) -> Forward
@@ -89,24 +87,21 @@ impl Forward {
         &self.refs
     }
 
-    /// The extents that are used as tree blocks, with their levels.
-    pub fn tree_blocks(&self) -> &BTreeSet<BlockUse>
-        ensures { result.now.keys ≡ self.now.tree_blocks }
+    /// The extents that are used, where nothing else is asked of the uses any more.
+    pub fn into_extents(self) -> UsedExtents
+        ensures tree_blocks { result.tree_blocks.keys ≡ self.tree_blocks }
+        ensures data_extents { result.data_extents.keys ≡ self.data_extents }
     {
-        &self.tree_blocks
-    }
-
-    /// The extents that are used as data, with the lengths that files say.
-    pub fn data_extents(&self) -> &BTreeSet<DataUse>
-        ensures { result.now.keys ≡ self.now.data_extents }
-    {
-        &self.data_extents
+        UsedExtents {
+            tree_blocks: self.tree_blocks,
+            data_extents: self.data_extents,
+        }
     }
 
     /// Counts a use of the extent at an address as a tree block. `Memory`: there is no memory for it; then nothing is said of what
     /// was counted.
     pub fn use_block(&mut self, addr: u64, link: Link, level: u8) -> Result<(), Memory>
-        ensures { OnOk result (self.new ≡ with_use self.old (record { addr = addr; link = link; what = TreeBlock level })) }
+        ensures { OnOk result (self.new ≡ with_use self.old (block_use addr link level)) }
     {
         add(&mut self.refs, RefKey::new(addr, link), 1)?;
         match self.tree_blocks.insert(BlockUse { addr, level }) {
@@ -118,7 +113,7 @@ impl Forward {
     /// Counts a use of the extent at an address as data, of which a file says that it has so many bytes. `Memory`: there is no
     /// memory for it; then nothing is said of what was counted.
     pub fn use_data(&mut self, addr: u64, link: Link, len: u64) -> Result<(), Memory>
-        ensures { OnOk result (self.new ≡ with_use self.old (record { addr = addr; link = link; what = Data len })) }
+        ensures { OnOk result (self.new ≡ with_use self.old (data_use addr link len)) }
     {
         add(&mut self.refs, RefKey::new(addr, link), 1)?;
         match self.data_extents.insert(DataUse { addr, len }) {
@@ -167,7 +162,7 @@ fn add_range(
     place: (u64, u64),
     skip: u64,
 ) -> Result<(), Memory>
-    ensures { OnOk result (forward.new ≡ fold with_use forward.old (words.range_uses from.now key place.0 place.1 skip)) }
+    ensures { OnOk result (forward.new ≡ fold with_use forward.old (range_uses from.now key place.0 place.1 skip)) }
 {
     let (addr, disk_len) = place;
     if addr == 0 {
@@ -206,7 +201,7 @@ fn add_item(forward: &mut Forward, from: &Origin, key: Key, body: &[u8]) -> Resu
 
 // Counts what the items of a leaf use.
 fn add_items(forward: &mut Forward, from: &Origin, leaf: &Leaf<'_>) -> Result<(), Memory>
-    ensures { OnOk result (forward.new ≡ fold with_use forward.old (flat_map (λ (item : Item). item_uses from.now item.key item.body) leaf.now)) }
+    ensures { OnOk result (forward.new ≡ fold with_use forward.old (leaf_uses from.now leaf.now)) }
 {
     for item in leaf.items_from(0) {
         add_item(forward, from, item.key, item.body)?;

@@ -1,9 +1,9 @@
 // Sets of findings.
-ghost use Rattle.std.specs.Prelude.{◌≡◌, ◌||◌, List, OnOk, OnErr, IfOk};
+ghost use Rattle.std.specs.Prelude.{◌≡◌, ◌||◌, OnOk, OnErr};
 ghost use Rattle.std.specs.BTreeSet.{IsUnchanged};
 ghost use Rattle.btr_refs.specs.declared.finding.Finding.{Finding};
 ghost use Rattle.std.specs.Option.{option_to_list};
-ghost use Rattle.btr_refs.specs.Findings.{in_order, is_one_of, has, is_same, unless, Adds, HasJust};
+ghost use Rattle.btr_refs.specs.Findings.{has, is_same, unless, Adds, ListsSet, SetLaw};
 
 use crate::Finding;
 use btr_base::Memory;
@@ -33,7 +33,7 @@ pub fn put_unless(found: &mut BTreeSet<Finding>, kept: bool, finding: Finding) -
 
 /// The findings of a set, in ascending order. `Memory`: there is no memory for the list.
 pub fn listed(alloc: Global, found: &BTreeSet<Finding>) -> Result<Vec<Finding>, Memory>
-    ensures { (findings : List Finding) → HasJust findings found.now → IfOk result (λ list. list.items ≡ in_order findings) }
+    ensures { ListsSet found.now result }
 {
     match found.iter().copied().collect(alloc) {
         Ok(findings) => Ok(findings),
@@ -44,5 +44,5 @@ pub fn listed(alloc: Global, found: &BTreeSet<Finding>) -> Result<Vec<Finding>, 
 /// Which findings are in a list says what their set is, in whatever order and however often they are met. This function is the
 /// law: its contract says it, and its body is empty.
 pub fn set_law()
-    ensures { (xs ys : List Finding) → ((one : Finding) → is_one_of xs one ≡ is_one_of ys one) → in_order xs ≡ in_order ys }
+    ensures { SetLaw }
 {}

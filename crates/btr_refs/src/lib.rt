@@ -24,7 +24,7 @@ mod uses;
 
 pub use collect_fault::CollectFault;
 pub use collecting::stored_law;
-pub use comparing::differences;
+pub use comparing::{differences, put_count_findings, put_total_findings};
 pub use counts::{add, count_in, counts_law};
 pub use extent::Extent;
 pub use finding::Finding;
@@ -32,4 +32,4 @@ pub use forward::Forward;
 pub use found::{insert, listed, put_unless, set_law};
 pub use ref_key::RefKey;
 pub use stored::Stored;
-pub use uses::{BlockUse, DataUse};
+pub use uses::{BlockUse, DataUse, UsedExtents};

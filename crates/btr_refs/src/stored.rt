@@ -1,13 +1,7 @@
 // What the extent tree says of extents.
-ghost use Rattle.std.specs.Prelude.{◌≡◌, ◌≤◌, ◌&&◌, is_ok, length, IfOk, IsTrue};
-ghost use Rattle.std.specs.List.{list_all};
-ghost use Rattle.btr_items.specs.InlineRef as inline;
+ghost use Rattle.std.specs.Prelude.{◌≡◌, ◌≤◌, [], length, IfOk, IsTrue};
 ghost use Rattle.btr_items.specs.Key as key_rules;
-ghost use Rattle.btr_items.specs.ExtentItem.{extent_item_of};
-ghost use Rattle.btr_items.specs.Item.{extent_fits};
-ghost use Rattle.btr_items.specs.LooseRef.{loose_ref_of};
-ghost use Rattle.btr_refs.specs.Extents.{is_extent, extent_with, AddsRefs, AddsItem, parts_counted, loose_refs};
-ghost use Rattle.btr_refs.specs.Extents as words;
+ghost use Rattle.btr_refs.specs.Extents.{is_extent, extent_with, AddsInline, AddsLoose, AddsExtent, AddsAny};
 
 use crate::counts::add;
 use crate::{Extent, RefKey};
@@ -50,16 +44,31 @@ impl Stored {
         }
     }
 
-    /// The same in as little memory as it takes: a map that grew in the order of its keys has nodes that are half full. `Memory`: there is no
-    /// memory for it.
-    pub fn packed(self, alloc: Global) -> Result<Stored, Memory>
-        ensures { IfOk result (λ all. all ≡ self) }
+    /// The same, with room made ahead for some extents, if there is memory for it.
+    pub fn with_room(alloc: Global, nodesize: u64, room: usize) -> Stored
+        ensures { result ≡ nothing_kept nodesize }
     {
-        Ok(Stored {
-            nodesize: self.nodesize,
-            refs: packed(alloc, self.refs)?,
-            extents: self.extents,
-        })
+        Stored {
+            nodesize,
+            refs: BTreeMap::new(alloc),
+            extents: room_for(alloc, room),
+        }
+    }
+
+    /// How often each reference is stored, where nothing else is asked any more, in as little memory as that takes: a map that grew in the
+    /// order of its keys has nodes that are half full. `Memory`: there is no memory for it.
+    pub fn into_refs(self, alloc: Global) -> Result<BTreeMap<RefKey, u64>, Memory>
+        ensures { IfOk result (λ refs. refs.entries ≡ self.refs) }
+    {
+        drop(self.extents);
+        packed(alloc, self.refs)
+    }
+
+    /// The extents alone, in the order of their items.
+    pub fn into_extents(self) -> Vec<Extent>
+        ensures { result.items ≡ self.extents }
+    {
+        self.extents
     }
 
     /// How often each reference is stored.
@@ -74,6 +83,16 @@ impl Stored {
         ensures { result.now ≡ self.now.extents }
     {
         self.extents.as_slice()
+    }
+}
+
+// A list that has room for some extents, if there is memory for it.
+fn room_for(alloc: Global, room: usize) -> Vec<Extent>
+    ensures { result.items ≡ [] }
+{
+    match Vec::with_capacity(alloc, room) {
+        Ok(list) => list,
+        Err(_) => Vec::new(alloc),
     }
 }
 
@@ -115,7 +134,7 @@ fn add_inline(
     first: usize,
 ) -> Result<bool, Memory>
     requires { first ≤ length body.now }
-    ensures { AddsRefs (list_all is_ok (inline.inline_refs_of first body.now)) (parts_counted addr (inline.inline_refs_of first body.now)) refs.old.entries refs.new.entries result }
+    ensures { AddsInline addr first body.now refs.old.entries refs.new.entries result }
 {
     for part in inline_refs(body, first) {
         let Ok(part) = part else {
@@ -135,7 +154,7 @@ fn add_extent(
     body: &[u8],
 ) -> Result<bool, Memory>
     requires kind { IsTrue (is_extent key.kind) }
-    ensures { AddsItem (key_rules.key_fits key && extent_fits key.kind body.now) (words.inline_refs key.objectid body.now (extent_item_of key.kind body.now)) (words.extent_of nodesize key body.now) refs.old.entries refs.new.entries extents.old.items extents.new.items result }
+    ensures { AddsExtent nodesize key body.now refs.old refs.new extents.old extents.new result }
 {
     let Ok(extent) = ExtentItem::read(key.kind, body) else {
         return Ok(false);
@@ -151,7 +170,7 @@ fn add_extent(
 
 // Counts the reference in an item of its own. The answer is whether the item has its form.
 fn add_loose(refs: &mut BTreeMap<RefKey, u64>, key: Key, body: &[u8]) -> Result<bool, Memory>
-    ensures { AddsRefs (is_ok (loose_ref_of key body.now)) (loose_refs key body.now) refs.old.entries refs.new.entries result }
+    ensures { AddsLoose key body.now refs.old.entries refs.new.entries result }
 {
     let Ok(part) = LooseRef::read(key, body) else {
         return Ok(false);
@@ -168,7 +187,7 @@ fn keep(
     key: Key,
     body: &[u8],
 ) -> Result<bool, Memory>
-    ensures { AddsItem (words.is_formed key body.now) (words.refs_in key body.now) (words.extent_in nodesize key body.now) refs.old.entries refs.new.entries extents.old.items extents.new.items result }
+    ensures { AddsAny nodesize key body.now refs.old refs.new extents.old extents.new result }
 {
     match key.kind {
         item::EXTENT_ITEM | item::METADATA_ITEM => add_extent(refs, extents, nodesize, key, body),

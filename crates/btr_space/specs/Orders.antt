@@ -1,5 +1,6 @@
 -- The keys that ranges are looked up by, and sets of them.
-use Rattle.std.specs.Prelude.{◌≡◌, ◌+◌, List}
+use Rattle.std.specs.Prelude.{◌≡◌, ◌+◌, true, cond, List}
+use Rattle.std.specs.BTreeMap.{is_at}
 use Rattle.std.specs.BTreeSet.{BTreeSet, contains}
 use Rattle.std.specs.List.{list_any}
 use Rattle.std.specs.Ordering.{is_eq, nat_cmp, ordering_then}
@@ -29,6 +30,10 @@ extent_cmp a b = ordering_then (nat_cmp a.devid b.devid) (ordering_then (nat_cmp
 -- a set has the keys of some things, and no other
 abbrev pub KeysOf : {X K : Type 0} → (K → K → Ordering) → (X → K) → List X → BTreeSet K → Type 0
 KeysOf {X} {K} R key xs set = (one : K) → contains R set one ≡ list_any (λ x. is_eq (R (key x) one)) xs
+
+-- a set has what it had, and a key
+abbrev pub HasOneMore : {K : Type 0} → (K → K → Ordering) → K → BTreeSet K → BTreeSet K → Type 0
+HasOneMore {K} R key old new = (one : K) → contains R new one ≡ cond (is_at (R key) one) true (contains R old one)
 
 -- what a group and a chunk agree on
 abbrev pub group_span : Group → Span

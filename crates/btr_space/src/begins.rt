@@ -5,7 +5,7 @@ ghost use Rattle.btr_space.specs.declared.begins.Begin.{Begin};
 ghost use Rattle.btr_space.specs.Sorted.{IsSortedOf, Sums, begin_of, before, begun_in};
 
 use crate::Group;
-use crate::growing::push;
+use crate::growing::{push, with_room};
 use btr_base::Memory;
 use btr_refs::Extent;
 use std::alloc::Global;
@@ -21,7 +21,7 @@ pub(crate) struct Begin {
 pub(crate) fn ascending(alloc: Global, extents: &[Extent]) -> Result<Vec<Begin>, Memory>
     ensures { IfOk result (λ list. IsSortedOf (λ (begin : Begin). begin.addr) (map begin_of extents.now) list.items) }
 {
-    let mut list = Vec::new(alloc);
+    let mut list = with_room(alloc, extents.len())?;
     for extent in extents {
         let begin = Begin {
             addr: extent.addr,
@@ -38,7 +38,7 @@ pub(crate) fn ascending(alloc: Global, extents: &[Extent]) -> Result<Vec<Begin>,
 pub(crate) fn sums(alloc: Global, begins: &[Begin]) -> Result<Vec<u128>, Memory>
     ensures { IfOk result (λ list. Sums begins.now list.items) }
 {
-    let mut list = Vec::new(alloc);
+    let mut list = with_room(alloc, begins.len().saturating_add(1))?;
     let mut sum: u128 = 0;
     push(&mut list, sum)?;
     for begin in begins {

@@ -2,7 +2,7 @@
 ghost use Rattle.std.specs.Prelude.{IfOk};
 ghost use Rattle.btr_space.specs.Cover.{Reaches};
 
-use crate::growing::push;
+use crate::growing::{push, with_room};
 use btr_base::Memory;
 use std::alloc::Global;
 use std::marker::Model;
@@ -21,7 +21,7 @@ pub struct Stretch {
 fn reaches(alloc: Global, stretches: &[Stretch]) -> Result<Vec<u128>, Memory>
     ensures { IfOk result (λ list. Reaches stretches.now list.items) }
 {
-    let mut list = Vec::new(alloc);
+    let mut list = with_room(alloc, stretches.len().saturating_add(1))?;
     let mut reach: u128 = 0;
     push(&mut list, reach)?;
     for stretch in stretches {

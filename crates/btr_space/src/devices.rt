@@ -1,12 +1,12 @@
 // Chunks, device extents and devices that don't agree.
-ghost use Rattle.std.specs.Prelude.{◌≡◌, ℕ, ◌+◌, ◌==◌, ◌||◌, cond, List, OnOk, IfOk, filter_map};
+ghost use Rattle.std.specs.Prelude.{◌≡◌, ℕ, ◌+◌, ◌==◌, ◌||◌, cond, OnOk, IfOk, filter_map};
 ghost use Rattle.btr_space.specs.declared.device_extent.DeviceExtent.{DeviceExtent};
 ghost use Rattle.btr_space.specs.declared.stated_device.StatedDevice.{StatedDevice};
 ghost use Rattle.std.specs.BTreeSet.{contains};
 ghost use Rattle.std.specs.Ordering.{nat_cmp};
 ghost use Rattle.btr_refs.specs.Findings.{Adds};
-ghost use Rattle.btr_space.specs.Devices.{chunk_device, device_chunk, device_used, unstated_used, device_findings};
-ghost use Rattle.btr_space.specs.Given.{Given, Devids, given_in};
+ghost use Rattle.btr_space.specs.Devices.{chunk_device, device_chunk, device_findings};
+ghost use Rattle.btr_space.specs.Given.{Given, Devids, PutsUnstated, PutsUsed, given_in};
 
 use crate::chunks::ranges_of;
 use crate::growing::put_key;
@@ -112,7 +112,7 @@ fn put_device_used(
     given: &BTreeMap<u64, u128>,
     devices: &[StatedDevice],
 ) -> Result<(), Memory>
-    ensures { (extents : List DeviceExtent) → Given extents given.now → OnOk result (Adds (filter_map (device_used extents) devices.now) found.old found.new) }
+    ensures { PutsUsed devices.now given.now found.old found.new result }
 {
     for device in devices {
         let sum = given_at(given, device.devid);
@@ -140,7 +140,7 @@ fn put_unstated_used(
     devids: &BTreeSet<u64>,
     extents: &[DeviceExtent],
 ) -> Result<(), Memory>
-    ensures { (devices : List StatedDevice) → Devids devices devids.now → Given extents.now given.now → OnOk result (Adds (filter_map (unstated_used devices extents.now) extents.now) found.old found.new) }
+    ensures { PutsUnstated extents.now devids.now given.now found.old found.new result }
 {
     for extent in extents {
         let sum = given_at(given, extent.devid);

@@ -1,10 +1,20 @@
 // Lists and sets that grow.
-ghost use Rattle.std.specs.Prelude.{◌≡◌, ◌++◌, ◌∷◌, [], true, cond, OnOk};
-ghost use Rattle.std.specs.BTreeMap.{is_at};
-ghost use Rattle.std.specs.BTreeSet.{contains};
+ghost use Rattle.std.specs.Prelude.{◌≡◌, ◌++◌, ◌∷◌, [], IfOk, OnOk};
+ghost use Rattle.btr_space.specs.Orders.{HasOneMore};
 
 use btr_base::Memory;
+use std::alloc::Global;
 use std::collections::BTreeSet;
+
+// A list with room for so many items.
+pub(crate) fn with_room<T: Drop>(alloc: Global, room: usize) -> Result<Vec<T>, Memory>
+    ensures { IfOk result (λ list. list.items ≡ []) }
+{
+    match Vec::with_capacity(alloc, room) {
+        Ok(list) => Ok(list),
+        Err(_) => Err(Memory),
+    }
+}
 
 // Adds to the end of a list.
 pub(crate) fn push<T: Drop>(list: &mut Vec<T>, item: T) -> Result<(), Memory>
@@ -18,7 +28,7 @@ pub(crate) fn push<T: Drop>(list: &mut Vec<T>, item: T) -> Result<(), Memory>
 
 // Adds to a set, where the key may be already.
 pub(crate) fn put_key<K: Ord + Drop>(set: &mut BTreeSet<K>, key: K) -> Result<(), Memory>
-    ensures { OnOk result ((one : K) → contains K.cmp set.new one ≡ cond (is_at (K.cmp key) one) true (contains K.cmp set.old one)) }
+    ensures { OnOk result (HasOneMore K.cmp key set.old set.new) }
 {
     match set.insert(key) {
         Ok(_) => Ok(()),

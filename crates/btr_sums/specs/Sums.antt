@@ -32,10 +32,14 @@ sum_missing runs tree inode sector = unless (list_any (covers sector) runs) (fou
 abbrev pub used_sectors : UsedRange → List ℕ
 used_sectors range = sectors (range.addr + range.skip) (range.len / 4096)
 
+-- the findings on these
+abbrev pub used_missing : List SumRun → ℕ → UsedRange → List Finding
+used_missing runs tree range = filter_map (sum_missing runs tree range.inode) (used_sectors range)
+
 -- unless the file has no checksums
 abbrev pub range_missing : List SumRun → ℕ → List ℕ → UsedRange → List Finding
 range_missing runs tree loose range =
-    if list_any (λ inode. inode == range.inode) loose then [] else filter_map (sum_missing runs tree range.inode) (used_sectors range)
+    if list_any (λ inode. inode == range.inode) loose then [] else used_missing runs tree range
 
 -- the findings on a tree of files
 abbrev pub tree_missing : List SumRun → ℕ → List ℕ → List UsedRange → List Finding

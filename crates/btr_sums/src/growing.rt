@@ -1,7 +1,18 @@
 // Lists that grow.
-ghost use Rattle.std.specs.Prelude.{◌≡◌, ◌++◌, ◌∷◌, [], OnOk};
+ghost use Rattle.std.specs.Prelude.{◌≡◌, ◌++◌, ◌∷◌, [], IfOk, OnOk};
 
 use btr_base::Memory;
+use std::alloc::Global;
+
+// A list with room for so many items.
+pub(crate) fn with_room<T: Drop>(alloc: Global, room: usize) -> Result<Vec<T>, Memory>
+    ensures { IfOk result (λ list. list.items ≡ []) }
+{
+    match Vec::with_capacity(alloc, room) {
+        Ok(list) => Ok(list),
+        Err(_) => Err(Memory),
+    }
+}
 
 // Adds to the end of a list.
 pub(crate) fn push<T: Drop>(list: &mut Vec<T>, item: T) -> Result<(), Memory>

@@ -1,11 +1,9 @@
 // Sectors that files use and that have no checksum.
-ghost use Rattle.std.specs.Prelude.{◌≡◌, ℕ, List, IfOk, OnOk, map, filter_map};
+ghost use Rattle.std.specs.Prelude.{IfOk, map};
 ghost use Rattle.std.specs.List.Sorted.{IsPermutation};
-ghost use Rattle.btr_items.specs.declared.sum_run.SumRun.{SumRun};
-ghost use Rattle.btr_refs.specs.Findings.{Adds};
-ghost use Rattle.btr_sums.specs.Sums.{run_stretch, range_missing, tree_missing};
+ghost use Rattle.btr_sums.specs.Putting.{PutsBySums, PutsMissing};
+ghost use Rattle.btr_sums.specs.Sums.{run_stretch, tree_missing, used_missing};
 ghost use Rattle.btr_sums.specs.Ranks.{Inodes};
-ghost use Rattle.btr_sums.specs.Sums as words;
 
 use crate::UsedRange;
 use crate::growing::push;
@@ -37,7 +35,7 @@ fn put_range(
     range: &UsedRange,
     sums: &Cover,
 ) -> Result<(), Memory>
-    ensures { (runs : List SumRun) → IsPermutation (map run_stretch runs) sums.now → OnOk result (Adds (filter_map (words.sum_missing runs tree range.now.inode) (words.used_sectors range.now)) found.old found.new) }
+    ensures { PutsBySums sums.now (λ runs. used_missing runs tree range.now) found.old found.new result }
 {
     let start = u128::from(range.addr) + u128::from(range.skip);
     for i in 0..range.len / 4096 {
@@ -56,7 +54,7 @@ fn put_range_missing(
     range: &UsedRange,
     sums: &Cover,
 ) -> Result<(), Memory>
-    ensures { (runs : List SumRun) → (inodes : List ℕ) → Inodes inodes loose.now → IsPermutation (map run_stretch runs) sums.now → OnOk result (Adds (range_missing runs tree inodes range.now) found.old found.new) }
+    ensures { PutsMissing tree range.now loose.now sums.now found.old found.new result }
 {
     if loose.contains(&range.inode) {
         return Ok(());
@@ -88,7 +86,7 @@ pub fn put_missing_sums(
     used: &[UsedRange],
     sums: &Cover,
 ) -> Result<(), Memory>
-    ensures { (runs : List SumRun) → IsPermutation (map run_stretch runs) sums.now → OnOk result (Adds (tree_missing runs tree loose.now used.now) found.old found.new) }
+    ensures { PutsBySums sums.now (λ runs. tree_missing runs tree loose.now used.now) found.old found.new result }
 {
     let inodes = inodes_of(alloc, loose)?;
     for range in used {

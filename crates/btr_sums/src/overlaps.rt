@@ -1,12 +1,12 @@
 // Sectors that have more than one checksum.
-ghost use Rattle.std.specs.Prelude.{◌≡◌, IfOk, OnOk, List, map, filter_map, nat_le, ◌+◌};
+ghost use Rattle.std.specs.Prelude.{◌≡◌, IfOk, OnOk, map, filter_map, nat_le, ◌+◌};
 ghost use Rattle.std.specs.List.Sorted.{IsNonDecreasingBy};
-ghost use Rattle.btr_items.specs.declared.sum_run.SumRun.{SumRun};
 ghost use Rattle.btr_refs.specs.Findings.{Adds};
-ghost use Rattle.btr_sums.specs.Ranks.{IsSortedOf, Bounds, rank, run_start, run_end};
-ghost use Rattle.btr_sums.specs.Sums.{run_sectors, sum_overlap, summed};
+ghost use Rattle.btr_sums.specs.Putting.{PutsOverlaps};
+ghost use Rattle.btr_sums.specs.Ranks.{IsSortedOf, rank, run_start, run_end};
+ghost use Rattle.btr_sums.specs.Sums.{sum_overlap, summed};
 
-use crate::growing::push;
+use crate::growing::{push, with_room};
 use crate::rows::{row, shown};
 use btr_base::Memory;
 use btr_items::SumRun;
@@ -25,7 +25,7 @@ fn end_of(run: &SumRun) -> u128
 fn starts_of(alloc: Global, runs: &[SumRun]) -> Result<Vec<u128>, Memory>
     ensures { IfOk result (λ list. IsSortedOf (map run_start runs.now) list.items) }
 {
-    let mut starts = Vec::new(alloc);
+    let mut starts = with_room(alloc, runs.len())?;
     for run in runs {
         push(&mut starts, u128::from(run.start))?;
     }
@@ -37,7 +37,7 @@ fn starts_of(alloc: Global, runs: &[SumRun]) -> Result<Vec<u128>, Memory>
 fn ends_of(alloc: Global, runs: &[SumRun]) -> Result<Vec<u128>, Memory>
     ensures { IfOk result (λ list. IsSortedOf (map run_end runs.now) list.items) }
 {
-    let mut ends = Vec::new(alloc);
+    let mut ends = with_room(alloc, runs.len())?;
     for run in runs {
         push(&mut ends, end_of(run))?;
     }
@@ -72,7 +72,7 @@ fn put_run(
 ) -> Result<(), Memory>
     requires starts { IsNonDecreasingBy (λ n. n) starts.now }
     requires ends { IsNonDecreasingBy (λ n. n) ends.now }
-    ensures { (runs : List SumRun) → Bounds runs starts.now ends.now → OnOk result (Adds (filter_map (sum_overlap runs) (run_sectors run.now)) found.old found.new) }
+    ensures { PutsOverlaps run.now starts.now ends.now found.old found.new result }
 {
     for i in 0..run.count {
         let sector = u128::from(run.start) + u128::from(i) * 4096;

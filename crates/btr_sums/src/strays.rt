@@ -1,11 +1,11 @@
 // Sectors that have a checksum and lie in no data extent.
-ghost use Rattle.std.specs.Prelude.{IfOk, OnOk, List, map, filter_map};
+ghost use Rattle.std.specs.Prelude.{IfOk, OnOk, map, filter_map};
 ghost use Rattle.std.specs.List.Sorted.{IsPermutation};
-ghost use Rattle.btr_refs.specs.declared.extent.Extent.{Extent};
 ghost use Rattle.btr_refs.specs.Findings.{Adds};
-ghost use Rattle.btr_sums.specs.Sums.{data_extents, extent_stretch, run_sectors, sum_stray, summed};
+ghost use Rattle.btr_sums.specs.Putting.{PutsStrays};
+ghost use Rattle.btr_sums.specs.Sums.{data_extents, extent_stretch, sum_stray, summed};
 
-use crate::growing::push;
+use crate::growing::{push, with_room};
 use crate::rows::{row, shown};
 use btr_base::Memory;
 use btr_items::{ExtentItem, SumRun};
@@ -18,7 +18,7 @@ use std::collections::BTreeSet;
 fn data_cover(alloc: Global, extents: &[Extent]) -> Result<Cover, Memory>
     ensures { IfOk result (IsPermutation (map extent_stretch (data_extents extents.now))) }
 {
-    let mut stretches = Vec::new(alloc);
+    let mut stretches = with_room(alloc, extents.len())?;
     for extent in extents {
         if extent.flags & ExtentItem::DATA != 0 {
             let start = u128::from(extent.addr);
@@ -31,7 +31,7 @@ fn data_cover(alloc: Global, extents: &[Extent]) -> Result<Cover, Memory>
 
 // 14: the sectors of a run that lie in no data extent.
 fn put_run(found: &mut BTreeSet<Finding>, run: &SumRun, cover: &Cover) -> Result<(), Memory>
-    ensures { (extents : List Extent) → IsPermutation (map extent_stretch (data_extents extents)) cover.now → OnOk result (Adds (filter_map (sum_stray extents) (run_sectors run.now)) found.old found.new) }
+    ensures { PutsStrays run.now cover.now found.old found.new result }
 {
     for i in 0..run.count {
         let sector = u128::from(run.start) + u128::from(i) * 4096;

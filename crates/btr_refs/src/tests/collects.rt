@@ -19,7 +19,7 @@ fn collected(alloc: Global, rack: &mut MemRack) -> Result<Option<(Stored, u64)>,
     let Ok(Some(extents)) = volume.tree(2, rack) else {
         return Ok(None);
     };
-    match Stored::collect(alloc, &extents, rack, &mut volume) {
+    match Stored::collect(alloc, 0, &extents, rack, &mut volume) {
         Ok(stored) => Ok(Some((stored, volume.sup.bytes_used))),
         Err(_) => Ok(None),
     }

@@ -64,13 +64,14 @@ fn a_leaf_uses_the_data_of_its_files(rt: HostRuntime) -> Result<(), Fail> {
         };
         assert_eq!(rt; count_in(forward.refs(), &RefKey::new(DATA, link)), 1);
         assert_eq!(rt; forward.refs().len(), 1);
+        let used = forward.into_extents();
         assert!(rt;
-            forward.data_extents().contains(&DataUse {
+            used.data_extents.contains(&DataUse {
                 addr: DATA,
                 len: 16384
             })
         );
-        assert_eq!(rt; forward.tree_blocks().len(), 0);
+        assert_eq!(rt; used.tree_blocks.len(), 0);
     }
     Ok(())
 }
@@ -84,13 +85,6 @@ fn a_node_uses_its_children_and_a_tree_its_root(rt: HostRuntime) -> Result<(), F
         count_in(forward.refs(), &RefKey::new(1048576, Link::Tree(5))),
         1
     );
-    assert!(rt;
-        forward.tree_blocks().contains(&BlockUse {
-            addr: 1048576,
-            level: 0
-        })
-    );
-    assert_eq!(rt; forward.tree_blocks().len(), 2);
     let root = TreeRoot {
         id: 257,
         offset: 0,
@@ -107,12 +101,15 @@ fn a_node_uses_its_children_and_a_tree_its_root(rt: HostRuntime) -> Result<(), F
         count_in(forward.refs(), &RefKey::new(1048576, Link::Tree(257))),
         1
     );
-    assert!(rt;
-        forward.tree_blocks().contains(&BlockUse {
-            addr: 1048576,
-            level: 2
-        })
-    );
-    assert_eq!(rt; forward.tree_blocks().len(), 3);
+    let used = forward.into_extents();
+    for level in [0, 2] {
+        assert!(rt;
+            used.tree_blocks.contains(&BlockUse {
+                addr: 1048576,
+                level
+            })
+        );
+    }
+    assert_eq!(rt; used.tree_blocks.len(), 3);
     Ok(())
 }
