@@ -8,7 +8,6 @@ use Rattle.std.specs.Ordering.{nat_cmp}
 use Rattle.btr_read.specs.Fate.{Fault}
 use Rattle.btr_read.specs.Store.{Blocks, Lent, block_of}
 use Rattle.btr_read.specs.declared.want.Want.{Want}
-use Rattle.btr_refs.specs.declared.extent.Extent.{Extent}
 use Rattle.btr_refs.specs.Forward.{Uses, with_use, block_uses, no_uses, root_use}
 use Rattle.btr_tour.specs.Tour.{Reached}
 use Rattle.btr_volume.specs.declared.root.TreeRoot.{TreeRoot}
@@ -17,7 +16,7 @@ use Rattle.btr_walk.proofs.Joined.{block_is}
 use Rattle.btr_walk.specs.declared.place.RootPlace.{RootPlace}
 use Rattle.btr_walk.specs.Reading.{Map}
 use Rattle.btr_check.proofs.Lists.{flat_more}
-use Rattle.btr_check.specs.Counting.{IsBlock, IsFull, AreThere, places_of, BlockCounts, CountedTo, BlocksCount, UsesCount}
+use Rattle.btr_check.specs.Counting.{IsBlock, AreThere, places_of, BlockCounts, CountedTo, BlocksCount, UsesCount}
 use Rattle.btr_check.specs.Trees.{refers_by_address, uses_of}
 
 all_at : {X : Type 0} (P : X → Type 0) (xs : List X) (i : ℕ) (d : X) → i < length xs → AllByRecursion P xs → P (get_or xs i d)
@@ -85,12 +84,12 @@ module _ (B : Map) (places : List RootPlace) (full : BTreeSet ℕ) (old : Uses) 
   pub counted_stop : (i : ℕ) (none : RootPlace) (by_address : Bool) (now new last : Uses) (stop : Stop) → i < length places → BlockCounts B (get_or places i none) by_address now new (Err stop) → BlocksCount B places full old last (Err stop)
   counted_stop i none by_address now new last stop below counts blocks same there extents is = counts (one i none below blocks same).block (is_there i none below blocks same there)
 
-module _ (B : Map) (trees : List TreeRoot) (places : List RootPlace) (extents : List Extent) (full : BTreeSet ℕ) (is : IsFull extents full) where
+module _ (B : Map) (trees : List TreeRoot) (places : List RootPlace) (full : BTreeSet ℕ) where
   -- the uses by trees and by blocks
-  pub uses_counted : (none roots all : Uses) → none ≡ no_uses → roots ≡ fold with_use none (map root_use trees) → BlocksCount B places full roots all (Ok tt) → UsesCount B trees places extents (Ok all)
-  uses_counted none roots all empty begun counts blocks same there =
+  pub uses_counted : (none roots all : Uses) → none ≡ no_uses → roots ≡ fold with_use none (map root_use trees) → BlocksCount B places full roots all (Ok tt) → UsesCount B trees places full (Ok all)
+  uses_counted none roots all empty begun counts blocks same there extents is =
       counts blocks same there extents is ∙ ap (λ u. fold with_use u (flat_map (uses_of extents) blocks)) (begun ∙ ap (λ u. fold with_use u (map root_use trees)) empty)
       ∙ sym (fold-append with_use no_uses (map root_use trees) (flat_map (uses_of extents) blocks))
 
-  pub uses_stop : (roots all : Uses) (stop : Stop) → BlocksCount B places full roots all (Err stop) → UsesCount B trees places extents (Err stop)
-  uses_stop roots all stop counts blocks same there = counts blocks same there extents is
+  pub uses_stop : (roots all : Uses) (stop : Stop) → BlocksCount B places full roots all (Err stop) → UsesCount B trees places full (Err stop)
+  uses_stop roots all stop counts blocks same there extents is = counts blocks same there extents is

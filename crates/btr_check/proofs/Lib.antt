@@ -20,3 +20,4 @@ mod Texts
 pub mod There
 mod Treading
 pub mod Wholes
+pub mod Aheads

@@ -1,24 +1,18 @@
 -- What is wrong with extents by all uses is what is wrong by those that are kept.
-use Rattle.std.proofs.Common.{◌≡◌, ℕ, Bool, true, false, ◌&&◌, ◌||◌, List, [], ◌∷◌, fold, flat_map, map, Result, Ok, Err, OnOk, if◌then◌else◌, eqb, refl, sym, ap, ◌∙◌}
+use Rattle.std.proofs.Common.{◌≡◌, ℕ, Bool, true, false, ◌&&◌, ◌||◌, List, [], ◌∷◌, flat_map, if◌then◌else◌, eqb, refl, sym, ap, ◌∙◌}
 use Rattle.std.proofs.lemmas.List.Folds.{list_any-append}
 use Rattle.std.specs.BTreeSet.{BTreeSet}
 use Rattle.std.specs.List.{list_any}
-use Rattle.btr_refs.proofs.Used.{refs_all, used_any}
-use Rattle.btr_refs.specs.Differences.{differences}
+use Rattle.btr_refs.proofs.Used.{used_any}
 use Rattle.btr_refs.specs.Findings.{Adds, has, is_one_of, is_same}
-use Rattle.btr_refs.specs.Forward.{Use, Uses, with_use, no_uses, met}
-use Rattle.btr_refs.specs.Counts.{RefCounts}
+use Rattle.btr_refs.specs.Forward.{AreUsedBy, Use, no_uses, used_by}
 use Rattle.btr_refs.specs.declared.extent.Extent.{Extent}
 use Rattle.btr_refs.specs.declared.finding.Finding.{Finding}
 use Rattle.btr_refs.specs.declared.uses.BlockUse.{BlockUse}
 use Rattle.btr_refs.specs.declared.uses.DataUse.{DataUse}
+use Rattle.btr_refs.specs.declared.uses.UsedExtents.{UsedExtents}
 use Rattle.btr_check.specs.Misusing.{is_by, is_by_block, is_by_data}
-use Rattle.btr_check.specs.Uses.{misused, misused_by, extent_findings, counts_of}
-
--- what follows where a call answers
-pub on_ok : {A E : Type 0} (r : Result A E) (P Q : Type 0) → (P → Q) → OnOk r P → OnOk r Q
-on_ok (Ok a) P Q f h = f h
-on_ok (Err e) P Q f h = tt
+use Rattle.btr_check.specs.Uses.{misused, misused_by, extent_findings}
 
 -- a finding that something of a list gives
 any_of : {X : Type 0} (f : X → List Finding) (one : Finding) (xs : List X) → is_one_of (flat_map f xs) one ≡ list_any (λ x. is_one_of (f x) one) xs
@@ -43,26 +37,23 @@ or_turn true false c = refl
 or_turn false true c = refl
 or_turn false false c = refl
 
-module _ (nodesize : ℕ) (extent : Extent) (uses : List Use) (forward : Uses) (is : forward ≡ fold with_use no_uses uses) where
-  by_kept : (one : Finding) → (list_any (is_by_block nodesize extent one) forward.tree_blocks || list_any (is_by_data nodesize extent one) forward.data_extents) ≡ is_one_of (extent_findings nodesize uses extent) one
+module _ (nodesize : ℕ) (extent : Extent) (uses : List Use) (used : UsedExtents) (is : AreUsedBy uses used) where
+  by_kept : (one : Finding) → (list_any (is_by_block nodesize extent one) used.tree_blocks.keys || list_any (is_by_data nodesize extent one) used.data_extents.keys) ≡ is_one_of (extent_findings nodesize uses extent) one
   by_kept one =
-      ap (λ (u : Uses). list_any (is_by_block nodesize extent one) u.tree_blocks || list_any (is_by_data nodesize extent one) u.data_extents) is
+      ap (λ l. list_any (is_by_block nodesize extent one) l || list_any (is_by_data nodesize extent one) used.data_extents.keys) is.tree_blocks
+      ∙ ap (λ l. list_any (is_by_block nodesize extent one) (used_by uses).tree_blocks || list_any (is_by_data nodesize extent one) l) is.data_extents
       ∙ used_any (is_by nodesize extent one) uses no_uses ∙ or_none (list_any (λ (u : Use). is_by nodesize extent one u.addr u.what) uses)
       ∙ any_same (λ (u : Use). is_by nodesize extent one u.addr u.what) (λ u. is_one_of (misused_by nodesize extent u) one) (λ u. sym (if_any (eqb u.addr extent.addr) (misused nodesize extent u.what) one)) uses
       ∙ sym (any_of (misused_by nodesize extent) one uses)
 
   -- by the uses as tree blocks, and then by those as data
   pub misused_all : (a b c : BTreeSet Finding) (blocks : List BlockUse) (datas : List DataUse)
-      → ((one : Finding) → list_any (is_by_block nodesize extent one) blocks ≡ list_any (is_by_block nodesize extent one) forward.tree_blocks)
-      → ((one : Finding) → list_any (is_by_data nodesize extent one) datas ≡ list_any (is_by_data nodesize extent one) forward.data_extents)
+      → ((one : Finding) → list_any (is_by_block nodesize extent one) blocks ≡ list_any (is_by_block nodesize extent one) used.tree_blocks.keys)
+      → ((one : Finding) → list_any (is_by_data nodesize extent one) datas ≡ list_any (is_by_data nodesize extent one) used.data_extents.keys)
       → ((one : Finding) → has b one ≡ (list_any (is_by_block nodesize extent one) blocks || has a one))
       → ((one : Finding) → has c one ≡ (list_any (is_by_data nodesize extent one) datas || has b one))
       → Adds (extent_findings nodesize uses extent) a c
   misused_all a b c blocks datas all_blocks all_datas first second one =
-      second one ∙ ap (λ r. r || has b one) (all_datas one) ∙ ap (λ r. list_any (is_by_data nodesize extent one) forward.data_extents || r) (first one ∙ ap (λ r. r || has a one) (all_blocks one))
-      ∙ or_turn (list_any (is_by_block nodesize extent one) forward.tree_blocks) (list_any (is_by_data nodesize extent one) forward.data_extents) (has a one)
+      second one ∙ ap (λ r. r || has b one) (all_datas one) ∙ ap (λ r. list_any (is_by_data nodesize extent one) used.data_extents.keys || r) (first one ∙ ap (λ r. r || has a one) (all_blocks one))
+      ∙ or_turn (list_any (is_by_block nodesize extent one) used.tree_blocks.keys) (list_any (is_by_data nodesize extent one) used.data_extents.keys) (has a one)
       ∙ ap (λ r. r || has a one) (by_kept one)
-
--- the differences by the uses
-pub differences_by : (uses : List Use) (forward : Uses) (extents : List Extent) (stored : RefCounts) → forward ≡ fold with_use no_uses uses → differences forward.refs extents stored ≡ differences (counts_of (map met uses)) extents stored
-differences_by uses forward extents stored is = ap (λ refs. differences refs extents stored) (ap (λ (u : Uses). u.refs) is ∙ refs_all uses no_uses)

@@ -1,28 +1,33 @@
 -- Extents and uses that were read.
-use Rattle.std.proofs.Common.{◌≡◌, ℕ, true, List, [], ◌++◌, map, flat_map, fold, None, Result, Ok, Err, OnOk, sym, ap, ◌∙◌}
+use Rattle.std.proofs.Common.{◌≡◌, ℕ, Bool, true, false, ◌||◌, List, [], ◌++◌, map, flat_map, fold, None, Result, Ok, Err, OnOk, refl, sym, ap, ◌∙◌}
+use Rattle.std.proofs.lemmas.List.Folds.{list_any-append}
 use Rattle.std.specs.BTreeSet.{BTreeSet}
+use Rattle.btr_refs.proofs.Adding.{adds_as, adds_then, on_ok}
+use Rattle.btr_refs.proofs.Sets.{any-in_order}
+use Rattle.btr_refs.proofs.Used.{refs_all}
 use Rattle.btr_base.specs.declared.memory.Memory.{Memory}
-use Rattle.btr_refs.proofs.Adding.{adds_as}
 use Rattle.btr_refs.specs.declared.extent.Extent.{Extent}
 use Rattle.btr_refs.specs.declared.finding.Finding.{Finding}
+use Rattle.btr_refs.specs.Differences.{count_findings, total_findings}
 use Rattle.btr_refs.specs.Extents.{Kept, nothing_kept, extents_in, stored_in}
-use Rattle.btr_refs.specs.Findings.{Adds}
-use Rattle.btr_refs.specs.Forward.{Use, Uses, no_uses, with_use, root_use}
+use Rattle.btr_refs.specs.Findings.{Adds, has, in_order, is_one_of, is_same}
+use Rattle.btr_refs.specs.Forward.{AreUsedBy, Use, Uses, no_uses, with_use, root_use, used_by}
+use Rattle.btr_refs.specs.declared.uses.UsedExtents.{UsedExtents}
 use Rattle.btr_tour.specs.Tour.{Reached, whole, blocks_met}
 use Rattle.btr_volume.specs.declared.root.TreeRoot.{TreeRoot}
 use Rattle.btr_volume.specs.declared.stop.Stop.{Stop}
 use Rattle.btr_walk.specs.declared.place.RootPlace.{RootPlace}
 use Rattle.btr_check.proofs.There.{trees_there, first_there}
-use Rattle.btr_check.specs.Counting.{AreThere, UsesCount}
-use Rattle.btr_check.specs.ExtentTree.{IsStoredOf}
+use Rattle.btr_check.specs.Counting.{AreThere, IsFull, UsesCount}
+use Rattle.btr_check.specs.declared.references.StoredRefs.{StoredRefs}
+use Rattle.btr_check.specs.ExtentTree.{AreRefsOf, IsStoredOf}
 use Rattle.btr_check.specs.Filesystem as words
 use Rattle.btr_check.specs.Filesystem.{Filesystem}
-use Rattle.btr_check.specs.Misusing.{found_by}
-use Rattle.btr_check.specs.Passes.{Lists}
+use Rattle.btr_check.specs.Passes.{AreAll, AreUsed, Lists}
 use Rattle.btr_check.specs.Running.{is_outside}
-use Rattle.btr_check.specs.Trees.{trees, uses_of, last_of, first_met, items_if}
-use Rattle.btr_check.specs.Uses.{all_uses, counts_of, reference_findings}
-use Rattle.btr_check.specs.Walking.{WalkSeen, IsWalkOf}
+use Rattle.btr_check.specs.Trees.{refers_by_address, uses_of, last_of, first_met, items_if}
+use Rattle.btr_check.specs.Uses.{all_uses, counted_refs, counts_of, difference_findings, extent_findings, found_on_counts, found_on_totals, reference_findings}
+use Rattle.btr_check.specs.Walking.{ArePlaces}
 
 -- where there is no extent tree, nothing is stored
 pub nothing_stored : (fs : Filesystem) (listed_trees : List TreeRoot) (kept : Kept) (size : ℕ) → Lists listed_trees fs → last_of 2 listed_trees ≡ None → kept ≡ nothing_kept size → IsStoredOf fs kept
@@ -33,6 +38,18 @@ nothing_stored fs listed_trees kept size lists none is =
       extents = ap (λ (k : Kept). k.extents) is ∙ ap (λ t. extents_in fs.sup.nodesize (items_if fs.blocks t)) (sym none) ∙ ap (extents_in fs.sup.nodesize) items;
     }
 
+-- the references alone are kept of it
+pub refs_of : (fs : Filesystem) (stored : Kept) (kept : StoredRefs) → IsStoredOf fs stored → kept.refs.entries ≡ stored.refs → IsFull stored.extents kept.full → AreRefsOf fs kept
+refs_of fs stored kept is same full = record {
+  refs = same ∙ is.refs;
+  full = λ addr. full addr ∙ ap (λ l. refers_by_address l addr) is.extents;
+}
+
+-- what its extents state differs from what it stores by these findings
+pub totals_put : (fs : Filesystem) (stored : Kept) (a b : BTreeSet Finding) → IsStoredOf fs stored → Adds (total_findings stored.extents stored.refs) a b → Adds (found_on_totals fs) a b
+totals_put fs stored a b is =
+    adds_as (total_findings stored.extents stored.refs) (found_on_totals fs) a b (ap (λ l. total_findings l stored.refs) is.extents ∙ ap (total_findings (words.extents fs)) is.refs)
+
 module _ (fs : Filesystem) (all : List TreeRoot) where
   abbrev blocks : List Reached
   blocks = first_met [] (flat_map (λ (tree : TreeRoot). blocks_met (whole fs.blocks tree.place)) all)
@@ -41,20 +58,44 @@ module _ (fs : Filesystem) (all : List TreeRoot) where
   blocks_there = first_there fs.blocks [] (flat_map (λ (tree : TreeRoot). blocks_met (whole fs.blocks tree.place)) all) (trees_there fs.blocks all)
 
   -- a block could not be read again
-  pub uses_stop_here : (walk : WalkSeen) (places : List RootPlace) (extents : List Extent) (stop : Stop) → IsWalkOf fs all walk → places ≡ walk.places.list → UsesCount fs.blocks all places extents (Err stop) → is_outside stop ≡ true
-  uses_stop_here walk places extents stop walked same counts = counts blocks (same ∙ walked.places) blocks_there
+  pub uses_stop_here : (places : List RootPlace) (stored : StoredRefs) (stop : Stop) → ArePlaces fs all places → AreRefsOf fs stored → UsesCount fs.blocks all places stored.full (Err stop) → is_outside stop ≡ true
+  uses_stop_here places stored stop are kept counts = counts blocks are blocks_there (words.extents fs) kept.full
 
-  uses_are : (extents : List Extent) (forward : Uses) → all ≡ trees fs.sup fs.blocks → extents ≡ words.extents fs → forward ≡ fold with_use no_uses (map root_use all ++ flat_map (uses_of extents) blocks)
-      → forward ≡ fold with_use no_uses (all_uses fs)
-  uses_are extents forward are listed is =
-      is ∙ ap (λ l. fold with_use no_uses (map root_use all ++ flat_map (uses_of l) blocks)) listed
-      ∙ ap (λ t. fold with_use no_uses (map root_use t ++ flat_map (uses_of (words.extents fs)) (first_met [] (flat_map (λ (tree : TreeRoot). blocks_met (whole fs.blocks tree.place)) t)))) are
+  -- all uses were counted
+  pub uses_are : (places : List RootPlace) (stored : StoredRefs) (forward : Uses) → AreAll all fs → ArePlaces fs all places → AreRefsOf fs stored → UsesCount fs.blocks all places stored.full (Ok forward) → forward ≡ used_by (all_uses fs)
+  uses_are places stored forward all-are are kept counts =
+      counts blocks are blocks_there (words.extents fs) kept.full
+      ∙ ap (λ t. fold with_use no_uses (map root_use t ++ flat_map (uses_of (words.extents fs)) (first_met [] (flat_map (λ (tree : TreeRoot). blocks_met (whole fs.blocks tree.place)) t)))) all-are
 
-  -- the uses were counted, and what they and the extents say was put
-  pub references_put : (size : ℕ) (walk : WalkSeen) (kept : Kept) (places : List RootPlace) (extents : List Extent) (forward : Uses) (a b : BTreeSet Finding) (done : Result (Unit {0}) Memory) → size ≡ fs.sup.nodesize → all ≡ trees fs.sup fs.blocks → IsWalkOf fs all walk
-      → IsStoredOf fs kept → places ≡ walk.places.list → extents ≡ kept.extents → UsesCount fs.blocks all places extents (Ok forward)
-      → ((uses : List Use) → forward ≡ fold with_use no_uses uses → OnOk done (Adds (found_by size uses kept.extents kept.refs) a b)) → OnOk done (Adds (reference_findings fs) a b)
-  references_put size walk kept places extents forward a b (Ok u) large are walked stored same kept_ones counts puts =
-      adds_as (found_by size (all_uses fs) kept.extents kept.refs) (reference_findings fs) a b (λ i. found_by (large i) (all_uses fs) (stored.extents i) (stored.refs i))
-      (puts (all_uses fs) (uses_are extents forward are (kept_ones ∙ stored.extents) (counts blocks (same ∙ walked.places) blocks_there)))
-  references_put size walk kept places extents forward a b (Err e) large are walked stored same kept_ones counts puts = tt
+-- the extents alone are kept of uses
+pub used_extents : (uses : List Use) (forward : Uses) (used : UsedExtents) → forward ≡ used_by uses → used.tree_blocks.keys ≡ forward.tree_blocks → used.data_extents.keys ≡ forward.data_extents → AreUsedBy uses used
+used_extents uses forward used is blocks_are data_are = record {
+  tree_blocks = blocks_are ∙ ap (λ (u : Uses). u.tree_blocks) is;
+  data_extents = data_are ∙ ap (λ (u : Uses). u.data_extents) is;
+}
+
+-- what was counted differs from what is stored by these findings
+pub counts_put : (fs : Filesystem) (forward : Uses) (stored : StoredRefs) (a b : BTreeSet Finding) → forward ≡ used_by (all_uses fs) → AreRefsOf fs stored → Adds (count_findings forward.refs stored.refs.entries) a b → Adds (found_on_counts fs) a b
+counts_put fs forward stored a b is kept =
+    adds_as (count_findings forward.refs stored.refs.entries) (found_on_counts fs) a b
+    (ap (λ refs. count_findings refs stored.refs.entries) (ap (λ (u : Uses). u.refs) is ∙ refs_all (all_uses fs) no_uses) ∙ ap (count_findings (counted_refs fs)) kept.refs)
+
+or_assoc : (a b c : Bool) → (a || (b || c)) ≡ ((a || b) || c)
+or_assoc true b c = refl
+or_assoc false b c = refl
+
+-- some findings behind others are all of them, in whatever order
+pub adds_in_order : (xs ys : List Finding) (a b c : BTreeSet Finding) → Adds ys a b → Adds xs b c → Adds (in_order (xs ++ ys)) a c
+adds_in_order xs ys a b c first second one =
+    second one ∙ ap (λ r. is_one_of xs one || r) (first one) ∙ or_assoc (is_one_of xs one) (is_one_of ys one) (has a one)
+    ∙ ap (λ r. r || has a one) (sym (any-in_order (xs ++ ys) one ∙ list_any-append (is_same one) xs ys))
+
+-- what is wrong with the extents by all that uses them was put behind the differences
+pub misused_put : (fs : Filesystem) (size : ℕ) (all : List Extent) (used : UsedExtents) (a b c : BTreeSet Finding) (done : Result (Unit {0}) Memory) → size ≡ fs.sup.nodesize → all ≡ words.extents fs → AreUsed fs used → Adds (difference_findings fs) a b
+    → ((uses : List Use) → AreUsedBy uses used → OnOk done (Adds (flat_map (extent_findings size uses) all) b c)) → OnOk done (Adds (reference_findings fs) a c)
+misused_put fs size all used a b c done large are by first puts =
+    let rest : List Finding = flat_map (extent_findings fs.sup.nodesize (all_uses fs)) (words.extents fs) in
+    on_ok done (Adds (flat_map (extent_findings size (all_uses fs)) all) b c) (Adds (reference_findings fs) a c)
+    (λ second. adds_then (difference_findings fs) rest a b c first
+    (adds_as (flat_map (extent_findings size (all_uses fs)) all) rest b c (λ i. flat_map (extent_findings (large i) (all_uses fs)) (are i)) second))
+    (puts (all_uses fs) by)

@@ -52,7 +52,7 @@ module _ (B : Map) where
       (blocks : List Reached) → places ≡ places_of blocks → AreThere blocks
       → (extents : List Extent) → IsFull extents full → Unless (λ u. new ≡ fold with_use old (flat_map (uses_of extents) blocks)) result
 
-  abbrev pub UsesCount : List TreeRoot → List RootPlace → List Extent → Result Uses Stop → Type 0
-  UsesCount trees places extents result =
+  abbrev pub UsesCount : List TreeRoot → List RootPlace → BTreeSet ℕ → Result Uses Stop → Type 0
+  UsesCount trees places full result =
       (blocks : List Reached) → places ≡ places_of blocks → AreThere blocks
-      → Unless (λ forward. forward ≡ fold with_use no_uses (map root_use trees ++ flat_map (uses_of extents) blocks)) result
+      → (extents : List Extent) → IsFull extents full → Unless (λ forward. forward ≡ fold with_use no_uses (map root_use trees ++ flat_map (uses_of extents) blocks)) result

@@ -5,14 +5,20 @@ use Rattle.btr_base.specs.declared.memory.Memory.{Memory}
 use Rattle.btr_refs.specs.declared.extent.Extent.{Extent}
 use Rattle.btr_refs.specs.declared.finding.Finding.{Finding}
 use Rattle.btr_refs.specs.Findings.{Adds}
+use Rattle.btr_refs.specs.Forward.{AreUsedBy}
+use Rattle.btr_refs.specs.declared.uses.UsedExtents.{UsedExtents}
 use Rattle.btr_tour.specs.Tour.{Mark, whole}
 use Rattle.btr_volume.specs.declared.root.TreeRoot.{TreeRoot}
 use Rattle.btr_volume.specs.declared.stop.Stop.{Stop}
 use Rattle.btr_volume.specs.declared.stop.Stop.TheVariants as stops
 use Rattle.btr_walk.specs.Reading.{Map}
+use Rattle.btr_walk.specs.declared.place.RootPlace.{RootPlace}
 use Rattle.btr_check.specs.Counting.{Unless}
+use Rattle.btr_check.specs.ExtentTree.{AreRefsOf}
 use Rattle.btr_check.specs.Filesystem.{Filesystem, extents}
-use Rattle.btr_check.specs.Walking.{WalkSeen, IsWalkOf}
+use Rattle.btr_check.specs.Uses.{all_uses}
+use Rattle.btr_check.specs.Walking.{ArePlaces, WalkSeen, IsWalkOf}
+use Rattle.btr_check.specs.declared.references.StoredRefs.{StoredRefs}
 use Rattle.btr_check.specs.Walks.{walk_findings}
 use Rattle.btr_check.specs.Trees.{listed, trees}
 
@@ -30,6 +36,11 @@ or_memory (Err e) = Err stops.Memory
 abbrev pub Lists : List TreeRoot → Filesystem → Type 0
 Lists trees fs = trees ≡ listed fs.sup fs.blocks
 
+-- .. and the walk of all trees found nothing
+pub record ListsSound (trees : List TreeRoot) (fs : Filesystem) : Type 0 where
+  pub lists : Lists trees fs
+  pub sound : walk_findings fs ≡ []
+
 -- .. and all trees
 abbrev pub AreAll : List TreeRoot → Filesystem → Type 0
 AreAll all fs = all ≡ trees fs.sup fs.blocks
@@ -37,6 +48,16 @@ AreAll all fs = all ≡ trees fs.sup fs.blocks
 -- .. and the extents
 abbrev pub AreExtents : List Extent → Filesystem → Type 0
 AreExtents all fs = all ≡ extents fs
+
+-- what is known where uses are counted: all trees, the blocks that they reach, and what is kept of the extent tree
+pub record IsCounted (all_trees : List TreeRoot) (places : List RootPlace) (stored : StoredRefs) (fs : Filesystem) : Type 0 where
+  pub all : AreAll all_trees fs
+  pub reached : ArePlaces fs all_trees places
+  pub kept : AreRefsOf fs stored
+
+-- these are the extents that all uses use
+abbrev pub AreUsed : Filesystem → UsedExtents → Type 0
+AreUsed fs used = AreUsedBy (all_uses fs) used
 
 -- the walk of all trees found nothing; these are all trees, and what was walked of them
 pub record IsWalked (listed_trees all_trees : List TreeRoot) (walk : WalkSeen) (fs : Filesystem) : Type 0 where

@@ -48,9 +48,16 @@ printed_of kind =
 abbrev pub number_text : ℕ → List ℕ
 number_text n = 32 ∷ decimal n
 
+abbrev pub numbers_text : List ℕ → List ℕ
+numbers_text numbers = flat_map number_text numbers
+
 -- a line: the word, and the first numbers
 abbrev pub line_of : Finding → List ℕ
-line_of finding = (printed_of finding.kind).word ++ flat_map number_text (take (printed_of finding.kind).count finding.n) ++ 10 ∷ []
+line_of finding = (printed_of finding.kind).word ++ numbers_text (take (printed_of finding.kind).count finding.n) ++ 10 ∷ []
+
+-- the lines of some findings
+abbrev pub lines_of : List Finding → List ℕ
+lines_of findings = flat_map line_of findings
 
 -- the last line
 abbrev pub last_line : ℕ → List ℕ
@@ -58,4 +65,4 @@ last_line count = if count == 0 then codes "no findings\n" else codes "findings 
 
 -- the lines of all findings, and their number
 abbrev pub findings_text : List Finding → List ℕ
-findings_text findings = flat_map line_of findings ++ last_line (length findings)
+findings_text findings = lines_of findings ++ last_line (length findings)

@@ -9,7 +9,7 @@ use Rattle.btr_refs.specs.Extents.{stored_in}
 use Rattle.btr_refs.specs.Counts.{Counted, RefCounts, counted_all}
 use Rattle.btr_refs.specs.Forward.{Used, TreeBlock, Data, Use, met}
 use Rattle.btr_check.specs.Trees.{uses}
-use Rattle.btr_refs.specs.Differences.{differences}
+use Rattle.btr_refs.specs.Differences.{count_findings, differences, total_findings}
 use Rattle.btr_check.specs.Filesystem.{Filesystem, extents, tree_items}
 
 -- 9: a tree block is used as one, and data as data
@@ -58,8 +58,23 @@ all_uses fs = uses fs.sup fs.blocks (extents fs)
 abbrev pub counts_of : List Counted → RefCounts
 counts_of refs = counted_all [] refs
 
+-- how often each reference is counted, and how often it is stored
+abbrev pub counted_refs : Filesystem → RefCounts
+counted_refs fs = counts_of (map met (all_uses fs))
+
+abbrev pub stored_refs : Filesystem → RefCounts
+stored_refs fs = counts_of (stored_in (tree_items fs 2))
+
 -- 7, 8: the uses that are counted and the references that are stored differ
+abbrev pub found_on_counts : Filesystem → List Finding
+found_on_counts fs = count_findings (counted_refs fs) (stored_refs fs)
+
+abbrev pub found_on_totals : Filesystem → List Finding
+found_on_totals fs = total_findings (extents fs) (stored_refs fs)
+
+abbrev pub difference_findings : Filesystem → List Finding
+difference_findings fs = differences (counted_refs fs) (extents fs) (stored_refs fs)
+
+-- 7 to 11
 abbrev pub reference_findings : Filesystem → List Finding
-reference_findings fs =
-    differences (counts_of (map met (all_uses fs))) (extents fs) (counts_of (stored_in (tree_items fs 2)))
-    ++ flat_map (extent_findings fs.sup.nodesize (all_uses fs)) (extents fs)
+reference_findings fs = difference_findings fs ++ flat_map (extent_findings fs.sup.nodesize (all_uses fs)) (extents fs)

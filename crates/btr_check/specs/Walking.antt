@@ -1,5 +1,5 @@
 -- What is kept on the way through trees, one mark after another.
-use Rattle.std.specs.Prelude.{◌≡◌, Bool, true, false, List, [], ◌∷◌, ◌++◌, map, fold, flat_map, Option, Some, None, Result, Ok, Err, if◌then◌else◌}
+use Rattle.std.specs.Prelude.{◌≡◌, Bool, true, false, List, [], ◌∷◌, ◌++◌, map, fold, flat_map, Option, Some, None, Result, Ok, Err, MatchResult, if◌then◌else◌}
 use Rattle.std.specs.BTreeSet.{insert_key}
 use Rattle.std.specs.Option.{option_to_list}
 use Rattle.std.specs.declared.alloc.Global.{Global}
@@ -38,6 +38,10 @@ trees_at (Left fault) = []
 
 abbrev pub nothing_seen : SumKind → RootSeen
 nothing_seen kind = record { kind = kind; wrong = None; trees = [] }
+
+-- how it ends: with the trees, or with what is wrong first
+abbrev pub EndsWith : RootSeen → Result (Vec TreeRoot Global) BlockFault → Type 0
+EndsWith seen result = MatchResult result (λ trees. (seen.wrong ≡ None) × (trees.items ≡ seen.trees)) (λ fault. seen.wrong ≡ Some fault)
 
 abbrev pub root_step : RootSeen → Mark → RootSeen
 root_step seen mark = record { kind = seen.kind; wrong = or_first seen.wrong (wrong seen.kind mark); trees = seen.trees ++ trees_at mark }
@@ -119,8 +123,12 @@ pub record HasWalked (fs : Filesystem) (trees : List TreeRoot) (seen : WalkSeen)
   pub overlapping : seen.overlapping ≡ flat_map (tree_overlapping fs) trees
   pub places : seen.places ≡ fold with_place no_places (map (λ (one : Reached). one.place) (flat_map (λ (tree : TreeRoot). blocks_met (whole fs.blocks tree.place)) trees))
 
+-- these are the blocks that some trees reach, each once
+abbrev pub ArePlaces : Filesystem → List TreeRoot → List RootPlace → Type 0
+ArePlaces fs trees places = places ≡ map (λ (one : Reached). one.place) (first_met [] (flat_map (λ (tree : TreeRoot). blocks_met (whole fs.blocks tree.place)) trees))
+
 -- what was walked of some trees: what is broken in them, the ranges of files that aren't apart, and the blocks that they reach, each once
 pub record IsWalkOf (fs : Filesystem) (trees : List TreeRoot) (seen : WalkSeen) : Type 0 where
   pub broken : seen.broken ≡ flat_map (tree_broken fs) trees
   pub overlapping : seen.overlapping ≡ flat_map (tree_overlapping fs) trees
-  pub places : seen.places.list ≡ map (λ (one : Reached). one.place) (first_met [] (flat_map (λ (tree : TreeRoot). blocks_met (whole fs.blocks tree.place)) trees))
+  pub places : ArePlaces fs trees seen.places.list

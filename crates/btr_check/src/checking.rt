@@ -10,7 +10,7 @@ ghost use Rattle.btr_check.specs.Running.{world, IsReady, Answers, Ran};
 
 use crate::file_trees::put_files;
 use crate::readable::put_data_findings;
-use crate::references::{put_references, read_extents};
+use crate::references::put_references;
 use crate::refusing::last_of;
 use crate::space::{put_devices, put_groups};
 use crate::sums::{SUM_TREE, put_sums};
@@ -35,22 +35,20 @@ fn put_extents<R: Rack>(
     vol: &mut Volume,
 ) -> Result<Runs, Stop>
     requires ready { IsReady (world (R.seen rack.old) vol.old) }
-    ensures ran { Ran (PutsAnd (IsWalked listed.now trees.now walk) IsRunsOf found_on_extents found.old found.new result) (world (R.seen rack.old) vol.old) (world (R.seen rack.new) vol.new) result }
+    ensures ran { Ran (PutsAnd
+        (IsWalked listed.now trees.now walk) IsRunsOf found_on_extents found.old found.new result)
+        (world (R.seen rack.old) vol.old) (world (R.seen rack.new) vol.new) result }
 {
-    let stored = match read_extents(alloc, listed, rack, vol) {
-        Ok(stored) => stored,
+    let extents = match put_references(alloc, found, listed, trees, walk, rack, vol) {
+        Ok(extents) => extents,
         Err(stop) => return Err(stop),
     };
-    let extents = stored.extents();
-    match put_references(alloc, found, trees, walk, &stored, rack, vol) {
+    let all = extents.as_slice();
+    match put_groups(alloc, found, listed, all, rack, vol) {
         Ok(()) => {}
         Err(stop) => return Err(stop),
     }
-    match put_groups(alloc, found, listed, extents, rack, vol) {
-        Ok(()) => {}
-        Err(stop) => return Err(stop),
-    }
-    put_sums(alloc, found, listed, extents, rack, vol)
+    put_sums(alloc, found, listed, all, rack, vol)
 }
 
 // Puts what is lost of the data, where data is read.
@@ -63,7 +61,9 @@ fn put_data_if<R: Rack>(
     vol: &mut Volume,
 ) -> Result<(), Stop>
     requires ready { IsReady (world (R.seen rack.old) vol.old) }
-    ensures ran { Ran (Puts (λ fs. Lists listed.now fs × IsRunsOf fs runs.now) (data_if read_data) found.old found.new result) (world (R.seen rack.old) vol.old) (world (R.seen rack.new) vol.new) result }
+    ensures ran { Ran (Puts (λ fs. Lists listed.now fs × IsRunsOf fs runs.now)
+        (data_if read_data) found.old found.new result)
+        (world (R.seen rack.old) vol.old) (world (R.seen rack.new) vol.new) result }
 {
     if read_data {
         let tree = last_of(listed, SUM_TREE);
@@ -84,7 +84,9 @@ fn put_contents<R: Rack>(
     vol: &mut Volume,
 ) -> Result<(), Stop>
     requires ready { IsReady (world (R.seen rack.old) vol.old) }
-    ensures ran { Ran (Puts (λ fs. Lists listed.now fs × IsRunsOf fs runs) (λ fs. data_if read_data fs ++ found_on_files fs) found.old found.new result) (world (R.seen rack.old) vol.old) (world (R.seen rack.new) vol.new) result }
+    ensures ran { Ran (Puts (λ fs. Lists listed.now fs × IsRunsOf fs runs)
+        (λ fs. data_if read_data fs ++ found_on_files fs) found.old found.new result)
+        (world (R.seen rack.old) vol.old) (world (R.seen rack.new) vol.new) result }
 {
     match put_data_if(read_data, found, listed, &runs, rack, vol) {
         Ok(()) => {}
@@ -108,7 +110,8 @@ fn put_rules<R: Rack>(
     vol: &mut Volume,
 ) -> Result<(), Stop>
     requires ready { IsReady (world (R.seen rack.old) vol.old) }
-    ensures ran { Ran (Puts (IsWalked listed.now trees.now walk) (rule_findings read_data) found.old found.new result) (world (R.seen rack.old) vol.old) (world (R.seen rack.new) vol.new) result }
+    ensures ran { Ran (Puts (IsWalked listed.now trees.now walk) (rule_findings read_data) found.old found.new result)
+        (world (R.seen rack.old) vol.old) (world (R.seen rack.new) vol.new) result }
 {
     let runs = match put_extents(alloc, found, listed, trees, walk, rack, vol) {
         Ok(runs) => runs,
@@ -129,7 +132,8 @@ fn find_all<R: Rack>(
     vol: &mut Volume,
 ) -> Result<BTreeSet<Finding>, Stop>
     requires ready { IsReady (world (R.seen rack.old) vol.old) }
-    ensures ran { Ran (λ fs. Lists listed.now fs → Unless (HasJust (all_findings read_data fs)) result) (world (R.seen rack.old) vol.old) (world (R.seen rack.new) vol.new) result }
+    ensures ran { Ran (λ fs. Lists listed.now fs → Unless (HasJust (all_findings read_data fs)) result)
+        (world (R.seen rack.old) vol.old) (world (R.seen rack.new) vol.new) result }
 {
     let all = match all_trees(alloc, &vol.sup, listed) {
         Ok(all) => all,
@@ -167,7 +171,8 @@ pub fn check<R: Rack>(
     vol: &mut Volume,
 ) -> Result<Vec<Finding>, Stop>
     requires ready { IsReady (world (R.seen rack.old) vol.old) }
-    ensures ran { Ran (λ fs. Answers (λ all. (refusal fs ≡ None) × (all.items ≡ findings read_data fs)) fs result) (world (R.seen rack.old) vol.old) (world (R.seen rack.new) vol.new) result }
+    ensures ran { Ran (λ fs. Answers (λ all. (refusal fs ≡ None) × (all.items ≡ findings read_data fs)) fs result)
+        (world (R.seen rack.old) vol.old) (world (R.seen rack.new) vol.new) result }
 {
     let trees = match read_trees(alloc, rack, vol) {
         Ok(trees) => trees,

@@ -19,7 +19,8 @@ pub(crate) fn collect<R: Rack, V: Visitor<Memory> + Drop>(
     vol: &mut Volume,
 ) -> Result<V, Stop>
     requires ready { IsReady (world (R.seen rack.old) vol.old) }
-    ensures ran { Ran (λ fs. Unless (λ met. met ≡ fold V.step visitor (marks_if fs.blocks tree)) result) (world (R.seen rack.old) vol.old) (world (R.seen rack.new) vol.new) result }
+    ensures ran { Ran (λ fs. Unless (λ met. met ≡ fold V.step visitor (marks_if fs.blocks tree)) result)
+        (world (R.seen rack.old) vol.old) (world (R.seen rack.new) vol.new) result }
 {
     let Some(tree) = tree else {
         return Ok(visitor);

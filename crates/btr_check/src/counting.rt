@@ -1,10 +1,8 @@
 // What uses extents, counted block by block.
-ghost use Rattle.std.specs.Prelude.{◌≡◌, fold, flat_map, map, ℕ, List, OnOk, IfOk, Ok};
+ghost use Rattle.std.specs.Prelude.{◌≡◌, fold, map, OnOk, IfOk, Ok};
 ghost use Rattle.std.specs.BTreeSet.{contains};
-ghost use Rattle.std.specs.Ordering.{nat_cmp};
-ghost use Rattle.btr_refs.specs.Forward.{with_use, root_use, block_uses};
+ghost use Rattle.btr_refs.specs.Forward.{with_use, root_use};
 ghost use Rattle.btr_check.specs.Running.{world, IsReady, Ran};
-ghost use Rattle.btr_check.specs.Trees.{refers_by_address};
 ghost use Rattle.btr_check.specs.Counting.{BlockCounts, BlocksCount, UsesCount, IsFull};
 
 use btr_base::Memory;
@@ -19,8 +17,8 @@ use std::collections::BTreeSet;
 // The flag of extents whose blocks refer by their own address.
 const FULL_BACKREF: u64 = 0x100;
 
-// The addresses of blocks that refer by their own address.
-fn full_backrefs(alloc: Global, extents: &[Extent]) -> Result<BTreeSet<u64>, Memory>
+/// The addresses of blocks that refer by their own address, as extents say. `Memory`: there is no memory for them.
+pub(crate) fn full_backrefs(alloc: Global, extents: &[Extent]) -> Result<BTreeSet<u64>, Memory>
     ensures { IfOk result (IsFull extents.now) }
 {
     let mut full = BTreeSet::new(alloc);
@@ -54,7 +52,8 @@ fn count_block<R: Rack>(
     vol: &mut Volume,
 ) -> Result<(), Stop>
     requires ready { IsReady (world (R.seen rack.old) vol.old) }
-    ensures ran { Ran (λ fs. BlockCounts fs.blocks place.now by_address forward.old forward.new result) (world (R.seen rack.old) vol.old) (world (R.seen rack.new) vol.new) result }
+    ensures ran { Ran (λ fs. BlockCounts fs.blocks place.now by_address forward.old forward.new result)
+        (world (R.seen rack.old) vol.old) (world (R.seen rack.new) vol.new) result }
 {
     let want = Want::Tree {
         addr: place.addr,
@@ -84,7 +83,8 @@ fn count_blocks<R: Rack>(
     vol: &mut Volume,
 ) -> Result<(), Stop>
     requires ready { IsReady (world (R.seen rack.old) vol.old) }
-    ensures ran { Ran (λ fs. BlocksCount fs.blocks places.now full.now forward.old forward.new result) (world (R.seen rack.old) vol.old) (world (R.seen rack.new) vol.new) result }
+    ensures ran { Ran (λ fs. BlocksCount fs.blocks places.now full.now forward.old forward.new result)
+        (world (R.seen rack.old) vol.old) (world (R.seen rack.new) vol.new) result }
 {
     for place in places {
         let by_address = full.contains(&place.addr);
@@ -97,30 +97,27 @@ fn count_blocks<R: Rack>(
 }
 
 /// Counts what uses extents: trees use their root blocks, and the blocks at these places what they point to. A block refers by its
-/// address where an extent at that address says so. Each block is read again; four slots are free.
+/// address where that is one of `full`. Each block is read again; four slots are free.
 ///
 /// `Tree`: a block could not be had any more. `Memory`: there is no memory for what is counted.
 pub fn count_uses<R: Rack>(
     alloc: Global,
     trees: &[TreeRoot],
     places: &[RootPlace],
-    extents: &[Extent],
+    full: &BTreeSet<u64>,
     rack: &mut R,
     vol: &mut Volume,
 ) -> Result<Forward, Stop>
     requires ready { IsReady (world (R.seen rack.old) vol.old) }
-    ensures ran { Ran (λ fs. UsesCount fs.blocks trees.now places.now extents.now result) (world (R.seen rack.old) vol.old) (world (R.seen rack.new) vol.new) result }
+    ensures ran { Ran (λ fs. UsesCount fs.blocks trees.now places.now full.now result)
+        (world (R.seen rack.old) vol.old) (world (R.seen rack.new) vol.new) result }
 {
     let mut forward = Forward::new(alloc);
-    let full = match full_backrefs(alloc, extents) {
-        Ok(full) => full,
-        Err(Memory) => return Err(Stop::Memory),
-    };
     match count_roots(&mut forward, trees) {
         Ok(()) => {}
         Err(Memory) => return Err(Stop::Memory),
     }
-    match count_blocks(&mut forward, places, &full, rack, vol) {
+    match count_blocks(&mut forward, places, full, rack, vol) {
         Ok(()) => Ok(forward),
         Err(stop) => Err(stop),
     }

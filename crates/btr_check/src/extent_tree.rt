@@ -18,20 +18,23 @@ fn stop_of(fault: CollectFault) -> Stop
     }
 }
 
-/// Collects what the extent tree with this root says of extents, after a walk of all trees that found nothing. Four slots are free.
+/// Collects what the extent tree with this root says of extents, after a walk of all trees that found nothing, and makes room for some of them
+/// ahead. Four slots are free.
 ///
 /// `Tree`: a block could not be read, which is `Unread`; where the walk found something, it is any fault of the tree, too. `Memory`:
 /// there is no memory for what is collected.
 pub(crate) fn read_stored<R: Rack>(
     alloc: Global,
+    room: usize,
     tree: &TreeRoot,
     rack: &mut R,
     vol: &mut Volume,
 ) -> Result<Stored, Stop>
     requires ready { IsReady (world (R.seen rack.old) vol.old) }
-    ensures ran { Ran (λ fs. ReadsStored fs tree.now result) (world (R.seen rack.old) vol.old) (world (R.seen rack.new) vol.new) result }
+    ensures ran { Ran (λ fs. ReadsStored fs tree.now result)
+        (world (R.seen rack.old) vol.old) (world (R.seen rack.new) vol.new) result }
 {
-    match Stored::collect(alloc, tree, rack, vol) {
+    match Stored::collect(alloc, room, tree, rack, vol) {
         Ok(stored) => Ok(stored),
         Err(fault) => Err(stop_of(fault)),
     }

@@ -1,18 +1,15 @@
 // What is wrong with trees of files.
-ghost use Rattle.std.specs.Prelude.{◌≡◌, ◌++◌, List, ◌∷◌, [], OnOk, IfOk, filter, map};
-ghost use Rattle.std.specs.List.Sorted.{IsPermutation};
-ghost use Rattle.btr_items.specs.declared.sum_run.SumRun.{SumRun};
+ghost use Rattle.std.specs.Prelude.{◌≡◌, ◌∷◌, [], OnOk, IfOk, filter};
 ghost use Rattle.btr_names.specs.Names.{names_findings};
 ghost use Rattle.btr_names.specs.Subvolumes.{subvolumes_in};
 ghost use Rattle.btr_names.specs.Subvolumes as names;
 ghost use Rattle.btr_names.specs.Unpaired.{are_paired};
 ghost use Rattle.btr_refs.specs.Findings.{Adds};
-ghost use Rattle.btr_sums.specs.Sums.{run_stretch, tree_missing};
 ghost use Rattle.btr_check.specs.Counting.{Unless};
 ghost use Rattle.btr_check.specs.Filesystem.{is_file_tree, root_items};
 ghost use Rattle.btr_check.specs.Data.{sum_runs};
 ghost use Rattle.btr_check.specs.Families.{IsCoverOf, found_on_files};
-ghost use Rattle.btr_check.specs.FileTrees.{entries_if, Treats, TreatsNames};
+ghost use Rattle.btr_check.specs.FileTrees.{AddsMissing, KeepsEntries, Treats, TreatsNames};
 ghost use Rattle.btr_check.specs.Passes.{Lists, Puts};
 ghost use Rattle.btr_check.specs.Running.{world, IsReady, Ran};
 
@@ -56,9 +53,9 @@ fn put_met(
     met: FileTree,
     sums: &Cover,
 ) -> Result<bool, Memory>
-    ensures found { (runs : List SumRun) → IsPermutation (map run_stretch runs) sums.now → IfOk result (λ paired. Adds (tree_missing runs tree met.uses.loose met.uses.used) found.old found.new) }
+    ensures found { AddsMissing tree met sums.now found.old found.new result }
     ensures paired { IfOk result (λ paired. paired ≡ are_paired met.names) }
-    ensures entries { IfOk result (λ paired. subvolumes.new ≡ entries_if paired tree met.names.subvolumes subvolumes.old) }
+    ensures entries { KeepsEntries tree met subvolumes.old subvolumes.new result }
 {
     put_missing_sums(alloc, found, tree, met.uses.loose(), met.uses.used(), sums)?;
     if met.names.are_paired() {
@@ -93,7 +90,9 @@ fn put_names<R: Rack>(
     vol: &mut Volume,
 ) -> Result<(), Stop>
     requires ready { IsReady (world (R.seen rack.old) vol.old) }
-    ensures ran { Ran (λ fs. Unless (λ u. TreatsNames fs.blocks tree.now found.old found.new subvolumes.old subvolumes.new) result) (world (R.seen rack.old) vol.old) (world (R.seen rack.new) vol.new) result }
+    ensures ran { Ran (λ fs. Unless
+        (λ u. TreatsNames fs.blocks tree.now found.old found.new subvolumes.old subvolumes.new) result)
+        (world (R.seen rack.old) vol.old) (world (R.seen rack.new) vol.new) result }
 {
     names_law();
     let nothing = TreeNames::new(alloc, tree.id, tree.dirid);
@@ -114,7 +113,9 @@ fn put_file_tree<R: Rack>(
     vol: &mut Volume,
 ) -> Result<(), Stop>
     requires ready { IsReady (world (R.seen rack.old) vol.old) }
-    ensures ran { Ran (λ fs. IsCoverOf fs sums.now → Unless (λ u. Treats fs.blocks (sum_runs fs) (tree.now ∷ []) found.old found.new subvolumes.old subvolumes.new) result) (world (R.seen rack.old) vol.old) (world (R.seen rack.new) vol.new) result }
+    ensures ran { Ran (λ fs. IsCoverOf fs sums.now → Unless (λ u. Treats fs.blocks (sum_runs fs)
+        (tree.now ∷ []) found.old found.new subvolumes.old subvolumes.new) result)
+        (world (R.seen rack.old) vol.old) (world (R.seen rack.new) vol.new) result }
 {
     unpaired_law();
     keeps_law();
@@ -144,7 +145,9 @@ fn put_file_trees<R: Rack>(
     vol: &mut Volume,
 ) -> Result<(), Stop>
     requires ready { IsReady (world (R.seen rack.old) vol.old) }
-    ensures ran { Ran (λ fs. IsCoverOf fs sums.now → Unless (λ u. Treats fs.blocks (sum_runs fs) files.now found.old found.new subvolumes.old subvolumes.new) result) (world (R.seen rack.old) vol.old) (world (R.seen rack.new) vol.new) result }
+    ensures ran { Ran (λ fs. IsCoverOf fs sums.now → Unless (λ u. Treats fs.blocks
+        (sum_runs fs) files.now found.old found.new subvolumes.old subvolumes.new) result)
+        (world (R.seen rack.old) vol.old) (world (R.seen rack.new) vol.new) result }
 {
     for tree in files {
         match put_file_tree(alloc, found, subvolumes, tree, sums, rack, vol) {
@@ -162,7 +165,8 @@ fn read_subvolumes<R: Rack>(
     vol: &mut Volume,
 ) -> Result<SubvolumeNames, Stop>
     requires ready { IsReady (world (R.seen rack.old) vol.old) }
-    ensures ran { Ran (λ fs. Unless (λ met. met ≡ subvolumes_in (root_items fs) []) result) (world (R.seen rack.old) vol.old) (world (R.seen rack.new) vol.new) result }
+    ensures ran { Ran (λ fs. Unless (λ met. met ≡ subvolumes_in (root_items fs) []) result)
+        (world (R.seen rack.old) vol.old) (world (R.seen rack.new) vol.new) result }
 {
     subvolumes_law();
     let tree = named_root(ROOT_TREE, root_root(&vol.sup));
@@ -182,7 +186,9 @@ pub(crate) fn put_files<R: Rack>(
     vol: &mut Volume,
 ) -> Result<(), Stop>
     requires ready { IsReady (world (R.seen rack.old) vol.old) }
-    ensures ran { Ran (Puts (λ fs. Lists listed.now fs × IsCoverOf fs sums.now) found_on_files found.old found.new result) (world (R.seen rack.old) vol.old) (world (R.seen rack.new) vol.new) result }
+    ensures ran { Ran (Puts (λ fs. Lists listed.now fs
+        × IsCoverOf fs sums.now) found_on_files found.old found.new result)
+        (world (R.seen rack.old) vol.old) (world (R.seen rack.new) vol.new) result }
 {
     let files = match file_trees(alloc, listed) {
         Ok(files) => files,

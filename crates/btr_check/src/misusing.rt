@@ -1,19 +1,13 @@
-// Findings on references: where those that are counted and stored differ, and extents that are others than what uses them.
-ghost use Rattle.std.specs.Prelude.{◌≡◌, ◌==◌, ◌&&◌, ◌||◌, ◌∷◌, [], Bool, List, fold, flat_map, OnOk};
-ghost use Rattle.std.specs.List.{list_any};
-ghost use Rattle.btr_refs.specs.declared.finding.Finding.{Finding as Row};
-ghost use Rattle.btr_refs.specs.declared.uses.BlockUse.{BlockUse as UsedBlock};
-ghost use Rattle.btr_refs.specs.declared.uses.DataUse.{DataUse as UsedData};
-ghost use Rattle.btr_refs.specs.Findings.{Adds, has};
-ghost use Rattle.btr_refs.specs.Forward.{TreeBlock, Data, Use, no_uses, with_use};
-ghost use Rattle.btr_check.specs.Misusing.{is_by_block, is_by_data, found_by};
+// Extents that are others than what uses them.
+ghost use Rattle.std.specs.Prelude.{◌≡◌, ◌∷◌, [], OnOk};
+ghost use Rattle.btr_refs.specs.Findings.{Adds};
+ghost use Rattle.btr_refs.specs.Forward.{TreeBlock, Data};
+ghost use Rattle.btr_check.specs.Misusing.{AddsByUses, AddsIf, HasBlocksAt, HasDataAt, by_blocks, by_data, is_by_block, is_by_data, misused_of};
 ghost use Rattle.btr_check.specs.Uses.{extent_findings, misused};
 
-use crate::adding::put_all;
 use btr_base::Memory;
 use btr_items::ExtentItem;
-use btr_refs::{BlockUse, DataUse, Extent, Finding, Forward, Stored, differences, put_unless};
-use std::alloc::Global;
+use btr_refs::{BlockUse, DataUse, Extent, Finding, UsedExtents, put_unless};
 use std::collections::BTreeSet;
 use std::collections::btree_set::Range;
 
@@ -65,7 +59,7 @@ fn put_data_use(
 
 // The uses as tree blocks of the extent at an address, and maybe others.
 fn blocks_at(blocks: &BTreeSet<BlockUse>, addr: u64) -> Range<'_, BlockUse>
-    ensures { (p : UsedBlock → Bool) → list_any (λ block. (block.addr == addr) && p block) result ≡ list_any (λ block. (block.addr == addr) && p block) blocks.now.keys }
+    ensures { HasBlocksAt addr result blocks.now.keys }
 {
     let first = BlockUse { addr, level: 0 };
     match addr.checked_add(1) {
@@ -76,7 +70,7 @@ fn blocks_at(blocks: &BTreeSet<BlockUse>, addr: u64) -> Range<'_, BlockUse>
 
 // The uses as data of the extent at an address, and maybe others.
 fn data_at(extents: &BTreeSet<DataUse>, addr: u64) -> Range<'_, DataUse>
-    ensures { (p : UsedData → Bool) → list_any (λ one. (one.addr == addr) && p one) result ≡ list_any (λ one. (one.addr == addr) && p one) extents.now.keys }
+    ensures { HasDataAt addr result extents.now.keys }
 {
     let first = DataUse { addr, len: 0 };
     match addr.checked_add(1) {
@@ -92,7 +86,7 @@ fn put_block(
     extent: &Extent,
     block: &BlockUse,
 ) -> Result<(), Memory>
-    ensures { OnOk result ((one : Row) → has found.new one ≡ (is_by_block nodesize extent.now one block.now || has found.old one)) }
+    ensures { OnOk result (AddsIf (λ one. is_by_block nodesize extent.now one block.now) found.old found.new) }
 {
     if block.addr == extent.addr {
         put_block_use(found, nodesize, extent, block.level)
@@ -108,7 +102,7 @@ fn put_blocks(
     extent: &Extent,
     blocks: Range<'_, BlockUse>,
 ) -> Result<(), Memory>
-    ensures { OnOk result ((one : Row) → has found.new one ≡ (list_any (is_by_block nodesize extent.now one) blocks.entry || has found.old one)) }
+    ensures { OnOk result (AddsIf (by_blocks nodesize extent.now blocks.entry) found.old found.new) }
 {
     for block in blocks {
         put_block(found, nodesize, extent, block)?;
@@ -123,7 +117,7 @@ fn put_data(
     extent: &Extent,
     data_use: &DataUse,
 ) -> Result<(), Memory>
-    ensures { OnOk result ((one : Row) → has found.new one ≡ (is_by_data nodesize extent.now one data_use.now || has found.old one)) }
+    ensures { OnOk result (AddsIf (λ one. is_by_data nodesize extent.now one data_use.now) found.old found.new) }
 {
     if data_use.addr == extent.addr {
         put_data_use(found, nodesize, extent, data_use.len)
@@ -139,7 +133,7 @@ fn put_datas(
     extent: &Extent,
     uses: Range<'_, DataUse>,
 ) -> Result<(), Memory>
-    ensures { OnOk result ((one : Row) → has found.new one ≡ (list_any (is_by_data nodesize extent.now one) uses.entry || has found.old one)) }
+    ensures { OnOk result (AddsIf (by_data nodesize extent.now uses.entry) found.old found.new) }
 {
     for data_use in uses {
         put_data(found, nodesize, extent, data_use)?;
@@ -152,44 +146,28 @@ fn put_misused(
     found: &mut BTreeSet<Finding>,
     nodesize: u64,
     extent: &Extent,
-    forward: &Forward,
+    used: &UsedExtents,
 ) -> Result<(), Memory>
-    ensures { (uses : List Use) → forward.now ≡ fold with_use no_uses uses → OnOk result (Adds (extent_findings nodesize uses extent.now) found.old found.new) }
+    ensures { AddsByUses used.now (λ uses. extent_findings nodesize uses extent.now) found.old found.new result }
 {
-    let blocks = blocks_at(forward.tree_blocks(), extent.addr);
+    let blocks = blocks_at(&used.tree_blocks, extent.addr);
     put_blocks(found, nodesize, extent, blocks)?;
-    let uses = data_at(forward.data_extents(), extent.addr);
+    let uses = data_at(&used.data_extents, extent.addr);
     put_datas(found, nodesize, extent, uses)
 }
 
-// What is wrong with extents, by all that uses them.
-fn put_all_misused(
+/// Puts what is wrong with extents by all that uses them, kinds 9 to 11. A node has `nodesize` bytes. `Memory`: there is no memory; then
+/// nothing is said of the set.
+pub(crate) fn put_all_misused(
     found: &mut BTreeSet<Finding>,
     nodesize: u64,
     extents: &[Extent],
-    forward: &Forward,
+    used: &UsedExtents,
 ) -> Result<(), Memory>
-    ensures { (uses : List Use) → forward.now ≡ fold with_use no_uses uses → OnOk result (Adds (flat_map (extent_findings nodesize uses) extents.now) found.old found.new) }
+    ensures { AddsByUses used.now (misused_of nodesize extents.now) found.old found.new result }
 {
     for extent in extents {
-        put_misused(found, nodesize, extent, forward)?;
+        put_misused(found, nodesize, extent, used)?;
     }
     Ok(())
-}
-
-/// Puts the findings on references into a set, kinds 7 to 11, by the uses that were counted and by what the extent tree stores: references that are
-/// counted and stored differently, and extents that are others than what uses them. A node has `nodesize` bytes. `Memory`: there is no
-/// memory; then nothing is said of the set.
-pub(crate) fn put_reference_findings(
-    alloc: Global,
-    found: &mut BTreeSet<Finding>,
-    nodesize: u64,
-    forward: &Forward,
-    stored: &Stored,
-) -> Result<(), Memory>
-    ensures { (uses : List Use) → forward.now ≡ fold with_use no_uses uses → OnOk result (Adds (found_by nodesize uses stored.now.extents stored.now.refs) found.old found.new) }
-{
-    let list = differences(alloc, forward, stored)?;
-    put_all(found, &list)?;
-    put_all_misused(found, nodesize, stored.extents(), forward)
 }

@@ -32,7 +32,7 @@ impl Model for PlaceList {
 }
 
 impl PlaceList {
-    ghost use Rattle.std.specs.Prelude.{◌≡◌, [], OnOk};
+    ghost use Rattle.std.specs.Prelude.{◌≡◌, OnOk};
     ghost use Rattle.btr_check.specs.Walking.{no_places, with_place};
 
     /// No block was met yet.

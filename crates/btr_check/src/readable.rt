@@ -1,6 +1,7 @@
 // Data that has a checksum, and whether it is readable.
-ghost use Rattle.std.specs.Prelude.{◌≡◌, ◌+◌, ◌*◌, ◌^◌, ◌<◌, ◌∷◌, [], is_ok, filter_map};
+ghost use Rattle.std.specs.Prelude.{◌≡◌, ◌+◌, ◌*◌, ◌^◌, ◌<◌, ◌∷◌, [], true, is_ok, filter_map, Ok, IsTrue};
 ghost use Rattle.std.specs.Option.{option_to_list};
+ghost use Rattle.btr_ahead.specs.Ahead.{IsAhead};
 ghost use Rattle.btr_files.specs.Content.{want_by};
 ghost use Rattle.btr_files.specs.Sums.{tree_behind};
 ghost use Rattle.btr_refs.specs.Findings.{Adds};
@@ -13,6 +14,7 @@ ghost use Rattle.btr_check.specs.Running.{world, IsReady, Ran};
 ghost use Rattle.btr_check.specs.Trees.{tree_of};
 
 use crate::form::kind_of;
+use btr_ahead::DataAhead;
 use btr_base::{Memory, Sum};
 use btr_files::{SumsAhead, sum_ahead};
 use btr_items::SumRun;
@@ -22,6 +24,13 @@ use btr_refs::{Finding, put_unless};
 use btr_volume::{Stop, TreeRoot, Volume};
 use btr_walk::TreeFault;
 use std::collections::BTreeSet;
+
+// A sector of a run: its address, and how many sectors of the run are left, this one too.
+#[derive(Clone, Copy)]
+pub(crate) struct RunSector {
+    addr: u64,
+    left: u64,
+}
 
 // The stop of a block that could not be read; other faults are none.
 fn unread_stop(fault: TreeFault) -> Option<Stop>
@@ -56,7 +65,9 @@ fn sector_want<R: Rack>(
     vol: &mut Volume,
 ) -> Result<Option<Want>, Stop>
     requires ready { IsReady (world (R.seen rack.old) vol.old) }
-    ensures ran { Ran (λ fs. KeepsSums fs (tree_behind sums.entry) ahead.old ahead.new (Unless (ReadsBy fs (tree_behind sums.entry) sector) result)) (world (R.seen rack.old) vol.old) (world (R.seen rack.new) vol.new) result }
+    ensures ran { Ran (λ fs. KeepsSums fs (tree_behind sums.entry) ahead.old ahead.new (Unless (ReadsBy fs
+        (tree_behind sums.entry) sector) result))
+        (world (R.seen rack.old) vol.old) (world (R.seen rack.new) vol.new) result }
 {
     if let Some(sum) = ahead.get(kind_of(&vol.sup), sector) {
         return Ok(Some(Want::Sector { addr: sector, sum }));
@@ -70,10 +81,11 @@ fn sector_want<R: Rack>(
     }
 }
 
-// Whether a want comes to bytes.
-fn can_read<R: Rack>(want: &Want, rack: &mut R, vol: &mut Volume) -> Result<bool, Stop>
+// Whether a want comes to bytes, by all that may be read for it.
+fn can_fetch<R: Rack>(want: &Want, rack: &mut R, vol: &mut Volume) -> Result<bool, Stop>
     requires ready { IsReady (world (R.seen rack.old) vol.old) }
-    ensures ran { Ran (λ fs. Unless (λ can. can ≡ is_ok (fs.blocks want.now)) result) (world (R.seen rack.old) vol.old) (world (R.seen rack.new) vol.new) result }
+    ensures ran { Ran (λ fs. Unless (λ can. can ≡ is_ok (fs.blocks want.now)) result)
+        (world (R.seen rack.old) vol.old) (world (R.seen rack.new) vol.new) result }
 {
     match fetch(want, rack, &mut vol.store) {
         Ok(loan) => {
@@ -87,21 +99,63 @@ fn can_read<R: Rack>(want: &Want, rack: &mut R, vol: &mut Volume) -> Result<bool
     }
 }
 
-// Whether a sector comes to bytes, by the checksum that is looked up.
-fn is_readable<R: Rack>(
-    sector: u64,
-    sums: Option<&TreeRoot>,
-    ahead: &mut SumsAhead,
+// Whether the first copy of a want, which is read with those behind it, passes: then it comes to bytes.
+fn is_ahead<R: Rack>(
+    want: &Want,
+    left: u64,
+    copies: &mut DataAhead,
+    rack: &mut R,
+    vol: &Volume,
+) -> bool
+    requires ready { IsReady (world (R.seen rack.old) vol.now) }
+    requires ahead { IsAhead (R.seen rack.old).held copies.old }
+    ensures ahead { IsAhead (R.seen rack.new).held copies.new }
+    ensures ran { Ran (λ fs. IsTrue result → is_ok (fs.blocks want.now) ≡ true)
+        (world (R.seen rack.old) vol.now) (world (R.seen rack.new) vol.now) (Ok result) }
+{
+    copies.has(want, left, rack, &vol.store)
+}
+
+// Whether a want comes to bytes: first by its first copy.
+fn can_read<R: Rack>(
+    want: &Want,
+    left: u64,
+    copies: &mut DataAhead,
     rack: &mut R,
     vol: &mut Volume,
 ) -> Result<bool, Stop>
     requires ready { IsReady (world (R.seen rack.old) vol.old) }
-    ensures ran { Ran (λ fs. KeepsSums fs (tree_behind sums.entry) ahead.old ahead.new (Unless (λ can. can ≡ is_readable fs (tree_behind sums.entry) sector) result)) (world (R.seen rack.old) vol.old) (world (R.seen rack.new) vol.new) result }
+    requires ahead { IsAhead (R.seen rack.old).held copies.old }
+    ensures ahead { IsAhead (R.seen rack.new).held copies.new }
+    ensures ran { Ran (λ fs. Unless (λ can. can ≡ is_ok (fs.blocks want.now)) result)
+        (world (R.seen rack.old) vol.old) (world (R.seen rack.new) vol.new) result }
 {
-    match sector_want(sector, sums, ahead, rack, vol) {
+    if is_ahead(want, left, copies, rack, vol) {
+        return Ok(true);
+    }
+    can_fetch(want, rack, vol)
+}
+
+// Whether a sector comes to bytes, by the checksum that is looked up.
+fn is_readable<R: Rack>(
+    sector: RunSector,
+    sums: Option<&TreeRoot>,
+    ahead: &mut SumsAhead,
+    copies: &mut DataAhead,
+    rack: &mut R,
+    vol: &mut Volume,
+) -> Result<bool, Stop>
+    requires ready { IsReady (world (R.seen rack.old) vol.old) }
+    requires ahead { IsAhead (R.seen rack.old).held copies.old }
+    ensures ahead { IsAhead (R.seen rack.new).held copies.new }
+    ensures ran { Ran (λ fs. KeepsSums fs (tree_behind sums.entry) ahead.old ahead.new (Unless
+        (λ can. can ≡ is_readable fs (tree_behind sums.entry) sector.addr) result))
+        (world (R.seen rack.old) vol.old) (world (R.seen rack.new) vol.new) result }
+{
+    match sector_want(sector.addr, sums, ahead, rack, vol) {
         Err(stop) => Err(stop),
         Ok(None) => Ok(false),
-        Ok(Some(want)) => can_read(&want, rack, vol),
+        Ok(Some(want)) => can_read(&want, sector.left, copies, rack, vol),
     }
 }
 
@@ -118,29 +172,37 @@ fn row(sector: u64) -> Finding
 // Puts a sector into a set, unless it is readable.
 fn put_sector<R: Rack>(
     found: &mut BTreeSet<Finding>,
-    sector: u64,
+    sector: RunSector,
     sums: Option<&TreeRoot>,
     ahead: &mut SumsAhead,
+    copies: &mut DataAhead,
     rack: &mut R,
     vol: &mut Volume,
 ) -> Result<(), Stop>
     requires ready { IsReady (world (R.seen rack.old) vol.old) }
-    ensures ran { Ran (λ fs. KeepsSums fs (tree_behind sums.entry) ahead.old ahead.new (Unless (λ u. Adds (option_to_list (data_lost fs (tree_behind sums.entry) sector)) found.old found.new) result)) (world (R.seen rack.old) vol.old) (world (R.seen rack.new) vol.new) result }
+    requires ahead { IsAhead (R.seen rack.old).held copies.old }
+    ensures ahead { IsAhead (R.seen rack.new).held copies.new }
+    ensures ran { Ran (λ fs. KeepsSums fs (tree_behind sums.entry) ahead.old ahead.new (Unless (λ u. Adds
+        (option_to_list (data_lost fs (tree_behind sums.entry) sector.addr)) found.old found.new) result))
+        (world (R.seen rack.old) vol.old) (world (R.seen rack.new) vol.new) result }
 {
-    match is_readable(sector, sums, ahead, rack, vol) {
+    match is_readable(sector, sums, ahead, copies, rack, vol) {
         Err(stop) => Err(stop),
-        Ok(readable) => match put_unless(found, readable, row(sector)) {
+        Ok(readable) => match put_unless(found, readable, row(sector.addr)) {
             Ok(()) => Ok(()),
             Err(Memory) => Err(Stop::Memory),
         },
     }
 }
 
-// The address of a sector of a run, by its number.
-fn sector_at(run: &SumRun, i: u64) -> u64
-    ensures { run_end run.now < 2 ^ 64 → i < run.now.count → result ≡ run.now.start + i * 4096 }
+// A sector of a run, by its number.
+fn sector_at(run: &SumRun, i: u64) -> RunSector
+    ensures { run_end run.now < 2 ^ 64 → i < run.now.count → result.addr ≡ run.now.start + i * 4096 }
 {
-    run.start.saturating_add(i.saturating_mul(4096))
+    RunSector {
+        addr: run.start.saturating_add(i.saturating_mul(4096)),
+        left: run.count.saturating_sub(i),
+    }
 }
 
 // Puts the sectors of a run that aren't readable into a set.
@@ -148,16 +210,21 @@ fn put_run<R: Rack>(
     found: &mut BTreeSet<Finding>,
     run: &SumRun,
     sums: Option<&TreeRoot>,
+    copies: &mut DataAhead,
     rack: &mut R,
     vol: &mut Volume,
 ) -> Result<(), Stop>
     requires ready { IsReady (world (R.seen rack.old) vol.old) }
-    ensures ran { Ran (λ fs. run_end run.now < 2 ^ 64 → Unless (λ u. Adds (filter_map (data_lost fs (tree_behind sums.entry)) (run_sectors run.now)) found.old found.new) result) (world (R.seen rack.old) vol.old) (world (R.seen rack.new) vol.new) result }
+    requires ahead { IsAhead (R.seen rack.old).held copies.old }
+    ensures ahead { IsAhead (R.seen rack.new).held copies.new }
+    ensures ran { Ran (λ fs. run_end run.now < 2 ^ 64 → Unless (λ u. Adds (filter_map (data_lost fs
+        (tree_behind sums.entry)) (run_sectors run.now)) found.old found.new) result)
+        (world (R.seen rack.old) vol.old) (world (R.seen rack.new) vol.new) result }
 {
     let mut ahead = SumsAhead::new();
     for i in 0..run.count {
         let sector = sector_at(run, i);
-        match put_sector(found, sector, sums, &mut ahead, rack, vol) {
+        match put_sector(found, sector, sums, &mut ahead, copies, rack, vol) {
             Ok(()) => {}
             Err(stop) => return Err(stop),
         }
@@ -166,7 +233,7 @@ fn put_run<R: Rack>(
 }
 
 /// Puts the sectors that have a checksum and aren't readable into a set, kind 31, where these are the runs of the checksum tree, and this is its root. Each
-/// sector is read, and a look-up of its checksum serves the sectors behind it in the same item. Four slots are free.
+/// sector is read, up to 16 by one read, and a look-up of its checksum serves the sectors behind it in the same item. Four slots are free.
 ///
 /// `Tree`: a block could not be read, which is `Unread`. `Memory`: there is no memory for the findings.
 pub(crate) fn put_data_findings<R: Rack>(
@@ -177,10 +244,13 @@ pub(crate) fn put_data_findings<R: Rack>(
     vol: &mut Volume,
 ) -> Result<(), Stop>
     requires ready { IsReady (world (R.seen rack.old) vol.old) }
-    ensures ran { Ran (λ fs. runs.now ≡ sum_runs fs → tree_behind sums.entry ≡ tree_of fs.sup fs.blocks 7 → Unless (λ u. Adds (data_findings fs) found.old found.new) result) (world (R.seen rack.old) vol.old) (world (R.seen rack.new) vol.new) result }
+    ensures ran { Ran (λ fs. runs.now ≡ sum_runs fs → tree_behind sums.entry ≡ tree_of fs.sup fs.blocks 7
+        → Unless (λ u. Adds (data_findings fs) found.old found.new) result)
+        (world (R.seen rack.old) vol.old) (world (R.seen rack.new) vol.new) result }
 {
+    let mut copies = DataAhead::new();
     for run in runs {
-        match put_run(found, run, sums, rack, vol) {
+        match put_run(found, run, sums, &mut copies, rack, vol) {
             Ok(()) => {}
             Err(stop) => return Err(stop),
         }

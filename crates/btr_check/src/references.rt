@@ -1,99 +1,170 @@
 // Extents and what uses them.
-ghost use Rattle.std.specs.Prelude.{◌≡◌, []};
-ghost use Rattle.btr_check.specs.Counting.{Unless, UsesCount};
-ghost use Rattle.btr_check.specs.ExtentTree.{IsStoredOf};
-ghost use Rattle.btr_check.specs.Passes.{AreAll, Lists, Puts};
+ghost use Rattle.std.specs.Prelude.{◌≡◌, [], IfOk};
+ghost use Rattle.btr_refs.specs.Differences.{total_findings};
+ghost use Rattle.btr_refs.specs.Findings.{Adds};
+ghost use Rattle.btr_check.specs.Counting.{IsFull, Unless};
+ghost use Rattle.btr_check.specs.ExtentTree.{AreRefsOf, IsStoredOf};
+ghost use Rattle.btr_check.specs.Passes.{AreExtents, AreUsed, IsCounted, IsWalked, Lists, ListsSound, PutsAnd};
 ghost use Rattle.btr_check.specs.Running.{world, IsReady, Ran};
-ghost use Rattle.btr_check.specs.Uses.{reference_findings};
-ghost use Rattle.btr_check.specs.Walking.{IsWalkOf};
+ghost use Rattle.btr_check.specs.Uses.{difference_findings, found_on_counts, found_on_totals, reference_findings};
 ghost use Rattle.btr_check.specs.Walks.{walk_findings};
 
-use crate::collecting::or_memory;
-use crate::counting::count_uses;
+use crate::counting::{count_uses, full_backrefs};
 use crate::extent_tree::read_stored;
-use crate::misusing::put_reference_findings;
+use crate::misusing::put_all_misused;
 use crate::refusing::{EXTENT_TREE, last_of};
 use crate::walk::Walk;
 use btr_base::Memory;
 use btr_rack::Rack;
-use btr_refs::{Extent, Finding, Forward, Stored};
+use btr_refs::{
+    Extent, Finding, RefKey, Stored, UsedExtents, put_count_findings, put_total_findings,
+};
 use btr_volume::{Stop, TreeRoot, Volume};
+use btr_walk::RootPlace;
 use std::alloc::Global;
-use std::collections::BTreeSet;
+use std::collections::{BTreeMap, BTreeSet};
 
-// What the extent tree says of extents.
-fn read_unpacked<R: Rack>(
+// What is kept of the extent tree while uses are counted: how often each reference is stored, and the addresses of the blocks that refer
+// by their own.
+#[derive(Drop)]
+struct StoredRefs {
+    refs: BTreeMap<RefKey, u64>,
+    full: BTreeSet<u64>,
+}
+
+// What the extent tree says of extents, behind a walk of all trees that found nothing. Room is made ahead for some of them.
+fn read_extents<R: Rack>(
     alloc: Global,
+    room: usize,
     listed: &[TreeRoot],
     rack: &mut R,
     vol: &mut Volume,
 ) -> Result<Stored, Stop>
     requires ready { IsReady (world (R.seen rack.old) vol.old) }
-    ensures ran { Ran (λ fs. Lists listed.now fs → walk_findings fs ≡ [] → Unless (IsStoredOf fs) result) (world (R.seen rack.old) vol.old) (world (R.seen rack.new) vol.new) result }
+    ensures ran { Ran (λ fs. Lists listed.now fs → walk_findings fs ≡ [] → Unless (IsStoredOf fs) result)
+        (world (R.seen rack.old) vol.old) (world (R.seen rack.new) vol.new) result }
 {
     match last_of(listed, EXTENT_TREE) {
         None => Ok(Stored::new(alloc, u64::from(vol.sup.nodesize))),
-        Some(tree) => read_stored(alloc, &tree, rack, vol),
+        Some(tree) => read_stored(alloc, room, &tree, rack, vol),
     }
 }
 
-/// What the extent tree says of extents, behind a walk of all trees that found nothing. Four slots are free.
-///
-/// `Tree`: a block could not be read, which is `Unread`; where the walk found something, it is any fault of the tree, too. `Memory`:
-/// there is no memory for what is collected.
-pub(crate) fn read_extents<R: Rack>(
+// Puts kind 8, and keeps of what is stored the references alone.
+fn put_totals(
     alloc: Global,
+    found: &mut BTreeSet<Finding>,
+    stored: Stored,
+) -> Result<StoredRefs, Memory>
+    ensures found { IfOk result (λ kept. Adds (total_findings stored.extents stored.refs) found.old found.new) }
+    ensures refs { IfOk result (λ kept. kept.refs.entries ≡ stored.refs) }
+    ensures full { IfOk result (λ kept. IsFull stored.extents kept.full) }
+{
+    put_total_findings(alloc, found, &stored)?;
+    let full = full_backrefs(alloc, stored.extents())?;
+    let refs = stored.into_refs(alloc)?;
+    Ok(StoredRefs { refs, full })
+}
+
+// The same by what the extent tree says.
+fn put_stored<R: Rack>(
+    alloc: Global,
+    found: &mut BTreeSet<Finding>,
     listed: &[TreeRoot],
     rack: &mut R,
     vol: &mut Volume,
-) -> Result<Stored, Stop>
+) -> Result<StoredRefs, Stop>
     requires ready { IsReady (world (R.seen rack.old) vol.old) }
-    ensures ran { Ran (λ fs. Lists listed.now fs → walk_findings fs ≡ [] → Unless (IsStoredOf fs) result) (world (R.seen rack.old) vol.old) (world (R.seen rack.new) vol.new) result }
+    ensures ran { Ran (PutsAnd (ListsSound listed.now) AreRefsOf found_on_totals found.old found.new result)
+        (world (R.seen rack.old) vol.old) (world (R.seen rack.new) vol.new) result }
 {
-    match read_unpacked(alloc, listed, rack, vol) {
+    match read_extents(alloc, 0, listed, rack, vol) {
         Err(stop) => Err(stop),
-        Ok(stored) => match stored.packed(alloc) {
-            Ok(all) => Ok(all),
+        Ok(stored) => match put_totals(alloc, found, stored) {
+            Ok(kept) => Ok(kept),
             Err(Memory) => Err(Stop::Memory),
         },
     }
 }
 
-// Counts what uses extents, by the blocks that were met, which are let go behind it.
-fn count_walked<R: Rack>(
+// Counts what uses extents, by the blocks that were met, puts kind 7, and keeps the extents that are used.
+fn put_counted<R: Rack>(
     alloc: Global,
+    found: &mut BTreeSet<Finding>,
     trees: &[TreeRoot],
-    walk: Walk,
-    extents: &[Extent],
+    places: Vec<RootPlace>,
+    stored: StoredRefs,
     rack: &mut R,
     vol: &mut Volume,
-) -> Result<Forward, Stop>
+) -> Result<UsedExtents, Stop>
     requires ready { IsReady (world (R.seen rack.old) vol.old) }
-    ensures ran { Ran (λ fs. UsesCount fs.blocks trees.now walk.places.list extents.now result) (world (R.seen rack.old) vol.old) (world (R.seen rack.new) vol.new) result }
+    ensures ran { Ran (PutsAnd
+        (IsCounted trees.now places.items stored) AreUsed found_on_counts found.old found.new result)
+        (world (R.seen rack.old) vol.old) (world (R.seen rack.new) vol.new) result }
 {
-    let places = walk.into_places();
-    count_uses(alloc, trees, places.as_slice(), extents, rack, vol)
+    let forward = match count_uses(alloc, trees, places.as_slice(), &stored.full, rack, vol) {
+        Ok(forward) => forward,
+        Err(stop) => return Err(stop),
+    };
+    match put_count_findings(found, &forward, &stored.refs) {
+        Ok(()) => Ok(forward.into_extents()),
+        Err(Memory) => Err(Stop::Memory),
+    }
 }
 
-/// Puts what is wrong with extents and with the references to them, kinds 7 to 11. These are all trees, and what was walked of them;
-/// the blocks that were met are read again.
+// Puts kinds 7 and 8, and keeps the extents that are used. Of the walk, the blocks that were met are kept, and read again.
+fn put_differences<R: Rack>(
+    alloc: Global,
+    found: &mut BTreeSet<Finding>,
+    listed: &[TreeRoot],
+    trees: &[TreeRoot],
+    walk: Walk,
+    rack: &mut R,
+    vol: &mut Volume,
+) -> Result<UsedExtents, Stop>
+    requires ready { IsReady (world (R.seen rack.old) vol.old) }
+    ensures ran { Ran (PutsAnd
+        (IsWalked listed.now trees.now walk) AreUsed difference_findings found.old found.new result)
+        (world (R.seen rack.old) vol.old) (world (R.seen rack.new) vol.new) result }
+{
+    let places = walk.into_places();
+    match put_stored(alloc, found, listed, rack, vol) {
+        Ok(stored) => put_counted(alloc, found, trees, places, stored, rack, vol),
+        Err(stop) => Err(stop),
+    }
+}
+
+/// Puts what is wrong with extents and with the references to them, kinds 7 to 11, and answers the extents. These are the listed trees, all
+/// trees, and what was walked of them, which found nothing; the blocks that were met are read again. The extent tree is read twice, so
+/// that its extents need not be kept while uses are counted.
 ///
 /// `Tree`: a block could not be read, which is `Unread`. `Memory`: there is no memory for what is kept.
 pub(crate) fn put_references<R: Rack>(
     alloc: Global,
     found: &mut BTreeSet<Finding>,
+    listed: &[TreeRoot],
     trees: &[TreeRoot],
     walk: Walk,
-    stored: &Stored,
     rack: &mut R,
     vol: &mut Volume,
-) -> Result<(), Stop>
+) -> Result<Vec<Extent>, Stop>
     requires ready { IsReady (world (R.seen rack.old) vol.old) }
-    ensures ran { Ran (Puts (λ fs. AreAll trees.now fs × IsWalkOf fs trees.now walk × IsStoredOf fs stored.now) reference_findings found.old found.new result) (world (R.seen rack.old) vol.old) (world (R.seen rack.new) vol.new) result }
+    ensures ran { Ran (PutsAnd (IsWalked listed.now trees.now walk)
+        (λ fs all. AreExtents all.items fs) reference_findings found.old found.new result)
+        (world (R.seen rack.old) vol.old) (world (R.seen rack.new) vol.new) result }
 {
     let nodesize = u64::from(vol.sup.nodesize);
-    match count_walked(alloc, trees, walk, stored.extents(), rack, vol) {
-        Err(stop) => Err(stop),
-        Ok(forward) => or_memory(put_reference_findings(alloc, found, nodesize, &forward, stored)),
+    let used = match put_differences(alloc, found, listed, trees, walk, rack, vol) {
+        Ok(used) => used,
+        Err(stop) => return Err(stop),
+    };
+    let room = used.count();
+    let extents = match read_extents(alloc, room, listed, rack, vol) {
+        Ok(stored) => stored.into_extents(),
+        Err(stop) => return Err(stop),
+    };
+    match put_all_misused(found, nodesize, extents.as_slice(), &used) {
+        Ok(()) => Ok(extents),
+        Err(Memory) => Err(Stop::Memory),
     }
 }

@@ -41,7 +41,9 @@ pub(crate) fn put_groups<R: Rack>(
     vol: &mut Volume,
 ) -> Result<(), Stop>
     requires ready { IsReady (world (R.seen rack.old) vol.old) }
-    ensures ran { Ran (Puts (λ fs. Lists listed.now fs × AreExtents extents.now fs) found_on_groups found.old found.new result) (world (R.seen rack.old) vol.old) (world (R.seen rack.new) vol.new) result }
+    ensures ran { Ran (Puts (λ fs. Lists listed.now fs
+        × AreExtents extents.now fs) found_on_groups found.old found.new result)
+        (world (R.seen rack.old) vol.old) (world (R.seen rack.new) vol.new) result }
 {
     collects_law();
     match collect(group_tree(listed), Groups::new(alloc), rack, vol) {
@@ -68,7 +70,8 @@ pub(crate) fn put_devices<R: Rack>(
     vol: &mut Volume,
 ) -> Result<(), Stop>
     requires ready { IsReady (world (R.seen rack.old) vol.old) }
-    ensures ran { Ran (Puts (Lists listed.now) found_on_devices found.old found.new result) (world (R.seen rack.old) vol.old) (world (R.seen rack.new) vol.new) result }
+    ensures ran { Ran (Puts (Lists listed.now) found_on_devices found.old found.new result)
+        (world (R.seen rack.old) vol.old) (world (R.seen rack.new) vol.new) result }
 {
     collects_law();
     let device_tree = last_of(listed, DEVICE_TREE);

@@ -28,7 +28,9 @@ pub(crate) fn put_sums<R: Rack>(
     vol: &mut Volume,
 ) -> Result<Runs, Stop>
     requires ready { IsReady (world (R.seen rack.old) vol.old) }
-    ensures ran { Ran (PutsAnd (λ fs. Lists listed.now fs × AreExtents extents.now fs) IsRunsOf found_on_sums found.old found.new result) (world (R.seen rack.old) vol.old) (world (R.seen rack.new) vol.new) result }
+    ensures ran { Ran (PutsAnd (λ fs. Lists listed.now fs
+        × AreExtents extents.now fs) IsRunsOf found_on_sums found.old found.new result)
+        (world (R.seen rack.old) vol.old) (world (R.seen rack.new) vol.new) result }
 {
     keeps_law();
     let tree = last_of(listed, SUM_TREE);

@@ -1,8 +1,8 @@
 // How findings are printed.
-ghost use Rattle.std.specs.Prelude.{◌≡◌, ◌≤◌, flat_map};
+ghost use Rattle.std.specs.Prelude.{◌≡◌, ◌≤◌};
 ghost use Rattle.btr_rack.specs.Out.{Puts, Counts};
 ghost use Rattle.btr_text.specs.Text.{Writes};
-ghost use Rattle.btr_check.specs.Text.{printed_of, number_text, line_of, last_line, findings_text};
+ghost use Rattle.btr_check.specs.Text.{printed_of, numbers_text, line_of, lines_of, last_line, findings_text};
 
 use btr_rack::{Out, SinkError};
 use btr_refs::Finding;
@@ -69,7 +69,7 @@ fn push_numbers<O: Out>(
     numbers: &[u64],
     out: &mut O,
 ) -> Result<(), SinkError>
-    ensures text { Writes (O.text out.old) (O.text out.new) buffer.old buffer.new (flat_map number_text numbers.now) result }
+    ensures text { Writes (O.text out.old) (O.text out.new) buffer.old buffer.new (numbers_text numbers.now) result }
     ensures account { Counts (O.account out.old) (O.account out.new) result }
 {
     for n in numbers {
@@ -98,7 +98,7 @@ fn push_findings<O: Out>(
     findings: &[Finding],
     out: &mut O,
 ) -> Result<(), SinkError>
-    ensures text { Writes (O.text out.old) (O.text out.new) buffer.old buffer.new (flat_map line_of findings.now) result }
+    ensures text { Writes (O.text out.old) (O.text out.new) buffer.old buffer.new (lines_of findings.now) result }
     ensures account { Counts (O.account out.old) (O.account out.new) result }
 {
     for finding in findings {

@@ -22,7 +22,8 @@ pub(crate) const CHUNK_TREE: u64 = 3;
 // The trees that the root tree lists, where nothing is wrong with it.
 fn walk_root<R: Rack>(alloc: Global, rack: &mut R, vol: &mut Volume) -> Result<Vec<TreeRoot>, Stop>
     requires ready { IsReady (world (R.seen rack.old) vol.old) }
-    ensures ran { Ran (λ fs. RootEnds fs result) (world (R.seen rack.old) vol.old) (world (R.seen rack.new) vol.new) result }
+    ensures ran { Ran (λ fs. RootEnds fs result)
+        (world (R.seen rack.old) vol.old) (world (R.seen rack.new) vol.new) result }
 {
     let mut walk = RootWalk::new(alloc, kind_of(&vol.sup));
     let root = root_root(&vol.sup);
@@ -47,7 +48,8 @@ pub fn read_trees<R: Rack>(
     vol: &mut Volume,
 ) -> Result<Vec<TreeRoot>, Stop>
     requires ready { IsReady (world (R.seen rack.old) vol.old) }
-    ensures ran { Ran (λ fs. Answers (λ trees. (refusal fs ≡ None) × (trees.items ≡ listed fs.sup fs.blocks)) fs result) (world (R.seen rack.old) vol.old) (world (R.seen rack.new) vol.new) result }
+    ensures ran { Ran (λ fs. Answers (λ trees. (refusal fs ≡ None) × (trees.items ≡ listed fs.sup fs.blocks)) fs result)
+        (world (R.seen rack.old) vol.old) (world (R.seen rack.new) vol.new) result }
 {
     match walk_root(alloc, rack, vol) {
         Err(stop) => Err(stop),

@@ -19,7 +19,8 @@ pub(crate) fn visit_tree<R: Rack, V: Visitor<Memory>>(
 ) -> Result<(), Stop>
     requires ready { IsReady (world (R.seen rack.old) vol.old) }
     ensures outside { StopsOutside result }
-    ensures ran { Ran (λ fs. OnOk result (visitor.new ≡ fold V.step visitor.old (whole fs.blocks place.now))) (world (R.seen rack.old) vol.old) (world (R.seen rack.new) vol.new) result }
+    ensures ran { Ran (λ fs. OnOk result (visitor.new ≡ fold V.step visitor.old (whole fs.blocks place.now)))
+        (world (R.seen rack.old) vol.old) (world (R.seen rack.new) vol.new) result }
 {
     let kind = kind_of(&vol.sup);
     match visit(place, kind, rack, &mut vol.store, visitor) {

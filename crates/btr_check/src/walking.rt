@@ -1,5 +1,5 @@
 // The walk of all trees.
-ghost use Rattle.std.specs.Prelude.{◌≡◌, ◌∷◌, ◌++◌, [], List, OnOk, IfOk};
+ghost use Rattle.std.specs.Prelude.{◌∷◌, ◌++◌, [], List, OnOk, IfOk};
 ghost use Rattle.btr_volume.specs.declared.root.TreeRoot.{TreeRoot};
 ghost use Rattle.btr_check.specs.Running.{world, IsReady, Ran, StopsOutside};
 ghost use Rattle.btr_check.specs.Walking.{HasWalked, IsWalkOf};
@@ -20,7 +20,9 @@ fn walk_tree<R: Rack>(
 ) -> Result<(), Stop>
     requires ready { IsReady (world (R.seen rack.old) vol.old) }
     ensures outside { StopsOutside result }
-    ensures ran { Ran (λ fs. (before : List TreeRoot) → HasWalked fs before walk.old → OnOk result (HasWalked fs (before ++ tree.now ∷ []) walk.new)) (world (R.seen rack.old) vol.old) (world (R.seen rack.new) vol.new) result }
+    ensures ran { Ran (λ fs. (before : List TreeRoot) → HasWalked fs before walk.old → OnOk result (HasWalked fs
+        (before ++ tree.now ∷ []) walk.new))
+        (world (R.seen rack.old) vol.old) (world (R.seen rack.new) vol.new) result }
 {
     walk.begin();
     visit_tree(&tree.place, walk, rack, vol)
@@ -35,7 +37,8 @@ fn walk_more<R: Rack>(
 ) -> Result<(), Stop>
     requires ready { IsReady (world (R.seen rack.old) vol.old) }
     ensures outside { StopsOutside result }
-    ensures ran { Ran (λ fs. HasWalked fs [] walk.old → OnOk result (HasWalked fs trees.now walk.new)) (world (R.seen rack.old) vol.old) (world (R.seen rack.new) vol.new) result }
+    ensures ran { Ran (λ fs. HasWalked fs [] walk.old → OnOk result (HasWalked fs trees.now walk.new))
+        (world (R.seen rack.old) vol.old) (world (R.seen rack.new) vol.new) result }
 {
     for tree in trees {
         match walk_tree(tree, walk, rack, vol) {
@@ -57,7 +60,8 @@ pub fn walk_trees<R: Rack>(
 ) -> Result<Walk, Stop>
     requires ready { IsReady (world (R.seen rack.old) vol.old) }
     ensures outside { StopsOutside result }
-    ensures ran { Ran (λ fs. IfOk result (IsWalkOf fs trees.now)) (world (R.seen rack.old) vol.old) (world (R.seen rack.new) vol.new) result }
+    ensures ran { Ran (λ fs. IfOk result (IsWalkOf fs trees.now))
+        (world (R.seen rack.old) vol.old) (world (R.seen rack.new) vol.new) result }
 {
     let mut walk = Walk::new(alloc, kind_of(&vol.sup));
     match walk_more(trees, &mut walk, rack, vol) {

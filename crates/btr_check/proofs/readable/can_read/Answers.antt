@@ -1,69 +1,13 @@
-use Rattle.std.proofs.Common.{◌≡◌, Bool, is_ok, Some, refl, sym, ◌∙◌, ap}
-use Rattle.btr_walk.proofs.Lending.{given_back, served_back}
-use Rattle.btr_walk.proofs.Turns.{same_room}
-use Rattle.btr_walk.specs.Reading.{tree_fault}
-use Rattle.btr_check.specs.Data.{unread_stop}
-use Rattle.btr_check.proofs.Datas.{fetched_can, fetched_cannot, fetched_cause, stop_outside, stop_reading, stop_tells}
+use Rattle.std.proofs.Common.{◌≡◌, Bool, true, is_ok}
+use Rattle.std.specs.Prelude.{IsTrue}
+use Rattle.btr_check.specs.Counting.{Unless}
+use Rattle.btr_check.specs.Running.{world}
+use Rattle.btr_check.proofs.Runs.{ran_then}
 use Rattle.btr_check.proofs.readable.can_read.Goals as goal
 
-pub returns-in-Ok : goal.returns-in-Ok
-returns-in-Ok g c =
-    let vol = c.args.vol.now in
+pub returns-clause-ran : goal.returns-clause-ran
+returns-clause-ran g c =
     let want = c.args.want.now in
-    let layout = vol.store.layout in
-    let before = g.R.Rack.seen c.args.rack.now in
-    let now = g.R.Rack.seen c.fetch.new.rack in
-    let e = c.in-Ok.ensures in
-    let loans = given_back vol.store c.fetch.new.store c.give.new.self want c.in-Ok.loan e.lent c.give.ensures in
-    record {
-      ran = record {
-        reads = e.reads;
-        volume = record { sup = refl; store = loans };
-        ready = record { serves = served_back now c.fetch.new.store c.give.new.self c.in-Ok.loan e.serves c.give.ensures; room = same_room vol.store c.give.new.self loans c.requires.ready.room };
-        cause = tt;
-        quiet = tt;
-        told = fetched_can layout want before now c.fetch.new.store e.reads c.in-Ok.loan e.answer;
-      };
-    }
-
-pub returns-in-None : goal.returns-in-None
-returns-in-None g c =
     let vol = c.args.vol.now in
-    let want = c.args.want.now in
-    let layout = vol.store.layout in
-    let before = g.R.Rack.seen c.args.rack.now in
-    let now = g.R.Rack.seen c.fetch.new.rack in
-    let fault = c.in-Err.fault in
-    let e = c.in-Err.ensures in
-    record {
-      ran = record {
-        reads = e.reads;
-        volume = record { sup = refl; store = e.refused };
-        ready = record { serves = e.serves; room = same_room vol.store c.fetch.new.store e.refused c.requires.ready.room };
-        cause = tt;
-        quiet = tt;
-        told = fetched_cannot layout want before now c.fetch.new.store e.reads fault (ap unread_stop (sym c.from.ensures) ∙ sym c.in-None.ensures) e.answer;
-      };
-    }
-
-pub returns-in-Some : goal.returns-in-Some
-returns-in-Some g c =
-    let vol = c.args.vol.now in
-    let want = c.args.want.now in
-    let layout = vol.store.layout in
-    let before = g.R.Rack.seen c.args.rack.now in
-    let now = g.R.Rack.seen c.fetch.new.rack in
-    let fault = c.in-Err.fault in
-    let stop = c.in-Some.stop in
-    let e = c.in-Err.ensures in
-    let is : unread_stop (tree_fault fault) ≡ Some stop = ap unread_stop (sym c.from.ensures) ∙ sym c.in-Some.ensures in
-    record {
-      ran = record {
-        reads = e.reads;
-        volume = record { sup = refl; store = e.refused };
-        ready = record { serves = e.serves; room = same_room vol.store c.fetch.new.store e.refused c.requires.ready.room };
-        cause = fetched_cause layout want before now c.fetch.new.store e.reads fault stop is e.answer;
-        quiet = stop_reading (tree_fault fault) stop is;
-        told = stop_tells {A = Bool} layout before now (λ B can. can ≡ is_ok (B want)) stop e.reads (stop_outside (tree_fault fault) stop is);
-      };
-    }
+    ran_then {A = Bool} {C = Bool} (λ fs. IsTrue c.is_ahead.result → is_ok (fs.blocks want) ≡ true) (λ fs. Unless (λ can. can ≡ is_ok (fs.blocks want)) c.can_fetch.result) (λ fs. Unless (λ can. can ≡ is_ok (fs.blocks want)) c.can_fetch.result)
+    (world (g.R.Rack.seen c.args.rack.now) vol) (world (g.R.Rack.seen c.is_ahead.new.rack) vol) (world (g.R.Rack.seen c.can_fetch.new.rack) c.can_fetch.new.vol) c.is_ahead.result c.can_fetch.result c.is_ahead.ensures.ran c.can_fetch.ensures.ran (λ B p q. q)

@@ -18,6 +18,7 @@ pub loop-run-init : goal.loop-run-init
 loop-run-init g c =
     let sums : Option TreeRoot = tree_behind c.args.sums in
     record {
+      ahead = c.new-copies.ensures (g.R.Rack.seen c.args.rack.now).held;
       ran = ran_none (λ fs. AreLow c.args.runs.now → Adds (flat_map (run_findings fs sums) (take 0 c.args.runs.now)) c.args.found.now c.args.found.now) (world (g.R.Rack.seen c.args.rack.now) c.args.vol.now) tt c.requires.ready
           (λ B low. adds_none c.args.found.now);
     }
@@ -30,6 +31,7 @@ loop-run-preserved g c =
     let run = get_or list l.run-index none in
     let sums : Option TreeRoot = tree_behind c.args.sums in
     record {
+      ahead = c.in-Ok.ensures.ahead;
       ran = ran_then {A = Unit {0}} {C = Unit {0}} (λ fs. AreLow list → Adds (flat_map (run_findings fs sums) (take l.run-index list)) c.args.found.now l.found)
           (λ fs. run_end run < 2 ^ 64 → Adds (run_findings fs sums run) l.found c.put_run.new.found)
           (λ fs. AreLow list → Adds (flat_map (run_findings fs sums) (take (l.run-index + 1) list)) c.args.found.now c.put_run.new.found)

@@ -19,6 +19,7 @@ pub loop-i-init : goal.loop-i-init
 loop-i-init g c =
     let sums : Option TreeRoot = tree_behind c.args.sums in
     record {
+      ahead = c.requires.ahead;
       ran = ran_none (λ fs. run_end c.args.run.now < 2 ^ 64 → IsSummed fs.blocks sums c.new-ahead.result × Adds (filter_map (data_lost fs sums) (take 0 (run_sectors c.args.run.now))) c.args.found.now c.args.found.now) (world (g.R.Rack.seen c.args.rack.now) c.args.vol.now) tt c.requires.ready
           (λ B low. (none_kept B sums c.new-ahead.result c.new-ahead.ensures, adds_none c.args.found.now));
     }
@@ -28,8 +29,9 @@ loop-i-preserved g c =
     let l = c.loop-i in
     let run = c.args.run.now in
     let sums : Option TreeRoot = tree_behind c.args.sums in
-    let sector = c.sector_at-sector.result in
+    let sector = c.sector_at-sector.result.addr in
     record {
+      ahead = c.in-Ok.ensures.ahead;
       ran = ran_then {A = Unit {0}} {C = Unit {0}} (λ fs. run_end run < 2 ^ 64 → IsSummed fs.blocks sums l.ahead × Adds (filter_map (data_lost fs sums) (take l.i (run_sectors run))) c.args.found.now l.found)
           (λ fs. KeepsSums fs sums l.ahead c.put_sector.new.ahead (Adds (option_to_list (data_lost fs sums sector)) l.found c.put_sector.new.found))
           (λ fs. run_end run < 2 ^ 64 → IsSummed fs.blocks sums c.put_sector.new.ahead × Adds (filter_map (data_lost fs sums) (take (l.i + 1) (run_sectors run))) c.args.found.now c.put_sector.new.found)
@@ -42,9 +44,10 @@ returns-in-Err g c =
     let l = c.loop-i in
     let run = c.args.run.now in
     let sums : Option TreeRoot = tree_behind c.args.sums in
-    let sector = c.sector_at-sector.result in
+    let sector = c.sector_at-sector.result.addr in
     let stopped : Result (Unit {0}) Stop = Err c.in-Err.stop in
     record {
+      ahead = c.in-Err.ensures.ahead;
       ran = ran_then {A = Unit {0}} {C = Unit {0}} (λ fs. run_end run < 2 ^ 64 → IsSummed fs.blocks sums l.ahead × Adds (filter_map (data_lost fs sums) (take l.i (run_sectors run))) c.args.found.now l.found)
           (λ fs. KeepsSums fs sums l.ahead c.put_sector.new.ahead (Unless (λ u. Adds (option_to_list (data_lost fs sums sector)) l.found c.put_sector.new.found) stopped))
           (λ fs. run_end run < 2 ^ 64 → Unless (λ u. Adds (filter_map (data_lost fs sums) (run_sectors run)) c.args.found.now c.put_sector.new.found) stopped)
@@ -58,6 +61,7 @@ returns g c =
     let run = c.args.run.now in
     let sums : Option TreeRoot = tree_behind c.args.sums in
     record {
+      ahead = l.invariant.ahead;
       ran = ran_more {A = Unit {0}} (λ fs. run_end run < 2 ^ 64 → IsSummed fs.blocks sums l.ahead × Adds (filter_map (data_lost fs sums) (take l.i (run_sectors run))) c.args.found.now l.found)
           (λ fs. run_end run < 2 ^ 64 → Adds (filter_map (data_lost fs sums) (run_sectors run)) c.args.found.now l.found)
           (world (g.R.Rack.seen c.args.rack.now) c.args.vol.now) (world (g.R.Rack.seen l.rack) l.vol) (Ok tt) l.invariant.ran

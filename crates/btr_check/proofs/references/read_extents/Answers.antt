@@ -1,27 +1,25 @@
-use Rattle.std.proofs.Common.{◌≡◌, [], true, refl, sym, subst}
-use Rattle.btr_refs.specs.Extents.{Kept}
-use Rattle.btr_volume.specs.declared.stop.Stop.TheVariants.{Memory as NoMemory}
-use Rattle.btr_check.specs.ExtentTree.{IsStoredOf}
+use Rattle.std.proofs.Common.{◌≡◌, [], sym, ap, ◌∙◌}
+use Rattle.btr_check.specs.Counting.{Unless}
+use Rattle.btr_check.specs.ExtentTree.{ReadsStored, IsStoredOf}
 use Rattle.btr_check.specs.Passes.{Lists}
-use Rattle.btr_check.specs.Running.{world, filesystem, is_outside}
+use Rattle.btr_check.specs.Running.{world, filesystem}
+use Rattle.btr_check.specs.Trees.{last_of}
 use Rattle.btr_check.specs.Walks.{walk_findings}
-use Rattle.btr_check.proofs.Passes.{ran_no_memory}
-use Rattle.btr_check.proofs.Runs.{ran_value}
+use Rattle.btr_check.proofs.Referring.{nothing_stored}
+use Rattle.btr_check.proofs.Runs.{ran_none, ran_more}
 use Rattle.btr_check.proofs.references.read_extents.Goals as goal
 
-pub returns-in-Ok-packed : goal.returns-in-Ok-packed
-returns-in-Ok-packed g c =
-    let x = world (g.R.Rack.seen c.args.rack.now) c.args.vol.now in
-    let y = world (g.R.Rack.seen c.read_unpacked.new.rack) c.read_unpacked.new.vol in
-    record {
-      ran = ran_value {A = Kept} {C = Kept} (λ fs. Lists c.args.listed.now fs → walk_findings fs ≡ [] → IsStoredOf fs c.in-Ok.stored) (λ fs. Lists c.args.listed.now fs → walk_findings fs ≡ [] → IsStoredOf fs c.in-Ok-packed.all) x y c.in-Ok.stored c.in-Ok-packed.all c.in-Ok.ensures.ran
-          (λ B h lists sound. subst (IsStoredOf (filesystem c.args.vol.now B)) (sym c.in-Ok-packed.ensures) (h lists sound));
-    }
+pub returns-in-None : goal.returns-in-None
+returns-in-None g c = record {
+  ran = ran_none (λ fs. Lists c.args.listed.now fs → walk_findings fs ≡ [] → IsStoredOf fs c.new.result) (world (g.R.Rack.seen c.args.rack.now) c.args.vol.now) c.new.result c.requires.ready
+      (λ B lists sound. nothing_stored (filesystem c.args.vol.now B) c.args.listed.now c.new.result c.from.result lists (sym c.last_of.ensures ∙ c.in-None.is) c.new.ensures);
+}
 
-pub returns-in-Err-packed : goal.returns-in-Err-packed
-returns-in-Err-packed g c =
+pub returns-in-Some : goal.returns-in-Some
+returns-in-Some g c =
     let x = world (g.R.Rack.seen c.args.rack.now) c.args.vol.now in
-    let y = world (g.R.Rack.seen c.read_unpacked.new.rack) c.read_unpacked.new.vol in
+    let y = world (g.R.Rack.seen c.read_stored.new.rack) c.read_stored.new.vol in
     record {
-      ran = ran_no_memory {A = Kept} (λ fs. Lists c.args.listed.now fs → walk_findings fs ≡ [] → IsStoredOf fs c.in-Ok.stored) (λ fs. Lists c.args.listed.now fs → walk_findings fs ≡ [] → is_outside NoMemory ≡ true) x y c.in-Ok.stored c.in-Ok.ensures.ran (λ B lists sound. refl);
+      ran = ran_more (λ fs. ReadsStored fs c.in-Some.tree c.read_stored.result) (λ fs. Lists c.args.listed.now fs → walk_findings fs ≡ [] → Unless (IsStoredOf fs) c.read_stored.result) x y c.read_stored.result c.read_stored.ensures.ran
+          (λ B h lists sound. h (ap (last_of 2) (sym lists) ∙ sym c.last_of.ensures ∙ c.in-Some.is) sound);
     }

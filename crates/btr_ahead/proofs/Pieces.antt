@@ -1,0 +1,69 @@
+-- Pieces of what is kept.
+use Rattle.std.proofs.Common.{◌≡◌, ℕ, ◌+◌, ◌-◌, ◌≤◌, Bool, true, List, take, drop, slice_range, Option, Some, None, is_ok, ap, ◌∙◌, sym, arith}
+use Rattle.btr_base.specs.declared.stored.Sum.{Sum}
+use Rattle.btr_rack.specs.Rack.{bytes_of, image_of}
+use Rattle.btr_rack.specs.declared.place.Place.{Place}
+use Rattle.btr_read.specs.Fate.{fate}
+use Rattle.btr_read.specs.Layout.{Layout}
+use Rattle.btr_read.specs.Want.{passes}
+use Rattle.btr_read.specs.declared.want.Want.{Want}
+use Rattle.btr_read.specs.declared.want.Want.TheVariants.{Sector}
+use Rattle.btr_read.specs.Cause.{LiesIn}
+use Rattle.btr_ahead.specs.Ahead.{Comes, IsAhead, IsFirstPlace, SaysFirst, first_passes, first_place, passes_at, piece_of}
+use Rattle.btr_ahead.specs.declared.data_ahead.DataAhead.{DataAhead}
+use Rattle.std.proofs.lemmas.List.{drop-take, take-take, drop-drop}
+
+-- a range of a range
+pub range-range : (xs : List ℕ) (o n a b : ℕ) → a ≤ b → b ≤ n → slice_range (slice_range xs o (o + n)) a b ≡ slice_range xs (o + a) (o + b)
+range-range xs o n a b le most =
+    let ys = drop o xs in
+    let whole : o + n - o ≡ n = omega arith in
+    let long : a + (n - a) ≡ n = omega (arith, le, most) in
+    let cut : drop a (take n ys) ≡ take (n - a) (drop a ys) = ap (λ m. drop a (take m ys)) (sym long) ∙ drop-take a (n - a) ys in
+    let inner : take (b - a) (take (n - a) (drop a ys)) ≡ take (b - a) (drop a ys) = take-take (b - a) (n - a) (drop a ys) (omega (arith, le, most)) in
+    ap (λ m. take (b - a) (drop a (take m ys))) whole
+    ∙ ap (take (b - a)) cut ∙ inner
+    ∙ ap (take (b - a)) (drop-drop a o xs)
+    ∙ ap (λ m. take m (drop (o + a) xs)) (omega arith)
+
+-- a range of the front of a list
+pub range-front : (xs : List ℕ) (n a b : ℕ) → a ≤ b → b ≤ n → slice_range (take n xs) a b ≡ slice_range xs a b
+range-front xs n a b le most =
+    let long : a + (n - a) ≡ n = omega (arith, le, most) in
+    ap (take (b - a)) (ap (λ m. drop a (take m xs)) (sym long) ∙ drop-take a (n - a) xs) ∙ take-take (b - a) (n - a) (drop a xs) (omega (arith, le, most))
+
+-- a piece of what is kept has the bytes of its place
+piece_bytes : (images : List (List ℕ)) (ahead : DataAhead) (place : Place) → take ahead.place.len ahead.bytes ≡ bytes_of images ahead.place.slot ahead.place.off ahead.place.len → LiesIn place ahead.place
+    → bytes_of images place.slot place.off place.len ≡ piece_of ahead place
+piece_bytes images ahead place is lies =
+    let kept = ahead.place in
+    let from = place.off - kept.off in
+    let image = image_of images kept.slot in
+    let inner : from + place.len ≤ kept.len = omega (arith, lies.from, lies.to) in
+    let start : place.off ≡ kept.off + from = omega (arith, lies.from) in
+    let end : place.off + place.len ≡ kept.off + (from + place.len) = omega (arith, lies.from) in
+    (λ i. slice_range (image_of images (lies.slot i)) (start i) (end i))
+    ∙ sym (range-range image kept.off kept.len from (from + place.len) (omega arith) inner)
+    ∙ ap (λ (xs : List ℕ). slice_range xs from (from + place.len)) (sym is)
+    ∙ range-front ahead.bytes kept.len from (from + place.len) (omega arith) inner
+
+-- a sector whose piece passes comes to bytes
+pub piece_comes : (held : Option (List (List ℕ))) (layout : Layout) (ahead : DataAhead) (place : Place) (addr : ℕ) (sum : Sum) (want : Want) → want ≡ Sector addr sum
+    → IsAhead held ahead → IsFirstPlace layout addr place → LiesIn place ahead.place → passes layout.setting want (piece_of ahead place) ≡ true → Comes held layout want
+piece_comes None layout ahead place addr sum want is kept first lies pass = tt
+piece_comes (Some images) layout ahead place addr sum want is kept first lies pass =
+    let bytes = piece_bytes images ahead place kept lies in
+    let test : passes layout.setting (Sector addr sum) (bytes_of images place.slot place.off place.len) ≡ true =
+    (λ i. passes layout.setting (sym is i) (bytes i)) ∙ pass in
+    ap (λ w. is_ok (fate images layout w)) is ∙ ap is_ok (first images sum test)
+
+-- whether its piece passes is what is asked of a sector
+pub piece_says : (held : Option (List (List ℕ))) (layout : Layout) (ahead : DataAhead) (place : Place) (addr : ℕ) (sum : Sum) (want : Want) (answer : Bool) → want ≡ Sector addr sum
+    → IsAhead held ahead → Some place ≡ first_place layout addr → LiesIn place ahead.place → answer ≡ passes layout.setting want (piece_of ahead place) → SaysFirst held layout want answer
+piece_says None layout ahead place addr sum want answer is kept given lies e = tt
+piece_says (Some images) layout ahead place addr sum want answer is kept given lies e =
+    let bytes = piece_bytes images ahead place kept lies in
+    e
+    ∙ (λ i. passes layout.setting (is i) (sym bytes i))
+    ∙ ap (passes_at images layout (Sector addr sum)) given
+    ∙ ap (first_passes images layout) (sym is)

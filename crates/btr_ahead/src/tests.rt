@@ -1,0 +1,129 @@
+// Sectors of an image in memory.
+ghost use Rattle.std.specs.Prelude.{◌<◌, IfOk};
+ghost use Rattle.btr_rack.specs.Memory.{seen_of};
+ghost use Rattle.btr_read.specs.Serves.{Serves};
+ghost use Rattle.btr_ahead.specs.Ahead.{IsAhead};
+
+use crate::DataAhead;
+use btr_base::{SumKind, sum};
+use btr_chunk::{Chunk, ChunkTable};
+use btr_rack::{MemRack, Rack};
+use btr_read::{Store, Want};
+use std::alloc::{AllocError, Global};
+use std::process::Abort;
+use std::test::Fail;
+
+const MIB: u64 = 0x100000;
+
+const SINGLE: u64 = 1;
+
+const DUP: u64 = 0x21;
+
+// The item of a chunk of 1 MiB, whose stripes begin at 1 MiB, 2 MiB and so on of device 1.
+fn item(alloc: Global, kind: u64, stripes: u16) -> Result<Vec<u8>, AllocError> {
+    let mut bytes = Vec::new(alloc);
+    bytes.extend_from_slice(&MIB.to_le_bytes())?;
+    bytes.extend_from_slice(&2u64.to_le_bytes())?;
+    bytes.extend_from_slice(&0x10000u64.to_le_bytes())?;
+    bytes.extend_from_slice(&kind.to_le_bytes())?;
+    bytes.extend_from_slice(&[0, 0, 1, 0, 0, 0, 1, 0, 0, 16, 0, 0])?;
+    bytes.extend_from_slice(&stripes.to_le_bytes())?;
+    bytes.extend_from_slice(&1u16.to_le_bytes())?;
+    for stripe in 0..u64::from(stripes) {
+        bytes.extend_from_slice(&1u64.to_le_bytes())?;
+        bytes.extend_from_slice(&MIB.wrapping_mul(stripe.wrapping_add(1)).to_le_bytes())?;
+        bytes.extend_from_slice(&[7; 16])?;
+    }
+    Ok(bytes)
+}
+
+// The bytes of a sector, by its number.
+fn sector(k: u64) -> [u8; 4096] {
+    [(k % 251) as u8; 4096]
+}
+
+// An open image of 3 MiB whose sectors from 1 MiB on are numbered.
+fn image(alloc: Global) -> Result<MemRack, Fail> {
+    let mut rack = MemRack::new(alloc);
+    rack.add("disk", 3 * MIB)?;
+    for k in 0..32u64 {
+        rack.poke("disk", MIB + 4096 * k, &sector(k))?;
+    }
+    rack.open("disk", false)?;
+    Ok(rack)
+}
+
+// A store of a chunk at 16 MiB on the one device, which is open.
+fn store(
+    rt: &impl Abort,
+    alloc: Global,
+    kind: u64,
+    stripes: u16,
+    rack: &MemRack,
+) -> Result<Store, Fail>
+    ensures { IfOk result (Serves (seen_of rack.now)) }
+{
+    let bytes = item(alloc, kind, stripes)?;
+    let mut table = ChunkTable::new(alloc);
+    table.add(Chunk::read(alloc, 16 * MIB, bytes.as_slice())?)?;
+    let mut store = Store::new(alloc, SumKind::Crc32c, [0; 16], 4096, table)?;
+    assert!(rt; rack.count() == 1);
+    store.add_device(1, 0, rack.len(0))?;
+    Ok(store)
+}
+
+// The want of a sector by its number, with the checksum of another.
+fn want(k: u64, other: u64) -> Want {
+    Want::Sector {
+        addr: (16 * MIB).wrapping_add(k.wrapping_mul(4096)),
+        sum: sum(SumKind::Crc32c, &sector(other)),
+    }
+}
+
+// Whether each sector of 16 is had.
+fn has_all(copies: &mut DataAhead, rack: &mut MemRack, store: &Store) -> bool
+    requires serves { Serves (seen_of rack.old) store.now }
+    requires ahead { IsAhead (seen_of rack.old).held copies.old }
+    ensures serves { Serves (seen_of rack.new) store.now }
+    ensures ahead { IsAhead (seen_of rack.new).held copies.new }
+{
+    for k in 0..16u64 {
+        if !copies.has(&want(k, k), 16 - k, rack, store) {
+            return false;
+        }
+    }
+    true
+}
+
+#[test]
+fn one_read_for_sixteen_sectors(rt: HostRuntime) -> Result<(), Fail> {
+    let mut rack = image(rt.alloc())?;
+    rack.fail_call(3)?;
+    let store = store(&rt, rt.alloc(), SINGLE, 1, &rack)?;
+    let mut copies = DataAhead::new();
+
+    // The opening is the first call, and the second read fails.
+    assert!(rt; has_all(&mut copies, &mut rack, &store));
+    assert!(rt; !copies.has(&want(3, 4), 1, &mut rack, &store));
+    assert!(rt; !copies.has(&want(16, 16), 16, &mut rack, &store));
+    assert!(rt; copies.has(&want(16, 16), 16, &mut rack, &store));
+    assert!(rt; copies.has(&want(31, 31), 1, &mut rack, &store));
+    Ok(())
+}
+
+#[test]
+fn no_more_than_is_wanted(rt: HostRuntime) -> Result<(), Fail> {
+    let mut rack = image(rt.alloc())?;
+    rack.fail_call(3)?;
+    let store = store(&rt, rt.alloc(), DUP, 2, &rack)?;
+    let mut copies = DataAhead::new();
+    assert!(rt; copies.has(&want(4, 4), 2, &mut rack, &store));
+    assert!(rt; copies.has(&want(5, 5), 1, &mut rack, &store));
+    assert!(rt; !copies.has(&want(6, 6), 1, &mut rack, &store));
+
+    // No sector: behind the chunk, and of another kind.
+    assert!(rt; !copies.has(&want(256, 256), 1, &mut rack, &store));
+    let plain = Want::Plain { addr: 16 * MIB };
+    assert!(rt; !copies.has(&plain, 1, &mut rack, &store));
+    Ok(())
+}
