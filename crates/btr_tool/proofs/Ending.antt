@@ -11,6 +11,7 @@ use Rattle.btr_tool.specs.Causes.{HidesNone, ImageCause, IsBehindWords, IsMissin
 use Rattle.btr_tool.specs.Effects.{FollowsWords, HasEffect, HasPart, IsOutcome, IsTold, MayFollow, MayWantBy}
 use Rattle.btr_tool.specs.Outcomes.{Outcome, refused, CallFailed, Comes, HasFirstPart, IsPrinted, IsPut, MayEnd, OrBare, OrMemory, Stands, StandsPartly}
 use Rattle.btr_tool.specs.Images.{taken}
+use Rattle.btr_tool.specs.Checked.{found}
 use Rattle.btr_tool.specs.Repaired.{AreLeft, LeavesImages, MayWrite}
 use Rattle.btr_tool.specs.Words.{Words}
 use Rattle.btr_volume.specs.Start.{Images}
@@ -18,6 +19,7 @@ use Rattle.btr_tool.specs.declared.answer.Answer.{Answer}
 use Rattle.btr_tool.specs.declared.answer.Answer.TheVariants.{ImageFault, SinkFault, OutFault, Memory}
 use Rattle.btr_tool.proofs.Coming.{comes_printed, put_ends, whole_first, with_line}
 use Rattle.btr_tool.proofs.Faulting.{no_tree, tree_in}
+use Rattle.btr_tool.proofs.Found.{found_no_memory, found_no_out}
 
 -- where something is told, a clause on it
 pub when_told : {X : Type 0} (o : Option X) (P Q : X → Type 0) → ((x : X) → P x → Q x) → IfSome o P → IfSome o Q
@@ -97,6 +99,10 @@ module _ (words : Words) (x y : Outside) (new : Option (List ℕ)) (after : Call
   may_write may =
       ⊎_elim (λ same. subst MayWrite (sym same) may) (λ rest. ⊎_elim (λ out. inl (inr (inr (inl out)))) (λ want. inl (inr (inr (inr want)))) rest) ends
 
+  still_found : (lost : ℕ) → result ≡ found lost → answer ≡ found lost
+  still_found lost e =
+      ⊎_elim (λ same. sym same ∙ e) (λ rest. ⊎_elim (λ out. absurd (found_no_out lost (sym e ∙ out))) (λ want. absurd (found_no_memory lost (sym e ∙ want))) rest) ends
+
   pub left : (calm : Type 0) (shelf : Option Shelf) (slots : List Slot) (held : Option Images) → AreLeft calm shelf slots held answer → AreLeft calm shelf slots held result
   left calm shelf slots held are = (are.0, of shelf held are.1)
     where
@@ -104,7 +110,15 @@ module _ (words : Words) (x y : Outside) (new : Option (List ℕ)) (after : Call
           → IfSome shelf (λ at. IfSome held (λ left. (images : Images) × (taken (map (λ s. s.name) slots) at ≡ Some images) × LeavesImages calm images left result))
       of None held l = tt
       of (Some at) None l = tt
-      of (Some at) (Some left) l = (l.0, l.1, record { stopped = l.2.stopped; unchanged = ⊎_elim (λ same. inl same) (λ may. inr (may_write may)) l.2.unchanged })
+      of (Some at) (Some left) l = (
+        l.0,
+        l.1,
+        record {
+          stopped = l.2.stopped;
+          finished = λ lost e sure. l.2.finished lost (still_found lost e) sure;
+          unchanged = ⊎_elim (λ same. inl same) (λ may. inr (may_write may)) l.2.unchanged;
+        },
+      )
 
   pub decided : (one : Answer) → answer ≡ one → (result ≡ one) ⊎ (result ≡ OutFault) ⊎ (result ≡ Memory)
   decided one is = subst (λ a. Ends a result) is ends

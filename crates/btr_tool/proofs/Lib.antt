@@ -2,6 +2,7 @@ pub mod Numerals
 pub mod Machine
 pub mod RestoreWords
 pub mod Sentences
+pub mod Accepting
 pub mod Labels
 pub mod Openings
 pub mod Causing
@@ -12,6 +13,8 @@ pub mod Refusals
 pub mod Filesystems
 pub mod Shows
 pub mod Carrying
+pub mod Obeying
+pub mod Found
 pub mod Ending
 pub mod TreesShown
 pub mod Checks
@@ -21,4 +24,6 @@ pub mod Promises
 pub mod Orders
 pub mod Agreements
 pub mod Mendings
+pub mod ScrubsDone
+pub mod ScrubsTold
 pub mod Mended

@@ -37,7 +37,7 @@ use Rattle.btr_tool.specs.declared.plan.Command.TheVariants.{Restore}
 use Rattle.btr_tool.specs.declared.plan.Plan.{Plan}
 use Rattle.btr_tool.proofs.Carrying.{taken_outcome}
 use Rattle.btr_tool.proofs.Orders.{no_steps}
-use Rattle.btr_tool.proofs.Sentences.{one_plan}
+use Rattle.btr_tool.proofs.Accepting.{one_plan}
 
 -- the outcome of some steps and an ending
 by_steps : (steps : List Step) (ending : Ending) (answer : Answer) (found : Outcome) → outcome_by steps ending ≡ found → answer ≡ ended_answer ending → IsOutcomeOf (record { answer = answer; steps = steps }) found

@@ -38,9 +38,10 @@ abbrev pub MayWrite : Answer → Type 0
 MayWrite answer = IsFault answer ⊎ ((lost : ℕ) × (answer ≡ found lost))
 
 -- What stands in the images, by the answer. Where no call failed, or where the copies agree, whatever failed: the writes that mend the filesystem up to one
--- of them, which stands perhaps in part. Any answer but those of `MayWrite` leaves each byte.
+-- of them, which stands perhaps in part; and all of them behind a scrub that was finished. Any answer but those of `MayWrite` leaves each byte.
 pub record LeavesImages (calm : Type 0) (images left : Images) (answer : Answer) : Type 0 where
   pub stopped : calm ⊎ AreAgreed images → IsStopped (mending_writes images) images left
+  pub finished : (lost : ℕ) → answer ≡ found lost → calm ⊎ AreAgreed images → left ≡ scrubbed_images images
   pub unchanged : (left ≡ images) ⊎ MayWrite answer
 
 -- the open images were opened to be written, and so they stand, where the rack tells it

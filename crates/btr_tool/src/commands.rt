@@ -47,17 +47,19 @@ pub(crate) fn perform<R: Rack, T: TreeSink, O: Out>(
     ensures told { Comes (MayWant command (O.account out.old)) (OrBare (MayCome command))
         (outside (T.sink tree.old) (T.account tree.old) (O.text out.old) (O.account out.old))
         (outside (T.sink tree.new) (T.account tree.new) (O.text out.new) (O.account out.new)) (answer_of result) }
-    ensures order { (number : ℕ) (plan : RestorePlan) → command ≡ Command.Restore number plan → IfSome (R.seen rack.old).held (λ images.
-        InOrder plan (get_or (map string_bytes words.now) number []) images (R.seen rack.old) (R.seen rack.new)
+    ensures order { (number : ℕ) (plan : RestorePlan) → command ≡ Command.Restore number plan
+        → IfSome (R.seen rack.old).held (λ images. InOrder plan (get_or (map string_bytes words.now) number []) images (R.seen rack.old) (R.seen rack.new)
         (outside (T.sink tree.old) (T.account tree.old) (O.text out.old) (O.account out.old))
         (outside (T.sink tree.new) (T.account tree.new) (O.text out.new) (O.account out.new)) (answer_of result)) }
     ensures agreed { IfSome (R.seen rack.old).held (λ images. AreAgreedFor command images →
         Comes (MayWant command (O.account out.old)) (ComesAgreed command images)
         (outside (T.sink tree.old) (T.account tree.old) (O.text out.old) (O.account out.old))
         (outside (T.sink tree.new) (T.account tree.new) (O.text out.new) (O.account out.new)) (answer_of result)) }
-    ensures repaired { command ≡ Command.Scrub true → IfSteady (R.seen rack.old).held (R.seen rack.old).account (R.seen rack.new).account (λ images.
+    ensures repaired { command ≡ Command.Scrub true
+        → IfSteady (R.seen rack.old).held (R.seen rack.old).account (R.seen rack.new).account (λ images.
         answer_of result ≢ Answer.Memory → (R.seen rack.new).held ≡ Some (scrubbed_images images)) }
-    ensures left { command ≡ Command.Scrub true → IfSome (R.seen rack.old).held (λ images. IfSome (R.seen rack.new).held (λ left.
+    ensures left { command ≡ Command.Scrub true
+        → IfSome (R.seen rack.old).held (λ images. IfSome (R.seen rack.new).held (λ left.
         LeavesImages (Steady (R.seen rack.old).account.faults (R.seen rack.new).account.faults) images left (answer_of result))) }
     ensures cause { IsBehindCommand command (R.seen rack.old) (R.seen rack.new) (answer_of result) }
 {

@@ -18,7 +18,8 @@ pub(crate) fn open_filesystem<R: Rack>(alloc: Global, rack: &mut R) -> Result<Vo
     requires { 0 < length (R.seen rack.old).slots }
     ensures content { IfSteady (R.seen rack.old).held (R.seen rack.old).account (R.seen rack.new).account (λ images.
         OpensFilesystem images result) }
-    ensures opened { IfSome (R.seen rack.old).held (λ images. OpensAs images (R.seen rack.old) (R.seen rack.new) result) }
+    ensures opened { IfSome (R.seen rack.old).held (λ images.
+        OpensAs images (R.seen rack.old) (R.seen rack.new) result) }
     ensures reads { OnlyReads (R.seen rack.old) (R.seen rack.new) }
     ensures fresh { IfOk result (IsFresh (R.seen rack.new)) }
     ensures refusal { IfErr result IsRefusal }

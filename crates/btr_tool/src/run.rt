@@ -107,7 +107,8 @@ pub fn run<R: Rack, T: TreeSink, O: Out>(
         → IsMissingImage (map string_bytes words.now) (R.seen rack.old).shelf slot }
 
     // But for a scrub that writes, the images were opened only to be read, and hold what the shelf held, where the rack tells it.
-    ensures unchanged { (AsksToWrite (map string_bytes words.now) → ⊥) → AreUnchanged (R.seen rack.old).shelf (R.seen rack.new).slots (R.seen rack.new).held }
+    ensures unchanged { (AsksToWrite (map string_bytes words.now) → ⊥)
+        → AreUnchanged (R.seen rack.old).shelf (R.seen rack.new).slots (R.seen rack.new).held }
 
     // Of a scrub that writes they hold the writes that mend their filesystem, where no call failed and memory sufficed; and whatever failed, those up to one of
     // them, where the copies agree. All answers that tell that nothing was written, as of a device that isn't given, leave each byte.
@@ -145,7 +146,8 @@ fn carry_out<R: Rack, T: TreeSink, O: Out>(
         Comes (MayWantBy (map string_bytes words.now) (O.account out.old)) (OrMemory (IsOutcome (map string_bytes words.now) shelf))
         (outside (T.sink tree.old) (T.account tree.old) (O.text out.old) (O.account out.old))
         (outside (T.sink tree.new) (T.account tree.new) (O.text out.new) (O.account out.new)) (answer_of result)) }
-    ensures told { Comes (MayWantBy (map string_bytes words.now) (O.account out.old)) (OrBare (MayFollow (map string_bytes words.now)))
+    ensures told { Comes (MayWantBy (map string_bytes words.now) (O.account out.old))
+        (OrBare (MayFollow (map string_bytes words.now)))
         (outside (T.sink tree.old) (T.account tree.old) (O.text out.old) (O.account out.old))
         (outside (T.sink tree.new) (T.account tree.new) (O.text out.new) (O.account out.new)) (answer_of result) }
     ensures order { IfSome (R.seen rack.old).shelf (λ shelf.
@@ -160,7 +162,8 @@ fn carry_out<R: Rack, T: TreeSink, O: Out>(
         → (rack.new ≡ rack.old) × (tree.new ≡ tree.old) × (answer_of result ≡ answer) }
     ensures stated { FollowsWords (map string_bytes words.now) (answer_of result) }
     ensures cause { IsBehindWords (map string_bytes words.now) (R.seen rack.old) (R.seen rack.new) (answer_of result) }
-    ensures unchanged { (AsksToWrite (map string_bytes words.now) → ⊥) → AreUnchanged (R.seen rack.old).shelf (R.seen rack.new).slots (R.seen rack.new).held }
+    ensures unchanged { (AsksToWrite (map string_bytes words.now) → ⊥)
+        → AreUnchanged (R.seen rack.old).shelf (R.seen rack.new).slots (R.seen rack.new).held }
     ensures repaired { IfSteady (R.seen rack.old).shelf (R.seen rack.old).account (R.seen rack.new).account (λ shelf.
         answer_of result ≢ Answer.Memory → KeepsRepair (map string_bytes words.now) shelf (R.seen rack.new).held) }
     ensures left { AsksToWrite (map string_bytes words.now)

@@ -1,5 +1,5 @@
 // The command `scrub start`.
-ghost use Rattle.std.specs.Prelude.{◌≡◌, ◌≢◌, ◌<◌, true, length, IfSome, IsTrue, Some};
+ghost use Rattle.std.specs.Prelude.{◌≡◌, ◌≢◌, ◌<◌, true, length, IfSome, Some};
 ghost use Rattle.btr_mend.specs.Writes.{AreWritable};
 ghost use Rattle.btr_rack.specs.Rack.{Steady};
 ghost use Rattle.btr_text.specs.Pieces.{text_of};
@@ -40,7 +40,8 @@ pub(crate) fn scrub_images<R: Rack, O: Out>(
         (O.text out.old) (O.text out.new) (O.account out.old) (O.account out.new) (answer_of result)) }
     ensures told { Shows (OrBare IsScrubOutcome)
         (O.text out.old) (O.text out.new) (O.account out.old) (O.account out.new) (answer_of result) }
-    ensures repaired { write ≡ true → IfSteady (R.seen rack.old).held (R.seen rack.old).account (R.seen rack.new).account (λ images.
+    ensures repaired { write ≡ true
+        → IfSteady (R.seen rack.old).held (R.seen rack.old).account (R.seen rack.new).account (λ images.
         answer_of result ≢ Answer.Memory → (R.seen rack.new).held ≡ Some (scrubbed_images images)) }
     ensures left { write ≡ true → IfSome (R.seen rack.old).held (λ images. IfSome (R.seen rack.new).held (λ left.
         LeavesImages (Steady (R.seen rack.old).account.faults (R.seen rack.new).account.faults) images left (answer_of result))) }

@@ -63,8 +63,9 @@ fn show<R: Rack, O: Out>(
     ensures content { IfSteady (R.seen rack.old).held (R.seen rack.old).account (R.seen rack.new).account (λ images.
         Shows (λ outcome. outcome ≡ showing (trees_shown choice (fate images volume.old.store.layout) volume.old.sup))
         (O.text out.old) (O.text out.new) (O.account out.old) (O.account out.new) (call_answer result)) }
-    ensures agreed { IfSome (R.seen rack.old).held (λ images. Agreed images volume.old.store.layout → AgreesOn choice images volume.old.store.layout →
-        Shows (ShowsUpTo choice (fate images volume.old.store.layout) volume.old.sup)
+    ensures agreed { IfSome (R.seen rack.old).held (λ images.
+        Agreed images volume.old.store.layout → AgreesOn choice images volume.old.store.layout
+        → Shows (ShowsUpTo choice (fate images volume.old.store.layout) volume.old.sup)
         (O.text out.old) (O.text out.new) (O.account out.old) (O.account out.new) (call_answer result)) }
 {
     match choice {

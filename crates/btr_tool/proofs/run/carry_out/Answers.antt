@@ -12,7 +12,8 @@ use Rattle.btr_tool.specs.Images.{AreOpenedAs}
 use Rattle.btr_tool.specs.Opening.{OpeningCause, opening_answer}
 use Rattle.btr_tool.specs.Words.{Words}
 use Rattle.btr_tool.specs.declared.opening.OpeningFault.{OpeningFault}
-use Rattle.btr_tool.proofs.Carrying.{names_are, usage_agreed, usage_effect, usage_order, usage_told, usage_decided, usage_stated, usage_cause, opening_agreed, opening_effect, opening_order, opening_told, opening_decided, opening_stated, opening_cause, command_agreed, command_effect, command_order, command_told, none_decided, command_stated, command_cause, command_left, command_repaired, command_unchanged, opening_left, opening_repaired, opening_unchanged, usage_left, usage_repaired}
+use Rattle.btr_tool.proofs.Carrying.{names_are, usage_agreed, usage_effect, usage_order, usage_told, usage_decided, usage_stated, usage_cause, usage_left, usage_repaired}
+use Rattle.btr_tool.proofs.Obeying.{opening_agreed, opening_effect, opening_order, opening_told, opening_decided, opening_stated, opening_cause, command_agreed, command_effect, command_order, command_told, none_decided, command_stated, command_cause, command_left, command_repaired, command_unchanged, opening_left, opening_repaired, opening_unchanged}
 use Rattle.btr_tool.proofs.Coming.{answer_gives}
 use Rattle.btr_tool.proofs.Openings.{unopened}
 use Rattle.btr_tool.proofs.run.carry_out.Goals as goal
@@ -158,7 +159,7 @@ returns-in_err-open_images-clause-repaired g c =
 pub returns-in_err-open_images-clause-left : goal.returns-in_err-open_images-clause-left
 returns-in_err-open_images-clause-left g c =
     opening_left (map string_bytes c.args.words.now) _ c.in-Ok.plan c.in-Ok.ensures.sentence (names_are c.args.words.now c.in-Ok.plan.images) (g.R.Rack.seen c.args.rack.now) (g.R.Rack.seen c.open_images.new.rack) c.in_err-open_images.field-0.0 c.in_err-open_images.ensures.limit (as_asked c.writes.result (opens_to_write c.in-Ok.plan.command) _ (g.R.Rack.seen c.args.rack.now) (g.R.Rack.seen c.open_images.new.rack) c.in_err-open_images.field-0.0 c.writes.ensures c.in_err-open_images.ensures.cause)
-    (Steady (g.R.Rack.seen c.args.rack.now).account.faults (g.R.Rack.seen c.open_images.new.rack).account.faults) (answer_of c.from_residual.result) (subst (λ b. AreOpenedAs b (g.R.Rack.seen c.args.rack.now).shelf (g.R.Rack.seen c.open_images.new.rack).slots (g.R.Rack.seen c.open_images.new.rack).held) c.writes.ensures c.in_err-open_images.ensures.opened)
+    (Steady (g.R.Rack.seen c.args.rack.now).account.faults (g.R.Rack.seen c.open_images.new.rack).account.faults) (answer_of c.from_residual.result) (answer_gives c.from_residual.result (opening_answer c.in_err-open_images.field-0.0) c.from_residual.ensures.1) (subst (λ b. AreOpenedAs b (g.R.Rack.seen c.args.rack.now).shelf (g.R.Rack.seen c.open_images.new.rack).slots (g.R.Rack.seen c.open_images.new.rack).held) c.writes.ensures c.in_err-open_images.ensures.opened)
 
 pub returns-clause-repaired : goal.returns-clause-repaired
 returns-clause-repaired g c =

@@ -6,7 +6,8 @@ use Rattle.btr_tool.specs.Repaired.{Scrubs}
 use Rattle.btr_tool.specs.Scrubbed.{scrub_in, scrub_outcome}
 use Rattle.btr_tool.proofs.Agreements.{unopened_to}
 use Rattle.btr_tool.proofs.Mended.{scrubs_agreed}
-use Rattle.btr_tool.proofs.Mendings.{not_opened, outcome_by, scrubs_so}
+use Rattle.btr_tool.proofs.Mendings.{not_opened, outcome_by}
+use Rattle.btr_tool.proofs.ScrubsDone.{scrubs_so}
 use Rattle.btr_tool.proofs.scrubbing.scrub_filesystem.Goals as goal
 
 pub returns-in_err-volume-clause-scrubs : goal.returns-in_err-volume-clause-scrubs

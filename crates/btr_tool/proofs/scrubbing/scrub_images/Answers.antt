@@ -3,7 +3,7 @@ use Rattle.btr_rack.specs.Out.{Puts}
 use Rattle.btr_rack.specs.declared.error.SinkError.{SinkError}
 use Rattle.btr_tool.specs.Answers.{answer_of, output_answer}
 use Rattle.btr_tool.proofs.Coming.{answer_gives}
-use Rattle.btr_tool.proofs.Mendings.{done_agreed, done_cause, done_effect, done_left, done_repaired, done_told, refused_agreed, refused_cause, refused_effect, refused_left, refused_repaired, refused_told}
+use Rattle.btr_tool.proofs.ScrubsTold.{done_agreed, done_cause, done_effect, done_left, done_repaired, done_told, refused_agreed, refused_cause, refused_effect, refused_left, refused_repaired, refused_told}
 use Rattle.btr_tool.proofs.scrubbing.scrub_images.Goals as goal
 
 pub returns-in_err-tally-clause-effect : goal.returns-in_err-tally-clause-effect

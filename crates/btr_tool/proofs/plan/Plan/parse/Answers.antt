@@ -7,7 +7,8 @@ use Rattle.btr_tool.specs.Words.{IsUsageAt, next_of, plan_of}
 use Rattle.btr_tool.specs.declared.progress.Progress.{Progress}
 use Rattle.btr_tool.specs.declared.progress.Progress.TheVariants.{Start}
 use Rattle.btr_tool.proofs.Machine.{reached, reached_more}
-use Rattle.btr_tool.proofs.Sentences.{sound, usage_at, usage_end}
+use Rattle.btr_tool.proofs.Accepting.{usage_at, usage_end}
+use Rattle.btr_tool.proofs.Sentences.{sound}
 use Rattle.btr_tool.proofs.plan.Plan.parse.Goals as goal
 
 -- the word at an index, as the words' texts have it
