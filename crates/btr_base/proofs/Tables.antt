@@ -86,3 +86,23 @@ word_by_bytes x lt =
     ∙ sym (split_byte 7 x ∙ ap (bit_xor (shifted_by 64 (x % 256))) (next_byte 6 8 x ∙ ap (bit_xor (at 7 8)) (next_byte 5 16 x ∙ ap (bit_xor (at 6 16)) (next_byte 4 24 x
     ∙ ap (bit_xor (at 5 24)) (next_byte 3 32 x ∙ ap (bit_xor (at 4 32)) (next_byte 2 40 x ∙ ap (bit_xor (at 3 40)) (next_byte 1 48 x
     ∙ ap (bit_xor (at 2 48)) (next_byte 0 56 x ∙ ap (λ y. bit_xor (at 1 56) (shifted_by 0 y)) none ∙ ap (bit_xor (at 1 56)) (shifted_by-zero 0) ∙ xor_zero_r (at 1 56)))))))))
+
+-- and with 8 bytes of zeros behind it
+pub word_and_zeros : (x : ℕ) → x < 2 ^ 64 → bit_xor (bit_xor (bit_xor (bit_xor (bit_xor (bit_xor (bit_xor
+    (shifted_by 72 (x / 2 ^ 56 % 256)) (shifted_by 80 (x / 2 ^ 48 % 256))) (shifted_by 88 (x / 2 ^ 40 % 256))) (shifted_by 96 (x / 2 ^ 32 % 256)))
+    (shifted_by 104 (x / 2 ^ 24 % 256))) (shifted_by 112 (x / 2 ^ 16 % 256))) (shifted_by 120 (x / 2 ^ 8 % 256))) (shifted_by 128 (x % 256))
+    ≡ shifted_by 128 x
+word_and_zeros x lt =
+    let none : x / 2 ^ 64 ≡ 0 = omega arith in
+    let at : ℕ → ℕ → ℕ = λ n k. shifted_by (8 * n) (x / 2 ^ k % 256) in
+    turned (shifted_by 128 (x % 256)) (at 15 8) (at 14 16) (at 13 24) (at 12 32) (at 11 40) (at 10 48) (at 9 56)
+    ∙ sym (split_byte 15 x ∙ ap (bit_xor (shifted_by 128 (x % 256))) (next_byte 14 8 x ∙ ap (bit_xor (at 15 8)) (next_byte 13 16 x ∙ ap (bit_xor (at 14 16)) (next_byte 12 24 x
+    ∙ ap (bit_xor (at 13 24)) (next_byte 11 32 x ∙ ap (bit_xor (at 12 32)) (next_byte 10 40 x ∙ ap (bit_xor (at 11 40)) (next_byte 9 48 x
+    ∙ ap (bit_xor (at 10 48)) (next_byte 8 56 x ∙ ap (λ y. bit_xor (at 9 56) (shifted_by 64 y)) none ∙ ap (bit_xor (at 9 56)) (shifted_by-zero 64) ∙ xor_zero_r (at 9 56)))))))))
+
+-- two words, of which the second is taken in by itself
+pub pair_taken : (s word : ℕ) → bit_xor (shifted_by 64 word) (shifted_by 128 s) ≡ shifted_by 64 (bit_xor (shifted_by 64 s) word)
+pair_taken s word =
+    xor_comm (shifted_by 64 word) (shifted_by 128 s)
+    ∙ ap (λ r. bit_xor r (shifted_by 64 word)) (shifted_by-add 64 64 s)
+    ∙ sym (shifted_by-xor 64 (shifted_by 64 s) word)

@@ -4,11 +4,11 @@
 // same polynomial in x^64. So a word of 8 bytes may be dropped, where it is added to seven later words.
 // All words but the last 79 go that way, with no look-up in a table.
 ghost use Rattle.std.specs.Prelude.{◌≡◌, ℕ, ◌+◌, ◌*◌, ◌^◌, ◌≤◌, ◌<◌};
-ghost use Rattle.std.specs.Prelude.{length, take, drop, replicate, slice_index, [], ◌∷◌};
-ghost use Rattle.btr_base.specs.Crc.{register};
+ghost use Rattle.std.specs.Prelude.{length, take, drop, replicate, slice_index, [], ◌∷◌, bit_xor};
+ghost use Rattle.btr_base.specs.Crc.{register, shifted_by};
 ghost use Rattle.btr_base.specs.Fold.{sent, received, with_word, with_pair, register_behind};
 
-use super::words::{register_by_bytes, take_word};
+use super::words::{register_by_bytes, take_pair, take_word};
 use crate::field::u64_at;
 use std::simd::prelude::*;
 
@@ -150,6 +150,17 @@ fn clear(dropped: &mut [u64; ROOM])
     }
 }
 
+// The register after the word `j` and the next one.
+fn take_sent_pair(reg: u32, dropped: &[u64; ROOM], bytes: &[u8], j: usize) -> u32
+    requires room { j + 2 ≤ AHEAD }
+    requires words { 8 * (j + 2) ≤ length bytes.now }
+    ensures { result ≡ shifted_by 64 (bit_xor (shifted_by 64 (bit_xor reg (received dropped.now bytes.now j))) (received dropped.now bytes.now (j + 1))) }
+{
+    let pair = u64x2::from_array([u64_at(bytes, 8 * j), u64_at(bytes, 8 * j + 8)]);
+    let [first, second] = (pair ^ pair_sent_to(dropped, j)).to_array();
+    take_pair(reg, first, second)
+}
+
 // The register after the last 79 words.
 fn finish(dropped: &mut [u64; ROOM], bytes: &[u8]) -> u32
     requires low { 8 * AHEAD ≤ length bytes.now }
@@ -159,10 +170,11 @@ fn finish(dropped: &mut [u64; ROOM], bytes: &[u8]) -> u32
 {
     clear(dropped);
     let mut reg = 0;
-    for j in 0..AHEAD {
-        reg = take_word(reg, u64_at(bytes, 8 * j) ^ sent_to(dropped, j));
+    for k in 0..AHEAD / 2 {
+        reg = take_sent_pair(reg, dropped, bytes, 2 * k);
     }
-    reg
+    let last = AHEAD - 1;
+    take_word(reg, u64_at(bytes, 8 * last) ^ sent_to(dropped, last))
 }
 
 // The register after the bytes.

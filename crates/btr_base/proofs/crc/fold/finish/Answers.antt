@@ -1,27 +1,38 @@
-use Rattle.std.proofs.Common.{◌≡◌, ◌∙◌, ◌+◌, ◌*◌, ◌/◌, suc, sym, ap, refl, arith, bit_xor, take, drop, length}
+use Rattle.std.proofs.Common.{◌≡◌, ◌<◌, ◌∙◌, ◌+◌, ◌*◌, ◌/◌, ℕ, suc, sym, ap, refl, arith, bit_xor, take, drop, length}
+use Rattle.btr_base.specs.Field.{number_at}
 use Rattle.btr_base.specs.Crc.{register, shifted_by}
 use Rattle.btr_base.specs.Fold.{after, received, register_behind}
 use Rattle.btr_base.proofs.Behind.{sent_cleared}
 use Rattle.btr_base.proofs.crc.fold.finish.Goals as goal
 
-pub loop-j-init : goal.loop-j-init
+pub loop-k-init : goal.loop-k-init
 unfolding after
-loop-j-init c = refl
+loop-k-init c = refl
 
-pub loop-j-preserved : goal.loop-j-preserved
+pub loop-k-preserved : goal.loop-k-preserved
 unfolding after
-loop-j-preserved c =
-    let j = c.loop-j.j in
+loop-k-preserved c =
+    let k = c.loop-k.k in
     let old = c.args.dropped.now in
-    let next : suc j ≡ j + 1 = omega arith in
-    c.take_word-reg.ensures
-    ∙ (λ i. shifted_by 64 (bit_xor (c.loop-j.invariant i) (bit_xor (c.u64_at.ensures i) ((c.sent_to.ensures ∙ sent_cleared c.clear.new.dropped old j (omega arith) c.clear.ensures.kept c.clear.ensures.zeros) i))))
-    ∙ ap (λ n. after 0 n (received (take 79 old) c.args.bytes.now)) next
+    let bytes = c.args.bytes.now in
+    let next : suc (suc (2 * k)) ≡ 2 * (k + 1) = omega arith in
+    let more : suc (2 * k) ≡ 2 * k + 1 = omega arith in
+    let word : (j : ℕ) → j < 79 → received c.clear.new.dropped bytes j ≡ received (take 79 old) bytes j = λ j lt. ap (bit_xor (number_at 8 (8 * j) bytes)) (sent_cleared c.clear.new.dropped old j lt c.clear.ensures.kept c.clear.ensures.zeros) in
+    c.take_sent_pair-reg.ensures
+    ∙ (λ i. shifted_by 64 (bit_xor (shifted_by 64 (bit_xor (c.loop-k.invariant i) (word (2 * k) (omega arith) i))) (word (2 * k + 1) (omega arith) i)))
+    ∙ ap (λ n. shifted_by 64 (bit_xor (shifted_by 64 (bit_xor (after 0 (2 * k) (received (take 79 old) bytes)) (received (take 79 old) bytes (2 * k)))) (received (take 79 old) bytes n))) (sym more)
+    ∙ ap (λ n. after 0 n (received (take 79 old) bytes)) next
 
 pub returns : goal.returns
-unfolding register_behind
+unfolding register_behind after
 returns c =
     let bytes = c.args.bytes.now in
+    let old = c.args.dropped.now in
     let words : length bytes / 8 ≡ 79 = omega arith in
-    let ended : c.loop-j.j ≡ 79 = omega arith in
-    (λ i. register ((c.loop-j.invariant ∙ ap (λ n. after 0 n (received (take 79 c.args.dropped.now) bytes)) (ended ∙ sym words)) i) (drop (8 * (sym words i)) bytes))
+    let ended : 2 * c.loop-k.k ≡ 78 = omega arith in
+    let last : c.take_word.result ≡ after 0 79 (received (take 79 old) bytes) =
+    c.take_word.ensures
+    ∙ (λ i. shifted_by 64 (bit_xor (c.loop-k.invariant i) (bit_xor (c.u64_at.ensures i) ((c.sent_to.ensures ∙ sent_cleared c.clear.new.dropped old 78 (omega arith) c.clear.ensures.kept c.clear.ensures.zeros) i))))
+    ∙ ap (λ n. shifted_by 64 (bit_xor (after 0 n (received (take 79 old) bytes)) (received (take 79 old) bytes 78))) ended
+    in
+    (λ i. register ((last ∙ ap (λ n. after 0 n (received (take 79 old) bytes)) (sym words)) i) (drop (8 * (sym words i)) bytes))
