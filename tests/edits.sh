@@ -1,8 +1,11 @@
 #!/bin/sh
-# Lists why the prover refused each must-fail edit, from what `rt must-fail` or `rt ci` wrote, and counts the reasons:
+# Lists why the prover refused each edit that must be refused, from what `rt must-fail` or `rt ci` wrote, and counts the reasons:
 #
-#     rt must-fail --anew >edits.log 2>&1
+#     rt must-fail >edits.log 2>&1
 #     tests/edits.sh edits.log
+#
+# The gate tries those in crates/*/must-fail: a few of each crate, since each proves its function anew. `tests/edits.sh --try [CRATE..]` tries them all,
+# those in tests/edits too, in a clone of what is committed, in which it proves the libraries from nothing.
 #
 # clause, invariant   what a function promises, or the invariant of a type, isn't proved: the edit shows what the contract holds
 # loop, call, safety  an invariant of a loop, what a call requires, or a sum, index or cast isn't proved: it shows nearly as much
@@ -11,7 +14,8 @@
 # NOT REFUSED         the contract lets the edit through
 set -u
 
-cat -- "$@" | awk '
+reasons() {
+    awk '
     function kind(text) {
         if (text ~ /NOT REFUSED/) return "NOT REFUSED"
         if (text ~ /BAD EDIT|NOT TRIED/) return "bad"
@@ -38,3 +42,19 @@ cat -- "$@" | awk '
         close("sort -rn")
     }
 '
+}
+
+if [ "${1:-}" != --try ]; then
+    cat -- "$@" | reasons
+    exit
+fi
+shift
+top=$(cd "$(dirname "$0")/.." && pwd)
+room=$(mktemp -d)
+trap 'rm -rf "$room"' EXIT
+git clone -q "$top" "$room/all" && cd "$room/all" || exit 1
+for folder in tests/edits/*; do
+    mkdir -p "crates/${folder##*/}/must-fail"
+    cp "$folder"/*.edit "crates/${folder##*/}/must-fail/"
+done
+rt must-fail "$@" 2>&1 | reasons

@@ -13,8 +13,6 @@ mod form;
 mod inner;
 mod items;
 mod leaf;
-#[cfg(test)]
-mod tests;
 mod tree;
 
 pub use block::Block;

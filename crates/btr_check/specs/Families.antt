@@ -1,8 +1,8 @@
 -- What is wrong with what the trees say, pass by pass.
 use Rattle.std.specs.Prelude.{◌≡◌, List, ◌++◌, map, flat_map, Option}
-use Rattle.std.specs.List.Sorted.{IsPermutation}
 use Rattle.btr_names.specs.Subvolumes.{Subvolumes, subvolumes_in, subvolume_findings}
 use Rattle.btr_refs.specs.declared.finding.Finding.{Finding}
+use Rattle.btr_space.specs.Cover.{HoldSame}
 use Rattle.btr_space.specs.Devices.{device_findings}
 use Rattle.btr_space.specs.Groups.{group_findings}
 use Rattle.btr_space.specs.Items.{groups_in, device_extents_in, devices_in}
@@ -45,7 +45,7 @@ module _ (fs : Filesystem) where
 
   -- these are the ranges of addresses that have checksums
   abbrev pub IsCoverOf : List Stretch → Type 0
-  IsCoverOf sums = IsPermutation (map run_stretch (sum_runs fs)) sums
+  IsCoverOf sums = HoldSame (map run_stretch (sum_runs fs)) sums
 
   -- 5, 6, 24, 25, 28, 30
   abbrev pub found_on_groups : List Finding

@@ -1,7 +1,6 @@
 -- What is met of trees of files.
 use Rattle.std.specs.Prelude.{◌≡◌, ℕ, Bool, true, false, List, [], ◌++◌, map, filter_map, flat_map, Result, IfOk}
 use Rattle.std.specs.BTreeSet.{BTreeSet}
-use Rattle.std.specs.List.Sorted.{IsPermutation}
 use Rattle.btr_base.specs.declared.memory.Memory.{Memory}
 use Rattle.btr_items.specs.declared.sum_run.SumRun.{SumRun}
 use Rattle.btr_names.specs.Entry.{Entry}
@@ -11,6 +10,7 @@ use Rattle.btr_names.specs.Subvolumes.{Subvolumes, names_at, subvolumes_at}
 use Rattle.btr_names.specs.Unpaired.{nothing_unpaired, unpaired_step}
 use Rattle.btr_refs.specs.declared.finding.Finding.{Finding}
 use Rattle.btr_refs.specs.Findings.{Adds}
+use Rattle.btr_space.specs.Cover.{HoldSame}
 use Rattle.btr_space.specs.declared.cover.Stretch.{Stretch}
 use Rattle.btr_sums.specs.Items.{uses_step, loose_in, used_in}
 use Rattle.btr_sums.specs.Sums.{run_stretch, tree_missing}
@@ -52,7 +52,7 @@ entries_if false tree entries names = names
 -- by the ranges of addresses that have checksums, what is missing of those of a tree was put
 abbrev pub AddsMissing : ℕ → FileTree → List Stretch → BTreeSet Finding → BTreeSet Finding → Result Bool Memory → Type 0
 AddsMissing tree met sums old new result =
-    (runs : List SumRun) → IsPermutation (map run_stretch runs) sums → IfOk result (λ paired. Adds (tree_missing runs tree met.uses.loose met.uses.used) old new)
+    (runs : List SumRun) → HoldSame (map run_stretch runs) sums → IfOk result (λ paired. Adds (tree_missing runs tree met.uses.loose met.uses.used) old new)
 
 -- the entries of a tree that lead to subvolumes are kept where its names are paired
 abbrev pub KeepsEntries : ℕ → FileTree → Subvolumes → Subvolumes → Result Bool Memory → Type 0

@@ -31,8 +31,6 @@ mod refusing;
 mod root_walk;
 mod space;
 mod sums;
-#[cfg(test)]
-mod tests;
 mod text;
 mod trees;
 mod visiting;

@@ -40,6 +40,3 @@ pub use profile::Profile;
 pub use stripe::Stripe;
 pub use stripes::Stripes;
 pub use table::ChunkTable;
-
-#[cfg(test)]
-mod tests;

@@ -10,8 +10,6 @@ mod ending;
 mod kind;
 mod lines;
 mod roots;
-#[cfg(test)]
-mod tests;
 mod tree;
 mod trees;
 

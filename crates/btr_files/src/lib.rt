@@ -28,8 +28,6 @@ mod streaming;
 mod sums;
 mod sums_ahead;
 mod surveying;
-#[cfg(test)]
-mod tests;
 
 pub use clearness::Survey;
 pub use counts::Counts;

@@ -30,7 +30,7 @@ fn sectors_below(addr: u64, until: Option<Key>) -> u64
 
 // Some bytes, and zeros behind them.
 fn copied(bytes: &[u8]) -> [u8; ROOM]
-    requires { length bytes.now ≤ 4096 }
+    requires { length bytes.now ≤ 1024 }
     ensures { take (length bytes.now) result ≡ bytes.now }
 {
     let mut copy = [0; ROOM];

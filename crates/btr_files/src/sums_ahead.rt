@@ -6,8 +6,8 @@ use crate::sums::sum_in;
 use btr_base::{Sum, SumKind};
 use btr_items::SumRun;
 
-/// How many bytes of checksums are kept: those of 1024 sectors by CRC-32C, and of 128 by SHA-256.
-pub(crate) const ROOM: usize = 4096;
+/// How many bytes of checksums are kept: those of 256 sectors by CRC-32C, and of 32 by SHA-256.
+pub(crate) const ROOM: usize = 1024;
 
 /// Checksums of sectors one behind another, all from one item of the checksum tree: what `sum_ahead` keeps.
 #[derive(Clone, Copy)]
@@ -15,7 +15,7 @@ pub struct SumsAhead {
     pub(crate) kind: SumKind,
     pub(crate) run: SumRun,
     pub(crate) bytes: [u8; ROOM],
-    ghost fits: { run.count * sum_size kind ≤ 4096 },
+    ghost fits: { run.count * sum_size kind ≤ 1024 },
 }
 
 impl SumsAhead {

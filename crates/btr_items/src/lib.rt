@@ -33,8 +33,6 @@ mod root_item;
 mod root_ref;
 mod shape;
 mod sum_run;
-#[cfg(test)]
-mod tests;
 
 pub use block_group::BlockGroup;
 pub use dev_extent::DevExtent;

@@ -25,8 +25,6 @@ mod sealing;
 mod spoiling;
 mod sums;
 mod superblock;
-#[cfg(test)]
-mod tests;
 
 pub use made::make;
 pub use maker::{Builder, Given, Maker};

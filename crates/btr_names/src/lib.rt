@@ -33,8 +33,6 @@ mod subvolume_list;
 mod subvolume_name;
 mod subvolume_names;
 mod taking;
-#[cfg(test)]
-mod tests;
 mod tree_names;
 mod unpaired;
 

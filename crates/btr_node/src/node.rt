@@ -1,9 +1,10 @@
-ghost use Rattle.std.specs.Prelude.{◌≡◌, ◌≤◌, length, IfOk};
+ghost use Rattle.std.specs.Prelude.{◌≡◌, ◌≤◌, length, IfOk, IsSome, Some};
 ghost use Rattle.std.specs.Result.{result_ok};
 ghost use Rattle.btr_node.specs.Node.{node_of, IsViewOf};
 
 use crate::inner::is_inner;
 use crate::leaf::is_leaf;
+use crate::table::level;
 use crate::{Inner, Leaf, Malformed};
 
 /// A block that keeps the rules of one block.
@@ -27,6 +28,20 @@ impl<'a> Node<'a> {
             Ok(Node::Inner(Inner::of(block)))
         } else {
             Err(Malformed)
+        }
+    }
+
+    /// What a block holds that is known to be a good one, without testing it again.
+    pub fn of(block: &'a [u8]) -> Node<'a>
+        requires header { 101 ≤ length block.now }
+        requires good { IsSome (node_of block.now) }
+        ensures answer { node_of block.now ≡ Some result }
+        ensures good { IsViewOf block.now result }
+    {
+        if level(block) == 0 {
+            Node::Leaf(Leaf::of(block))
+        } else {
+            Node::Inner(Inner::of(block))
         }
     }
 }

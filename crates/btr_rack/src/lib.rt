@@ -41,8 +41,6 @@ mod row;
 mod std_out;
 mod step;
 mod strike;
-#[cfg(test)]
-mod tests;
 mod text;
 mod trail;
 mod transfer;

@@ -13,6 +13,7 @@ pub mod Fetched
 pub mod Lent
 pub mod Devices
 pub mod Found
+pub mod Nodes
 pub mod Ones
 pub mod Standing
 pub mod Sums

@@ -1,15 +1,15 @@
 -- The loans of a store.
-use Rattle.std.proofs.Common.{◌≡◌, ◌≢◌, ℕ, ◌+◌, ◌<◌, Bool, true, false, not, cond, List, length, get_or, set, count_by, Option, Some, None, IsSome, refl, sym, ap, ◌∙◌, subst, inl, inr, arith}
+use Rattle.std.proofs.Common.{◌≡◌, ◌≢◌, ℕ, ◌+◌, ◌<◌, Bool, true, false, not, cond, List, length, take, get_or, set, count_by, Option, Some, None, IsSome, refl, sym, ap, ◌∙◌, subst, inl, inr, arith}
 use Rattle.std.proofs.lemmas.Bool.{cases_lt, cases_eq, false≢true}
 use Rattle.std.proofs.lemmas.List.{length-set, same_lists, get_or_past, get_or_default, get_or-set_same, get_or-set_other, set-set, set-get_or}
 use Rattle.std.proofs.lemmas.List.FromFn.{length-map-range_with_len, get_or-map-range_with_len}
-use Rattle.std.specs.Option.{is_none}
+use Rattle.std.specs.Option.{is_none, option_map}
 use Rattle.btr_pool.specs.Slots.{Slots, IsLive, IsFree, loan_at, loans_of, bytes_at, with_lent, with_free, free_count}
 use Rattle.btr_pool.proofs.Loans.{live_when_lent, free_below, loans_of-with_free, count_by-loans_of, free_count-with_lent}
 use Rattle.btr_chunk.specs.declared.chunk.Chunk.{Chunk}
 use Rattle.btr_read.specs.declared.device.Member.{Member}
 use Rattle.btr_read.specs.declared.setting.Setting.{Setting}
-use Rattle.btr_read.specs.Store.{Blocks, Kept}
+use Rattle.btr_read.specs.Store.{Blocks, Kept, Lent, block_of}
 use Rattle.btr_read.specs.Writing.{OnlyWrites}
 use Rattle.btr_read.proofs.Slots.{live_written}
 
@@ -97,3 +97,11 @@ one_fewer p0 p2 k free writes =
     let same : free_count p2 ≡ free_count (with_lent p0 k) = ap (count_by not) writes.lent in
     let before : count_by is_none (loans_of p0) ≡ free_count p0 = count_by-loans_of p0 in
     omega (arith, counted, same, before, free_count-with_lent p0 k free)
+
+-- the block of a live loan
+pub block_there : (chunks : List Chunk) (devices : List Member) (setting : Setting) (kept : List (Option Kept)) (pool : Slots) (store : Blocks) (slot len : ℕ) (loan : Lent) → blocks chunks devices setting (loans_of pool) kept ≡ store → (record { slot = slot; len = len }) ≡ loan → length pool.bytes ≡ length pool.lent → IsSome (get_or store.loans loan.slot None) → block_of store loan ≡ Some (take len (bytes_at pool slot))
+block_there chunks devices setting kept pool store slot len loan view loan_view whole some =
+    let held : IsSome (get_or (loans_of pool) slot None) = subst (λ (l : Lent). IsSome (get_or (loans_of pool) l.slot None)) (sym loan_view) (subst (λ (s : Blocks). IsSome (get_or s.loans loan.slot None)) (sym view) some) in
+    ap (λ s. block_of s loan) (sym view)
+    ∙ ap (λ (l : Lent). option_map (take l.len) (get_or (loans_of pool) l.slot None)) (sym loan_view)
+    ∙ ap (option_map (take len)) (loan_is pool slot whole (live_of pool slot whole held))

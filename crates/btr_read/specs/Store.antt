@@ -1,8 +1,9 @@
 -- What a contract sees of a store and of its loans.
-use Rattle.std.specs.Prelude.{◌≡◌, ℕ, ◌+◌, ◌<◌, ◌≤◌, List, [], ◌∷◌, ◌++◌, length, take, drop, replicate, Option, Some, None, IsSome, IsSomeAnd, is_none, slice_index_or, slice_set, count_by}
+use Rattle.std.specs.Prelude.{◌≡◌, ℕ, ◌+◌, ◌<◌, ◌≤◌, Bool, true, false, List, [], ◌∷◌, ◌++◌, length, take, drop, replicate, Option, Some, None, IsSome, IsSomeAnd, is_none, slice_index_or, slice_set, count_by}
 use Rattle.std.specs.Option.{option_map}
 use Rattle.btr_base.specs.declared.kind.SumKind.{SumKind}
 use Rattle.btr_chunk.specs.declared.chunk.Chunk.{Chunk}
+use Rattle.btr_node.specs.Node.{node_of}
 use Rattle.btr_pool.specs.Slots.{Slots}
 use Rattle.btr_read.specs.declared.device.Member.{Member}
 use Rattle.btr_read.specs.declared.setting.Setting.{Setting}
@@ -50,6 +51,20 @@ pub record IsStore (pool : Slots) (setting : Setting) : Type 0 where
   pub small : setting.nodesize ≤ 65536
   pub whole : length pool.bytes ≡ length pool.lent
   pub count : length pool.bytes ≡ 24
+
+-- a block is a good node
+abbrev pub IsNode : List ℕ → Type 0
+IsNode block = IsSome (node_of block)
+
+-- by the wants whose blocks stand in the slots, which of them are known to be good nodes, and the slots' bytes: those that are known to be are
+abbrev pub AreNodes : List (Option Want) → List Bool → List (List ℕ) → ℕ → Type 0
+AreNodes wants nodes slots size =
+    (k : ℕ) (want : Want) → slice_index_or wants k None ≡ Some want → slice_index_or nodes k false ≡ true → IsNode (take size (slice_index_or slots k []))
+
+-- each slot is as long as a node, and the blocks that are known to be good nodes are
+pub record IsSound (pool : Slots) (wants : List (Option Want)) (nodes : List Bool) (setting : Setting) : Type 0 where
+  pub store : IsStore pool setting
+  pub known : AreNodes wants nodes pool.bytes setting.nodesize
 
 -- the bytes of a slot's loan, if it is live
 abbrev pub loan_in : Blocks → ℕ → Option (List ℕ)

@@ -1,5 +1,5 @@
 -- What reading into slots may do to a pool.
-use Rattle.std.specs.Prelude.{◌≡◌, ◌≢◌, ℕ, true, false, List, [], ◌∷◌, length, slice_index_or, slice_set, Option, Some, None, IsSome, ◌≤◌, ◌+◌, ◌-◌, ◌^◌, min}
+use Rattle.std.specs.Prelude.{◌≡◌, ◌≢◌, ℕ, Bool, true, false, List, [], ◌∷◌, length, slice_index_or, slice_set, Option, Some, None, IsSome, ◌≤◌, ◌+◌, ◌-◌, ◌^◌, min}
 use Rattle.btr_pool.specs.Slots.{Slots, IsLive, IsFree, bytes_at}
 use Rattle.btr_read.specs.declared.want.Want.{Want}
 
@@ -44,6 +44,12 @@ abbrev pub StillKept : List (Option Want) → List (Option Want) → Slots → S
 StillKept old_wants new_wants old new =
     (j : ℕ) (want : Want) → slice_index_or new_wants j None ≡ Some want
     → (slice_index_or old_wants j None ≡ Some want) × (bytes_at new j ≡ bytes_at old j)
+
+-- the same of the blocks that are known to be good nodes
+abbrev pub StillNodes : List (Option Want) → List Bool → List (Option Want) → List Bool → Slots → Slots → Type 0
+StillNodes old_wants old_nodes new_wants new_nodes old new =
+    (j : ℕ) (want : Want) → slice_index_or new_wants j None ≡ Some want → slice_index_or new_nodes j false ≡ true
+    → (slice_index_or old_wants j None ≡ Some want) × (slice_index_or old_nodes j false ≡ true) × (bytes_at new j ≡ bytes_at old j)
 
 -- by the wants whose blocks stand in the slots: that of a want stands in no free slot
 abbrev pub NoneKeeps : Slots → List (Option Want) → Want → Type 0

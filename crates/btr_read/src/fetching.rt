@@ -9,6 +9,7 @@ ghost use Rattle.btr_read.specs.Store.{IsLentBy, SameLoans, free_count};
 ghost use Rattle.btr_read.specs.Fetch.{FitsFetch, CountsFetch, CallsFetch, ComesAgain, KeepsLent, IsLocated};
 ghost use Rattle.btr_read.specs.Finding.{Finds, SameShape, TakesFound};
 ghost use Rattle.btr_read.specs.Serves.{Serves};
+ghost use Rattle.btr_read.specs.Writing.{StillNodes};
 
 use crate::attempt::{Missed, Outcome};
 use crate::device::Member;
@@ -68,6 +69,7 @@ fn find<R: Rack>(
     ensures taken { IfOk result (TakesFound pool.old pool.new) }
     ensures refused { OnErr result (loans_of pool.new ≡ loans_of pool.old) }
     ensures found { Finds search.now kept.old kept.new pool.old pool.new (R.seen rack.old) (R.seen rack.new) result }
+    ensures nodes { StillNodes kept.old.wants kept.old.nodes kept.new.wants kept.new.nodes pool.old pool.new }
 {
     let slot = take_least(pool, kept);
     match try_all(search, rack, pool, kept, &slot) {

@@ -29,8 +29,6 @@ mod setting;
 mod solving;
 mod store;
 mod syndromes;
-#[cfg(test)]
-mod tests;
 mod trying;
 mod want;
 

@@ -1,6 +1,8 @@
-ghost use Rattle.std.specs.Prelude.{◌≡◌, ◌≤◌, IfOk, OnErr, IsNone, Some, None, length};
+ghost use Rattle.std.specs.Option.{is_some};
+ghost use Rattle.btr_node.specs.Node.{node_of};
+ghost use Rattle.std.specs.Prelude.{◌≡◌, ◌≤◌, IfOk, OnErr, IsNone, IsSomeAnd, IsTrue, Some, None, length};
 ghost use Rattle.btr_read.specs.Layout.{device_in};
-ghost use Rattle.btr_read.specs.Store.{IsLiveIn, block_of, free_count, store_of, with_chunks, with_device, with_loan, without_kept};
+ghost use Rattle.btr_read.specs.Store.{IsLiveIn, IsNode, block_of, free_count, store_of, with_chunks, with_device, with_loan, without_kept};
 
 use crate::device::{Device, Member, find_device};
 use crate::kept::{Kept, SLOTS};
@@ -8,6 +10,7 @@ use crate::loan::Loan;
 use crate::setting::Setting;
 use btr_base::{Memory, SumKind};
 use btr_chunk::ChunkTable;
+use btr_node::Node;
 use btr_pool::Pool;
 use std::alloc::Global;
 use std::marker::Model;
@@ -26,13 +29,13 @@ pub struct Store {
 
 impl Model for Store {
     ghost use Rattle.btr_pool.specs.Slots.{loans_of};
-    ghost use Rattle.btr_read.specs.Store.{Blocks, IsStore, kept_in};
+    ghost use Rattle.btr_read.specs.Store.{Blocks, IsSound, kept_in};
 
     ghost Value = { Blocks };
 
     ghost view = { λ s. record { layout = record { chunks = s.chunks; devices = s.devices.items; setting = s.setting }; loans = loans_of s.pool; kept = kept_in s.setting s.kept.wants s.pool.bytes } };
 
-    ghost invariant = { λ s. IsStore s.pool s.setting };
+    ghost invariant = { λ s. IsSound s.pool s.kept.wants s.kept.nodes s.setting };
 }
 
 impl Store {
@@ -124,6 +127,50 @@ impl Store {
         ensures len { length result.now ≡ loan.now.len }
     {
         &self.pool.bytes(&loan.slot)[..loan.len]
+    }
+
+    // Whether the block of a live loan is known to be a good node.
+    fn is_known_node(&self, loan: &Loan) -> bool
+        requires { IsLiveIn self.now loan.now }
+        ensures { IsTrue result → IsSomeAnd (block_of self.now loan.now) IsNode }
+    {
+        if loan.len != self.setting.nodesize as usize {
+            return false;
+        }
+        let slot = loan.slot.slot();
+        slot < SLOTS && self.kept.is_node(slot)
+    }
+
+    // Notes that the block of a live loan is a good node, as it is. It is known for as long as the block is kept.
+    fn note_node(&mut self, loan: &Loan)
+        requires live { IsLiveIn self.old loan.now }
+        requires node { IsSomeAnd (block_of self.old loan.now) IsNode }
+        ensures { self.new ≡ self.old }
+    {
+        if loan.len != self.setting.nodesize as usize {
+            return;
+        }
+        let slot = loan.slot.slot();
+        if slot < SLOTS {
+            self.kept.note_node(slot);
+        }
+    }
+
+    /// Whether the block of a live loan is a good node, as `Node::view` tests it. While a block is kept that is tested once.
+    pub fn has_node(&mut self, loan: &Loan) -> bool
+        requires live { IsLiveIn self.old loan.now }
+        requires header { 101 ≤ loan.now.len }
+        ensures same { self.new ≡ self.old }
+        ensures node { IsSomeAnd (block_of self.old loan.now) (λ block. result ≡ is_some (node_of block)) }
+    {
+        if self.is_known_node(loan) {
+            return true;
+        }
+        let is_node = Node::view(self.bytes(loan)).is_ok();
+        if is_node {
+            self.note_node(loan);
+        }
+        is_node
     }
 
     /// Takes a live loan back.

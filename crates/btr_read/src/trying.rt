@@ -74,6 +74,7 @@ fn try_candidate<R: Rack>(
     ensures reads { OnlyReads (R.seen rack.old) (R.seen rack.new) }
     ensures pool { OnlyWrites loan.now pool.old pool.new }
     ensures kept { StillKept kept.old.wants kept.new.wants pool.old pool.new }
+    ensures nodes { kept.new.nodes ≡ kept.old.nodes }
     ensures attempt { FitsAttempt search.now candidate (R.seen rack.old).held (bytes_at pool.new loan.now) result }
     ensures account { AccountsAttempt search.now candidate (R.seen rack.old) (R.seen rack.new) result }
 {
@@ -106,6 +107,7 @@ fn try_with_spares<R: Rack>(
     ensures reads { OnlyReads (R.seen rack.old) (R.seen rack.new) }
     ensures pool { OnlyWrites loan.now pool.old pool.new }
     ensures kept { StillKept kept.old.wants kept.new.wants pool.old pool.new }
+    ensures nodes { kept.new.nodes ≡ kept.old.nodes }
     ensures attempt { FitsAttempt search.now candidate (R.seen rack.old).held (bytes_at pool.new loan.now) result }
     ensures account { AccountsAttempt search.now candidate (R.seen rack.old) (R.seen rack.new) result }
 {
@@ -137,6 +139,7 @@ fn try_from<R: Rack>(
     ensures reads { OnlyReads (R.seen rack.old) (R.seen rack.new) }
     ensures pool { OnlyWrites loan.now pool.old pool.new }
     ensures kept { StillKept kept.old.wants kept.new.wants pool.old pool.new }
+    ensures nodes { kept.new.nodes ≡ kept.old.nodes }
     ensures outcome { EndsFrom search.now failed from (R.seen rack.old) (R.seen rack.new) pool.new loan.now result }
 {
     for k in from..search.candidate_count() {
@@ -170,6 +173,7 @@ fn try_by_parities<R: Rack>(
     ensures reads { OnlyReads (R.seen rack.old) (R.seen rack.new) }
     ensures pool { OnlyWrites loan.now pool.old pool.new }
     ensures kept { StillKept kept.old.wants kept.new.wants pool.old pool.new }
+    ensures nodes { kept.new.nodes ≡ kept.old.nodes }
     ensures trial { GoesOn search.now failed 1 (R.seen rack.old) (R.seen rack.new) pool.new loan.now result }
     ensures part { IfStopped (IsOfRow search.now Candidate.ByP) result }
 {
@@ -204,6 +208,7 @@ fn try_around<R: Rack>(
     ensures reads { OnlyReads (R.seen rack.old) (R.seen rack.new) }
     ensures pool { OnlyWrites loan.now pool.old pool.new }
     ensures kept { StillKept kept.old.wants kept.new.wants pool.old pool.new }
+    ensures nodes { kept.new.nodes ≡ kept.old.nodes }
     ensures outcome { EndsAround search.now unread tried (R.seen rack.old) (R.seen rack.new) pool.new loan.now result }
 {
     let other = search.candidate(search.without(unread.part));
@@ -235,6 +240,7 @@ fn try_behind<R: Rack>(
     ensures reads { OnlyReads (R.seen rack.old) (R.seen rack.new) }
     ensures pool { OnlyWrites loan.now pool.old pool.new }
     ensures kept { StillKept kept.old.wants kept.new.wants pool.old pool.new }
+    ensures nodes { kept.new.nodes ≡ kept.old.nodes }
     ensures outcome { EndsFrom search.now failed 1 (R.seen rack.old) (R.seen rack.new) pool.new loan.now result }
 {
     if !search.row_stands() {
@@ -268,6 +274,7 @@ pub(crate) fn try_all<R: Rack>(
     ensures reads { OnlyReads (R.seen rack.old) (R.seen rack.new) }
     ensures pool { OnlyWrites loan.now pool.old pool.new }
     ensures kept { StillKept kept.old.wants kept.new.wants pool.old pool.new }
+    ensures nodes { kept.new.nodes ≡ kept.old.nodes }
     ensures outcome { FitsOutcome search.now (R.seen rack.old) (R.seen rack.new) (bytes_at pool.new loan.now) result }
 {
     if !search.has_two_parities() {

@@ -16,10 +16,9 @@ mod extent;
 mod finding;
 mod forward;
 mod found;
+mod growing;
 mod ref_key;
 mod stored;
-#[cfg(test)]
-mod tests;
 mod uses;
 
 pub use collect_fault::CollectFault;
@@ -30,6 +29,7 @@ pub use extent::Extent;
 pub use finding::Finding;
 pub use forward::Forward;
 pub use found::{insert, listed, put_unless, set_law};
+pub use growing::{push, with_room};
 pub use ref_key::RefKey;
 pub use stored::Stored;
 pub use uses::{BlockUse, DataUse, UsedExtents};

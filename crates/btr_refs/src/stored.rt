@@ -4,6 +4,7 @@ ghost use Rattle.btr_items.specs.Key as key_rules;
 ghost use Rattle.btr_refs.specs.Extents.{is_extent, extent_with, AddsInline, AddsLoose, AddsExtent, AddsAny};
 
 use crate::counts::add;
+use crate::growing::{push, with_room};
 use crate::{Extent, RefKey};
 use btr_base::{Key, Memory};
 use btr_items::{ExtentItem, LooseRef, inline_refs, item, key_fits};
@@ -90,9 +91,9 @@ impl Stored {
 fn room_for(alloc: Global, room: usize) -> Vec<Extent>
     ensures { result.items ≡ [] }
 {
-    match Vec::with_capacity(alloc, room) {
+    match with_room(alloc, room) {
         Ok(list) => list,
-        Err(_) => Vec::new(alloc),
+        Err(Memory) => Vec::new(alloc),
     }
 }
 
@@ -162,10 +163,8 @@ fn add_extent(
     if !key_fits(key) || !add_inline(refs, key.objectid, body, extent.first)? {
         return Ok(false);
     }
-    match extents.push(extent_with(nodesize, key, &extent)) {
-        Ok(()) => Ok(true),
-        Err(_) => Err(Memory),
-    }
+    push(extents, extent_with(nodesize, key, &extent))?;
+    Ok(true)
 }
 
 // Counts the reference in an item of its own. The answer is whether the item has its form.

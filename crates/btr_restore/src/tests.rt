@@ -1,8 +1,4 @@
 // The lines and the names.
-mod failing;
-mod memory;
-mod restoring;
-
 use crate::cause::Cause;
 use crate::lines::put_counts;
 use crate::name::good_name;

@@ -1,5 +1,5 @@
 -- The keys that ranges are looked up by, and sets of them.
-use Rattle.std.specs.Prelude.{◌≡◌, ◌+◌, true, cond, List}
+use Rattle.std.specs.Prelude.{◌≡◌, true, cond, List}
 use Rattle.std.specs.BTreeMap.{is_at}
 use Rattle.std.specs.BTreeSet.{BTreeSet, contains}
 use Rattle.std.specs.List.{list_any}
@@ -46,7 +46,7 @@ abbrev pub span_range : Span → Range
 span_range span = record { start = span.start; len = span.len }
 
 abbrev pub group_stretch : Group → Stretch
-group_stretch group = record { start = group.start; end = group.start + group.len }
+group_stretch group = record { start = group.start; len = group.len }
 
 abbrev pub group_range : Group → Range
 group_range group = record { start = group.start; len = group.len }

@@ -5,9 +5,8 @@ ghost use Rattle.btr_space.specs.declared.begins.Begin.{Begin};
 ghost use Rattle.btr_space.specs.Sorted.{IsSortedOf, Sums, begin_of, before, begun_in};
 
 use crate::Group;
-use crate::growing::{push, with_room};
 use btr_base::Memory;
-use btr_refs::Extent;
+use btr_refs::{Extent, push, with_room};
 use std::alloc::Global;
 
 /// Where an extent begins, and how long it is.

@@ -5,19 +5,17 @@ ghost use Rattle.btr_space.specs.Orders.{chunk_span};
 ghost use Rattle.btr_space.specs.Devices as words;
 
 use crate::DeviceExtent;
-use crate::growing::push;
 use crate::span::Span;
 use btr_base::Memory;
 use btr_chunk::{Chunk, ChunkTable};
+use btr_refs::{push, with_room};
 use std::alloc::Global;
 
 // The ranges of logical addresses that chunks have.
 pub(crate) fn spans_of(alloc: Global, chunks: &ChunkTable) -> Result<Vec<Span>, Memory>
     ensures { IfOk result (λ spans. spans.items ≡ map chunk_span chunks.now) }
 {
-    let Ok(mut spans) = Vec::with_capacity(alloc, chunks.count()) else {
-        return Err(Memory);
-    };
+    let mut spans = with_room(alloc, chunks.count())?;
     let mut from = 0;
     while let Some(chunk) = chunks.next(from) {
         let span = Span {
@@ -54,9 +52,7 @@ fn add_ranges(ranges: &mut Vec<DeviceExtent>, chunk: &Chunk) -> Result<(), Memor
 pub(crate) fn ranges_of(alloc: Global, chunks: &ChunkTable) -> Result<Vec<DeviceExtent>, Memory>
     ensures { IfOk result (λ ranges. ranges.items ≡ words.ranges_of chunks.now) }
 {
-    let Ok(mut ranges) = Vec::with_capacity(alloc, chunks.count()) else {
-        return Err(Memory);
-    };
+    let mut ranges = with_room(alloc, chunks.count())?;
     let mut from = 0;
     while let Some(chunk) = chunks.next(from) {
         add_ranges(&mut ranges, chunk)?;

@@ -1,45 +1,57 @@
 // Ranges of addresses, and whether one of them holds another range.
-ghost use Rattle.std.specs.Prelude.{IfOk};
-ghost use Rattle.btr_space.specs.Cover.{Reaches};
+ghost use Rattle.std.specs.Prelude.{◌≡◌, ◌+◌, ◌≤◌};
+ghost use Rattle.std.specs.List.Sorted.{IsNonDecreasingBy};
+ghost use Rattle.btr_space.specs.declared.cover.Stretch.{Stretch};
+ghost use Rattle.btr_space.specs.Cover.{HoldSame, IsCover, end_of, lengthened};
 
-use crate::growing::{push, with_room};
-use btr_base::Memory;
-use std::alloc::Global;
 use std::marker::Model;
 
-/// A range of addresses. They have 128 bits, since the end of a range may be 2^64 or more.
+/// A range of addresses, which may end at 2^64 or behind.
 #[derive(Clone, Copy, Debug, PartialEq, Eq)]
 pub struct Stretch {
     /// The first address.
-    pub start: u128,
-    /// The address behind the last.
-    pub end: u128,
+    pub start: u64,
+    /// How many addresses there are.
+    pub len: u64,
 }
 
-// How far the first of some ranges reach, for each number of them: one past the greatest of their ends, and 0 for none. Where an end
-// is the greatest number there is, that is want of memory too.
-fn reaches(alloc: Global, stretches: &[Stretch]) -> Result<Vec<u128>, Memory>
-    ensures { IfOk result (λ list. Reaches stretches.now list.items) }
+// The address behind the last.
+fn end_of(stretch: &Stretch) -> u128
+    ensures { result ≡ end_of stretch.now }
 {
-    let mut list = with_room(alloc, stretches.len().saturating_add(1))?;
-    let mut reach: u128 = 0;
-    push(&mut list, reach)?;
-    for stretch in stretches {
-        let Some(end) = stretch.end.checked_add(1) else {
-            return Err(Memory);
-        };
-        reach = reach.max(end);
-        push(&mut list, reach)?;
-    }
-    Ok(list)
+    u128::from(stretch.start) + u128::from(stretch.len)
 }
 
-/// Ranges of addresses, which may overlap, seen as their list in ascending order of their starts. Whether one of them holds a range
-/// is looked up in a number of steps that grows as the logarithm of their number.
+// A range as far as it or an earlier one reaches: the earlier one holds what is new of it.
+fn lengthened(earlier: &Stretch, stretch: &Stretch) -> Stretch
+    requires { earlier.now.start ≤ stretch.now.start }
+    ensures { result ≡ lengthened earlier.now stretch.now }
+{
+    let behind = stretch.start - earlier.start;
+    Stretch {
+        start: stretch.start,
+        len: stretch.len.max(earlier.len.saturating_sub(behind)),
+    }
+}
+
+// Lengthens each range as far as the ones before it reach.
+fn lengthen(stretches: &mut [Stretch])
+    requires { IsNonDecreasingBy (λ (stretch : Stretch). stretch.start) stretches.old }
+    ensures cover { IsCover stretches.new }
+    ensures same { HoldSame stretches.old stretches.new }
+{
+    let mut last = Stretch { start: 0, len: 0 };
+    for i in 0..stretches.len() {
+        last = lengthened(&last, &stretches[i]);
+        stretches[i] = last;
+    }
+}
+
+/// Ranges of addresses, by which is looked up whether one of some others, which may overlap, holds a range. That takes a number of steps that
+/// grows as the logarithm of their number.
 #[derive(Drop)]
 pub struct Cover {
     stretches: Vec<Stretch>,
-    reaches: Vec<u128>,
 }
 
 impl Model for Cover {
@@ -51,22 +63,21 @@ impl Model for Cover {
 
     ghost view = { λ cover. cover.stretches.items };
 
-    ghost invariant = { λ cover. IsCover cover.stretches.items cover.reaches.items };
+    ghost invariant = { λ cover. IsCover cover.stretches.items };
 }
 
 impl Cover {
-    ghost use Rattle.std.specs.Prelude.{◌≡◌, IfOk};
+    ghost use Rattle.std.specs.Prelude.{◌≡◌};
     ghost use Rattle.std.specs.List.{list_any};
-    ghost use Rattle.std.specs.List.Sorted.{IsPermutation};
-    ghost use Rattle.btr_space.specs.Cover.{is_held};
+    ghost use Rattle.btr_space.specs.Cover.{HoldSame, is_held};
 
-    /// The cover by these ranges, in whatever order they are. `Memory`: there is no memory for it.
-    pub fn new(alloc: Global, mut stretches: Vec<Stretch>) -> Result<Cover, Memory>
-        ensures { IfOk result (λ cover. IsPermutation stretches.items cover) }
+    /// The cover by these ranges, in whatever order they are.
+    pub fn new(mut stretches: Vec<Stretch>) -> Cover
+        ensures { HoldSame stretches.items result }
     {
         stretches.sort_unstable_by_key(|stretch| stretch.start);
-        let reaches = reaches(alloc, &stretches)?;
-        Ok(Cover { stretches, reaches })
+        lengthen(&mut stretches);
+        Cover { stretches }
     }
 
     /// Whether one of the ranges holds the one from `start` up to before `end`.
@@ -75,7 +86,10 @@ impl Cover {
     {
         let begun = self
             .stretches
-            .partition_point(|stretch| stretch.start <= start);
-        end < self.reaches[begun]
+            .partition_point(|stretch| u128::from(stretch.start) <= start);
+        if begun == 0 {
+            return false;
+        }
+        end <= end_of(&self.stretches[begun - 1])
     }
 }

@@ -1,34 +1,35 @@
 // Extents, block groups and chunks that don't agree.
 ghost use Rattle.std.specs.Prelude.{◌≡◌, ◌+◌, nat_le, OnOk, IfOk, map, filter_map, option_to_list};
-ghost use Rattle.std.specs.List.Sorted.{IsPermutation};
 ghost use Rattle.btr_refs.specs.Findings.{Adds};
+ghost use Rattle.btr_space.specs.Cover.{HoldSame};
 ghost use Rattle.btr_space.specs.Orders.{group_stretch};
 ghost use Rattle.btr_space.specs.Groups.{outside_group, neighbours, overlap, chunk_group, group_chunk, group_used, stated_in, total_used, group_findings};
 
 use crate::begins::{self, sum_within};
 use crate::chunks::spans_of;
-use crate::growing::push;
 use crate::keys::{group_spans, span_ranges};
 use crate::rows::{row, shown};
 use crate::span::{Range, Span};
 use crate::{Cover, Group, Stretch};
 use btr_base::Memory;
 use btr_chunk::ChunkTable;
-use btr_refs::{Extent, Finding, put_unless};
+use btr_refs::{Extent, Finding, push, put_unless, with_room};
 use std::alloc::Global;
 use std::collections::BTreeSet;
 
 // The ranges of block groups.
 fn cover_of(alloc: Global, groups: &[Group]) -> Result<Cover, Memory>
-    ensures { IfOk result (IsPermutation (map group_stretch groups.now)) }
+    ensures { IfOk result (HoldSame (map group_stretch groups.now)) }
 {
-    let mut stretches = Vec::new(alloc);
+    let mut stretches = with_room(alloc, groups.len())?;
     for group in groups {
-        let start = u128::from(group.start);
-        let end = start + u128::from(group.len);
-        push(&mut stretches, Stretch { start, end })?;
+        let stretch = Stretch {
+            start: group.start,
+            len: group.len,
+        };
+        push(&mut stretches, stretch)?;
     }
-    Cover::new(alloc, stretches)
+    Ok(Cover::new(stretches))
 }
 
 // 5: extents that lie in no block group.

@@ -27,8 +27,6 @@ mod laws;
 mod rows;
 mod span;
 mod stated_device;
-#[cfg(test)]
-mod tests;
 
 pub use cover::{Cover, Stretch};
 pub use device_extent::DeviceExtent;

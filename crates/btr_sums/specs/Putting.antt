@@ -1,12 +1,12 @@
 -- What calls put, by what they look up in.
 use Rattle.std.specs.Prelude.{ℕ, List, map, filter_map, Result, OnOk}
 use Rattle.std.specs.BTreeSet.{BTreeSet}
-use Rattle.std.specs.List.Sorted.{IsPermutation}
 use Rattle.btr_base.specs.declared.memory.Memory.{Memory}
 use Rattle.btr_items.specs.declared.sum_run.SumRun.{SumRun}
 use Rattle.btr_refs.specs.declared.extent.Extent.{Extent}
 use Rattle.btr_refs.specs.declared.finding.Finding.{Finding}
 use Rattle.btr_refs.specs.Findings.{Adds}
+use Rattle.btr_space.specs.Cover.{HoldSame}
 use Rattle.btr_space.specs.declared.cover.Stretch.{Stretch}
 use Rattle.btr_sums.specs.declared.used_range.UsedRange.{UsedRange}
 use Rattle.btr_sums.specs.Ranks.{Bounds, Inodes}
@@ -14,12 +14,12 @@ use Rattle.btr_sums.specs.Sums.{data_extents, extent_stretch, run_sectors, run_s
 
 -- by the ranges of addresses of runs, some findings were put
 abbrev pub PutsBySums : List Stretch → (List SumRun → List Finding) → BTreeSet Finding → BTreeSet Finding → Result (Unit {0}) Memory → Type 0
-PutsBySums sums findings old new result = (runs : List SumRun) → IsPermutation (map run_stretch runs) sums → OnOk result (Adds (findings runs) old new)
+PutsBySums sums findings old new result = (runs : List SumRun) → HoldSame (map run_stretch runs) sums → OnOk result (Adds (findings runs) old new)
 
 -- 12: by them and by the inodes whose data has no checksums, those of a range
 abbrev pub PutsMissing : ℕ → UsedRange → BTreeSet ℕ → List Stretch → BTreeSet Finding → BTreeSet Finding → Result (Unit {0}) Memory → Type 0
 PutsMissing tree range loose sums old new result =
-    (runs : List SumRun) → (inodes : List ℕ) → Inodes inodes loose → IsPermutation (map run_stretch runs) sums → OnOk result (Adds (range_missing runs tree inodes range) old new)
+    (runs : List SumRun) → (inodes : List ℕ) → Inodes inodes loose → HoldSame (map run_stretch runs) sums → OnOk result (Adds (range_missing runs tree inodes range) old new)
 
 -- 13: by where runs begin and end, those of a run
 abbrev pub PutsOverlaps : SumRun → List ℕ → List ℕ → BTreeSet Finding → BTreeSet Finding → Result (Unit {0}) Memory → Type 0
@@ -28,4 +28,4 @@ PutsOverlaps run starts ends old new result = (runs : List SumRun) → Bounds ru
 -- 14: by the ranges of addresses of data extents, those of a run
 abbrev pub PutsStrays : SumRun → List Stretch → BTreeSet Finding → BTreeSet Finding → Result (Unit {0}) Memory → Type 0
 PutsStrays run cover old new result =
-    (extents : List Extent) → IsPermutation (map extent_stretch (data_extents extents)) cover → OnOk result (Adds (filter_map (sum_stray extents) (run_sectors run)) old new)
+    (extents : List Extent) → HoldSame (map extent_stretch (data_extents extents)) cover → OnOk result (Adds (filter_map (sum_stray extents) (run_sectors run)) old new)

@@ -62,10 +62,10 @@ sum_findings runs extents = filter_map (sum_overlap runs) (summed runs) ++ filte
 
 -- the ranges of addresses of runs and of extents
 abbrev pub run_stretch : SumRun → Stretch
-run_stretch run = record { start = run.start; end = run.start + run.count * 4096 }
+run_stretch run = record { start = run.start; len = run.count * 4096 }
 
 abbrev pub extent_stretch : Extent → Stretch
-extent_stretch extent = record { start = extent.addr; end = extent.addr + extent.len }
+extent_stretch extent = record { start = extent.addr; len = extent.len }
 
 abbrev pub data_extents : List Extent → List Extent
 data_extents extents = filter (λ (extent : Extent). is_data extent.flags) extents

@@ -10,7 +10,6 @@
 //! The definitions are in `specs/`: `Items` reads the items, `Sums` has the kinds 12 to 14, and `Ranks` says what look-ups go by.
 #![tactic(auto)]
 
-mod growing;
 mod items;
 mod laws;
 mod missing;
@@ -19,8 +18,6 @@ mod rows;
 mod runs_met;
 mod strays;
 mod sums;
-#[cfg(test)]
-mod tests;
 mod used_range;
 mod uses_met;
 

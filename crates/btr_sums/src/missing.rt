@@ -1,31 +1,35 @@
 // Sectors that files use and that have no checksum.
 ghost use Rattle.std.specs.Prelude.{IfOk, map};
-ghost use Rattle.std.specs.List.Sorted.{IsPermutation};
+ghost use Rattle.btr_space.specs.Cover.{HoldSame};
 ghost use Rattle.btr_sums.specs.Putting.{PutsBySums, PutsMissing};
 ghost use Rattle.btr_sums.specs.Sums.{run_stretch, tree_missing, used_missing};
 ghost use Rattle.btr_sums.specs.Ranks.{Inodes};
 
 use crate::UsedRange;
-use crate::growing::push;
 use crate::rows::{row, shown};
 use btr_base::Memory;
 use btr_items::SumRun;
-use btr_refs::{Finding, put_unless};
+use btr_refs::{Finding, push, put_unless, with_room};
 use btr_space::{Cover, Stretch};
 use std::alloc::Global;
 use std::collections::BTreeSet;
 
-/// The ranges of addresses that have checksums.
+/// The ranges of addresses that have checksums. `Memory`: there is no memory for them, or a run has 2^64 bytes or more, which no item says.
 pub fn sum_cover(alloc: Global, runs: &[SumRun]) -> Result<Cover, Memory>
-    ensures { IfOk result (IsPermutation (map run_stretch runs.now)) }
+    ensures { IfOk result (HoldSame (map run_stretch runs.now)) }
 {
-    let mut stretches = Vec::new(alloc);
+    let mut stretches = with_room(alloc, runs.len())?;
     for run in runs {
-        let start = u128::from(run.start);
-        let end = start + u128::from(run.count) * 4096;
-        push(&mut stretches, Stretch { start, end })?;
+        let Some(len) = run.count.checked_mul(4096) else {
+            return Err(Memory);
+        };
+        let stretch = Stretch {
+            start: run.start,
+            len,
+        };
+        push(&mut stretches, stretch)?;
     }
-    Cover::new(alloc, stretches)
+    Ok(Cover::new(stretches))
 }
 
 // 12: the sectors of a range that have no checksum.

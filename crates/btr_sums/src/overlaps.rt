@@ -6,11 +6,10 @@ ghost use Rattle.btr_sums.specs.Putting.{PutsOverlaps};
 ghost use Rattle.btr_sums.specs.Ranks.{IsSortedOf, rank, run_start, run_end};
 ghost use Rattle.btr_sums.specs.Sums.{sum_overlap, summed};
 
-use crate::growing::{push, with_room};
 use crate::rows::{row, shown};
 use btr_base::Memory;
 use btr_items::SumRun;
-use btr_refs::{Finding, put_unless};
+use btr_refs::{Finding, push, put_unless, with_room};
 use std::alloc::Global;
 use std::collections::BTreeSet;
 

@@ -1,32 +1,33 @@
 // Sectors that have a checksum and lie in no data extent.
 ghost use Rattle.std.specs.Prelude.{IfOk, OnOk, map, filter_map};
-ghost use Rattle.std.specs.List.Sorted.{IsPermutation};
 ghost use Rattle.btr_refs.specs.Findings.{Adds};
+ghost use Rattle.btr_space.specs.Cover.{HoldSame};
 ghost use Rattle.btr_sums.specs.Putting.{PutsStrays};
 ghost use Rattle.btr_sums.specs.Sums.{data_extents, extent_stretch, sum_stray, summed};
 
-use crate::growing::{push, with_room};
 use crate::rows::{row, shown};
 use btr_base::Memory;
 use btr_items::{ExtentItem, SumRun};
-use btr_refs::{Extent, Finding, put_unless};
+use btr_refs::{Extent, Finding, push, put_unless, with_room};
 use btr_space::{Cover, Stretch};
 use std::alloc::Global;
 use std::collections::BTreeSet;
 
 // The ranges of addresses of data extents.
 fn data_cover(alloc: Global, extents: &[Extent]) -> Result<Cover, Memory>
-    ensures { IfOk result (IsPermutation (map extent_stretch (data_extents extents.now))) }
+    ensures { IfOk result (HoldSame (map extent_stretch (data_extents extents.now))) }
 {
     let mut stretches = with_room(alloc, extents.len())?;
     for extent in extents {
         if extent.flags & ExtentItem::DATA != 0 {
-            let start = u128::from(extent.addr);
-            let end = start + u128::from(extent.len);
-            push(&mut stretches, Stretch { start, end })?;
+            let stretch = Stretch {
+                start: extent.addr,
+                len: extent.len,
+            };
+            push(&mut stretches, stretch)?;
         }
     }
-    Cover::new(alloc, stretches)
+    Ok(Cover::new(stretches))
 }
 
 // 14: the sectors of a run that lie in no data extent.

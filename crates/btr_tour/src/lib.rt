@@ -20,8 +20,6 @@ mod path;
 mod place;
 mod scope;
 mod step;
-#[cfg(test)]
-mod tests;
 mod tour;
 mod visiting;
 mod visitor;

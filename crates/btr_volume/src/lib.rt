@@ -12,8 +12,6 @@ mod root;
 mod stop;
 mod supers;
 mod table;
-#[cfg(test)]
-mod tests;
 mod tree;
 mod volume;
 mod which;

@@ -1,5 +1,5 @@
 -- What a fetch says of a block that was read.
-use Rattle.std.proofs.Common.{◌≡◌, ℕ, List, true, false, Option, Some, None, IfSome, IsSome, IsSomeAnd, ◌≤◌, All, Any, length, Result, Ok, IsErrAnd, Err, refl, sym, ap, ◌∙◌, subst, arith}
+use Rattle.std.proofs.Common.{◌≡◌, ℕ, List, Bool, true, false, Option, Some, None, IfSome, IsSome, IsSomeAnd, ◌≤◌, All, Any, length, Result, Ok, IsErrAnd, Err, refl, sym, ap, ◌∙◌, subst, arith}
 use Rattle.std.specs.Option.{is_some}
 use Rattle.btr_rack.specs.Rack.{Seen, OnlyReads}
 use Rattle.btr_read.specs.Fate.{Lost, Unmapped, Crosses, passing, fate, sought}
@@ -30,11 +30,15 @@ none_is : (o : Option Node) → is_some o ≡ false → o ≡ None
 none_is (Some x) e = cc
 none_is None e = refl
 
-pub is_good : (level : ℕ) (spot : Spot) (store : Blocks) (loan : Lent) (block : List ℕ) → block_of store loan ≡ Some block → is_some (judged level spot block) ≡ true → IsGoodFor level spot store loan
-is_good level spot store loan block is e = some_block store loan block (λ b. IsSome (judged level spot b)) is (some_is (judged level spot block) e)
+-- a block that was judged is a good one that fits its spot
+pub good_block : (level : ℕ) (spot : Spot) (o : Option (List ℕ)) (r : Bool) → IsSomeAnd o (λ block. r ≡ is_some (judged level spot block)) → r ≡ true → IsSomeAnd o (λ block. IsSome (judged level spot block))
+good_block level spot (Some block) r h e = some_is (judged level spot block) (sym h ∙ e)
+good_block level spot None r h e = absurd h
 
-pub is_bad : (level : ℕ) (spot : Spot) (block : List ℕ) → is_some (judged level spot block) ≡ false → judged level spot block ≡ None
-is_bad level spot block e = none_is (judged level spot block) e
+-- .. or it isn't
+pub bad_block : (B : Map) (level : ℕ) (spot : Spot) (o : Option (List ℕ)) (r : Bool) → IsSomeAnd o (λ block. B (want_of level spot) ≡ Ok block) → IsSomeAnd o (λ block. r ≡ is_some (judged level spot block)) → r ≡ false → (block : List ℕ) × (B (want_of level spot) ≡ Ok block) × (judged level spot block ≡ None)
+bad_block B level spot (Some block) r came h e = (block, came, none_is (judged level spot block) (sym h ∙ e))
+bad_block B level spot None r came h e = absurd came
 
 -- a cause stays one of calls that began earlier
 pub unread_since : (layout : Layout) {a b c : Seen} (u : UnreadBlock) (want : Want) → OnlyReads a b → unread_by layout b c u want → unread_by layout a c u want

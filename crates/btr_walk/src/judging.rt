@@ -1,11 +1,14 @@
 // Whether a block fits its place.
-ghost use Rattle.std.specs.Prelude.{◌≡◌, ◌≤◌, length};
+ghost use Rattle.std.specs.Prelude.{◌≡◌, ◌≤◌, length, IsSome, IsSomeAnd};
 ghost use Rattle.std.specs.Option.{is_some};
+ghost use Rattle.btr_node.specs.Node.{node_of};
+ghost use Rattle.btr_read.specs.Store.{IsLiveIn, block_of};
 ghost use Rattle.btr_walk.specs.Spot.{fits_ends, is_below, judged, spans};
 
 use crate::spot::Spot;
 use btr_base::Key;
 use btr_node::Node;
+use btr_read::{Loan, Store};
 
 impl Spot {
     // Whether the block may have a key from this one on.
@@ -41,23 +44,33 @@ impl Spot {
     }
 }
 
-/// Whether a block is a good one that fits a spot of this level.
-pub(crate) fn is_judged(block: &[u8], level: u8, spot: &Spot) -> bool
-    requires { 101 ≤ length block.now }
+// Whether a good node fits a spot of this level.
+fn is_fitting(block: &[u8], level: u8, spot: &Spot) -> bool
+    requires header { 101 ≤ length block.now }
+    requires good { IsSome (node_of block.now) }
     ensures { result ≡ is_some (judged level spot.now block.now) }
 {
     if btr_node::level(block) != level {
         return false;
     }
-    match Node::view(block) {
-        Err(_) => false,
-        Ok(Node::Leaf(leaf)) => {
+    match Node::of(block) {
+        Node::Leaf(leaf) => {
             let count = leaf.count();
             if count == 0 {
                 return spot.first.is_none();
             }
             spot.fits_ends(leaf.key(0), leaf.key(count - 1))
         }
-        Ok(Node::Inner(inner)) => spot.fits_ends(inner.key(0), inner.key(inner.count() - 1)),
+        Node::Inner(inner) => spot.fits_ends(inner.key(0), inner.key(inner.count() - 1)),
     }
+}
+
+/// Whether the block of a loan is a good one that fits a spot of this level.
+pub(crate) fn is_judged(loan: &Loan, level: u8, spot: &Spot, store: &mut Store) -> bool
+    requires live { IsLiveIn store.old loan.now }
+    requires header { 101 ≤ loan.now.len }
+    ensures same { store.new ≡ store.old }
+    ensures judged { IsSomeAnd (block_of store.old loan.now) (λ block. result ≡ is_some (judged level spot.now block)) }
+{
+    store.has_node(loan) && is_fitting(store.bytes(loan), level, spot)
 }

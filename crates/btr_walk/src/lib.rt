@@ -33,8 +33,6 @@ mod rest;
 mod scan;
 mod scan_place;
 mod spot;
-#[cfg(test)]
-mod tests;
 
 pub use block_scan::{BlockScan, next_block};
 pub use fault::TreeFault;

@@ -39,7 +39,7 @@ pub fn read_block<R: Rack>(
         level,
     };
     let loan = fetch(&want, rack, store)?;
-    if is_judged(store.bytes(&loan), level, spot) {
+    if is_judged(&loan, level, spot, store) {
         Ok(loan)
     } else {
         store.give(loan);

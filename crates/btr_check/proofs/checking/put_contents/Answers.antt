@@ -1,7 +1,7 @@
 use Rattle.std.proofs.Common.{◌≡◌, true, ◌++◌, map, refl, ◌∙◌, subst}
-use Rattle.std.specs.List.Sorted.{IsPermutation}
 use Rattle.btr_refs.proofs.Adding.{adds_then}
 use Rattle.btr_refs.specs.Findings.{Adds}
+use Rattle.btr_space.specs.Cover.{HoldSame}
 use Rattle.btr_sums.specs.Sums.{run_stretch}
 use Rattle.btr_volume.specs.declared.stop.Stop.TheVariants.{Memory as NoMemory}
 use Rattle.btr_check.specs.Families.{IsCoverOf, IsRunsOf, found_on_files}
@@ -44,5 +44,5 @@ returns-in-Ok-sum_cover g c =
           (Puts (λ fs. Lists c.args.listed.now fs × IsRunsOf fs c.args.runs) (λ fs. data_if c.args.read_data fs ++ found_on_files fs) one three c.put_files.result) x y z tt c.put_files.result c.in-Ok.ensures.ran c.put_files.ensures.ran
           (λ B p q known. unless_more (λ u. Adds (found_on_files (filesystem c.args.vol.now B)) two three) (λ u. Adds (data_if c.args.read_data (filesystem c.args.vol.now B) ++ found_on_files (filesystem c.args.vol.now B)) one three) c.put_files.result
           (λ u h. adds_then (data_if c.args.read_data (filesystem c.args.vol.now B)) (found_on_files (filesystem c.args.vol.now B)) one two three (p known) h)
-          (q (known.0, subst (λ l. IsPermutation (map run_stretch l) sums) (c.as_slice.ensures ∙ known.1) c.in-Ok-sum_cover.ensures)));
+          (q (known.0, subst (λ l. HoldSame (map run_stretch l) sums) (c.as_slice.ensures ∙ known.1) c.in-Ok-sum_cover.ensures)));
     }

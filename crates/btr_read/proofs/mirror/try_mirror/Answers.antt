@@ -12,6 +12,7 @@ use Rattle.btr_read.proofs.Loans.{blocks, loan_taken, loans_back}
 use Rattle.btr_read.proofs.ReadsOn.{same_slots, same_held}
 use Rattle.btr_read.proofs.Fates.{located, sought_of, len_fits, lent_by, tried_passes}
 use Rattle.btr_read.proofs.Serving.{still_more, still_same, still_written, still_taken, forgotten_at, serving, serves_still}
+use Rattle.btr_read.proofs.Nodes.{nodes_with, sound_still, store_freed, written_sound}
 use Rattle.btr_read.proofs.mirror.try_mirror.Goals as goal
 use Rattle.btr_read.proofs.mirror.try_mirror.Goals.{in-Differs, in-Absent, in-Failed}
 
@@ -45,8 +46,8 @@ try_part-requires-clause-fits g c =
     let is = sought_of layout want t seeks in
     let setting = ap (λ s. s.nodesize) (is.setting_is ∙ sym (ap (λ s. s.layout.setting) c.store.view_is)) in
     let size = ap (λ p. p.size) c.take_least-slot.ensures.lent in
-    let fits = len_fits t.setting t.want (omega (arith, setting, c.store.invariant.large)) in
-    omega (arith, fits, setting, size, c.store.invariant.size)
+    let fits = len_fits t.setting t.want (omega (arith, setting, c.store.invariant.store.large)) in
+    omega (arith, fits, setting, size, c.store.invariant.store.size)
 
 pub returns-in-Passed-clause-serves : goal.returns-in-Passed-clause-serves
 returns-in-Passed-clause-serves g c =
@@ -82,7 +83,7 @@ returns-in-Passed-clause-lent g c =
     let writes = subst (λ p. OnlyWrites k p p3) lent (only_writes p2 p3 k c.in-Passed.ensures.kept) in
     let is = sought_of layout want t seeks in
     let len = c.size-len.ensures.value ∙ ap (λ z. len_of z t.want) (is.setting_is ∙ sym (ap (λ z. z.layout.setting) c.store.view_is)) ∙ ap (len_of s.setting) is.want_is in
-    lent_by s.chunks s.devices.items s.setting p0 p3 (kept_in s.setting w0 p0.bytes) (kept_in s.setting w2 p3.bytes) k c.size-len.result c.args.store.now want c.store.invariant c.store.view_is free writes len
+    lent_by s.chunks s.devices.items s.setting p0 p3 (kept_in s.setting w0 p0.bytes) (kept_in s.setting w2 p3.bytes) k c.size-len.result c.args.store.now want c.store.invariant.store c.store.view_is free writes len
 
 pub returns-in-Passed-clause-answer : goal.returns-in-Passed-clause-answer
 returns-in-Passed-clause-answer g c =
@@ -101,7 +102,7 @@ returns-in-Passed-clause-answer g c =
     let free = c.take_least-slot.ensures.free in
     let writes = subst (λ p. OnlyWrites k p p3) lent (only_writes p2 p3 k c.in-Passed.ensures.kept) in
     let slot = bytes_at p3 k in
-    let there = ap (option_map (take c.size-len.result)) (loan_taken p0 p3 k c.store.invariant.whole free writes) in
+    let there = ap (option_map (take c.size-len.result)) (loan_taken p0 p3 k c.store.invariant.store.whole free writes) in
     let block = there ∙ ap (λ n. Some (take n slot)) c.size-len.ensures.value in
     let store = blocks s.chunks s.devices.items s.setting (loans_of p3) (kept_in s.setting w2 p3.bytes) in
     tried_passes _ t (mirror_candidate c.args.mirror) (g.R.Rack.seen c.args.rack.now).held store (record { slot = k; len = c.size-len.result }) slot seeks c.in-Passed.ensures.attempt block
@@ -121,7 +122,7 @@ returns-clause-lent g c =
     let p4 = c.give.new.self in
     let back : SameLoans c.args.store.now (blocks s.chunks s.devices.items s.setting (loans_of p4) (kept_in s.setting w2 p4.bytes)) = record {
       layout = ap (λ z. z.layout) c.store.view_is;
-      loans = ap loans_of c.give.ensures ∙ loans_back p0 p3 k c.store.invariant.whole free writes ∙ ap (λ z. z.loans) c.store.view_is;
+      loans = ap loans_of c.give.ensures ∙ loans_back p0 p3 k c.store.invariant.store.whole free writes ∙ ap (λ z. z.loans) c.store.view_is;
     } in
     let lends = LendsTried c.args.want.now c.args.store.now (blocks s.chunks s.devices.items s.setting (loans_of p4) (kept_in s.setting w2 p4.bytes)) in
     elim c.match-try_part.branch [
@@ -147,3 +148,32 @@ returns-clause-serves g c =
     let p4 = c.give.new.self in
     let back = still_more w0 w2 w2 p0 p3 p4 still (still_same w2 p3 p4 (ap (λ p. p.bytes) c.give.ensures)) in
     serves_still s.chunks s.devices.items s.setting w0 w2 p0 p4 (g.R.Rack.seen c.args.rack.now) (g.R.Rack.seen c.try_part.new.rack) c.args.store.now c.store.view_is (same_slots c.try_part.ensures.reads) (same_held c.try_part.ensures.reads) back c.requires.serves (loans_of p4)
+
+pub invariant_of-store : goal.invariant_of-store
+invariant_of-store g c =
+    let s = c.store.inside in
+    let p0 = s.pool in
+    let w0 = s.kept.wants in
+    let k = c.take_least-slot.result in
+    let p2 = c.take_least-slot.new.pool in
+    let w2 = c.take_least-slot.new.kept.wants in
+    let p3 = c.try_part.new.pool in
+    let taken = c.take_least-slot.ensures in
+    let still = still_taken w0 w0 w2 w2 p0 p0 p2 p3 k refl refl taken.lent taken.forgotten (still_written w2 k p2 p3 (ap (λ w. get_or w k None) taken.forgotten ∙ forgotten_at w0 k) c.try_part.ensures.kept) in
+    written_sound p0 p2 p3 w0 w2 s.kept.nodes c.take_least-slot.new.kept.nodes s.setting k taken.lent (only_writes p2 p3 k c.try_part.ensures.kept) still taken.nodes c.store.invariant
+
+pub invariant_of-store-2 : goal.invariant_of-store-2
+invariant_of-store-2 g c =
+    let s = c.store.inside in
+    let p0 = s.pool in
+    let w0 = s.kept.wants in
+    let n2 = c.take_least-slot.new.kept.nodes in
+    let k = c.take_least-slot.result in
+    let p2 = c.take_least-slot.new.pool in
+    let w2 = c.take_least-slot.new.kept.wants in
+    let p3 = c.try_part.new.pool in
+    let p4 = c.give.new.self in
+    let taken = c.take_least-slot.ensures in
+    let still = still_taken w0 w0 w2 w2 p0 p0 p2 p3 k refl refl taken.lent taken.forgotten (still_written w2 k p2 p3 (ap (λ w. get_or w k None) taken.forgotten ∙ forgotten_at w0 k) c.try_part.ensures.kept) in
+    let written = written_sound p0 p2 p3 w0 w2 s.kept.nodes n2 s.setting k taken.lent (only_writes p2 p3 k c.try_part.ensures.kept) still taken.nodes c.store.invariant in
+    sound_still w2 w2 n2 n2 p3 p4 s.setting (store_freed p3 p4 s.setting k c.give.ensures written.store) (nodes_with w2 w2 n2 n2 p3 p4 (still_same w2 p3 p4 (ap (λ p. p.bytes) c.give.ensures)) refl) written

@@ -1,4 +1,4 @@
-use Rattle.std.proofs.Common.{◌≡◌, ℕ, ◌<◌, ◌≤◌, List, length, false, take, not, count_by, subst, sym, ap, ◌∙◌, arith}
+use Rattle.std.proofs.Common.{◌≡◌, ℕ, ◌<◌, ◌≤◌, List, length, false, take, not, count_by, refl, subst, sym, ap, ◌∙◌, arith}
 use Rattle.btr_pool.specs.Slots.{bytes_at}
 use Rattle.btr_read.specs.Want.{passes}
 use Rattle.btr_read.specs.Attempt.{FitsOutcome}
@@ -28,6 +28,7 @@ loop-k-init g c = record {
   reads = reads_none (g.R.Rack.seen c.args.rack.now);
   writes = only_writes_none c.args.pool.now c.args.loan.now;
   still = still_none c.args.kept.now.wants c.args.pool.now;
+  nodes = refl;
   tried = λ before is h. h;
 }
 
@@ -39,6 +40,9 @@ returns-in-Passed-clause-reads g c = reads_more c.loop-k.invariant.reads c.in-Pa
 
 pub returns-in-Passed-clause-kept : goal.returns-in-Passed-clause-kept
 returns-in-Passed-clause-kept g c = still_more c.args.kept.now.wants c.loop-k.kept.wants c.try_candidate.new.kept.wants c.args.pool.now c.loop-k.pool c.try_candidate.new.pool c.loop-k.invariant.still c.in-Passed.ensures.kept
+
+pub returns-in-Passed-clause-nodes : goal.returns-in-Passed-clause-nodes
+returns-in-Passed-clause-nodes g c = c.in-Passed.ensures.nodes ∙ c.loop-k.invariant.nodes
 
 pub returns-in-Passed-clause-outcome : goal.returns-in-Passed-clause-outcome
 returns-in-Passed-clause-outcome g c = λ before is h.
@@ -68,6 +72,7 @@ loop-k-preserved g c =
             reads = reads_more inv.reads e.reads;
             writes = only_writes_more c.args.pool.now c.loop-k.pool c.try_candidate.new.pool c.args.loan.now inv.writes e.pool;
             still = still_more c.args.kept.now.wants c.loop-k.kept.wants c.try_candidate.new.kept.wants c.args.pool.now c.loop-k.pool c.try_candidate.new.pool inv.still e.kept;
+            nodes = e.nodes ∙ inv.nodes;
             tried = λ before is h. rw w.failed-is (tried_calm t before now after c.loop-k.failed c.loop-k.k cand (inv.tried before is h) c.candidate.ensures.value lt e.account (λ images im. differs_alone images t cand (value_of images t cand) (reading_stands images t cand e.attempt.0) (telling now.held (λ images. passes t.setting t.want (value_of images t cand) ≡ false) e.attempt.1 images (same_held inv.reads ∙ is.held ∙ im))));
           }
       | in-Absent w ↦
@@ -76,6 +81,7 @@ loop-k-preserved g c =
             reads = reads_more inv.reads e.reads;
             writes = only_writes_more c.args.pool.now c.loop-k.pool c.try_candidate.new.pool c.args.loan.now inv.writes e.pool;
             still = still_more c.args.kept.now.wants c.loop-k.kept.wants c.try_candidate.new.kept.wants c.args.pool.now c.loop-k.pool c.try_candidate.new.pool inv.still e.kept;
+            nodes = e.nodes ∙ inv.nodes;
             tried = λ before is h. rw w.failed-is (tried_calm t before now after c.loop-k.failed c.loop-k.k cand (inv.tried before is h) c.candidate.ensures.value lt e.account (λ images im. absent_alone images t cand (reading_absent images t cand e.attempt)));
           }
       | in-Failed w ↦
@@ -84,6 +90,7 @@ loop-k-preserved g c =
             reads = reads_more inv.reads e.reads;
             writes = only_writes_more c.args.pool.now c.loop-k.pool c.try_candidate.new.pool c.args.loan.now inv.writes e.pool;
             still = still_more c.args.kept.now.wants c.loop-k.kept.wants c.try_candidate.new.kept.wants c.args.pool.now c.loop-k.pool c.try_candidate.new.pool inv.still e.kept;
+            nodes = e.nodes ∙ inv.nodes;
             tried = λ before is h. rw w.failed-is (tried_failed t before now after c.loop-k.failed c.loop-k.k _ cand (inv.tried before is h) c.candidate.ensures.value lt (omega (arith, c.loop-k-test.true, c.candidate_count-k-end.type_inv)) (same_sure inv.reads ∙ is.sure) e.attempt e.account);
           }
     ]

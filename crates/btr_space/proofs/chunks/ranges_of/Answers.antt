@@ -5,7 +5,7 @@ use Rattle.btr_space.proofs.chunks.ranges_of.Goals as goal
 
 pub loop-chunk-init : goal.loop-chunk-init
 loop-chunk-init c =
-    ap (λ l. l ++ words.ranges_of (left_from 0 c.args.chunks.now)) c.in-Ok.ensures.items
+    ap (λ l. l ++ words.ranges_of (left_from 0 c.args.chunks.now)) c.in_ok-ranges.ensures
     ∙ met_none words.ranges_of words.chunk_ranges (λ chunk chunks. refl) c.args.chunks.now
 
 pub loop-chunk-smaller : goal.loop-chunk-smaller
@@ -19,4 +19,4 @@ loop-chunk-preserved c =
     ∙ met_more words.ranges_of words.chunk_ranges (λ chunk chunks. refl) chunks c.loop-chunk.from chunk c.loop-chunk.ranges.items (words.ranges_of chunks) c.count.ensures.table (sym c.in-Some.ensures.chunk) c.loop-chunk.invariant
 
 pub returns : goal.returns
-returns c = met_all words.ranges_of words.chunk_ranges (λ chunk chunks. refl) c.args.chunks.now c.loop-chunk.from c.loop-chunk.ranges.items (words.ranges_of c.args.chunks.now) refl (sym c.in_default-next.ensures.chunk) c.loop-chunk.invariant
+returns c = met_all words.ranges_of words.chunk_ranges (λ chunk chunks. refl) c.args.chunks.now c.loop-chunk.from c.loop-chunk.ranges.items (words.ranges_of c.args.chunks.now) refl (sym c.in_default.ensures.chunk) c.loop-chunk.invariant

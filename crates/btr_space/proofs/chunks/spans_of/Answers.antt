@@ -5,7 +5,7 @@ use Rattle.btr_space.proofs.chunks.spans_of.Goals as goal
 
 pub loop-chunk-init : goal.loop-chunk-init
 loop-chunk-init c =
-    ap (λ l. l ++ map chunk_span (left_from 0 c.args.chunks.now)) c.in-Ok.ensures.items
+    ap (λ l. l ++ map chunk_span (left_from 0 c.args.chunks.now)) c.in_ok-spans.ensures
     ∙ met_none (map chunk_span) (λ chunk. chunk_span chunk ∷ []) (λ chunk chunks. refl) c.args.chunks.now
 
 pub loop-chunk-smaller : goal.loop-chunk-smaller
@@ -19,4 +19,4 @@ loop-chunk-preserved c =
     ∙ met_more (map chunk_span) (λ chunk. chunk_span chunk ∷ []) (λ chunk chunks. refl) chunks c.loop-chunk.from chunk c.loop-chunk.spans.items (map chunk_span chunks) c.count.ensures.table (sym c.in-Some.ensures.chunk) c.loop-chunk.invariant
 
 pub returns : goal.returns
-returns c = met_all (map chunk_span) (λ chunk. chunk_span chunk ∷ []) (λ chunk chunks. refl) c.args.chunks.now c.loop-chunk.from c.loop-chunk.spans.items (map chunk_span c.args.chunks.now) refl (sym c.in_default-next.ensures.chunk) c.loop-chunk.invariant
+returns c = met_all (map chunk_span) (λ chunk. chunk_span chunk ∷ []) (λ chunk chunks. refl) c.args.chunks.now c.loop-chunk.from c.loop-chunk.spans.items (map chunk_span c.args.chunks.now) refl (sym c.in_default.ensures.chunk) c.loop-chunk.invariant

@@ -1,5 +1,4 @@
-use Rattle.std.proofs.Common.{◌≡◌, ◌+◌, ◌∷◌, [], map, get_or, None, sym, ap, ◌∙◌, arith}
-use Rattle.std.proofs.lemmas.List.Sorted.{list_any-IsPermutation}
+use Rattle.std.proofs.Common.{◌≡◌, ◌+◌, ◌∷◌, [], get_or, None, ap, ◌∙◌, arith}
 use Rattle.std.specs.List.{list_any}
 use Rattle.btr_refs.specs.Findings.{unless, found}
 use Rattle.btr_refs.specs.declared.extent.Extent.{Extent}
@@ -26,7 +25,7 @@ loop-extent-preserved c =
     c.holds-is_kept.ensures
     ∙ ap (λ n. list_any (is_held n (c.from-start.result + c.from.result)) cover) start
     ∙ ap (λ n. list_any (is_held extent.addr n) cover) end
-    ∙ sym (list_any-IsPermutation (is_held extent.addr (extent.addr + extent.len)) (map group_stretch groups) cover c.in_ok-cover.ensures)
+    ∙ c.in_ok-cover.ensures extent.addr (extent.addr + extent.len)
     ∙ any_map (is_held extent.addr (extent.addr + extent.len)) group_stretch groups in
     adds_row (outside_group groups) extents i nothing c.args.found.now c.loop-extent.found c.put_unless.new.found (unless c.holds-is_kept.result c.row.result) c.loop-extent-test.true
     (unless_same c.holds-is_kept.result (list_any (lies_in extent) groups) c.row.result (found 5 (extent.addr ∷ extent.len ∷ [])) tests c.row.ensures)

@@ -1,10 +1,11 @@
-use Rattle.std.proofs.Common.{◌≡◌, Err, Ok, refl, sym, ◌∙◌, subst}
+use Rattle.std.proofs.Common.{◌≡◌, None, Err, Ok, refl, sym, ap, ◌∙◌, subst}
 use Rattle.btr_read.specs.Fetch.{FitsFetch, AnswersOf, CallsFetch}
 use Rattle.btr_walk.specs.declared.fault.TreeFault.TheVariants as tree
 use Rattle.btr_walk.specs.Le.{want_of}
-use Rattle.btr_walk.specs.Reading.{Tells, Reads, HasCause, unread_by, tree_fault}
-use Rattle.btr_walk.proofs.Fetched.{is_bad, reads_err, cause_err, by_fault}
-use Rattle.btr_walk.proofs.Joined.{drawn, block_is}
+use Rattle.btr_walk.specs.Reading.{Tells, TellsOf, Reads, HasCause, unread_by, tree_fault}
+use Rattle.btr_read.specs.Store.{Blocks, block_of, with_loan}
+use Rattle.btr_walk.proofs.Fetched.{bad_block, reads_err, cause_err, by_fault}
+use Rattle.btr_walk.proofs.Joined.{drawn}
 use Rattle.btr_walk.proofs.Lending.{given_back, served_back}
 use Rattle.btr_walk.proofs.reading.read_block.Goals as goal
 
@@ -32,18 +33,22 @@ returns-in_err-loan-clause-cause g c =
     (cause_err layout old new c.args.level c.args.spot.now c.fetch.new.store fault (subst (FitsFetch layout want old new c.fetch.new.store) (c.in_err-loan.was {u = tt}) c.fetch.ensures.answer))
 
 pub returns-else-is_judged-clause-serves : goal.returns-else-is_judged-clause-serves
-returns-else-is_judged-clause-serves g c = served_back (g.R.Rack.seen c.fetch.new.rack) c.fetch.new.store c.give.new.self c.in_ok-loan.loan c.in_ok-loan.ensures.serves c.give.ensures
+returns-else-is_judged-clause-serves g c = served_back (g.R.Rack.seen c.fetch.new.rack) c.fetch.new.store c.give.new.self c.in_ok-loan.loan c.in_ok-loan.ensures.serves (c.give.ensures ∙ ap (λ s. with_loan s c.in_ok-loan.loan.slot None) c.is_judged.ensures.same)
 
 pub returns-then-is_judged-clause-content : goal.returns-then-is_judged-clause-content
-returns-then-is_judged-clause-content g c = record { calls = c.in_ok-loan.ensures.calls tt }
+returns-then-is_judged-clause-content g c =
+    let old = g.R.Rack.seen c.args.rack.now in
+    let new = g.R.Rack.seen c.fetch.new.rack in
+    let told : TellsOf c.args.store.now old new (λ Is B. Reads Is B c.args.level c.args.spot.now c.fetch.new.store (Ok c.in_ok-loan.loan)) = record { calls = c.in_ok-loan.ensures.calls tt } in
+    subst (λ (s : Blocks). TellsOf c.args.store.now old new (λ Is B. Reads Is B c.args.level c.args.spot.now s (Ok c.in_ok-loan.loan))) (sym c.is_judged.ensures.same) told
 
 pub returns-else-is_judged-clause-refused : goal.returns-else-is_judged-clause-refused
-returns-else-is_judged-clause-refused g c = given_back _ _ _ _ c.in_ok-loan.loan c.in_ok-loan.ensures.lent c.give.ensures
+returns-else-is_judged-clause-refused g c = given_back _ _ _ _ c.in_ok-loan.loan c.in_ok-loan.ensures.lent (c.give.ensures ∙ ap (λ s. with_loan s c.in_ok-loan.loan.slot None) c.is_judged.ensures.same)
 
 pub returns-else-is_judged-clause-content : goal.returns-else-is_judged-clause-content
 returns-else-is_judged-clause-content g c =
     let want = want_of c.args.level c.args.spot.now in
     let is = unread_by c.args.store.now.layout (g.R.Rack.seen c.args.rack.now) (g.R.Rack.seen c.fetch.new.rack) in
     drawn c.args.store.now.layout (AnswersOf want c.fetch.new.store (Ok c.in_ok-loan.loan)) (λ B. Reads is B c.args.level c.args.spot.now c.give.new.self (Err (tree.Malformed c.args.spot.now.addr)))
-    (λ B came. (refl, (c.bytes.result.now, block_is c.fetch.new.store c.in_ok-loan.loan c.bytes.result.now (λ block. B want ≡ Ok block) c.bytes.ensures.value came, is_bad c.args.level c.args.spot.now c.bytes.result.now (sym c.is_judged.ensures ∙ c.if-is_judged.false))))
+    (λ B came. (refl, bad_block B c.args.level c.args.spot.now (block_of c.fetch.new.store c.in_ok-loan.loan) c.is_judged.result came c.is_judged.ensures.judged c.if-is_judged.false))
     (record { calls = c.in_ok-loan.ensures.calls tt })

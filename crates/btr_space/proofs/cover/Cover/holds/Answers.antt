@@ -1,29 +1,51 @@
-use Rattle.std.proofs.Common.{◌≡◌, ◌<◌, ◌≤◌, length, take, leb, ltb, subst, sym, ap, ◌∙◌, arith, rules}
+use Rattle.std.proofs.Common.{◌≡◌, ◌≢◌, ℕ, ◌-◌, ◌<◌, ◌≤◌, Bool, ◌&&◌, true, false, List, length, get_or, leb, ltb, sym, ap, subst, ◌∙◌, arith, rules}
+use Rattle.std.proofs.lemmas.Bool.Decides.{nat_tests}
 use Rattle.std.proofs.lemmas.List.Sorted.{IsPartitionPoint-from_clause, IsPartitionedBy-leb}
 use Rattle.std.specs.List.{list_any}
-use Rattle.std.specs.List.Sorted.{IsNonDecreasingBy}
-use Rattle.btr_space.specs.Cover.{reach, is_held}
+use Rattle.std.specs.List.Sorted.{IsPartitionedBy, IsPartitionPoint}
+use Rattle.btr_space.specs.Cover.{IsCover, end_of, is_held}
 use Rattle.btr_space.specs.declared.cover.Stretch.{Stretch}
 use Rattle.btr_space.proofs.Elements.{default_free}
-use Rattle.btr_space.proofs.Reaching.{inside}
+use Rattle.btr_space.proofs.Reaching.{inside, nothing, start_of}
 use Rattle.btr_space.proofs.cover.Cover.holds.Goals as goal
+
+-- what a look-up in the ranges tells
+looked_up : (start end : ℕ) (slice list view : List Stretch) (begun : ℕ) → slice ≡ list → list ≡ view → IsCover list → begun ≤ length slice
+    → (IsPartitionedBy (λ (stretch : Stretch). leb stretch.start start) slice
+    → IsPartitionPoint (λ (stretch : Stretch). leb stretch.start start ≡ true) (λ (stretch : Stretch). leb stretch.start start ≡ false) slice begun)
+    → list_any (is_held start end) view ≡ (ltb 0 begun && leb end (end_of (get_or list (begun - 1) nothing)))
+looked_up start end slice list view begun same seen kept bound point =
+    let cover : IsCover slice = subst IsCover (sym same) kept in
+    ap (list_any (is_held start end)) (sym (same ∙ seen))
+    ∙ inside start end slice begun nothing cover bound (point (IsPartitionedBy-leb start_of slice start cover.starts))
+    ∙ ap (λ all. ltb 0 begun && leb end (end_of (get_or all (begun - 1) nothing))) same
+
+none_begun : (begun : ℕ) (reaches : Bool) → begun ≡ 0 → (ltb 0 begun && reaches) ≡ false
+none_begun begun reaches is = grind (arith, nat_tests)
+
+some_begun : (begun : ℕ) (reaches : Bool) → begun ≢ 0 → (ltb 0 begun && reaches) ≡ reaches
+some_begun begun reaches is = grind (arith, nat_tests)
+
+pub returns-then-begun-eq0 : goal.returns-then-begun-eq0
+returns-then-begun-eq0 c =
+    let begun = c.partition_point-begun.result in
+    let list = c.self.inside.stretches.items in
+    let clause = c.partition_point-begun.ensures in
+    sym
+    (looked_up c.args.start c.args.end c.deref.result.now list c.args.self.now begun c.deref.ensures.value c.self.view_is c.self.invariant clause.bound
+    (λ parted. IsPartitionPoint-from_clause (λ (stretch : Stretch). leb stretch.start c.args.start) c.deref.result.now begun clause.partitioned parted (λ a r q k. search rules))
+    ∙ none_begun begun (leb c.args.end (end_of (get_or list (begun - 1) nothing))) c.if-begun-eq0.true)
 
 pub returns : goal.returns
 returns c =
-    let start = c.args.start in
-    let end = c.args.end in
-    let list = c.self.inside.stretches.items in
-    let reaches = c.self.inside.reaches.items in
-    let slice = c.deref.result.now in
     let begun = c.partition_point-begun.result in
-    let same : slice ≡ list = c.deref.ensures.value in
-    let ascend : IsNonDecreasingBy (λ (stretch : Stretch). stretch.start) slice = subst (λ xs. IsNonDecreasingBy (λ (stretch : Stretch). stretch.start) xs) (sym same) c.self.invariant.ascend in
-    let parted = IsPartitionedBy-leb (λ (stretch : Stretch). stretch.start) slice start ascend in
-    let point = IsPartitionPoint-from_clause (λ (stretch : Stretch). leb stretch.start start) slice begun c.partition_point-begun.ensures.partitioned parted (λ a r q k. search rules) in
-    let bound : begun ≤ length list = omega (arith, c.partition_point-begun.ensures.bound, ap length same) in
-    let below : begun < length reaches = omega (arith, bound, c.self.invariant.reach.long) in
-    let far : c.index.result.now ≡ reach (take begun list) = c.index.ensures ∙ default_free reaches begun c.index.result.now 0 below ∙ c.self.invariant.reach.each begun bound in
-    ap (ltb end) far
-    ∙ ap (λ xs. ltb end (reach (take begun xs))) (sym same)
-    ∙ inside start end slice begun point
-    ∙ ap (list_any (is_held start end)) (same ∙ c.self.view_is)
+    let list = c.self.inside.stretches.items in
+    let clause = c.partition_point-begun.ensures in
+    let below : begun - 1 < length list = omega (arith, clause.bound, ap length c.deref.ensures.value, c.if-begun-eq0.false) in
+    let last : c.end_of.result ≡ end_of (get_or list (begun - 1) nothing) =
+    c.end_of.ensures ∙ ap end_of (c.index.ensures ∙ default_free list (begun - 1) c.index.result.now nothing below) in
+    ap (leb c.args.end) last
+    ∙ sym
+    (looked_up c.args.start c.args.end c.deref.result.now list c.args.self.now begun c.deref.ensures.value c.self.view_is c.self.invariant clause.bound
+    (λ parted. IsPartitionPoint-from_clause (λ (stretch : Stretch). leb stretch.start c.args.start) c.deref.result.now begun clause.partitioned parted (λ a r q k. search rules))
+    ∙ some_begun begun (leb c.args.end (end_of (get_or list (begun - 1) nothing))) c.if-begun-eq0.false)

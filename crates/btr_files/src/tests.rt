@@ -1,5 +1,0 @@
-mod dirs;
-mod files;
-mod lookups;
-mod pieces;
-mod volume;

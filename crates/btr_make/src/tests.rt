@@ -1,6 +1,0 @@
-mod blocks;
-mod makers;
-mod rows;
-mod sound;
-mod spoiling;
-mod supers;

@@ -1,5 +1,0 @@
-mod files;
-mod rows;
-mod subvolumes;
-mod trees;
-mod unpaired;

@@ -1,6 +1,0 @@
-use Rattle.std.proofs.Common.{◌≡◌}
-use Rattle.btr_rack.specs.Sink.{BetweenFiles}
-use Rattle.btr_rack.proofs.tests.places.go_down.Given as goal
-
-abbrev pub invariant-loop : goal.invariant-loop
-invariant-loop g l = (g.T.TreeSink.sink l.tree).stage ≡ BetweenFiles

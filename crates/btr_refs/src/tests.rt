@@ -1,4 +1,0 @@
-mod collects;
-mod rows;
-mod stores;
-mod uses;

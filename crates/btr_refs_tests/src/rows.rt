@@ -1,0 +1,110 @@
+// Where counted and stored references differ.
+use super::stores::{DATA, extent, file, loose, shared, take};
+use btr_base::Memory;
+use btr_items::item;
+use btr_refs::{Finding, Forward, Stored, differences};
+use std::alloc::Global;
+use std::process::Abort;
+use std::test::Fail;
+
+// A use of the data extent by each of these inodes.
+fn used_by(alloc: Global, inodes: &[u64]) -> Result<Forward, Memory> {
+    let mut forward = Forward::new(alloc);
+    for inode in inodes {
+        forward.use_data(DATA, file(*inode), 4096)?;
+    }
+    Ok(forward)
+}
+
+// Kind 7 of an inode of the data extent.
+fn ref_count(inode: u64, counted: u64, stored: u64) -> Finding {
+    Finding {
+        kind: 7,
+        n: [DATA, 178, 5, inode, 0, counted, stored],
+    }
+}
+
+// Kind 8 of the data extent.
+fn ref_total(refs: u64, sum: u64) -> Finding {
+    Finding {
+        kind: 8,
+        n: [DATA, refs, sum, 0, 0, 0, 0],
+    }
+}
+
+// The findings are these.
+fn finds(
+    rt: &impl Abort,
+    alloc: Global,
+    inodes: &[u64],
+    stored: &Stored,
+    wanted: &[Finding],
+) -> Result<(), Fail> {
+    let found = differences(alloc, &used_by(alloc, inodes)?, stored)?;
+    assert_eq!(rt; found.len(), wanted.len());
+    for (one, other) in found.iter().zip(wanted) {
+        assert_eq!(rt; one, other);
+    }
+    Ok(())
+}
+
+#[test]
+fn an_extent_of_two_files(rt: HostRuntime) -> Result<(), Fail> {
+    let alloc = rt.alloc();
+    let sound = shared(alloc, 2)?;
+    finds(&rt, alloc, &[260, 261], &sound, &[])?;
+    finds(
+        &rt,
+        alloc,
+        &[260, 261],
+        &shared(alloc, 3)?,
+        &[ref_total(3, 2)],
+    )?;
+    finds(&rt, alloc, &[260], &sound, &[ref_count(261, 0, 1)])?;
+    finds(
+        &rt,
+        alloc,
+        &[262, 261, 261],
+        &sound,
+        &[
+            ref_count(260, 0, 1),
+            ref_count(261, 2, 1),
+            ref_count(262, 1, 0),
+        ],
+    )
+}
+
+#[test]
+fn references_without_an_extent(rt: HostRuntime) -> Result<(), Fail> {
+    let alloc = rt.alloc();
+    for count in [0, 1] {
+        let mut stored = Stored::new(alloc, 16384);
+        take(
+            &mut stored,
+            item::EXTENT_DATA_REF,
+            1,
+            loose(alloc, count)?.as_slice(),
+        )?;
+        let mut wanted = [ref_count(261, 0, 1), ref_total(0, u64::from(count))];
+        let from = if count == 0 { 1 } else { 0 };
+        finds(&rt, alloc, &[], &stored, &wanted[from..])?;
+        wanted[0] = ref_count(261, 1, 0);
+        if count == 0 {
+            finds(&rt, alloc, &[261], &stored, &wanted)?;
+        }
+    }
+    Ok(())
+}
+
+#[test]
+fn two_extents_at_one_address(rt: HostRuntime) -> Result<(), Fail> {
+    let alloc = rt.alloc();
+    let mut stored = shared(alloc, 3)?;
+    take(
+        &mut stored,
+        item::EXTENT_ITEM,
+        8192,
+        extent(alloc, 1)?.as_slice(),
+    )?;
+    finds(&rt, alloc, &[260, 260, 261], &stored, &[ref_total(1, 3)])
+}

@@ -1,0 +1,109 @@
+// What items of an extent tree store.
+use btr_base::{Key, Memory};
+use btr_blocks::Body;
+use btr_items::{ExtentItem, Link, item};
+use btr_refs::{RefKey, Stored, count_in};
+use btr_walk::{Folder, Found, Took};
+use std::alloc::{AllocError, Global};
+use std::test::Fail;
+
+/// Where the data extent of these tests is.
+pub(super) const DATA: u64 = 16777216;
+
+/// A reference of a file of tree 5, from the file's beginning on.
+pub(super) fn file(objectid: u64) -> Link {
+    Link::File {
+        root: 5,
+        objectid,
+        offset: 0,
+    }
+}
+
+// The key of an item of the data extent.
+fn key(kind: u8, offset: u64) -> Key {
+    Key {
+        objectid: DATA,
+        kind,
+        offset,
+    }
+}
+
+/// The item of an extent that states `refs`, with one reference in it, of inode 260.
+pub(super) fn extent(alloc: Global, refs: u64) -> Result<Body, AllocError> {
+    Body::new(alloc)
+        .u64(refs)?
+        .u64(8)?
+        .u64(ExtentItem::DATA)?
+        .u8(item::EXTENT_DATA_REF)?
+        .u64(5)?
+        .u64(260)?
+        .u64(0)?
+        .u32(1)
+}
+
+/// A reference in an item of its own, of inode 261.
+pub(super) fn loose(alloc: Global, count: u32) -> Result<Body, AllocError> {
+    Body::new(alloc).u64(5)?.u64(261)?.u64(0)?.u32(count)
+}
+
+/// Takes an item; the answer is whether it has its form.
+pub(super) fn take(
+    stored: &mut Stored,
+    kind: u8,
+    offset: u64,
+    body: &[u8],
+) -> Result<bool, Memory> {
+    let found = Found {
+        key: key(kind, offset),
+        block: 2129920,
+        body,
+    };
+    match stored.take(&found)? {
+        Took::Go => Ok(true),
+        Took::End(_) | Took::Broken => Ok(false),
+    }
+}
+
+/// The extent with two references, one in its item and one in an item of its own.
+pub(super) fn shared(alloc: Global, refs: u64) -> Result<Stored, Fail> {
+    let mut stored = Stored::new(alloc, 16384);
+    take(
+        &mut stored,
+        item::EXTENT_ITEM,
+        4096,
+        extent(alloc, refs)?.as_slice(),
+    )?;
+    take(
+        &mut stored,
+        item::EXTENT_DATA_REF,
+        1,
+        loose(alloc, 1)?.as_slice(),
+    )?;
+    Ok(stored)
+}
+
+#[test]
+fn inline_and_loose_references_are_stored(rt: HostRuntime) -> Result<(), Fail> {
+    let stored = shared(rt.alloc(), 2)?;
+    assert_eq!(rt; stored.extents().len(), 1);
+    assert_eq!(rt; stored.extents()[0].len, 4096);
+    assert_eq!(rt; stored.extents()[0].refs, 2);
+    for (objectid, count) in [(259, 0), (260, 1), (261, 1)] {
+        assert_eq!(rt;
+            count_in(stored.refs(), &RefKey::new(DATA, file(objectid))),
+            count
+        );
+    }
+    Ok(())
+}
+
+#[test]
+fn other_items_say_nothing_and_broken_ones_are_told(rt: HostRuntime) -> Result<(), Fail> {
+    let mut stored = Stored::new(rt.alloc(), 16384);
+    assert!(rt; take(&mut stored, item::BLOCK_GROUP_ITEM, 4096, &[])?);
+    assert!(rt; !take(&mut stored, item::EXTENT_ITEM, 4096, &[0; 23])?);
+    assert!(rt; !take(&mut stored, item::EXTENT_DATA_REF, 1, &[0; 27])?);
+    assert_eq!(rt; stored.extents().len(), 0);
+    assert_eq!(rt; stored.refs().len(), 0);
+    Ok(())
+}

@@ -1,0 +1,115 @@
+// What blocks use.
+use super::stores::{DATA, file};
+use btr_blocks::{Body, Form, Items, Tree};
+use btr_items::{Link, item};
+use btr_rack::{MemRack, Rack};
+use btr_refs::{BlockUse, DataUse, Forward, RefKey, count_in};
+use btr_volume::TreeRoot;
+use btr_walk::RootPlace;
+use std::alloc::{AllocError, Global};
+use std::test::Fail;
+
+const NODE: usize = 4096;
+
+const FORM: Form = Form {
+    nodesize: 4096,
+    items: 2,
+    pointers: 3,
+    owner: 5,
+    ..Form::DEFAULT
+};
+
+// A regular range of a file of 4096 bytes, `skip` bytes behind the beginning of its extent.
+fn range(alloc: Global, addr: u64, skip: u64) -> Result<Body, AllocError> {
+    Body::new(alloc)
+        .u64(8)?
+        .u64(16384)?
+        .u32(0)?
+        .u8(1)?
+        .u64(addr)?
+        .u64(16384)?
+        .u64(skip)?
+        .u64(4096)
+}
+
+// A tree of two leaves, with a range that skips bytes, a hole, and two ranges of another file, one with its offset below what it skips.
+fn block(alloc: Global, root: bool) -> Result<[u8; NODE], Fail> {
+    let mut items = Items::new(alloc);
+    items.put(260, item::EXTENT_DATA, 4096, range(alloc, DATA, 4096)?)?;
+    items.put(260, item::EXTENT_DATA, 8192, range(alloc, 0, 0)?)?;
+    items.put(261, item::EXTENT_DATA, 0, range(alloc, DATA, 4096)?)?;
+    let tree = Tree::grow(alloc, &FORM, 1048576, items)?;
+    let mut rack = MemRack::new(alloc);
+    rack.add("a", 2097152)?;
+    tree.put(&mut rack, "a")?;
+    let slot = rack.open("a", false)?;
+    let mut block = [0; NODE];
+    let addr = if root { tree.root() } else { 1048576 };
+    if rack.len(slot) == 2097152 && addr <= 2000000 {
+        rack.read_at(slot, addr, &mut block)?;
+    }
+    Ok(block)
+}
+
+#[test]
+fn a_leaf_uses_the_data_of_its_files(rt: HostRuntime) -> Result<(), Fail> {
+    let block = block(rt.alloc(), false)?;
+    for by_address in [false, true] {
+        let mut forward = Forward::new(rt.alloc());
+        forward.add_block(1048576, 0, by_address, &block)?;
+        let link = if by_address {
+            Link::SharedFile(1048576)
+        } else {
+            file(260)
+        };
+        assert_eq!(rt; count_in(forward.refs(), &RefKey::new(DATA, link)), 1);
+        assert_eq!(rt; forward.refs().len(), 1);
+        let used = forward.into_extents();
+        assert!(rt;
+            used.data_extents.contains(&DataUse {
+                addr: DATA,
+                len: 16384
+            })
+        );
+        assert_eq!(rt; used.tree_blocks.len(), 0);
+    }
+    Ok(())
+}
+
+#[test]
+fn a_node_uses_its_children_and_a_tree_its_root(rt: HostRuntime) -> Result<(), Fail> {
+    let block = block(rt.alloc(), true)?;
+    let mut forward = Forward::new(rt.alloc());
+    forward.add_block(1064960, 1, false, &block)?;
+    assert_eq!(rt;
+        count_in(forward.refs(), &RefKey::new(1048576, Link::Tree(5))),
+        1
+    );
+    let root = TreeRoot {
+        id: 257,
+        offset: 0,
+        place: RootPlace {
+            addr: 1048576,
+            generation: 8,
+            level: 2,
+        },
+        dirid: 256,
+        refs: 1,
+    };
+    forward.add_root(&root)?;
+    assert_eq!(rt;
+        count_in(forward.refs(), &RefKey::new(1048576, Link::Tree(257))),
+        1
+    );
+    let used = forward.into_extents();
+    for level in [0, 2] {
+        assert!(rt;
+            used.tree_blocks.contains(&BlockUse {
+                addr: 1048576,
+                level
+            })
+        );
+    }
+    assert_eq!(rt; used.tree_blocks.len(), 3);
+    Ok(())
+}

@@ -1,0 +1,112 @@
+-- What opening a filesystem comes to, where no call on an image failed.
+use Rattle.std.proofs.Common.{◌≡◌, ◌⊎◌, inl, inr, ⊎_elim, ℕ, [], Option, Some, None, Result, Ok, Err, refl, sym, ap, ◌∙◌, subst, arith}
+use Rattle.std.specs.Option.{IfSome}
+use Rattle.btr_prog.specs.Prog.{exec}
+use Rattle.btr_prog.specs.Answers.{Halt, Fault as halts, Follows, no_part}
+use Rattle.btr_prog.specs.Calls.{First}
+use Rattle.btr_rack.specs.Rack.{Seen, Rose, Steady}
+use Rattle.btr_read.specs.Fate.{Fault, fate}
+use Rattle.btr_read.specs.Fate as fault
+use Rattle.btr_walk.specs.Reading.{UnreadBlock, unread_by, halt_of}
+use Rattle.btr_walk.specs.declared.fault.TreeFault.{TreeFault}
+use Rattle.btr_walk.specs.declared.fault.TreeFault.TheVariants as tree
+use Rattle.btr_volume.specs.Maps.{array_layout}
+use Rattle.btr_volume.specs.Opening.{OpenCause, Opens, Opened, Scans, Starts}
+use Rattle.btr_volume.specs.Start.{Images, Start, start_of, layout_by}
+use Rattle.btr_volume.specs.Table.{TableResult, refusal_of, table_scan}
+use Rattle.btr_volume.specs.declared.fault.OpenFault.{OpenFault}
+use Rattle.btr_volume.specs.declared.fault.OpenFault.TheVariants as opening
+use Rattle.btr_volume.specs.declared.fault.TableFault.{TableFault}
+use Rattle.btr_volume.specs.declared.volume.Volume.{Volume}
+use Rattle.btr_run.specs.Behind.{IfSteady}
+use Rattle.btr_run.specs.Faults.{open_answer, tree_answer}
+use Rattle.btr_run.specs.Filesystem.{OpensAs, OpensFilesystem, filesystem_of, filesystem_in, with_start, with_table}
+use Rattle.btr_run.specs.declared.answer.Answer.{Answer}
+
+steady_not_rose : (before now : ℕ) → Steady before now → Rose before now → ⊥
+steady_not_rose before now steady rose = omega (arith, steady.0, steady.1, rose.0, rose.1)
+
+-- where no call failed, the scan of the chunk tree is that over the images
+scanned : (start : Start) (old new : Seen) (images : Images) (answer : Result TableResult (Halt Fault UnreadBlock)) → old.held ≡ Some images → Steady old.account.faults new.account.faults → Scans start old new answer
+    → Follows {S = ⊥} (unread_by (array_layout start) old new) no_part [] (exec (fate images (array_layout start)) (table_scan start)) [] answer
+scanned start old new images answer told steady scans =
+    subst (λ (o : Option Images). IfSome o (λ i. Follows {S = ⊥} (unread_by (array_layout start) old new) no_part [] (exec (fate i (array_layout start)) (table_scan start)) [] answer)) told
+    (scans.calls.content First (omega (arith, scans.calls.later, steady.0), steady.1))
+
+-- the volume is the filesystem
+opened : (old new : Seen) (images : Images) (volume : Volume) → old.held ≡ Some images → Steady old.account.faults new.account.faults → Opened images old new volume → filesystem_of images ≡ Ok (filesystem_in volume)
+opened old new images volume told steady o =
+    let scan = scanned o.start old new images (Ok (Ok volume.store.layout.chunks)) told steady o.scans in
+    ap (with_start images) o.is ∙ ap (with_table o.start) scan.1
+    ∙ ap (λ s. Ok (record { sup = s; layout = layout_by o.start volume.store.layout.chunks })) (sym o.by.sup)
+    ∙ ap (λ l. Ok (record { sup = volume.sup; layout = l })) (sym o.by.layout)
+
+-- a refusal by a chunk of the chunk tree
+by_table : (old new : Seen) (images : Images) (f : TableFault) → old.held ≡ Some images → Steady old.account.faults new.account.faults → Starts images old new (Ok (Err f)) → filesystem_of images ≡ Err (open_answer (refusal_of f))
+by_table old new images f told steady s =
+    let scan = scanned s.start old new images (Ok (Err f)) told steady s.scans in ap (with_start images) s.is ∙ ap (with_table s.start) scan.1
+
+-- the chunk tree can't be read on
+by_tree : (old new : Seen) (images : Images) (f : TreeFault) → old.held ≡ Some images → Steady old.account.faults new.account.faults → OpenCause {T = Volume} old new (Err (opening.Tree f)) → Starts images old new (Err (halt_of f))
+    → filesystem_of images ≡ Err (tree_answer f)
+by_tree old new images (tree.Lost a) told steady cause s =
+    let scan = scanned s.start old new images (Err (halts (fault.Lost a))) told steady s.scans in ap (with_start images) s.is ∙ ap (with_table s.start) scan.1
+by_tree old new images (tree.Unmapped a) told steady cause s =
+    let scan = scanned s.start old new images (Err (halts (fault.Unmapped a))) told steady s.scans in ap (with_start images) s.is ∙ ap (with_table s.start) scan.1
+by_tree old new images (tree.Crosses a) told steady cause s =
+    let scan = scanned s.start old new images (Err (halts (fault.Crosses a))) told steady s.scans in ap (with_start images) s.is ∙ ap (with_table s.start) scan.1
+by_tree old new images (tree.Malformed a) told steady cause s =
+    let scan = scanned s.start old new images (Err (halts (fault.Malformed a))) told steady s.scans in ap (with_start images) s.is ∙ ap (with_table s.start) scan.1
+by_tree old new images (tree.Unread a slot) told steady cause s = absurd (steady_not_rose old.account.faults new.account.faults steady cause.1.1.unread.rose)
+
+-- by the superblocks, or by a chunk of the chunk tree
+by_refusal : (old new : Seen) (images : Images) (refusal : OpenFault) → old.held ≡ Some images → Steady old.account.faults new.account.faults
+    → (start_of images ≡ Err refusal) ⊎ ((f : TableFault) × (refusal_of f ≡ refusal) × Starts images old new (Ok (Err f))) → OpensFilesystem images (Err (open_answer refusal))
+by_refusal old new images refusal told steady why =
+    inl (⊎_elim (λ start. ap (with_start images) start) (λ table. by_table old new images table.0 told steady table.2 ∙ ap (λ r. Err (open_answer r)) table.1) why)
+
+refused : (old new : Seen) (images : Images) (refusal : OpenFault) → old.held ≡ Some images → Steady old.account.faults new.account.faults → OpenCause {T = Volume} old new (Err refusal) → Opens images old new (Err refusal)
+    → OpensFilesystem images (Err (open_answer refusal))
+refused old new images (opening.ImageFault slot) told steady cause opens = absurd (steady_not_rose old.account.faults new.account.faults steady cause.faults)
+refused old new images opening.Memory told steady cause opens = inr refl
+refused old new images (opening.Tree f) told steady cause opens = inl (by_tree old new images f told steady cause opens)
+refused old new images (opening.NoSuper slot) told steady cause opens = by_refusal old new images (opening.NoSuper slot) told steady opens
+refused old new images (opening.SumKind kind) told steady cause opens = by_refusal old new images (opening.SumKind kind) told steady opens
+refused old new images (opening.Foreign slot) told steady cause opens = by_refusal old new images (opening.Foreign slot) told steady opens
+refused old new images (opening.Twin slot) told steady cause opens = by_refusal old new images (opening.Twin slot) told steady opens
+refused old new images (opening.Unsupported bits) told steady cause opens = by_refusal old new images (opening.Unsupported bits) told steady opens
+refused old new images opening.Geometry told steady cause opens = by_refusal old new images opening.Geometry told steady opens
+refused old new images opening.LogPending told steady cause opens = by_refusal old new images opening.LogPending told steady opens
+refused old new images opening.BadArray told steady cause opens = by_refusal old new images opening.BadArray told steady opens
+refused old new images (opening.BadChunk start) told steady cause opens = by_refusal old new images (opening.BadChunk start) told steady opens
+refused old new images (opening.Limit which count) told steady cause opens = by_refusal old new images (opening.Limit which count) told steady opens
+
+pub opened_content : (old new : Seen) (volume : Volume) → IfSome old.held (λ images. Opens images old new (Ok volume)) → IfSteady old.held old.account new.account (λ images. OpensFilesystem images (Ok volume))
+opened_content old new volume = of old.held refl
+  where
+    of : (held : Option Images) → old.held ≡ held → IfSome held (λ images. Opens images old new (Ok volume)) → IfSteady held old.account new.account (λ images. OpensFilesystem images (Ok volume))
+    of None told opens = tt
+    of (Some images) told opens = λ steady. opened old new images volume told steady opens
+
+pub refused_content : (old new : Seen) (refusal : OpenFault) (answer : Answer) → answer ≡ open_answer refusal → OpenCause {T = Volume} old new (Err refusal) → IfSome old.held (λ images. Opens images old new (Err refusal))
+    → IfSteady old.held old.account new.account (λ images. OpensFilesystem images (Err answer))
+refused_content old new refusal answer is cause = of old.held refl
+  where
+    of : (held : Option Images) → old.held ≡ held → IfSome held (λ images. Opens images old new (Err refusal)) → IfSteady held old.account new.account (λ images. OpensFilesystem images (Err answer))
+    of None told opens = tt
+    of (Some images) told opens = λ steady. subst (λ a. OpensFilesystem images (Err a)) (sym is) (refused old new images refusal told steady cause opens)
+
+-- what opening answered, whatever failed
+pub opened_as : (old new : Seen) (volume : Volume) → IfSome old.held (λ images. Opens images old new (Ok volume)) → IfSome old.held (λ images. OpensAs images old new (Ok volume))
+opened_as old new volume = of old.held
+  where
+    of : (held : Option Images) → IfSome held (λ images. Opens images old new (Ok volume)) → IfSome held (λ images. OpensAs images old new (Ok volume))
+    of None opens = tt
+    of (Some images) opens = record { opening = Ok volume; opens = opens; same = refl }
+
+pub refused_as : (old new : Seen) (refusal : OpenFault) (result : Result Volume Answer) → result ≡ Err (open_answer refusal) → IfSome old.held (λ images. Opens images old new (Err refusal)) → IfSome old.held (λ images. OpensAs images old new result)
+refused_as old new refusal result is = of old.held
+  where
+    of : (held : Option Images) → IfSome held (λ images. Opens images old new (Err refusal)) → IfSome held (λ images. OpensAs images old new result)
+    of None opens = tt
+    of (Some images) opens = record { opening = Err refusal; opens = opens; same = sym is }

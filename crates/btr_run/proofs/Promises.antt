@@ -1,0 +1,164 @@
+-- What a restore of the program comes to is the outcome of restore over its images.
+use Rattle.std.proofs.Common.{◌≡◌, false, ℕ, List, [], ◌∷◌, ◌++◌, fold, drop, Option, Some, None, Result, Ok, Err, ⊎_elim, refl, sym, ap, ◌∙◌, subst}
+use Rattle.std.specs.Option.{IfSome, option_map}
+use Rattle.std.specs.Prelude.{is_some}
+use Rattle.btr_chunk.specs.declared.chunk.Chunk.{Chunk}
+use Rattle.btr_files.specs.declared.counts.Counts.{Counts}
+use Rattle.btr_files.specs.declared.plan.RestorePlan.{RestorePlan}
+use Rattle.btr_prog.specs.Prog.{Run, exec, steps_of}
+use Rattle.btr_prog.specs.Answers.{Fault as halt_fault}
+use Rattle.btr_prog.proofs.Choices.{goes_map}
+use Rattle.btr_rack.specs.Rack.{Seen, Shelf}
+use Rattle.btr_rack.specs.Out.{Adds}
+use Rattle.btr_rack.specs.Sink.{Sink, Tree, IsSound, NotStarted, is_in_file}
+use Rattle.btr_rack.specs.declared.part.Part.{Part}
+use Rattle.btr_read.specs.Fate.{Fault, fate}
+use Rattle.btr_read.specs.declared.want.Want.{Want}
+use Rattle.btr_restore.specs.Headline.{Headline, from_start, restore_outcome}
+use Rattle.btr_restore.specs.InOrder.{OpenedThen, OpenRefused, OpenHalted, SettledLaw}
+use Rattle.btr_restore.specs.Journey.{listing}
+use Rattle.btr_restore.specs.Outcome.{Ending, Outcome, after_step, nothing, outcome_by, tree_after}
+use Rattle.btr_restore.specs.Restoring.{sink_after}
+use Rattle.btr_restore.specs.Running.{Outside}
+use Rattle.btr_restore.specs.Step.{Step, Start as Starts, Dir, Up, File, Bytes, Zeros, Done as Finishes, Line, part}
+use Rattle.btr_volume.specs.Maps.{array_layout}
+use Rattle.btr_volume.specs.Start.{Images, Start, start_of, layout_by}
+use Rattle.btr_volume.specs.Table.{TableResult, refusal_of, table_scan}
+use Rattle.btr_volume.specs.declared.fault.OpenFault.{OpenFault}
+use Rattle.btr_run.specs.Answers.{error_line}
+use Rattle.btr_run.specs.Effects.{HasEffect, images_outcome}
+use Rattle.btr_run.specs.Filesystem.{with_start, with_table}
+use Rattle.btr_run.specs.Outcomes as tool
+use Rattle.btr_run.specs.Promise.{IsOutcomeOf, KeepsHeadline, KeepsOutcome, StandsAs, ended_answer}
+use Rattle.btr_run.specs.Restored.{listed_answer, restored, restored_in}
+use Rattle.btr_run.specs.Words.{Words, IsSentence, images_of}
+use Rattle.btr_run.specs.declared.answer.Answer.{Answer}
+use Rattle.btr_run.specs.declared.plan.Command.TheVariants.{Restore}
+use Rattle.btr_run.specs.declared.plan.Plan.{Plan}
+use Rattle.btr_run.proofs.Carrying.{taken_outcome}
+use Rattle.btr_run.proofs.Orders.{no_steps}
+use Rattle.btr_run.proofs.Accepting.{one_plan}
+
+-- the outcome of some steps and an ending
+by_steps : (steps : List Step) (ending : Ending) (answer : Answer) (found : Outcome) → outcome_by steps ending ≡ found → answer ≡ ended_answer ending → IsOutcomeOf (record { answer = answer; steps = steps }) found
+by_steps steps ending answer found is answered = subst (IsOutcomeOf (record { answer = answer; steps = steps })) is (record { rows = refl; part = refl; text = refl; answered = answered })
+
+-- The laws of btr_restore, for these calls on a rack.
+module _ (seen : Seen) (settles : SettledLaw) (then : (plan : RestorePlan) (dest : List ℕ) (start : Start) → OpenedThen plan dest start seen seen) (refused : (plan : RestorePlan) (dest : List ℕ) (start : Start) → OpenRefused plan dest start seen seen) (halted : (plan : RestorePlan) (dest : List ℕ) (start : Start) → OpenHalted plan dest start seen seen) where
+  module _ (plan : RestorePlan) (dest : List ℕ) (images : Images) (start : Start) (begun : start_of images ≡ Ok start) where
+    abbrev scan : Run Want Fault ⊥ TableResult
+    scan = exec (fate images (array_layout start)) (table_scan start)
+
+    -- the table of chunks was scanned, and the listing done
+    with_listing : (table : List Chunk) → scan.ending ≡ Ok (Ok table) → IsOutcomeOf (restored_in plan dest images (with_table start (Ok (Ok table)))) (restore_outcome plan dest images)
+    with_listing table scanned = of r.ending refl
+      where
+        r : Run Want Fault Step Counts
+        r = exec (fate images (layout_by start table)) (listing plan dest start.sup)
+
+        of : (e : Result Counts Fault) → r.ending ≡ e → IsOutcomeOf (record { answer = listed_answer r.ending; steps = steps_of r.marks }) (restore_outcome plan dest images)
+        of (Ok counts) ended =
+            by_steps (steps_of r.marks) (Ok (Ok counts)) (listed_answer r.ending) (restore_outcome plan dest images)
+            (settles plan dest images start seen seen (steps_of r.marks) (Ok (Ok counts)) begun
+            (then plan dest start (λ n. fate images) table (steps_of r.marks) (Ok counts)
+            (scan, goes_map (λ (n : ℕ). fate images (array_layout start)) 0 (table_scan start), (no_steps (steps_of scan.marks), scanned))
+            (r, goes_map (λ (n : ℕ). fate images (layout_by start table)) 0 (listing plan dest start.sup), (refl, ended))))
+            (ap listed_answer ended)
+        of (Err f) ended =
+            by_steps (steps_of r.marks) (Err f) (listed_answer r.ending) (restore_outcome plan dest images)
+            (settles plan dest images start seen seen (steps_of r.marks) (Err f) begun
+            (then plan dest start (λ n. fate images) table (steps_of r.marks) (Err (halt_fault f))
+            (scan, goes_map (λ (n : ℕ). fate images (array_layout start)) 0 (table_scan start), (no_steps (steps_of scan.marks), scanned))
+            (r, goes_map (λ (n : ℕ). fate images (layout_by start table)) 0 (listing plan dest start.sup), (refl, ended))))
+            (ap listed_answer ended)
+
+    by_scan : (s : Result TableResult Fault) → scan.ending ≡ s → IsOutcomeOf (restored_in plan dest images (with_table start s)) (restore_outcome plan dest images)
+    by_scan (Ok (Ok table)) scanned = with_listing table scanned
+    by_scan (Ok (Err fault)) scanned =
+        by_steps [] (Ok (Err (refusal_of fault))) _ (restore_outcome plan dest images)
+        (settles plan dest images start seen seen [] (Ok (Err (refusal_of fault))) begun
+        (refused plan dest start (λ n. fate images) fault (scan, goes_map (λ (n : ℕ). fate images (array_layout start)) 0 (table_scan start), (no_steps (steps_of scan.marks), scanned)))) refl
+    by_scan (Err f) scanned =
+        by_steps [] (Err f) _ (restore_outcome plan dest images)
+        (settles plan dest images start seen seen [] (Err f) begun
+        (halted plan dest start (λ n. fate images) (halt_fault f) (scan, goes_map (λ (n : ℕ). fate images (array_layout start)) 0 (table_scan start), (no_steps (steps_of scan.marks), scanned)))) refl
+
+  is_outcome : (plan : RestorePlan) (dest : List ℕ) (images : Images) → IsOutcomeOf (restored plan dest images) (restore_outcome plan dest images)
+  unfolding restored
+  is_outcome plan dest images = of (start_of images) refl
+    where
+      of : (r : Result Start OpenFault) → start_of images ≡ r → IsOutcomeOf (restored_in plan dest images (with_start images (start_of images))) (restore_outcome plan dest images)
+      of (Err refusal) is =
+          subst (λ f. IsOutcomeOf (restored_in plan dest images (with_start images f)) (restore_outcome plan dest images)) (sym is)
+          (by_steps [] (Ok (Err refusal)) _ (restore_outcome plan dest images) (sym (ap (from_start plan dest images) is)) refl)
+      of (Ok start) is =
+          subst (λ f. IsOutcomeOf (restored_in plan dest images (with_start images f)) (restore_outcome plan dest images)) (sym is)
+          (by_scan plan dest images start is (exec (fate images (array_layout start)) (table_scan start)).ending refl)
+
+  -- a step in a sink, and in what it tells
+  tree_step : (s : Sink) (step : Step) → (sink_after s step).tree ≡ option_map (λ t. after_step t step) s.tree
+  tree_step s (Starts name) = refl
+  tree_step s (Dir name) = refl
+  tree_step s Up = refl
+  tree_step s (File name) = refl
+  tree_step s (Bytes bytes) = refl
+  tree_step s (Zeros count) = refl
+  tree_step s Finishes = refl
+  tree_step s (Line text) = of s.tree
+    where
+      of : (o : Option Tree) → o ≡ option_map (λ (t : Tree). t) o
+      of None = refl
+      of (Some t) = refl
+
+  told_steps : (steps : List Step) (s : Sink) (t : Tree) → IfSome s.tree (λ u. u ≡ t) → IfSome (fold sink_after s steps).tree (λ u. u ≡ fold after_step t steps)
+  told_steps [] s t h = h
+  told_steps (step ∷ steps) s t h = told_steps steps (sink_after s step) (after_step t step) (of s.tree h (tree_step s step))
+    where
+      of : (o : Option Tree) → IfSome o (λ u. u ≡ t) → (sink_after s step).tree ≡ option_map (λ u. after_step u step) o → IfSome (sink_after s step).tree (λ u. u ≡ after_step t step)
+      of None h e = subst (λ o. IfSome o (λ u. u ≡ after_step t step)) (sym e) tt
+      of (Some u) h e = subst (λ o. IfSome o (λ v. v ≡ after_step t step)) (sym e) (ap (λ v. after_step v step) h)
+
+  -- a sink that isn't started tells that nothing was written
+  empty_at_first : (s : Sink) → IsSound s → s.stage ≡ NotStarted → IfSome s.tree (λ t. t ≡ nothing)
+  empty_at_first s sound fresh = of s.tree sound.part (sound.rows fresh)
+    where
+      of : (o : Option Tree) → IfSome o (λ t. is_some t.part ≡ is_in_file s.stage) → IfSome o (λ t. t.rows ≡ []) → IfSome o (λ t. t ≡ nothing)
+      of None part rows = tt
+      of (Some t) part rows = no_part_in t.part (part ∙ ap is_in_file fresh) rows
+        where
+          no_part_in : (p : Option Part) → is_some p ≡ false → t.rows ≡ [] → record t { part = p } ≡ nothing
+          no_part_in None e rows = ap (λ l. record nothing { rows = l }) rows
+          no_part_in (Some p) e rows = absurd (cc e)
+
+  module _ (words : Words) (shelf : Shelf) (x y : Outside) (result : Answer) (sound : IsSound x.sink) (fresh : x.sink.stage ≡ NotStarted) where
+    stands_as : (outcome : tool.Outcome) (found : Outcome) → tool.Stands x y outcome.steps (error_line outcome.answer) → result ≡ outcome.answer → IsOutcomeOf outcome found → StandsAs x y result found
+    stands_as outcome found stands answered is = record {
+      rows = told (λ t. t.rows ≡ found.rows) (λ t e. ap (λ (u : Tree). u.rows) e ∙ is.rows);
+      part = told (λ t. t.part ≡ found.part) (λ t e. ap (λ (u : Tree). u.part) e ∙ is.part);
+      text = subst (λ l. Adds x.text y.text l) (ap (λ l. l ++ error_line outcome.answer) is.text ∙ ap (λ a. found.text ++ error_line a) (sym answered)) stands.text;
+      answered = answered ∙ is.answered;
+    }
+      where
+        told : (P : Tree → Type 0) → ((t : Tree) → t ≡ tree_after outcome.steps → P t) → IfSome y.sink.tree P
+        told P all = of y.sink.tree (subst (λ (s : Sink). IfSome s.tree (λ t. t ≡ tree_after outcome.steps)) (sym stands.sink) (told_steps outcome.steps x.sink nothing (empty_at_first x.sink sound fresh)))
+          where
+            of : (o : Option Tree) → IfSome o (λ t. t ≡ tree_after outcome.steps) → IfSome o P
+            of None h = tt
+            of (Some t) h = all t h
+
+    pub keeps_outcome : HasEffect words shelf x y result → KeepsOutcome words shelf x y result
+    keeps_outcome effect plan dest images from =
+        stands_as effect.outcome (restore_outcome plan dest images) effect.stands effect.answered (subst (λ o. IsOutcomeOf o (restore_outcome plan dest images)) one (is_outcome plan dest images))
+      where
+        one : restored plan dest images ≡ effect.outcome
+        one = cc (⊎_elim (λ usage. absurd (usage.1.no_sentence _ from.sentence))
+            (λ (same : (p : Plan) × IsSentence p words × (images_outcome p.command words (images_of p words) shelf ≡ Some effect.outcome)).
+            sym (ap (λ d. Some (restored plan d images)) from.named) ∙ sym (taken_outcome (Restore from.number plan) words (drop from.first words) shelf images from.few from.from)
+            ∙ ap (λ p. images_outcome p.command words (images_of p words) shelf) (one_plan words _ same.0 from.sentence same.1) ∙ same.2) effect.is)
+
+    pub keeps_headline : Headline → HasEffect words shelf x y result → KeepsHeadline words shelf x y result
+    keeps_headline law effect plan dest images start C table from begun honest closed = (
+      restore_outcome plan dest images,
+      law plan dest images start C table begun honest closed,
+      keeps_outcome effect plan dest images from,
+    )

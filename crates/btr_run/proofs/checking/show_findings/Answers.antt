@@ -1,0 +1,246 @@
+use Rattle.std.proofs.Common.{◌≡◌, length, Result, Ok, Err, None, Some, false, refl, ap, ◌∙◌, subst, arith}
+use Rattle.btr_check.specs.Before.{refusal}
+use Rattle.btr_check.specs.Findings.{findings}
+use Rattle.btr_check.specs.Running.{is_outside}
+use Rattle.btr_check.specs.Text.{findings_text}
+use Rattle.btr_rack.specs.Out.{Puts}
+use Rattle.btr_rack.specs.declared.error.SinkError.{SinkError}
+use Rattle.btr_run.specs.Answers.{answer_of, output_answer}
+use Rattle.btr_run.specs.Behind.{IsUnread}
+use Rattle.btr_run.specs.Checked.{IsCheckOutcome, check_in, check_outcome, found, listing}
+use Rattle.btr_run.specs.Faults.{stop_answer}
+use Rattle.btr_run.specs.Outcomes.{showing}
+use Rattle.btr_run.proofs.Agreements.{listed_agreed, stopped_agreed, unopened_agreed}
+use Rattle.btr_run.proofs.Checks.{listed, listed_behind, listed_effect, listed_told, stop_calm, stopped_behind, stopped_effect, stopped_told}
+use Rattle.btr_run.proofs.Coming.{answer_gives}
+use Rattle.btr_run.proofs.TreesShown.{steadily, unopened_effect, unopened_told, unopened_behind}
+use Rattle.btr_run.proofs.checking.show_findings.Goals as goal
+
+pub returns-in_err-volume-clause-effect : goal.returns-in_err-volume-clause-effect
+returns-in_err-volume-clause-effect g c =
+    let old = g.R.Rack.seen c.args.rack.now in
+    let new = g.R.Rack.seen c.open_filesystem.new.rack in
+    let answer = c.in_err-volume.field-0.0 in
+    unopened_effect answer (answer_of c.from_residual.result) (answer_gives c.from_residual.result answer c.from_residual.ensures.1) c.in_err-volume.ensures.refusal (check_in c.args.read_data) (λ images a. refl) old.account new.account old.held
+    (g.O.Out.text c.args.out.now) (g.O.Out.account c.args.out.now) c.in_err-volume.ensures.content
+
+pub returns-in_err-volume-clause-told : goal.returns-in_err-volume-clause-told
+returns-in_err-volume-clause-told g c =
+    let answer = c.in_err-volume.field-0.0 in
+    unopened_told answer (answer_of c.from_residual.result) (answer_gives c.from_residual.result answer c.from_residual.ensures.1) c.in_err-volume.ensures.refusal IsCheckOutcome (g.O.Out.text c.args.out.now) (g.O.Out.account c.args.out.now)
+
+pub returns-in_err-volume-clause-cause : goal.returns-in_err-volume-clause-cause
+returns-in_err-volume-clause-cause g c =
+    let old = g.R.Rack.seen c.args.rack.now in
+    let new = g.R.Rack.seen c.open_filesystem.new.rack in
+    let answer = c.in_err-volume.field-0.0 in
+    let e = c.in_err-volume.ensures in
+    unopened_behind answer (answer_of c.from_residual.result) (answer_gives c.from_residual.result answer c.from_residual.ensures.1) e.refusal IsUnread old new e.reads e.image e.tree e.hidden e.counted
+
+pub returns-in_err-volume-clause-agreed : goal.returns-in_err-volume-clause-agreed
+returns-in_err-volume-clause-agreed g c =
+    let old = g.R.Rack.seen c.args.rack.now in
+    let new = g.R.Rack.seen c.open_filesystem.new.rack in
+    let answer = c.in_err-volume.field-0.0 in
+    unopened_agreed (check_outcome c.args.read_data) (λ images a e. ap (check_in c.args.read_data images) e) old new answer (answer_of c.from_residual.result) (answer_gives c.from_residual.result answer c.from_residual.ensures.1) (g.O.Out.text c.args.out.now) (g.O.Out.account c.args.out.now) c.in_err-volume.ensures.opened
+
+pub returns-in_err-findings-clause-effect : goal.returns-in_err-findings-clause-effect
+returns-in_err-findings-clause-effect g c =
+    let old = g.R.Rack.seen c.args.rack.now in
+    let mid = g.R.Rack.seen c.open_filesystem.new.rack in
+    let new = g.R.Rack.seen c.check.new.rack in
+    let volume = c.in_ok-volume.volume in
+    let end = c.in_err-findings.field-0.0 in
+    let ran = c.in_err-findings.ensures.ran in
+    let result = answer_of c.from_residual-in_err-findings.result in
+    let gives = answer_gives c.from_residual-in_err-findings.result (stop_answer end) c.from_residual-in_err-findings.ensures.1 in
+    stopped_effect c.args.read_data old mid new c.in_ok-volume.ensures.reads ran.reads volume.store.layout end ran.quiet ran.cause result gives volume refl (g.O.Out.text c.args.out.now) (g.O.Out.account c.args.out.now) c.in_ok-volume.ensures.content
+    (steadily volume.store.layout mid new (λ B. is_outside end ≡ false → refusal (record { sup = volume.sup; chunks = volume.store.layout.chunks; blocks = B }) ≡ Some end) ran.told)
+
+pub returns-in_err-findings-clause-told : goal.returns-in_err-findings-clause-told
+returns-in_err-findings-clause-told g c =
+    let old = g.R.Rack.seen c.args.rack.now in
+    let mid = g.R.Rack.seen c.open_filesystem.new.rack in
+    let new = g.R.Rack.seen c.check.new.rack in
+    let volume = c.in_ok-volume.volume in
+    let end = c.in_err-findings.field-0.0 in
+    let ran = c.in_err-findings.ensures.ran in
+    let result = answer_of c.from_residual-in_err-findings.result in
+    let gives = answer_gives c.from_residual-in_err-findings.result (stop_answer end) c.from_residual-in_err-findings.ensures.1 in
+    stopped_told c.args.read_data old mid new c.in_ok-volume.ensures.reads ran.reads volume.store.layout end ran.quiet ran.cause result gives (g.O.Out.text c.args.out.now) (g.O.Out.account c.args.out.now)
+
+pub returns-in_err-findings-clause-cause : goal.returns-in_err-findings-clause-cause
+returns-in_err-findings-clause-cause g c =
+    let old = g.R.Rack.seen c.args.rack.now in
+    let mid = g.R.Rack.seen c.open_filesystem.new.rack in
+    let new = g.R.Rack.seen c.check.new.rack in
+    let volume = c.in_ok-volume.volume in
+    let end = c.in_err-findings.field-0.0 in
+    let ran = c.in_err-findings.ensures.ran in
+    let result = answer_of c.from_residual-in_err-findings.result in
+    let gives = answer_gives c.from_residual-in_err-findings.result (stop_answer end) c.from_residual-in_err-findings.ensures.1 in
+    stopped_behind c.args.read_data old mid new c.in_ok-volume.ensures.reads ran.reads volume.store.layout end ran.quiet ran.cause result gives
+
+pub returns-in_err-findings-clause-agreed : goal.returns-in_err-findings-clause-agreed
+returns-in_err-findings-clause-agreed g c =
+    let old = g.R.Rack.seen c.args.rack.now in
+    let mid = g.R.Rack.seen c.open_filesystem.new.rack in
+    let new = g.R.Rack.seen c.check.new.rack in
+    let volume = c.in_ok-volume.volume in
+    let end = c.in_err-findings.field-0.0 in
+    let ran = c.in_err-findings.ensures.ran in
+    let result = answer_of c.from_residual-in_err-findings.result in
+    let gives = answer_gives c.from_residual-in_err-findings.result (stop_answer end) c.from_residual-in_err-findings.ensures.1 in
+    stopped_agreed c.args.read_data old mid new c.in_ok-volume.ensures.reads volume c.in_ok-volume.ensures.opened end ran.quiet result gives (stop_calm end ran.quiet) (g.O.Out.text c.args.out.now) (g.O.Out.account c.args.out.now) ran.told
+
+pub returns-in_err-put_findings-clause-effect : goal.returns-in_err-put_findings-clause-effect
+returns-in_err-put_findings-clause-effect g c =
+    let old = g.R.Rack.seen c.args.rack.now in
+    let mid = g.R.Rack.seen c.open_filesystem.new.rack in
+    let new = g.R.Rack.seen c.check.new.rack in
+    let volume = c.in_ok-volume.volume in
+    let all = c.in_ok-findings.findings.items in
+    let ran = c.in_ok-findings.ensures.ran in
+    let fault = c.in_err-put_findings.field-0.0 in
+    let put : Result Unit SinkError = Err fault in
+    let result = answer_of c.from_residual-in_err-put_findings.result in
+    let due = answer_gives c.from_residual-in_err-put_findings.result (output_answer fault) c.from_residual-in_err-put_findings.ensures.1 in
+    let text = g.O.Out.text c.args.out.now in
+    let text' = g.O.Out.text c.put_findings.new.out in
+    let before = g.O.Out.account c.args.out.now in
+    let after = g.O.Out.account c.put_findings.new.out in
+    let puts = subst (λ l. Puts text text' (findings_text l) put) c.deref.ensures.value c.in_err-put_findings.ensures.text in
+    let counts = c.in_err-put_findings.ensures.account in
+    listed_effect c.args.read_data old mid new c.in_ok-volume.ensures.reads ran.reads all put result due text text' before after puts counts volume c.in_ok-volume.ensures.content
+    (steadily volume.store.layout mid new (λ B. (refusal (record { sup = volume.sup; chunks = volume.store.layout.chunks; blocks = B }) ≡ None) × (all ≡ findings c.args.read_data (record { sup = volume.sup; chunks = volume.store.layout.chunks; blocks = B }))) ran.told)
+
+pub returns-in_err-put_findings-clause-told : goal.returns-in_err-put_findings-clause-told
+returns-in_err-put_findings-clause-told g c =
+    let old = g.R.Rack.seen c.args.rack.now in
+    let mid = g.R.Rack.seen c.open_filesystem.new.rack in
+    let new = g.R.Rack.seen c.check.new.rack in
+    let volume = c.in_ok-volume.volume in
+    let all = c.in_ok-findings.findings.items in
+    let ran = c.in_ok-findings.ensures.ran in
+    let fault = c.in_err-put_findings.field-0.0 in
+    let put : Result Unit SinkError = Err fault in
+    let result = answer_of c.from_residual-in_err-put_findings.result in
+    let due = answer_gives c.from_residual-in_err-put_findings.result (output_answer fault) c.from_residual-in_err-put_findings.ensures.1 in
+    let text = g.O.Out.text c.args.out.now in
+    let text' = g.O.Out.text c.put_findings.new.out in
+    let before = g.O.Out.account c.args.out.now in
+    let after = g.O.Out.account c.put_findings.new.out in
+    let puts = subst (λ l. Puts text text' (findings_text l) put) c.deref.ensures.value c.in_err-put_findings.ensures.text in
+    let counts = c.in_err-put_findings.ensures.account in
+    listed_told c.args.read_data old mid new c.in_ok-volume.ensures.reads ran.reads all put result due text text' before after puts counts
+
+pub returns-in_err-put_findings-clause-cause : goal.returns-in_err-put_findings-clause-cause
+returns-in_err-put_findings-clause-cause g c =
+    let old = g.R.Rack.seen c.args.rack.now in
+    let mid = g.R.Rack.seen c.open_filesystem.new.rack in
+    let new = g.R.Rack.seen c.check.new.rack in
+    let volume = c.in_ok-volume.volume in
+    let all = c.in_ok-findings.findings.items in
+    let ran = c.in_ok-findings.ensures.ran in
+    let fault = c.in_err-put_findings.field-0.0 in
+    let put : Result Unit SinkError = Err fault in
+    let result = answer_of c.from_residual-in_err-put_findings.result in
+    let due = answer_gives c.from_residual-in_err-put_findings.result (output_answer fault) c.from_residual-in_err-put_findings.ensures.1 in
+    listed_behind c.args.read_data old mid new c.in_ok-volume.ensures.reads ran.reads all put result due
+
+pub returns-in_err-put_findings-clause-agreed : goal.returns-in_err-put_findings-clause-agreed
+returns-in_err-put_findings-clause-agreed g c =
+    let old = g.R.Rack.seen c.args.rack.now in
+    let mid = g.R.Rack.seen c.open_filesystem.new.rack in
+    let new = g.R.Rack.seen c.check.new.rack in
+    let volume = c.in_ok-volume.volume in
+    let all = c.in_ok-findings.findings.items in
+    let ran = c.in_ok-findings.ensures.ran in
+    let fault = c.in_err-put_findings.field-0.0 in
+    let put : Result Unit SinkError = Err fault in
+    let result = answer_of c.from_residual-in_err-put_findings.result in
+    let due = answer_gives c.from_residual-in_err-put_findings.result (output_answer fault) c.from_residual-in_err-put_findings.ensures.1 in
+    let text = g.O.Out.text c.args.out.now in
+    let text' = g.O.Out.text c.put_findings.new.out in
+    let before = g.O.Out.account c.args.out.now in
+    let after = g.O.Out.account c.put_findings.new.out in
+    let puts = subst (λ l. Puts text text' (findings_text l) put) c.deref.ensures.value c.in_err-put_findings.ensures.text in
+    let counts = c.in_err-put_findings.ensures.account in
+    listed_agreed c.args.read_data old mid new c.in_ok-volume.ensures.reads volume c.in_ok-volume.ensures.opened all result text text' before after
+    (listed c.args.read_data old mid new c.in_ok-volume.ensures.reads ran.reads all put result due text text' before after puts counts (λ outcome. outcome ≡ showing (listing all)) refl) ran.told
+
+pub returns-clause-effect : goal.returns-clause-effect
+returns-clause-effect g c =
+    let old = g.R.Rack.seen c.args.rack.now in
+    let mid = g.R.Rack.seen c.open_filesystem.new.rack in
+    let new = g.R.Rack.seen c.check.new.rack in
+    let volume = c.in_ok-volume.volume in
+    let all = c.in_ok-findings.findings.items in
+    let ran = c.in_ok-findings.ensures.ran in
+    let put : Result Unit SinkError = Ok tt in
+    let result = c.answer_for.result in
+    let counted : c.in_ok-findings.findings.len ≡ length all = omega (arith, c.in_ok-findings.findings.ok.0) in
+    let due = c.answer_for.ensures ∙ ap found (c.len.ensures ∙ counted) in
+    let text = g.O.Out.text c.args.out.now in
+    let text' = g.O.Out.text c.put_findings.new.out in
+    let before = g.O.Out.account c.args.out.now in
+    let after = g.O.Out.account c.put_findings.new.out in
+    let puts = subst (λ l. Puts text text' (findings_text l) put) c.deref.ensures.value c.in_ok-put_findings.ensures.text in
+    let counts = c.in_ok-put_findings.ensures.account in
+    listed_effect c.args.read_data old mid new c.in_ok-volume.ensures.reads ran.reads all put result due text text' before after puts counts volume c.in_ok-volume.ensures.content
+    (steadily volume.store.layout mid new (λ B. (refusal (record { sup = volume.sup; chunks = volume.store.layout.chunks; blocks = B }) ≡ None) × (all ≡ findings c.args.read_data (record { sup = volume.sup; chunks = volume.store.layout.chunks; blocks = B }))) ran.told)
+
+pub returns-clause-told : goal.returns-clause-told
+returns-clause-told g c =
+    let old = g.R.Rack.seen c.args.rack.now in
+    let mid = g.R.Rack.seen c.open_filesystem.new.rack in
+    let new = g.R.Rack.seen c.check.new.rack in
+    let volume = c.in_ok-volume.volume in
+    let all = c.in_ok-findings.findings.items in
+    let ran = c.in_ok-findings.ensures.ran in
+    let put : Result Unit SinkError = Ok tt in
+    let result = c.answer_for.result in
+    let counted : c.in_ok-findings.findings.len ≡ length all = omega (arith, c.in_ok-findings.findings.ok.0) in
+    let due = c.answer_for.ensures ∙ ap found (c.len.ensures ∙ counted) in
+    let text = g.O.Out.text c.args.out.now in
+    let text' = g.O.Out.text c.put_findings.new.out in
+    let before = g.O.Out.account c.args.out.now in
+    let after = g.O.Out.account c.put_findings.new.out in
+    let puts = subst (λ l. Puts text text' (findings_text l) put) c.deref.ensures.value c.in_ok-put_findings.ensures.text in
+    let counts = c.in_ok-put_findings.ensures.account in
+    listed_told c.args.read_data old mid new c.in_ok-volume.ensures.reads ran.reads all put result due text text' before after puts counts
+
+pub returns-clause-cause : goal.returns-clause-cause
+returns-clause-cause g c =
+    let old = g.R.Rack.seen c.args.rack.now in
+    let mid = g.R.Rack.seen c.open_filesystem.new.rack in
+    let new = g.R.Rack.seen c.check.new.rack in
+    let volume = c.in_ok-volume.volume in
+    let all = c.in_ok-findings.findings.items in
+    let ran = c.in_ok-findings.ensures.ran in
+    let put : Result Unit SinkError = Ok tt in
+    let result = c.answer_for.result in
+    let counted : c.in_ok-findings.findings.len ≡ length all = omega (arith, c.in_ok-findings.findings.ok.0) in
+    let due = c.answer_for.ensures ∙ ap found (c.len.ensures ∙ counted) in
+    listed_behind c.args.read_data old mid new c.in_ok-volume.ensures.reads ran.reads all put result due
+
+pub returns-clause-agreed : goal.returns-clause-agreed
+returns-clause-agreed g c =
+    let old = g.R.Rack.seen c.args.rack.now in
+    let mid = g.R.Rack.seen c.open_filesystem.new.rack in
+    let new = g.R.Rack.seen c.check.new.rack in
+    let volume = c.in_ok-volume.volume in
+    let all = c.in_ok-findings.findings.items in
+    let ran = c.in_ok-findings.ensures.ran in
+    let put : Result Unit SinkError = Ok tt in
+    let result = c.answer_for.result in
+    let counted : c.in_ok-findings.findings.len ≡ length all = omega (arith, c.in_ok-findings.findings.ok.0) in
+    let due = c.answer_for.ensures ∙ ap found (c.len.ensures ∙ counted) in
+    let text = g.O.Out.text c.args.out.now in
+    let text' = g.O.Out.text c.put_findings.new.out in
+    let before = g.O.Out.account c.args.out.now in
+    let after = g.O.Out.account c.put_findings.new.out in
+    let puts = subst (λ l. Puts text text' (findings_text l) put) c.deref.ensures.value c.in_ok-put_findings.ensures.text in
+    let counts = c.in_ok-put_findings.ensures.account in
+    listed_agreed c.args.read_data old mid new c.in_ok-volume.ensures.reads volume c.in_ok-volume.ensures.opened all result text text' before after
+    (listed c.args.read_data old mid new c.in_ok-volume.ensures.reads ran.reads all put result due text text' before after puts counts (λ outcome. outcome ≡ showing (listing all)) refl) ran.told

@@ -1,0 +1,58 @@
+-- What lies behind the answer of a command over opened images.
+use Rattle.std.specs.Prelude.{◌≡◌, ◌≢◌, ◌⊎◌, ℕ, Option, IfSome}
+use Rattle.btr_rack.specs.Rack.{Seen, Account, Steady, NoneFailed, OnlyReads}
+use Rattle.btr_read.specs.Layout.{Layout}
+use Rattle.btr_run.specs.Faults.{tree_answer}
+use Rattle.btr_volume.specs.Opening.{SuperUnread}
+use Rattle.btr_walk.specs.Reading.{FaultCause}
+use Rattle.btr_walk.specs.declared.fault.TreeFault.{TreeFault}
+use Rattle.btr_walk.specs.declared.fault.TreeFault.TheVariants.{Lost, Unread, Unmapped, Crosses, Malformed}
+use Rattle.btr_volume.specs.declared.which.Which.TheVariants.{Images}
+use Rattle.btr_run.specs.declared.answer.Answer.{Answer}
+use Rattle.btr_run.specs.declared.answer.Answer.TheVariants.{Usage, Limit, ImageFault, SinkFault, OutFault, Memory}
+
+-- where something is told, and no call on an image failed
+abbrev pub IfSteady : {T : Type 0} → Option T → Account → Account → (T → Type 0) → Type 0
+IfSteady told old new P = IfSome told (λ x. Steady old.faults new.faults → P x)
+
+-- an image, the sink or the output failed, or memory was wanted
+abbrev pub IsFault : Answer → Type 0
+IsFault answer = ((slot : ℕ) × (answer ≡ ImageFault slot)) ⊎ (answer ≡ SinkFault) ⊎ (answer ≡ OutFault) ⊎ (answer ≡ Memory)
+
+-- a fault of a tree has its cause: by some layout some block was lost, has no position, or could not be read
+abbrev pub HasTreeCause : Seen → Seen → Answer → Type 0
+HasTreeCause old new answer = (fault : TreeFault) → answer ≡ tree_answer fault → (layout : Layout) × FaultCause layout old new fault
+
+-- the same for the faults whose cause is told
+abbrev pub HasToldCause : (TreeFault → Type 0) → Seen → Seen → Answer → Type 0
+HasToldCause IsTold old new answer = (fault : TreeFault) → answer ≡ tree_answer fault → IsTold fault → (layout : Layout) × FaultCause layout old new fault
+
+-- all of them
+abbrev pub AnyFault : TreeFault → Type 0
+AnyFault fault = Unit {0}
+
+-- that a block could not be read
+abbrev pub IsUnread : TreeFault → Type 0
+IsUnread (Lost addr) = ⊥
+IsUnread (Unread addr slot) = Unit {0}
+IsUnread (Unmapped addr) = ⊥
+IsUnread (Crosses addr) = ⊥
+IsUnread (Malformed addr) = ⊥
+
+-- all but a block that crosses
+abbrev pub IsNoCrossing : TreeFault → Type 0
+IsNoCrossing (Lost addr) = Unit {0}
+IsNoCrossing (Unread addr slot) = Unit {0}
+IsNoCrossing (Unmapped addr) = Unit {0}
+IsNoCrossing (Crosses addr) = ⊥
+IsNoCrossing (Malformed addr) = Unit {0}
+
+-- The images were only read. One is at fault only where a read of its superblock failed, which no sure rack does. An answer that is no fault comes behind
+-- a failed call only if it is of some kind. Of some faults of trees the cause is told. What the words alone decide is not answered.
+pub record IsBehind (MayFail : Answer → Type 0) (IsTold : TreeFault → Type 0) (old new : Seen) (answer : Answer) : Type 0 where
+  pub reads : OnlyReads old new
+  pub image : (slot : ℕ) → answer ≡ ImageFault slot → SuperUnread old new slot
+  pub tree : HasToldCause IsTold old new answer
+  pub hidden : NoneFailed old.account new.account ⊎ IsFault answer ⊎ MayFail answer
+  pub no_usage : (at : ℕ) → answer ≢ Usage at
+  pub no_limit : (n : ℕ) → answer ≢ Limit Images n

@@ -1,0 +1,137 @@
+-- The commands: one case each.
+use Rattle.std.specs.Prelude.{◌≡◌, ◌≢◌, ◌⊎◌, ℕ, ◌<◌, ◌≤◌, Bool, false, List, [], get_or, Option, Some, None}
+use Rattle.btr_rack.specs.Out.{CallAccount}
+use Rattle.btr_rack.specs.Rack.{NoneFailed, OnlyReads, Rose, Seen}
+use Rattle.btr_rack.specs.declared.place.Place.{Place as Range}
+use Rattle.btr_read.specs.Layout.{Layout}
+use Rattle.btr_scrub.specs.Scrubbing.{IsOfScrub}
+use Rattle.btr_volume.specs.Opening.{SuperUnread}
+use Rattle.btr_volume.specs.declared.which.Which.TheVariants.{Images as images_limit}
+use Rattle.btr_walk.specs.Reading.{FaultCause}
+use Rattle.btr_walk.specs.declared.fault.TreeFault.{TreeFault}
+use Rattle.btr_run.specs.Behind.{AnyFault, IsFault, IsNoCrossing, IsUnread}
+use Rattle.btr_run.specs.Checked.{check_outcome, IsCheckOutcome}
+use Rattle.btr_run.specs.Filesystem.{MayMend}
+use Rattle.btr_run.specs.Newest.{super_outcome, IsSuperOutcome}
+use Rattle.btr_run.specs.Outcomes.{Outcome}
+use Rattle.btr_run.specs.Restored.{restored, IsRestored}
+use Rattle.btr_run.specs.Faults.{tree_answer}
+use Rattle.btr_run.specs.Scrubbed.{scrub_outcome, IsScrubOutcome}
+use Rattle.btr_run.specs.Trees.{trees_outcome, IsTreesOutcome}
+use Rattle.btr_run.specs.Words.{Words}
+use Rattle.btr_run.specs.declared.answer.Answer.{Answer}
+use Rattle.btr_run.specs.declared.answer.Answer.TheVariants.{Usage, Limit, ImageFault}
+use Rattle.btr_run.specs.declared.plan.Command.{Command}
+use Rattle.btr_run.specs.declared.plan.Command.TheVariants.{Super, Dump, Roots, Check, Scrub, Restore}
+use Rattle.btr_run.specs.declared.plan.DumpChoice.TheVariants.{RootLines}
+
+-- what a command of some words comes to over the bytes of its images
+abbrev pub command_outcome : Command → Words → List (List ℕ) → Option Outcome
+command_outcome Super words images = super_outcome images
+command_outcome (Dump choice) words images = Some (trees_outcome choice images)
+command_outcome Roots words images = Some (trees_outcome RootLines images)
+command_outcome (Check read_data) words images = Some (check_outcome read_data images)
+command_outcome (Scrub write) words images = Some (scrub_outcome write images)
+command_outcome (Restore dest plan) words images = Some (restored plan (get_or words dest []) images)
+
+-- what a command may come to whatever its images hold, and whatever fails, beside refusals before anything else
+abbrev pub MayCome : Command → Outcome → Type 0
+MayCome Super outcome = IsSuperOutcome outcome
+MayCome (Dump choice) outcome = IsTreesOutcome outcome
+MayCome Roots outcome = IsTreesOutcome outcome
+MayCome (Check read_data) outcome = IsCheckOutcome outcome
+MayCome (Scrub write) outcome = IsScrubOutcome outcome
+MayCome (Restore dest plan) outcome = IsRestored outcome
+
+-- what a command may answer behind a failed call on an image, beside a fault
+abbrev pub MayFail : Command → Answer → Type 0
+MayFail Super answer = ⊥
+MayFail (Dump choice) answer = MayMend answer
+MayFail Roots answer = MayMend answer
+MayFail (Check read_data) answer = MayMend answer
+MayFail (Scrub write) answer = MayMend answer
+MayFail (Restore dest plan) answer = MayMend answer
+
+-- the faults of trees whose cause a command tells: a check goes on behind all but a block that could not be read, and keeps only where they were; a
+-- scrub also answers an extent that crosses
+abbrev pub TellsCause : Command → TreeFault → Type 0
+TellsCause Super fault = AnyFault fault
+TellsCause (Dump choice) fault = AnyFault fault
+TellsCause Roots fault = AnyFault fault
+TellsCause (Check read_data) fault = IsUnread fault
+TellsCause (Scrub write) fault = IsNoCrossing fault
+TellsCause (Restore dest plan) fault = AnyFault fault
+
+-- a command that writes into a sink, if it isn't a dry run
+abbrev pub Writes : Command → Type 0
+Writes Super = ⊥
+Writes (Dump choice) = ⊥
+Writes Roots = ⊥
+Writes (Check read_data) = ⊥
+Writes (Scrub write) = ⊥
+Writes (Restore dest plan) = Unit {0}
+
+-- a command may want memory on its way: where the output does, or a command that writes
+abbrev pub MayWant : Command → CallAccount → Type 0
+MayWant command out = (out.ample ≡ false) ⊎ Writes command
+
+-- the word that a command cites is there
+abbrev pub HasWords : Command → ℕ → Type 0
+HasWords Super words = Unit {0}
+HasWords (Dump choice) words = Unit {0}
+HasWords Roots words = Unit {0}
+HasWords (Check read_data) words = Unit {0}
+HasWords (Scrub write) words = Unit {0}
+HasWords (Restore dest plan) words = dest < words
+
+-- whether a command writes into the images, which are opened for it then
+abbrev pub opens_to_write : Command → Bool
+opens_to_write Super = false
+opens_to_write (Dump choice) = false
+opens_to_write Roots = false
+opens_to_write (Check read_data) = false
+opens_to_write (Scrub write) = write
+opens_to_write (Restore dest plan) = false
+
+-- the command that scrubs
+abbrev pub IsScrub : Command → Type 0
+IsScrub Super = ⊥
+IsScrub (Dump choice) = ⊥
+IsScrub Roots = ⊥
+IsScrub (Check read_data) = ⊥
+IsScrub (Scrub write) = Unit {0}
+IsScrub (Restore dest plan) = ⊥
+
+-- a read, a write or a sync of a scrub failed on an image, of a rack that isn't sure: this was the last failed call
+pub record IsUnmended (layout : Layout) (old new : Seen) (slot : ℕ) : Type 0 where
+  pub place : Range
+  pub of_scrub : IsOfScrub layout place
+  pub on_slot : place.slot ≡ slot
+  pub unsure : old.sure ≡ false
+  pub last : new.account.last ≡ place
+  pub no_opening : new.account.opening ≡ None
+  pub faults : Rose old.account.faults new.account.faults
+  pub fresh : 1 ≤ new.account.fresh
+  pub shut : new.account.shut ≡ old.account.shut
+
+-- why a command answers that an image failed: a read of its superblock did, or a call of a scrub on it
+abbrev pub ImageFails : Command → Seen → Seen → ℕ → Type 0
+ImageFails command old new slot = SuperUnread old new slot ⊎ (IsScrub command × ((layout : Layout) × IsUnmended layout old new slot))
+
+-- The slots and the shelf of a rack are as before: the images may have been written. No opening failed, and the count of faults never falls.
+pub record KeepsRack (old new : Seen) : Type 0 where
+  pub same : new ≡ record old { held = new.held; unsynced = new.unsynced; account = new.account }
+  pub later : old.account.faults ≤ new.account.faults
+  pub same_shut : new.account.shut ≡ old.account.shut
+
+-- What lies behind the answer of a command over opened images. Only a scrub may do more than read, and no byte changes where it isn't to write, or where
+-- a tree can't be read on. An answer that is no fault comes behind a failed call only if it is of some kind. What the words alone decide is not answered.
+pub record IsBehindCommand (command : Command) (old new : Seen) (answer : Answer) : Type 0 where
+  pub keeps : KeepsRack old new
+  pub reads : (IsScrub command → ⊥) → OnlyReads old new
+  pub held : opens_to_write command ≡ false → new.held ≡ old.held
+  pub image : (slot : ℕ) → answer ≡ ImageFault slot → ImageFails command old new slot
+  pub tree : (fault : TreeFault) → answer ≡ tree_answer fault → OnlyReads old new × (TellsCause command fault → (layout : Layout) × FaultCause layout old new fault)
+  pub hidden : NoneFailed old.account new.account ⊎ IsFault answer ⊎ MayFail command answer
+  pub no_usage : (at : ℕ) → answer ≢ Usage at
+  pub no_limit : (n : ℕ) → answer ≢ Limit images_limit n

@@ -1,0 +1,53 @@
+// The command `check`.
+ghost use Rattle.std.specs.Prelude.{◌≡◌, ◌<◌, length, IfSome, Some};
+ghost use Rattle.btr_run.specs.Agreeing.{AreAgreed, IsOrUnread};
+ghost use Rattle.btr_run.specs.Answers.{answer_of};
+ghost use Rattle.btr_run.specs.Behind.{IfSteady, IsBehind, IsUnread};
+ghost use Rattle.btr_run.specs.Checked.{IsCheckOutcome, check_outcome, found};
+ghost use Rattle.btr_run.specs.Filesystem.{MayMend};
+ghost use Rattle.btr_run.specs.Outcomes.{OrBare, OrMemory, Shows};
+
+use crate::answer::Answer;
+use crate::filesystem::open_filesystem;
+use btr_check::{check, put_findings};
+use btr_rack::{Out, Rack};
+use std::alloc::Global;
+
+/// Puts what is wrong with the filesystem of the open images, and how much that is; with `read_data`, the sectors that have a checksum are
+/// read too.
+///
+/// An error is the answer of what stopped it: a refusal of opening or of the check, or a block that could not be read, before anything is
+/// put; or the output's.
+pub(crate) fn show_findings<R: Rack, O: Out>(
+    alloc: Global,
+    read_data: bool,
+    rack: &mut R,
+    out: &mut O,
+) -> Result<Answer, Answer>
+    requires { 0 < length (R.seen rack.old).slots }
+    ensures effect { IfSteady (R.seen rack.old).held (R.seen rack.old).account (R.seen rack.new).account (λ images.
+        Shows (OrMemory (λ outcome. Some (check_outcome read_data images) ≡ Some outcome))
+        (O.text out.old) (O.text out.new) (O.account out.old) (O.account out.new) (answer_of result)) }
+    ensures agreed { IfSome (R.seen rack.old).held (λ images. AreAgreed images →
+        Shows (IsOrUnread (check_outcome read_data images))
+        (O.text out.old) (O.text out.new) (O.account out.old) (O.account out.new) (answer_of result)) }
+    ensures told { Shows (OrBare IsCheckOutcome)
+        (O.text out.old) (O.text out.new) (O.account out.old) (O.account out.new) (answer_of result) }
+    ensures cause { IsBehind MayMend IsUnread (R.seen rack.old) (R.seen rack.new) (answer_of result) }
+{
+    let mut volume = open_filesystem(alloc, rack)?;
+    let findings = check(alloc, read_data, rack, &mut volume)?;
+    put_findings(&findings, out)?;
+    Ok(answer_for(findings.len()))
+}
+
+// The answer where so many findings were put.
+fn answer_for(count: usize) -> Answer
+    ensures { result ≡ found count }
+{
+    if count == 0 {
+        Answer::Done { skipped: 0 }
+    } else {
+        Answer::Found(count as u64)
+    }
+}

@@ -1,0 +1,26 @@
+//! The commands: the words of a command line, the top call and its answers, and their texts.
+//!
+//! `run` does what the words say over any rack of images, destination and output. Its contract is the program's, which is promised to the layer above:
+//! the answer, the text put and what was done in the destination are those of the words and the images (`specs/Effects.antt`), and a fault of the
+//! outside is answered only with its cause (`specs/Causes.antt`). `specs/Words.antt` has the sentences, `specs/Text.antt` the texts.
+#![tactic(auto)]
+
+mod answer;
+mod checking;
+mod commands;
+mod filesystem;
+mod newest;
+mod opening;
+mod options;
+mod plan;
+mod progress;
+mod refusal;
+mod restoring;
+mod running;
+mod scrubbing;
+mod text;
+mod trees;
+
+pub use answer::Answer;
+pub use refusal::NO_MEMORY;
+pub use running::run;

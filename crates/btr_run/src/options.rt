@@ -1,0 +1,109 @@
+// The options of `restore`.
+ghost use Rattle.std.specs.Prelude.{◌≡◌};
+ghost use Rattle.btr_run.specs.Restores.{no_options, plan_by, with_dry, with_root, with_snapshots, with_verbose, words_in};
+
+use btr_files::RestorePlan;
+
+// The subvolume that is restored where none is asked for.
+const TOP_TREE: u64 = 5;
+
+/// The options of `restore` that were read, each at most once.
+#[derive(Clone, Copy, Debug, PartialEq, Eq)]
+pub(crate) struct Options {
+    /// `-r`: the id of a subvolume.
+    pub(crate) root: Option<u64>,
+    /// `-s`: snapshots too.
+    pub(crate) snapshots: bool,
+    /// `-v`: directories and files are named.
+    pub(crate) verbose: bool,
+    /// `-D`: nothing is written.
+    pub(crate) dry: bool,
+}
+
+impl Options {
+    /// None.
+    pub(crate) fn new() -> Options
+        ensures { result ≡ no_options }
+    {
+        Options {
+            root: None,
+            snapshots: false,
+            verbose: false,
+            dry: false,
+        }
+    }
+
+    /// With the id behind `-r`; `None` where it can't be that of a subvolume.
+    pub(crate) fn with_root(self, id: u64) -> Option<Options>
+        ensures { result ≡ with_root id self }
+    {
+        if id == TOP_TREE || (256..=18446744073709551360).contains(&id) {
+            Some(Options {
+                root: Some(id),
+                ..self
+            })
+        } else {
+            None
+        }
+    }
+
+    /// With `-s`; `None` where it was given.
+    pub(crate) fn with_snapshots(self) -> Option<Options>
+        ensures { result ≡ with_snapshots self }
+    {
+        if self.snapshots {
+            None
+        } else {
+            Some(Options {
+                snapshots: true,
+                ..self
+            })
+        }
+    }
+
+    /// With `-v`; `None` where it was given.
+    pub(crate) fn with_verbose(self) -> Option<Options>
+        ensures { result ≡ with_verbose self }
+    {
+        if self.verbose {
+            None
+        } else {
+            Some(Options {
+                verbose: true,
+                ..self
+            })
+        }
+    }
+
+    /// With `-D`; `None` where it was given.
+    pub(crate) fn with_dry(self) -> Option<Options>
+        ensures { result ≡ with_dry self }
+    {
+        if self.dry {
+            None
+        } else {
+            Some(Options { dry: true, ..self })
+        }
+    }
+
+    /// How many words `restore` and these options are.
+    pub(crate) fn words(&self) -> usize
+        ensures { result ≡ words_in self.now }
+    {
+        let root = if self.root.is_some() { 2 } else { 0 };
+        let flags = self.snapshots as usize + self.verbose as usize + self.dry as usize;
+        1 + root + flags
+    }
+
+    /// What they ask for.
+    pub(crate) fn plan(&self) -> RestorePlan
+        ensures { result ≡ plan_by self.now }
+    {
+        RestorePlan {
+            root: self.root.unwrap_or(TOP_TREE),
+            snapshots: self.snapshots,
+            verbose: self.verbose,
+            dry: self.dry,
+        }
+    }
+}

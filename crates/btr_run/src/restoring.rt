@@ -1,0 +1,53 @@
+// The command `restore`, where it writes files.
+ghost use Rattle.std.specs.Prelude.{◌≡◌, ◌<◌, length, IfSome};
+ghost use Rattle.btr_rack.specs.Sink.{NotStarted};
+ghost use Rattle.btr_restore.specs.Running.{outside};
+ghost use Rattle.btr_run.specs.Answers.{answer_of};
+ghost use Rattle.btr_run.specs.Behind.{AnyFault, IfSteady, IsBehind};
+ghost use Rattle.btr_run.specs.Filesystem.{MayMend};
+ghost use Rattle.btr_run.specs.Order.{InOrder};
+ghost use Rattle.btr_run.specs.Outcomes.{Comes, OrBare, OrMemory};
+ghost use Rattle.btr_run.specs.Restored.{IsRestored, restored};
+
+use crate::answer::Answer;
+use crate::filesystem::open_filesystem;
+use btr_files::RestorePlan;
+use btr_rack::{Out, Rack, TreeSink};
+use btr_restore::{opened_then, restore};
+use std::alloc::Global;
+
+/// Writes the directories and files of a subvolume of the open images' filesystem into the destination of this name, and puts a line for each entry that is
+/// left out, and one of the counts.
+///
+/// An error is the answer of what stopped it: a refusal of opening, before anything is done; that there is no such subvolume, or a tree or a file that
+/// can't be read on, behind all before it; the sink's, or the output's.
+pub(crate) fn restore_files<R: Rack, T: TreeSink, O: Out>(
+    alloc: Global,
+    plan: &RestorePlan,
+    dest: &str,
+    rack: &mut R,
+    tree: &mut T,
+    out: &mut O,
+) -> Result<Answer, Answer>
+    requires open { 0 < length (R.seen rack.old).slots }
+    requires fresh { (T.sink tree.old).stage ≡ NotStarted }
+    ensures effect { IfSteady (R.seen rack.old).held (R.seen rack.old).account (R.seen rack.new).account (λ images.
+        Comes (Unit {0}) (OrMemory (λ outcome. restored plan.now dest.now images ≡ outcome))
+        (outside (T.sink tree.old) (T.account tree.old) (O.text out.old) (O.account out.old))
+        (outside (T.sink tree.new) (T.account tree.new) (O.text out.new) (O.account out.new)) (answer_of result)) }
+    ensures told { Comes (Unit {0}) (OrBare IsRestored)
+        (outside (T.sink tree.old) (T.account tree.old) (O.text out.old) (O.account out.old))
+        (outside (T.sink tree.new) (T.account tree.new) (O.text out.new) (O.account out.new)) (answer_of result) }
+    ensures order { IfSome (R.seen rack.old).held (λ images.
+        InOrder plan.now dest.now images (R.seen rack.old) (R.seen rack.new)
+        (outside (T.sink tree.old) (T.account tree.old) (O.text out.old) (O.account out.old))
+        (outside (T.sink tree.new) (T.account tree.new) (O.text out.new) (O.account out.new)) (answer_of result)) }
+    ensures cause { IsBehind MayMend AnyFault (R.seen rack.old) (R.seen rack.new) (answer_of result) }
+{
+    opened_then();
+    let mut volume = open_filesystem(alloc, rack)?;
+    let counts = restore(alloc, plan, dest, rack, &mut volume, tree, out)?;
+    Ok(Answer::Done {
+        skipped: counts.skipped,
+    })
+}

@@ -1,0 +1,151 @@
+// Volumes with one fault each, and what a check finds in them.
+ghost use Rattle.std.specs.Prelude.{◌≤◌};
+
+mod names;
+mod space;
+mod trees;
+
+use crate::answers::answers;
+use btr_calls::CallFault;
+use btr_make::{RowVolume, row, seal};
+use btr_rack::MemRack;
+use std::alloc::Global;
+use std::process::Abort;
+
+const NODE: u64 = 16384;
+
+const SUPER: u64 = 65536;
+
+// The one leaf of each tree of the small volume.
+const CHUNKS: u64 = 1048576;
+
+const ROOTS: u64 = 2097152;
+
+const EXTENTS: u64 = 2113536;
+
+const DEVICES: u64 = 2129920;
+
+const FILES: u64 = 2146304;
+
+const SUMS: u64 = 2162688;
+
+// Where the second sector of data lies on the device.
+const SECTOR: u64 = 10489856;
+
+// Bytes that are written over, from a byte of a block on.
+#[derive(Clone, Copy)]
+struct Poke {
+    at: u64,
+    bytes: &'static [u8],
+}
+
+// A block that is written over, and whether its checksum is made right again; and what is found then.
+#[derive(Clone, Copy)]
+struct Case {
+    block: u64,
+    is_sealed: bool,
+    pokes: &'static [Poke],
+    text: &'static [u8],
+}
+
+// How many bytes the checksum of a block covers, and its own.
+fn len_of(block: u64) -> u64
+    ensures { 36 ≤ result }
+{
+    if block == SUPER { 4096 } else { NODE }
+}
+
+// A small volume, edited.
+fn edited(alloc: Global, volume: RowVolume, case: &Case) -> Result<MemRack, CallFault> {
+    let mut rack = row(alloc, volume)?;
+    for poke in case.pokes {
+        rack.poke("a", case.block.saturating_add(poke.at), poke.bytes)?;
+    }
+    if case.is_sealed {
+        seal(&mut rack, "a", case.block, len_of(case.block))?;
+    }
+    Ok(rack)
+}
+
+// Asserts what a check of an edited volume tells.
+fn tells(
+    rt: &impl Abort,
+    alloc: Global,
+    volume: RowVolume,
+    case: &Case,
+    code: u8,
+) -> Result<(), CallFault> {
+    let mut rack = edited(alloc, volume, case)?;
+    answers(rt, alloc, &mut rack, &["check", "a"], case.text, code)
+}
+
+fn tells_all(rt: &impl Abort, alloc: Global, cases: &[Case], code: u8) -> Result<(), CallFault> {
+    for case in cases {
+        tells(rt, alloc, RowVolume::V1, case, code)?;
+    }
+    Ok(())
+}
+
+#[test]
+fn one_fault_each(rt: HostRuntime) -> Result<(), CallFault> {
+    tells_all(&rt, rt.alloc(), trees::FOUND, 1)?;
+    tells_all(&rt, rt.alloc(), names::FOUND, 1)?;
+    tells_all(&rt, rt.alloc(), space::FOUND, 1)?;
+    tells(&rt, rt.alloc(), RowVolume::S, &names::SUBVOLUME, 1)
+}
+
+#[test]
+fn filesystems_that_are_refused(rt: HostRuntime) -> Result<(), CallFault> {
+    tells_all(&rt, rt.alloc(), space::REFUSED, 3)
+}
+
+const SOUND: &[(RowVolume, &[&str])] = &[
+    (RowVolume::V1, &["check", "a"]),
+    (RowVolume::V1d, &["check", "--check-data-csum", "a"]),
+    (RowVolume::V2, &["check", "--check-data-csum", "a"]),
+    (RowVolume::S, &["check", "a"]),
+    (RowVolume::X2, &["check", "a"]),
+    (RowVolume::L, &["check", "a"]),
+    (RowVolume::W5, &["check", "--check-data-csum", "a", "c"]),
+    (RowVolume::W6, &["check", "--check-data-csum", "b", "d"]),
+];
+
+#[test]
+fn sound_volumes(rt: HostRuntime) -> Result<(), CallFault> {
+    for (volume, all) in SOUND {
+        answers(
+            &rt,
+            rt.alloc(),
+            &mut row(rt.alloc(), *volume)?,
+            all,
+            b"no findings\n",
+            0,
+        )?;
+    }
+    Ok(())
+}
+
+#[test]
+fn a_reference_too_many(rt: HostRuntime) -> Result<(), CallFault> {
+    let mut rack = row(rt.alloc(), RowVolume::X3)?;
+    let text = b"ref-total 16777216 3 2\nfindings 1\n";
+    answers(&rt, rt.alloc(), &mut rack, &["check", "a"], text, 1)
+}
+
+// The small volume, of whose data a sector is wrong.
+fn without_sector(alloc: Global) -> Result<MemRack, CallFault> {
+    let mut rack = row(alloc, RowVolume::V1)?;
+    rack.poke("a", SECTOR, &[1])?;
+    Ok(rack)
+}
+
+#[test]
+fn data_that_is_lost(rt: HostRuntime) -> Result<(), CallFault> {
+    let alloc = rt.alloc();
+    let rack = &mut without_sector(alloc)?;
+    answers(&rt, alloc, rack, &["check", "a"], b"no findings\n", 0)?;
+    let rack = &mut without_sector(alloc)?;
+    let text = b"data-lost 16781312\nfindings 1\n";
+    let words = ["check", "--check-data-csum", "a"];
+    answers(&rt, alloc, rack, &words, text, 1)
+}

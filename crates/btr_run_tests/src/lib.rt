@@ -1,0 +1,13 @@
+//! Tests of `run` of `btr_run`: words, `super`, filesystems that aren't opened, and want of memory.
+#![tactic(auto)]
+
+#[cfg(test)]
+mod answers;
+#[cfg(test)]
+mod opening;
+#[cfg(test)]
+mod supers;
+#[cfg(test)]
+mod wanting;
+#[cfg(test)]
+mod words;

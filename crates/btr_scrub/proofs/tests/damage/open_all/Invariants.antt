@@ -1,6 +1,0 @@
-use Rattle.btr_rack.specs.Memory.{slots_of}
-use Rattle.btr_mend.specs.Writes.{AreWritable}
-use Rattle.btr_scrub.proofs.tests.damage.open_all.Given as goal
-
-abbrev pub invariant-loop-name : goal.invariant-loop-name
-invariant-loop-name l = AreWritable (slots_of l.rack)

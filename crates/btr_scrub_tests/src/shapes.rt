@@ -1,0 +1,291 @@
+// Small volumes, and some whose chunks or checksums are other ones than those that were made.
+use btr_make::{RowVolume, make, row, seal};
+use btr_rack::MemRack;
+use std::alloc::Global;
+use std::test::Fail;
+
+const PAGE: u64 = 4096;
+
+const NODE: u64 = 16384;
+
+// Where the leaf of the chunk tree stands.
+const CHUNKS: u64 = 1048576;
+
+// Where the leaf of the checksum tree stands.
+const SUMS: u64 = 2162688;
+
+// The page of the first of two sectors of data.
+const DATA_PAGE: u64 = 2560;
+
+// A number in a leaf, by its place in the image and its size.
+#[derive(Clone, Copy)]
+struct Field {
+    at: u64,
+    size: usize,
+    value: u64,
+}
+
+// Pages that are copied, from the first image to some.
+#[derive(Clone, Copy)]
+struct Pages {
+    from: u64,
+    to: u64,
+    count: u64,
+    images: &'static [&'static str],
+}
+
+// A small volume, in which fields of a leaf are changed in some images, and then pages are copied.
+#[derive(Clone, Copy)]
+struct Shape {
+    volume: RowVolume,
+    changed: &'static [&'static str],
+    leaf: u64,
+    fields: &'static [Field],
+    pages: &'static [Pages],
+}
+
+fn as_made(volume: RowVolume) -> Shape {
+    Shape {
+        volume,
+        changed: &[],
+        leaf: CHUNKS,
+        fields: &[],
+        pages: &[],
+    }
+}
+
+/// Which of them.
+#[derive(Clone, Copy, Debug)]
+pub(super) enum Made {
+    /// As it was made.
+    Row(RowVolume),
+    /// `W6`, in which the chunk of data is of another type. Its two sectors stand at the beginning of each stripe.
+    Raid0,
+    Raid10,
+    Raid1c4,
+    /// `W5`, in which the first of the two sectors of data has no checksum.
+    HalfSummed,
+    /// `W5`, in which the third page of the first slice of data is the superblock.
+    BesideSuper,
+    /// `V1d`, in which the second copy of the leaf of the checksum tree begins at the superblock.
+    OverSuper,
+    /// The volume of ten directories.
+    Directories,
+}
+
+impl Made {
+    /// The names of its images.
+    pub(super) fn names(self) -> &'static [&'static str] {
+        match self {
+            Made::Row(RowVolume::M1) => &["a", "b"],
+            Made::Row(RowVolume::W6) | Made::Raid0 | Made::Raid10 | Made::Raid1c4 => {
+                &["a", "b", "c", "d"]
+            }
+            Made::Row(RowVolume::V1 | RowVolume::V1d) | Made::OverSuper => &["a"],
+            _ => &["a", "b", "c"],
+        }
+    }
+
+    /// How many pages each of them has.
+    pub(super) fn pages(self) -> u64 {
+        match self {
+            Made::Directories => 32768,
+            _ => 4096,
+        }
+    }
+}
+
+// The length, the type and the number of substripes in the item of the data chunk of `W6`.
+const LENGTH_OF_FOUR: Field = Field {
+    at: CHUNKS + 15592,
+    size: 8,
+    value: 4194304,
+};
+
+const KIND_OF_FOUR: Field = Field {
+    at: CHUNKS + 15616,
+    size: 8,
+    value: 0x9,
+};
+
+const PAIRS_OF_FOUR: Field = Field {
+    at: CHUNKS + 15638,
+    size: 2,
+    value: 2,
+};
+
+const RAID0: Shape = Shape {
+    volume: RowVolume::W6,
+    changed: &["a", "b"],
+    leaf: CHUNKS,
+    fields: &[LENGTH_OF_FOUR, KIND_OF_FOUR, PAIRS_OF_FOUR],
+    pages: &[Pages {
+        from: DATA_PAGE,
+        to: DATA_PAGE,
+        count: 2,
+        images: &["b", "c", "d"],
+    }],
+};
+
+const RAID10: Shape = Shape {
+    fields: &[
+        LENGTH_OF_FOUR,
+        Field {
+            value: 0x41,
+            ..KIND_OF_FOUR
+        },
+        PAIRS_OF_FOUR,
+    ],
+    ..RAID0
+};
+
+const RAID1C4: Shape = Shape {
+    fields: &[
+        LENGTH_OF_FOUR,
+        Field {
+            value: 0x401,
+            ..KIND_OF_FOUR
+        },
+        PAIRS_OF_FOUR,
+    ],
+    ..RAID0
+};
+
+// The key's offset, the place and the length of the item of checksums: those of the second sector.
+const HALF_SUMMED: Shape = Shape {
+    volume: RowVolume::W5,
+    changed: &["a", "b"],
+    leaf: SUMS,
+    fields: &[
+        Field {
+            at: SUMS + 110,
+            size: 8,
+            value: 16781312,
+        },
+        Field {
+            at: SUMS + 118,
+            size: 4,
+            value: 16279,
+        },
+        Field {
+            at: SUMS + 122,
+            size: 4,
+            value: 4,
+        },
+    ],
+    pages: &[],
+};
+
+// The length of the data chunk of `W5`, and where its first stripe begins.
+const BESIDE_SUPER: Shape = Shape {
+    volume: RowVolume::W5,
+    changed: &["a", "b"],
+    leaf: CHUNKS,
+    fields: &[
+        Field {
+            at: CHUNKS + 15722,
+            size: 8,
+            value: 1966080,
+        },
+        Field {
+            at: CHUNKS + 15778,
+            size: 8,
+            value: 57344,
+        },
+    ],
+    pages: &[Pages {
+        from: DATA_PAGE,
+        to: 14,
+        count: 2,
+        images: &["a"],
+    }],
+};
+
+// The length of the metadata chunk of `V1d`, and where its second stripe begins. The page of the superblock stays.
+const OVER_SUPER: Shape = Shape {
+    volume: RowVolume::V1d,
+    changed: &["a"],
+    leaf: CHUNKS,
+    fields: &[
+        Field {
+            at: CHUNKS + 16094,
+            size: 8,
+            value: 1048576,
+        },
+        Field {
+            at: CHUNKS + 16182,
+            size: 8,
+            value: 0,
+        },
+    ],
+    pages: &[
+        Pages {
+            from: 512,
+            to: 0,
+            count: 16,
+            images: &["a"],
+        },
+        Pages {
+            from: 529,
+            to: 17,
+            count: 11,
+            images: &["a"],
+        },
+    ],
+};
+
+// Changes fields of the leaf in an image, and writes its checksum anew.
+fn change(rack: &mut MemRack, name: &str, shape: &Shape) -> Result<(), Fail> {
+    for field in shape.fields {
+        let bytes = field.value.to_le_bytes();
+        rack.poke(name, field.at, &bytes[..field.size.min(8)])?;
+    }
+    Ok(seal(rack, name, shape.leaf, NODE)?)
+}
+
+// Copies a page of the first image to a page of another, or none where no byte of it was written.
+fn copy_page(rack: &mut MemRack, from: u64, name: &str, to: u64) -> Result<(), Fail> {
+    let mut copy = [0; 4096];
+    if let Some(page) = rack.page("a", from) {
+        for (to, from) in copy.iter_mut().zip(page) {
+            *to = *from;
+        }
+    }
+    Ok(rack.poke(name, to.wrapping_mul(PAGE), &copy)?)
+}
+
+fn copy_pages(rack: &mut MemRack, pages: &Pages) -> Result<(), Fail> {
+    for name in pages.images {
+        for i in 0..pages.count {
+            let (from, to) = (pages.from.wrapping_add(i), pages.to.wrapping_add(i));
+            copy_page(rack, from, name, to)?;
+        }
+    }
+    Ok(())
+}
+
+fn build_row(alloc: Global, shape: &Shape) -> Result<MemRack, Fail> {
+    let mut rack = row(alloc, shape.volume)?;
+    for name in shape.changed {
+        change(&mut rack, name, shape)?;
+    }
+    for pages in shape.pages {
+        copy_pages(&mut rack, pages)?;
+    }
+    Ok(rack)
+}
+
+/// The images of a volume, on the shelf.
+pub(super) fn build(alloc: Global, which: Made) -> Result<MemRack, Fail> {
+    let shape = match which {
+        Made::Row(volume) => as_made(volume),
+        Made::Raid0 => RAID0,
+        Made::Raid10 => RAID10,
+        Made::Raid1c4 => RAID1C4,
+        Made::HalfSummed => HALF_SUMMED,
+        Made::BesideSuper => BESIDE_SUPER,
+        Made::OverSuper => OVER_SUPER,
+        Made::Directories => return Ok(make(alloc, 10)?),
+    };
+    build_row(alloc, &shape)
+}

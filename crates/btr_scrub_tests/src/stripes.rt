@@ -1,0 +1,140 @@
+// Full stripes in which blocks or sectors of the parities are wrong, and volumes that are spoiled.
+use super::damage::{CLEAN, Damage, expect_same, expect_tally, mends};
+use super::shapes::{Made, build};
+use btr_make::{RowVolume, spoil};
+use btr_rack::MemRack;
+use btr_scrub::Tally;
+use std::alloc::Global;
+use std::process::Abort;
+use std::test::Fail;
+
+const DAMAGES: [Damage; 6] = [
+    // A byte of P.
+    Damage {
+        volume: Made::Row(RowVolume::W5),
+        mended: &[("c", 10485760)],
+        left: &[],
+        tally: Tally { parity: 1, ..CLEAN },
+    },
+    // A sector of data is lost, and its column's P is left; so is P where nothing is checked.
+    Damage {
+        volume: Made::Row(RowVolume::W5),
+        mended: &[("c", 10489856)],
+        left: &[("a", 10485760), ("c", 10485760), ("c", 10506240)],
+        tally: Tally {
+            bad: 1,
+            lost: 1,
+            parity: 1,
+            ..CLEAN
+        },
+    },
+    // The same with Q; the other sector is made right by P, and its column's Q behind it.
+    Damage {
+        volume: Made::Row(RowVolume::W6),
+        mended: &[("a", 10489861), ("d", 10489861)],
+        left: &[("a", 10485760), ("c", 10485760), ("d", 10485760)],
+        tally: Tally {
+            bad: 2,
+            repaired: 1,
+            lost: 1,
+            parity: 1,
+            ..CLEAN
+        },
+    },
+    // A tree block is lost, and P is left in each column that it meets.
+    Damage {
+        volume: Made::Row(RowVolume::Rows5),
+        mended: &[("c", 2097152)],
+        left: &[("a", 2146404), ("c", 2150500), ("c", 2162687)],
+        tally: Tally {
+            blocks: 222,
+            bad: 1,
+            lost: 1,
+            parity: 1,
+            ..CLEAN
+        },
+    },
+    // Of two sectors of data one has no checksum, and is left, with its column's P.
+    Damage {
+        volume: Made::HalfSummed,
+        mended: &[("a", 10489856)],
+        left: &[("a", 10485760), ("c", 10485760)],
+        tally: Tally {
+            blocks: 7,
+            bad: 1,
+            repaired: 1,
+            unchecked: 1,
+            ..CLEAN
+        },
+    },
+    // A superblock lies in a slice: it is left, with its column's P.
+    Damage {
+        volume: Made::BesideSuper,
+        mended: &[("a", 57353), ("c", 10489856)],
+        left: &[("c", 10493952)],
+        tally: Tally {
+            bad: 1,
+            repaired: 1,
+            parity: 1,
+            ..CLEAN
+        },
+    },
+];
+
+#[test]
+fn full_stripes(rt: HostRuntime) -> Result<(), Fail> {
+    for damage in &DAMAGES {
+        mends(&rt, rt.alloc(), damage)?;
+    }
+    Ok(())
+}
+
+// A copy that lies over the superblock is one like another: it is written, and the filesystem is found no more.
+#[test]
+fn a_copy_over_the_superblock(rt: HostRuntime) -> Result<(), Fail> {
+    let alloc = rt.alloc();
+    let over = Made::OverSuper;
+    let one = Tally { bad: 1, ..CLEAN };
+    let written = Tally { repaired: 1, ..one };
+    let mut rack = build(alloc, over)?;
+    expect_tally(&rt, alloc, false, over, &mut rack, Some(one))?;
+    expect_same(&rt, over, &build(alloc, over)?, &rack);
+    expect_tally(&rt, alloc, true, over, &mut rack, Some(written))?;
+    assert!(rt; rack.page("a", 16) == rack.page("a", 528));
+    expect_tally(&rt, alloc, true, over, &mut rack, None)
+}
+
+// Scrubs the volume of ten directories, in which nothing is wrong behind it.
+fn scrub_many(
+    rt: &impl Abort,
+    alloc: Global,
+    rack: &mut MemRack,
+    tally: Tally,
+) -> Result<(), Fail> {
+    expect_tally(rt, alloc, true, Made::Directories, rack, Some(tally))?;
+    expect_same(
+        rt,
+        Made::Directories,
+        &build(alloc, Made::Directories)?,
+        rack,
+    );
+    Ok(())
+}
+
+#[test]
+fn many_files_of_a_spoiled_image(rt: HostRuntime) -> Result<(), Fail> {
+    let clean = Tally {
+        blocks: 96,
+        ..CLEAN
+    };
+    let mended = Tally {
+        bad: 32,
+        repaired: 32,
+        parity: 16,
+        ..clean
+    };
+    let mut rack = build(rt.alloc(), Made::Directories)?;
+    scrub_many(&rt, rt.alloc(), &mut rack, clean)?;
+    spoil(&mut rack, "a")?;
+    scrub_many(&rt, rt.alloc(), &mut rack, mended)
+}

@@ -1,4 +1,0 @@
-mod collects;
-mod devices;
-mod groups;
-mod space;

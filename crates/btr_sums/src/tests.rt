@@ -1,2 +1,0 @@
-mod findings;
-mod visits;

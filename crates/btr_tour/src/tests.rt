@@ -1,4 +1,0 @@
-mod faults;
-mod tours;
-mod visits;
-mod volume;

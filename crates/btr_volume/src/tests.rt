@@ -1,5 +1,0 @@
-// Volumes in memory, opened.
-mod chunks;
-mod refusals;
-mod rows;
-mod volume;

@@ -1,0 +1,11 @@
+use Rattle.std.proofs.Common.{◌≡◌}
+use Rattle.btr_rack.specs.Memory.{seen_of}
+use Rattle.btr_read.specs.Store.{free_count}
+use Rattle.btr_walk.specs.Preorder.{IsReadyFor, without_block}
+use Rattle.btr_walk_tests.proofs.walks.collect.Given as goal
+
+abbrev pub invariant-loop : goal.invariant-loop
+invariant-loop l = record {
+  ready : IsReadyFor (seen_of l.rack) l.store l.scan;
+  free : free_count (without_block l.store l.scan) ≡ 24;
+}
