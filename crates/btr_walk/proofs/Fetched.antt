@@ -16,7 +16,7 @@ use Rattle.btr_walk.specs.declared.fault.TreeFault.TheVariants as tree
 use Rattle.btr_walk.specs.declared.spot.Spot.{Spot}
 use Rattle.btr_node.specs.declared.node.Node.{Node}
 use Rattle.btr_walk.specs.Spot.{judged}
-use Rattle.btr_walk.specs.Reading.{Map, UnreadBlock, Reads, IsGoodFor, FaultCause, unread_by, tree_fault}
+use Rattle.btr_walk.specs.Reading.{Map, UnreadBlock, Reads, FaultCause, unread_by, tree_fault}
 use Rattle.btr_walk.specs.Le.{want_of}
 
 pub some_block : (store : Blocks) (loan : Lent) (block : List ℕ) (P : List ℕ → Type 0) → block_of store loan ≡ Some block → P block → IsSomeAnd (block_of store loan) P

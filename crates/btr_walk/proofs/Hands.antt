@@ -1,5 +1,5 @@
 -- A leaf in hand, and one item further.
-use Rattle.std.proofs.Common.{◌≡◌, ℕ, ◌+◌, ◌-◌, ◌<◌, ◌≤◌, Bool, true, false, List, [], ◌++◌, length, get_or, Option, Some, None, IfSome, IsSomeAnd, IsTrue, Result, Ok, Err, refl, sym, ap, ◌∙◌, subst, append-nil, arith}
+use Rattle.std.proofs.Common.{◌≡◌, ℕ, ◌+◌, ◌-◌, ◌*◌, ◌^◌, ◌<◌, ◌≤◌, Bool, true, false, List, [], ◌++◌, length, get_or, Option, Some, None, IfSome, IsSomeAnd, IsTrue, Result, Ok, Err, OnErr, refl, sym, ap, ◌∙◌, subst, append-nil, arith}
 use Rattle.std.proofs.lemmas.List.{get_or_default}
 use Rattle.btr_base.specs.declared.key.Key.{Key}
 use Rattle.btr_node.specs.Block.{Item, items, is_leaf}
@@ -21,37 +21,32 @@ use Rattle.btr_node.specs.declared.node.Node.TheVariants.{Leaf}
 use Rattle.btr_read.specs.Fate as fate
 use Rattle.btr_walk.specs.declared.going.Where.{Where}
 use Rattle.btr_walk.specs.declared.place.RootPlace.{RootPlace}
-use Rattle.btr_walk.specs.declared.leaving.Reached.{Reached}
-use Rattle.btr_walk.specs.declared.leaving.Reached.TheVariants as reached
 use Rattle.btr_walk.specs.Le.{tree_item, want_of}
 use Rattle.btr_walk.specs.Range.{RangeProg, emit_all}
-use Rattle.btr_walk.specs.Reading.{Map, UnreadBlock, Tells, unread_by, Reads, halt_of}
+use Rattle.btr_walk.specs.Reading.{Map, UnreadBlock, Tells, unread_by, Reads, HasCause, halt_of}
 use Rattle.btr_walk.specs.Scans.{wants, part_items, IsHeld, IsKept, items_in, kept_items, frame_of, leaf_at}
 use Rattle.btr_walk.specs.Entering.{LendsLeafAt}
 use Rattle.btr_walk.specs.Going.{place_prog, IsAlong, IsUnder, ComesTo, IsOn, LeadsToLeaf, IsLeafUnder}
-use Rattle.btr_walk.specs.Leaving.{IsReached, LendsReached}
-use Rattle.btr_walk.specs.Advancing.{IsInHand, Lends, hand_items, hand_prog, leaf_prog, IsLeafOf, IsLeafAgain, left, Meets, AdvancesBy, FromPlace, FromHand, IsAdvanced}
+use Rattle.btr_walk.specs.Leaving.{IsReached, LendsReached, NearsReached}
+use Rattle.btr_walk.specs.Ranks.{IsShaped, rank, StepNears}
+use Rattle.btr_walk.specs.Advancing.{arrived, behind_next, HasItem, IsInHand, Lends, hand_items, hand_prog, leaf_prog, IsLeafOf, IsLeafAgain, left, Meets, AdvancesBy, FromPlace, FromHand, IsAdvanced}
 use Rattle.btr_prog.proofs.Follow.{follows_as, unread_here}
 use Rattle.btr_walk.proofs.Halting.{named}
 use Rattle.btr_walk.proofs.Items.{leaf_next, leaf_none}
 use Rattle.btr_walk.proofs.Leads.{leaf_back}
 use Rattle.btr_walk.proofs.Staying.{leads_same}
 
--- the leaf behind its next item
-abbrev pub step : LeafAt → LeafAt
-step l = record { spot = l.spot; next = l.next + 1; end = l.end; loan = l.loan }
-
 pub hand_of : (old new : Blocks) (l : LeafAt) → LendsLeafAt old new l → IsInHand new l
 hand_of old new l t = record { live = t.live; large = t.large; good = t.good }
 
-pub hand_step : (store : Blocks) (l : LeafAt) → IsInHand store l → IsInHand store (step l)
+pub hand_step : (store : Blocks) (l : LeafAt) → IsInHand store l → IsInHand store (behind_next l)
 hand_step store l h = record { live = h.live; large = h.large; good = h.good }
 
-held_step : (B : Map) (seen : List Want) (store : Blocks) (l : LeafAt) → IsHeld B seen store l → IsHeld B seen store (step l)
+held_step : (B : Map) (seen : List Want) (store : Blocks) (l : LeafAt) → IsHeld B seen store l → IsHeld B seen store (behind_next l)
 held_step B seen store l h = record { block = h.block; lent = h.lent; came = h.came; is = h.is; read = h.read }
 
 module _ (lo hi : Key) (B : Map) where
-  meets_in : (was : Type 0) (led : RootPlace → Type 0) (seen past : List Want) (from : Where) (before : RangeProg) (store : Blocks) (l : LeafAt) (place : Where) (o : Option (List ℕ)) → block_of store l.loan ≡ o → exec B before ≡ prepend (wants past) (exec B (hand_prog store l (place_prog lo hi B place))) → IsAlong lo hi B (seen ++ past) place → ((root : RootPlace) → IsUnder root hi B from → IsUnder root hi B place) → IsSomeAnd o (λ block. IsTrue (is_leaf block) × (l.end ≤ length (items block))) → l.next < l.end → (was → IsHeld B (seen ++ past) store l) → ((root : RootPlace) → IsUnder root hi B from → led root → LeadsToLeaf root lo hi B (frame_of l) place) → Meets lo hi was led B seen from before store (step l) place
+  meets_in : (was : Type 0) (led : RootPlace → Type 0) (seen past : List Want) (from : Where) (before : RangeProg) (store : Blocks) (l : LeafAt) (place : Where) (o : Option (List ℕ)) → block_of store l.loan ≡ o → exec B before ≡ prepend (wants past) (exec B (hand_prog store l (place_prog lo hi B place))) → IsAlong lo hi B (seen ++ past) place → ((root : RootPlace) → IsUnder root hi B from → IsUnder root hi B place) → IsSomeAnd o (λ block. IsTrue (is_leaf block) × (l.end ≤ length (items block))) → l.next < l.end → (was → IsHeld B (seen ++ past) store l) → ((root : RootPlace) → IsUnder root hi B from → led root → LeadsToLeaf root lo hi B (frame_of l) place) → Meets lo hi was led B seen from before store (behind_next l) place
   meets_in was led seen past from before store l place None is e on under good lt held leads = absurd good
   meets_in was led seen past from before store l place (Some block) is e on under good lt held leads =
       let d : Item = record { key = lo; offset = 0; size = 0; body = [] } in
@@ -63,7 +58,7 @@ module _ (lo hi : Key) (B : Map) where
         is = e
             ∙ ap (λ x. prepend (wants past) (exec B (emit_all (hand_items x l) rest))) is
             ∙ ap (prepend (wants past)) (leaf_next B l.spot.addr block l.next l.end d rest lt good.1)
-            ∙ ap (λ x. prepend (wants past) (first (Does (tree_item l.spot.addr (get_or (items block) l.next d))) (exec B (emit_all (hand_items x (step l)) rest)))) (sym is);
+            ∙ ap (λ x. prepend (wants past) (first (Does (tree_item l.spot.addr (get_or (items block) l.next d))) (exec B (emit_all (hand_items x (behind_next l)) rest)))) (sym is);
         on = on;
         under = under;
         some = omega arith;
@@ -76,17 +71,17 @@ module _ (lo hi : Key) (B : Map) where
       }
 
   -- a leaf that was reached
-  pub meets_reached : (Is : UnreadBlock → Want → Type 0) (from after : Where) (store : Blocks) (l : LeafAt) → IsInHand store l → l.next < l.end → IsReached lo hi Is B from store (Ok (reached.Leaf l after)) → FromPlace lo hi Is B from store (record { place = after; leaf = Some (step l); met = Ok true })
+  pub meets_reached : (Is : UnreadBlock → Want → Type 0) (from after : Where) (store : Blocks) (l : LeafAt) → IsInHand store l → l.next < l.end → IsReached lo hi Is B from after store (Ok (Some l)) → FromPlace lo hi Is B from after store (record { leaf = Some (behind_next l); met = Ok true })
   meets_reached Is from after store l hand lt h seen on = at_block (block_of store l.loan) refl (h seen on)
     where
-      at_block : (o : Option (List ℕ)) → block_of store l.loan ≡ o → IsSomeAnd o (λ block. ComesTo lo hi B seen from (emit_all (part_items l.spot.addr block l.next l.end) (place_prog lo hi B after)) after store l) → Meets lo hi (Unit {0}) (λ root. Unit {0}) B seen from (place_prog lo hi B from) store (step l) after
+      at_block : (o : Option (List ℕ)) → block_of store l.loan ≡ o → IsSomeAnd o (λ block. ComesTo lo hi B seen from (emit_all (part_items l.spot.addr block l.next l.end) (place_prog lo hi B after)) after store l) → Meets lo hi (Unit {0}) (λ root. Unit {0}) B seen from (place_prog lo hi B from) store (behind_next l) after
       at_block None is g = absurd g
       at_block (Some block) is g =
           let c = g.comes in
           meets_in (Unit {0}) (λ root. Unit {0}) seen c.past from (place_prog lo hi B from) store l after (block_of store l.loan) refl (c.is ∙ ap (λ x. prepend (wants c.past) (exec B (emit_all (hand_items x l) (place_prog lo hi B after)))) (sym is)) c.on c.under hand.good lt (λ u. g.held) (λ root u w. g.leads root u)
 
   -- the leaf in hand has one more
-  pub meets_hand : (Is : UnreadBlock → Want → Type 0) (store : Blocks) (l : LeafAt) (place : Where) → IsInHand store l → l.next < l.end → FromHand lo hi Is B place l store store (record { place = place; leaf = Some (step l); met = Ok true })
+  pub meets_hand : (Is : UnreadBlock → Want → Type 0) (store : Blocks) (l : LeafAt) (place : Where) → IsInHand store l → l.next < l.end → FromHand lo hi Is B place place l store store (record { leaf = Some (behind_next l); met = Ok true })
   meets_hand Is store l place hand lt seen on =
       meets_in (IsHeld B seen store l) (λ root. LeadsToLeaf root lo hi B (frame_of l) place) seen [] place (hand_prog store l (place_prog lo hi B place)) store l place (block_of store l.loan) refl refl (subst (λ (x : List Want). IsAlong lo hi B x place) (sym (append-nil seen)) on) (λ root u. u) hand.good lt
       (λ h. subst (λ (x : List Want). IsHeld B x store l) (sym (append-nil seen)) h) (λ root u w. w)
@@ -105,20 +100,20 @@ module _ (lo hi : Key) (B : Map) where
   hand_none store l place (Some block) is good le = ap (λ x. exec B (emit_all (hand_items x l) (place_prog lo hi B place))) is ∙ leaf_none B l.spot.addr block l.next l.end (place_prog lo hi B place) le
 
   -- the leaf in hand has no more
-  pub hand_empty : (Is : UnreadBlock → Want → Type 0) (store store' : Blocks) (l : LeafAt) (place : Where) (a : Advanced) → IsInHand store l → l.end ≤ l.next → FromPlace lo hi Is B place store' a → FromHand lo hi Is B place l store store' a
-  hand_empty Is store store' l place a hand le h seen on =
-      advances_as (Unit {0}) (IsHeld B seen store l) (λ root. Unit {0}) (λ root. LeadsToLeaf root lo hi B (frame_of l) place) Is Is seen place (hand_prog store l (place_prog lo hi B place)) (place_prog lo hi B place) store' a.place a.leaf a.met (λ u w x. x) (λ t. tt) (λ root t. tt) (hand_none store l place (block_of store l.loan) refl hand.good le) (h seen on)
+  pub hand_empty : (Is : UnreadBlock → Want → Type 0) (store store' : Blocks) (l : LeafAt) (place after : Where) (a : Advanced) → IsInHand store l → l.end ≤ l.next → FromPlace lo hi Is B place after store' a → FromHand lo hi Is B place after l store store' a
+  hand_empty Is store store' l place after a hand le h seen on =
+      advances_as (Unit {0}) (IsHeld B seen store l) (λ root. Unit {0}) (λ root. LeadsToLeaf root lo hi B (frame_of l) place) Is Is seen place (hand_prog store l (place_prog lo hi B place)) (place_prog lo hi B place) store' after a.leaf a.met (λ u w x. x) (λ t. tt) (λ root t. tt) (hand_none store l place (block_of store l.loan) refl hand.good le) (h seen on)
 
   -- a leaf is in hand, or none is, and none was given back
-  pub with_hand : (Is : UnreadBlock → Want → Type 0) (old new : Blocks) (leaf : Option LeafAt) (l : LeafAt) (place : ScanPlace) (a : Advanced) → leaf ≡ Some l → FromHand lo hi Is B place.rest l old new a → IsAdvanced lo hi Is B place leaf old new a
-  with_hand Is old new leaf l place a is h seen on =
-      advances_as (IsHeld B seen old l) (IfSome leaf (IsHeld B seen old)) (λ root. LeadsToLeaf root lo hi B (frame_of l) place.rest) (λ root. IsLeafUnder root lo hi B (leaf_at leaf place.leaf) place.rest) Is Is seen place.rest (left lo hi B old leaf place) (hand_prog old l (place_prog lo hi B place.rest)) new a.place a.leaf a.met (λ u w x. x) (λ x. subst (λ o. IfSome o (IsHeld B seen old)) is x) (λ root x. subst (λ o. IsLeafUnder root lo hi B (leaf_at o place.leaf) place.rest) is x)
+  pub with_hand : (Is : UnreadBlock → Want → Type 0) (old new : Blocks) (leaf : Option LeafAt) (l : LeafAt) (place : ScanPlace) (after : Where) (a : Advanced) → leaf ≡ Some l → FromHand lo hi Is B place.rest after l old new a → IsAdvanced lo hi Is B place after leaf old new a
+  with_hand Is old new leaf l place after a is h seen on =
+      advances_as (IsHeld B seen old l) (IfSome leaf (IsHeld B seen old)) (λ root. LeadsToLeaf root lo hi B (frame_of l) place.rest) (λ root. IsLeafUnder root lo hi B (leaf_at leaf place.leaf) place.rest) Is Is seen place.rest (left lo hi B old leaf place) (hand_prog old l (place_prog lo hi B place.rest)) new after a.leaf a.met (λ u w x. x) (λ x. subst (λ o. IfSome o (IsHeld B seen old)) is x) (λ root x. subst (λ o. IsLeafUnder root lo hi B (leaf_at o place.leaf) place.rest) is x)
       (ap (λ o. exec B (leaf_prog B old o place.leaf (place_prog lo hi B place.rest))) is) (h seen on.rest)
 
-  pub with_none : (Is : UnreadBlock → Want → Type 0) (old new : Blocks) (leaf : Option LeafAt) (place : ScanPlace) (a : Advanced) → leaf ≡ None → place.leaf ≡ None → FromPlace lo hi Is B place.rest new a → IsAdvanced lo hi Is B place leaf old new a
-  with_none Is old new leaf place a is free h seen on =
+  pub with_none : (Is : UnreadBlock → Want → Type 0) (old new : Blocks) (leaf : Option LeafAt) (place : ScanPlace) (after : Where) (a : Advanced) → leaf ≡ None → place.leaf ≡ None → FromPlace lo hi Is B place.rest after new a → IsAdvanced lo hi Is B place after leaf old new a
+  with_none Is old new leaf place after a is free h seen on =
       let rest = place_prog lo hi B place.rest in
-      advances_as (Unit {0}) (IfSome leaf (IsHeld B seen old)) (λ root. Unit {0}) (λ root. IsLeafUnder root lo hi B (leaf_at leaf place.leaf) place.rest) Is Is seen place.rest (left lo hi B old leaf place) rest new a.place a.leaf a.met (λ u w x. x) (λ x. tt) (λ root x. tt)
+      advances_as (Unit {0}) (IfSome leaf (IsHeld B seen old)) (λ root. Unit {0}) (λ root. IsLeafUnder root lo hi B (leaf_at leaf place.leaf) place.rest) Is Is seen place.rest (left lo hi B old leaf place) rest new after a.leaf a.met (λ u w x. x) (λ x. tt) (λ root x. tt)
       (ap (λ o. exec B (leaf_prog B old o place.leaf rest)) is ∙ ap (λ k. exec B (leaf_prog B old None k rest)) free) (h seen on.rest)
 
   -- the leaf that was given back is in hand again
@@ -140,13 +135,13 @@ module _ (lo hi : Key) (B : Map) where
     kept_prog : (old : Blocks) → exec B (left lo hi B old leaf place) ≡ exec B (emit_all (kept_items B frame) (place_prog lo hi B place.rest))
     kept_prog old = let rest = place_prog lo hi B place.rest in ap (λ o. exec B (leaf_prog B old o place.leaf rest)) is ∙ ap (λ k. exec B (leaf_prog B old None k rest)) kept
 
-    pub with_kept : (Was Then Is : UnreadBlock → Want → Type 0) (old mid new : Blocks) (l : LeafAt) (a : Advanced) → ((u : UnreadBlock) (w : Want) → Then u w → Is u w) → IsLeafOf frame l → IsLeafAgain Was B frame mid (Ok l) → FromHand lo hi Then B place.rest l mid new a → IsAdvanced lo hi Is B place leaf old new a
-    with_kept Was Then Is old mid new l a weaker same again h seen on =
+    pub with_kept : (Was Then Is : UnreadBlock → Want → Type 0) (old mid new : Blocks) (l : LeafAt) (after : Where) (a : Advanced) → ((u : UnreadBlock) (w : Want) → Then u w → Is u w) → IsLeafOf frame l → IsLeafAgain Was B frame mid (Ok l) → FromHand lo hi Then B place.rest after l mid new a → IsAdvanced lo hi Is B place after leaf old new a
+    with_kept Was Then Is old mid new l after a weaker same again h seen on =
         let held = again seen (kept_is seen on) in
-        advances_as (IsHeld B seen mid l) (IfSome leaf (IsHeld B seen old)) (λ root. LeadsToLeaf root lo hi B (frame_of l) place.rest) (λ root. IsLeafUnder root lo hi B (leaf_at leaf place.leaf) place.rest) Then Is seen place.rest (left lo hi B old leaf place) (hand_prog mid l (place_prog lo hi B place.rest)) new a.place a.leaf a.met weaker (λ x. held) (λ root x. leads_same root lo hi B frame (frame_of l) place.rest same.0 same.2 (kept_under root x))
+        advances_as (IsHeld B seen mid l) (IfSome leaf (IsHeld B seen old)) (λ root. LeadsToLeaf root lo hi B (frame_of l) place.rest) (λ root. IsLeafUnder root lo hi B (leaf_at leaf place.leaf) place.rest) Then Is seen place.rest (left lo hi B old leaf place) (hand_prog mid l (place_prog lo hi B place.rest)) new after a.leaf a.met weaker (λ x. held) (λ root x. leads_same root lo hi B frame (frame_of l) place.rest same.0 same.2 (kept_under root x))
         (kept_prog old ∙ ap (λ x. exec B (emit_all x (place_prog lo hi B place.rest))) (again_items seen mid l frame same held)) (h seen on.rest)
 
-    pub kept_halts : (Is : UnreadBlock → Want → Type 0) (old new : Blocks) (f : TreeFault) → IsLeafAgain Is B frame new (Err f) → IsAdvanced lo hi Is B place leaf old new (record { place = place.rest; leaf = None; met = Err f })
+    pub kept_halts : (Is : UnreadBlock → Want → Type 0) (old new : Blocks) (f : TreeFault) → IsLeafAgain Is B frame new (Err f) → IsAdvanced lo hi Is B place place.rest leaf old new (record { leaf = None; met = Err f })
     kept_halts Is old new f h seen on = h seen (kept_is seen on) (left lo hi B old leaf place)
 
 -- a leaf that is read again
@@ -186,16 +181,44 @@ module _ (Is : UnreadBlock → Want → Type 0) (B : Map) (frame : Frame) (store
       read = k.read;
     }
 
-pub reached_lent : (old new : Blocks) (x : Reached) (l : LeafAt) (after : Where) → x ≡ reached.Leaf l after → LendsReached old new (Ok x) → LendsLeafAt old new l × (l.next < l.end)
-reached_lent old new x l after e h = subst (λ y. LendsReached old new (Ok y)) e h
+-- what came of reading on to the next leaf
+module _ (old new : Blocks) where
+  pub lends_arrived : (o : Option LeafAt) → LendsReached old new (Ok o) → Lends old new (arrived o)
+  lends_arrived None same = record { others = same; hand = tt }
+  lends_arrived (Some l) t = record { others = leaf_back old new l t.0; hand = hand_step new l (hand_of old new l t.0) }
 
-pub lends_step : (old new : Blocks) (l : LeafAt) (place : Where) (met : Result Bool TreeFault) → LendsLeafAt old new l → Lends old new (record { place = place; leaf = Some (step l); met = met })
-lends_step old new l place met t = record { others = leaf_back old new l t; hand = hand_step new l (hand_of old new l t) }
+  pub items_arrived : (o : Option LeafAt) → LendsReached old new (Ok o) → IfSome o (λ l. l.next < l.end)
+  items_arrived None same = tt
+  items_arrived (Some l) t = t.1
+
+  pub item_arrived : (o : Option LeafAt) → LendsReached old new (Ok o) → HasItem (arrived o).leaf (arrived o).met
+  item_arrived None same = refl
+  item_arrived (Some l) t = (omega arith, omega (arith, t.1))
+
+  pub nears_arrived : (place after : Where) (o : Option LeafAt) → NearsReached place after (Ok o) → IfSome (arrived o).leaf (λ l. l.end < 2 ^ 64) → StepNears (2 ^ 64 * rank place) after (arrived o).leaf (arrived o).met
+  nears_arrived place after None n fits = tt
+  nears_arrived place after (Some l) n fits = omega (arith, n.1, fits)
+
+  pub from_arrived : (lo hi : Key) (B : Map) (Is : UnreadBlock → Want → Type 0) (place after : Where) (o : Option LeafAt) → LendsReached old new (Ok o) → IsReached lo hi Is B place after new (Ok o) → FromPlace lo hi Is B place after new (arrived o)
+  from_arrived lo hi B Is place after None same h seen on = h seen on
+  from_arrived lo hi B Is place after (Some l) t h seen on = meets_reached lo hi B Is place after new l (hand_of old new l t.0) t.1 h seen on
+
+pub no_fault_arrived : (o : Option LeafAt) (P : Type 0) → OnErr (arrived o).met P
+no_fault_arrived None P = tt
+no_fault_arrived (Some l) P = tt
+
+pub no_cause_arrived : (layout : Layout) (before now : Seen) (o : Option LeafAt) → HasCause layout before now (arrived o).met
+no_cause_arrived layout before now None = tt
+no_cause_arrived layout before now (Some l) = tt
+
+pub shaped_arrived : (place after : Where) (o : Option LeafAt) → NearsReached place after (Ok o) → IsShaped after × (rank after ≤ rank place)
+shaped_arrived place after None n = n
+shaped_arrived place after (Some l) n = (n.0, omega (arith, n.1))
 
 pub hand_some : (store : Blocks) (leaf : Option LeafAt) (l : LeafAt) → leaf ≡ Some l → IfSome leaf (IsInHand store) → IsInHand store l
 hand_some store leaf l e h = subst (λ x. IfSome x (IsInHand store)) e h
 
 -- the same over a layout that is equal
-pub from_as : (layout layout' : Layout) (old new : Seen) (lo hi : Key) (place : Where) (store : Blocks) (a : Advanced) → layout' ≡ layout
-    → Tells layout' old new (λ B. FromPlace lo hi (unread_by layout' old new) B place store a) → Tells layout old new (λ B. FromPlace lo hi (unread_by layout old new) B place store a)
-from_as layout layout' old new lo hi place store a e h = subst (λ (l : Layout). Tells l old new (λ B. FromPlace lo hi (unread_by l old new) B place store a)) e h
+pub from_as : (layout layout' : Layout) (old new : Seen) (lo hi : Key) (place after : Where) (store : Blocks) (a : Advanced) → layout' ≡ layout
+    → Tells layout' old new (λ B. FromPlace lo hi (unread_by layout' old new) B place after store a) → Tells layout old new (λ B. FromPlace lo hi (unread_by layout old new) B place after store a)
+from_as layout layout' old new lo hi place after store a e h = subst (λ (l : Layout). Tells l old new (λ B. FromPlace lo hi (unread_by l old new) B place after store a)) e h

@@ -13,7 +13,6 @@ use Rattle.btr_walk.specs.declared.entering.LeafAt.{LeafAt}
 use Rattle.btr_walk.specs.declared.fault.TreeFault.{TreeFault}
 use Rattle.btr_walk.specs.declared.going.Gone.TheVariants as gone
 use Rattle.btr_walk.specs.declared.going.Where.{Where}
-use Rattle.btr_walk.specs.declared.leaving.Reached.TheVariants as reached
 use Rattle.btr_walk.specs.Le.{TreeItem}
 use Rattle.btr_walk.specs.Range.{RangeProg, emit_all}
 use Rattle.btr_walk.specs.Reading.{Map, UnreadBlock, halt_of}
@@ -56,12 +55,12 @@ module _ (lo hi : Key) (B : Map) where
     under = λ root u. y.under root (x.under root u);
   }
 
-  pub leads_between : (Is : UnreadBlock → Want → Type 0) (from at after : Where) (store : Blocks) → Leads from at → IsGone lo hi Is B at store (Ok (gone.Between after)) → Leads from after
+  pub leads_between : (Is : UnreadBlock → Want → Type 0) (from at after : Where) (store : Blocks) → Leads from at → IsGone lo hi Is B at after store (Ok gone.Between) → Leads from after
   leads_between Is from at after store l g seen on =
       let x = l seen on in
       comes_then seen from at (place_prog lo hi B after) after x (g (seen ++ x.past) x.on)
 
-  pub leads_leaf : (Is : UnreadBlock → Want → Type 0) (from at after : Where) (store : Blocks) (l : LeafAt) → Leads from at → IsGone lo hi Is B at store (Ok (gone.Leaf l after)) → IsReached lo hi Is B from store (Ok (reached.Leaf l after))
+  pub leads_leaf : (Is : UnreadBlock → Want → Type 0) (from at after : Where) (store : Blocks) (l : LeafAt) → Leads from at → IsGone lo hi Is B at after store (Ok (gone.Leaf l)) → IsReached lo hi Is B from after store (Ok (Some l))
   leads_leaf Is from at after store l lead g seen on =
       let x = lead seen on in
       both (block_of store l.loan) x (g (seen ++ x.past) x.on)
@@ -77,7 +76,7 @@ module _ (lo hi : Key) (B : Map) where
           }
 
   -- a leaf with no item in the range
-  pub leads_empty : (Is : UnreadBlock → Want → Type 0) (from at after : Where) (store : Blocks) (l : LeafAt) → l.end ≤ l.next → Leads from at → IsGone lo hi Is B at store (Ok (gone.Leaf l after)) → Leads from after
+  pub leads_empty : (Is : UnreadBlock → Want → Type 0) (from at after : Where) (store : Blocks) (l : LeafAt) → l.end ≤ l.next → Leads from at → IsGone lo hi Is B at after store (Ok (gone.Leaf l)) → Leads from after
   leads_empty Is from at after store l le lead g seen on =
       let x = lead seen on in
       empty (block_of store l.loan) x (g (seen ++ x.past) x.on)
@@ -96,33 +95,36 @@ module _ (lo hi : Key) (B : Map) where
       (subst (λ (done : List TreeItem). Follows Is no_part seen (prepend (wants x.past) (exec B b)) done ans) (append-nil (steps_of (wants x.past)) ∙ steps_back x.past)
       (follows_behind Is no_part seen (wants x.past) (exec B b) [] ans (subst (λ (ws : List Want). Follows Is no_part (seen ++ ws) (exec B b) [] ans) (sym (wants_back x.past)) h)))
 
-  pub leads_end : (Is : UnreadBlock → Want → Type 0) (from at : Where) (store store' : Blocks) → Leads from at → IsGone lo hi Is B at store (Ok gone.End) → IsReached lo hi Is B from store' (Ok reached.End)
-  leads_end Is from at store store' lead g seen on = let x = lead seen on in follows_from Is seen from at (Ok tt) x (g (seen ++ x.past) x.on)
+  pub leads_end : (Is : UnreadBlock → Want → Type 0) (from at after : Where) (store store' : Blocks) → Leads from at → IsGone lo hi Is B at after store (Ok gone.End) → IsReached lo hi Is B from after store' (Ok None)
+  leads_end Is from at after store store' lead g seen on = let x = lead seen on in follows_from Is seen from at (Ok tt) x (g (seen ++ x.past) x.on)
 
-  pub leads_err : (Is : UnreadBlock → Want → Type 0) (from at : Where) (store store' : Blocks) (f : TreeFault) → Leads from at → IsGone lo hi Is B at store (Err f) → IsReached lo hi Is B from store' (Err f)
-  leads_err Is from at store store' f lead g seen on = let x = lead seen on in follows_from Is seen from at (Err (halt_of f)) x (g (seen ++ x.past) x.on)
+  pub leads_err : (Is : UnreadBlock → Want → Type 0) (from at after : Where) (store store' : Blocks) (f : TreeFault) → Leads from at → IsGone lo hi Is B at after store (Err f) → IsReached lo hi Is B from after store' (Err f)
+  leads_err Is from at after store store' f lead g seen on = let x = lead seen on in follows_from Is seen from at (Err (halt_of f)) x (g (seen ++ x.past) x.on)
 
-pub gone_lent : (old new : Blocks) (x : _) (l : LeafAt) (after : Where) → x ≡ gone.Leaf l after → LendsGone old new (Ok x) → LendsLeafAt old new l
-gone_lent old new x l after e h = subst (λ y. LendsGone old new (Ok y)) e h
+pub gone_lent : (old new : Blocks) (x : _) (l : LeafAt) → x ≡ gone.Leaf l → LendsGone old new (Ok x) → LendsLeafAt old new l
+gone_lent old new x l e h = subst (λ y. LendsGone old new (Ok y)) e h
 
-pub gone_same : (old new : Blocks) (x : _) (after : Where) → x ≡ gone.Between after → LendsGone old new (Ok x) → SameLoans old new
-gone_same old new x after e h = subst (λ y. LendsGone old new (Ok y)) e h
+pub gone_same : (old new : Blocks) (x : _) → x ≡ gone.Between → LendsGone old new (Ok x) → SameLoans old new
+gone_same old new x e h = subst (λ y. LendsGone old new (Ok y)) e h
 
-pub gone_near : (place : Where) (x : _) (l : LeafAt) (after : Where) → x ≡ gone.Leaf l after → Nears place (Ok x) → IsShaped after × (rank after < rank place)
-gone_near place x l after e h = subst (λ y. Nears place (Ok y)) e h
+pub gone_near : (place after : Where) (x : _) (l : LeafAt) → x ≡ gone.Leaf l → Nears place after (Ok x) → IsShaped after × (rank after < rank place)
+gone_near place after x l e h = subst (λ y. Nears place after (Ok y)) e h
 
-pub gone_near_between : (place : Where) (x : _) (after : Where) → x ≡ gone.Between after → Nears place (Ok x) → IsShaped after × (rank after < rank place)
-gone_near_between place x after e h = subst (λ y. Nears place (Ok y)) e h
+pub gone_near_between : (place after : Where) (x : _) → x ≡ gone.Between → Nears place after (Ok x) → IsShaped after × (rank after < rank place)
+gone_near_between place after x e h = subst (λ y. Nears place after (Ok y)) e h
+
+pub gone_at_end : (place after : Where) (x : _) → x ≡ gone.End → Nears place after (Ok x) → after ≡ place
+gone_at_end place after x e h = subst (λ y. Nears place after (Ok y)) e h
 
 pub leaf_back : (old new : Blocks) (l : LeafAt) → LendsLeafAt old new l → SameLoans old (with_loan new l.loan.slot None)
 leaf_back old new l t = freed old new l.loan.slot t.after.0 t.layout t.after.1 t.free
 
 -- less may be said of a block that could not be read
-pub gone_as : (lo hi : Key) (B : Map) (Is Less : UnreadBlock → Want → Type 0) (place : Where) (store : Blocks) (result : Result _ TreeFault) → ((u : UnreadBlock) (w : Want) → Is u w → Less u w) → IsGone lo hi Is B place store result → IsGone lo hi Less B place store result
-gone_as lo hi B Is Less place store (Ok (gone.Leaf l after)) weaker g = g
-gone_as lo hi B Is Less place store (Ok (gone.Between after)) weaker g = g
-gone_as lo hi B Is Less place store (Ok gone.End) weaker g = g
-gone_as lo hi B Is Less place store (Err f) weaker g = λ seen on. follows_as Is Less weaker no_part seen (exec B (place_prog lo hi B place)) [] (Err (halt_of f)) (g seen on)
+pub gone_as : (lo hi : Key) (B : Map) (Is Less : UnreadBlock → Want → Type 0) (place after : Where) (store : Blocks) (result : Result _ TreeFault) → ((u : UnreadBlock) (w : Want) → Is u w → Less u w) → IsGone lo hi Is B place after store result → IsGone lo hi Less B place after store result
+gone_as lo hi B Is Less place after store (Ok (gone.Leaf l)) weaker g = g
+gone_as lo hi B Is Less place after store (Ok gone.Between) weaker g = g
+gone_as lo hi B Is Less place after store (Ok gone.End) weaker g = g
+gone_as lo hi B Is Less place after store (Err f) weaker g = λ seen on. follows_as Is Less weaker no_part seen (exec B (place_prog lo hi B place)) [] (Err (halt_of f)) (g seen on)
 
 pub leaf_given : (old new after : Blocks) (l : LeafAt) → LendsLeafAt old new l → after ≡ with_loan new l.loan.slot None → SameLoans old after
 leaf_given old new after l t given = let f = leaf_back old new l t in record { layout = ap (λ (s : Blocks). s.layout) given ∙ f.layout; loans = ap (λ (s : Blocks). s.loans) given ∙ f.loans }

@@ -1,5 +1,5 @@
 -- A step of a scan.
-use Rattle.std.proofs.Common.{◌≡◌, ℕ, ◌+◌, ◌-◌, ◌*◌, ◌^◌, ◌<◌, ◌≤◌, true, false, List, [], ◌++◌, length, take, get_or, All, Option, Some, None, IfSome, IsSomeAnd, IsTrue, Bool, cond, Result, Ok, Err, refl, sym, ap, ◌∙◌, subst, arith}
+use Rattle.std.proofs.Common.{◌≡◌, ℕ, ◌+◌, ◌-◌, ◌*◌, ◌^◌, ◌<◌, ◌≤◌, true, false, List, [], ◌++◌, length, take, get_or, All, Option, Some, None, IfSome, IsSomeAnd, IsTrue, Bool, cond, Result, Ok, Err, OnErr, refl, sym, ap, ◌∙◌, subst, arith}
 use Rattle.btr_node.specs.Block.{Item, items, is_leaf}
 use Rattle.btr_prog.specs.Prog.{Does, first, prepend, exec}
 use Rattle.btr_prog.specs.Answers.{Follows, no_part}
@@ -44,6 +44,10 @@ scan_at scan place leaf = record { root = scan.root; lo = scan.lo; hi = scan.hi;
 abbrev pub in_hand : Where → ScanPlace
 in_hand place = record { leaf = None; rest = place }
 
+-- the place of a scan whose rest is elsewhere
+abbrev pub moved : Scan → Where → ScanPlace
+moved scan after = record { leaf = scan.place.leaf; rest = after }
+
 pub cause_as : {A : Type 0} (layout : Layout) (old new : Seen) (met : Result A TreeFault) (f : TreeFault) → met ≡ Err f → HasCause layout old new met → FaultCause layout old new f
 cause_as layout old new met f e h = subst (HasCause layout old new) e h
 
@@ -54,34 +58,34 @@ free_leaf : (place : Where) (leaf : Option LeafAt) → IfSome leaf (λ l. (in_ha
 free_leaf place None = tt
 free_leaf place (Some l) = refl
 
-module _ (store new : Blocks) (scan : Scan) (taken : Option LeafAt) (is_taken : taken ≡ scan.leaf) (a : Advanced) (leaf : Option LeafAt) (is_leaf : leaf ≡ a.leaf) (before now : Seen) (serves : Serves now new) where
+module _ (store new : Blocks) (scan : Scan) (taken : Option LeafAt) (is_taken : taken ≡ scan.leaf) (after : Where) (a : Advanced) (leaf : Option LeafAt) (is_leaf : leaf ≡ a.leaf) (before now : Seen) (serves : Serves now new) where
   abbrev Is : UnreadBlock → Want → Type 0
   Is = unread_by store.layout before now
 
-  scanned : (place : ScanPlace) (result : Result (Option Found) TreeFault) → IsShaped place.rest → IfSome leaf (λ l. place.leaf ≡ None) → SameLoans (base store (loan_of taken)) (base new (loan_of a.leaf)) → IfSome a.leaf (IsInHand new) → ((B : Map) → IsAdvanced scan.lo scan.hi Is B scan.place scan.leaf store new a → IsNextOn Is B store new scan (scan_at scan place leaf) result) → Tells store.layout before now (λ B. IsAdvanced scan.lo scan.hi Is B scan.place taken store new a) → Scanned store new scan (scan_at scan place leaf) before now result
+  scanned : (place : ScanPlace) (result : Result (Option Found) TreeFault) → IsShaped place.rest → IfSome leaf (λ l. place.leaf ≡ None) → SameLoans (base store (loan_of taken)) (base new (loan_of a.leaf)) → IfSome a.leaf (IsInHand new) → ((B : Map) → IsAdvanced scan.lo scan.hi Is B scan.place after scan.leaf store new a → IsNextOn Is B store new scan (scan_at scan place leaf) result) → Tells store.layout before now (λ B. IsAdvanced scan.lo scan.hi Is B scan.place after taken store new a) → Scanned store new scan (scan_at scan place leaf) before now result
   scanned place result shaped alone others hand f c = record {
     others = subst (λ l. SameLoans (base store (loan_of scan.leaf)) (base new (loan_of l))) (sym is_leaf) (subst (λ l. SameLoans (base store (loan_of l)) (base new (loan_of a.leaf))) is_taken others);
     ready = record { serves = serves; hand = subst (λ l. IfSome l (IsInHand new)) (sym is_leaf) hand; shaped = shaped; alone = alone };
-    content = drawn store.layout (λ B. IsAdvanced scan.lo scan.hi Is B scan.place taken store new a) (λ B. IsNextOn Is B store new scan (scan_at scan place leaf) result)
-        (λ B h. f B (subst (λ l. IsAdvanced scan.lo scan.hi Is B scan.place l store new a) is_taken h)) c;
+    content = drawn store.layout (λ B. IsAdvanced scan.lo scan.hi Is B scan.place after taken store new a) (λ B. IsNextOn Is B store new scan (scan_at scan place leaf) result)
+        (λ B h. f B (subst (λ l. IsAdvanced scan.lo scan.hi Is B scan.place after l store new a) is_taken h)) c;
   }
 
-  of_err : (B : Map) (was : Type 0) (led : RootPlace → Type 0) (seen : List Want) (p : RangeProg) (f : TreeFault) (l : Option LeafAt) → AdvancesBy scan.lo scan.hi was led Is B seen scan.place.rest p new a.place l (Err f) → Follows Is no_part seen (exec B p) [] (Err (halt_of f))
+  of_err : (B : Map) (was : Type 0) (led : RootPlace → Type 0) (seen : List Want) (p : RangeProg) (f : TreeFault) (l : Option LeafAt) → AdvancesBy scan.lo scan.hi was led Is B seen scan.place.rest p new after l (Err f) → Follows Is no_part seen (exec B p) [] (Err (halt_of f))
   of_err B was led seen p f None h = h
   of_err B was led seen p f (Some x) h = h
 
-  of_end : (B : Map) (was : Type 0) (led : RootPlace → Type 0) (seen : List Want) (p : RangeProg) (l : Option LeafAt) → AdvancesBy scan.lo scan.hi was led Is B seen scan.place.rest p new a.place l (Ok false) → Follows Is no_part seen (exec B p) [] (Ok tt)
+  of_end : (B : Map) (was : Type 0) (led : RootPlace → Type 0) (seen : List Want) (p : RangeProg) (l : Option LeafAt) → AdvancesBy scan.lo scan.hi was led Is B seen scan.place.rest p new after l (Ok false) → Follows Is no_part seen (exec B p) [] (Ok tt)
   of_end B was led seen p None h = h
   of_end B was led seen p (Some x) h = h
 
-  pub next_err : (f : TreeFault) → a.met ≡ Err f → leaf ≡ None → IsShaped scan.place.rest → SameLoans (base store (loan_of taken)) (base new (loan_of a.leaf)) → IfSome a.leaf (IsInHand new) → Tells store.layout before now (λ B. IsAdvanced scan.lo scan.hi Is B scan.place taken store new a) → Scanned store new scan (scan_at scan scan.place leaf) before now (Err f)
-  next_err f e free shaped others hand c = scanned scan.place (Err f) shaped (no_leaf scan leaf free) others hand (λ B h seen on. of_err B (HoldsLeaf B seen store scan) (λ root. HasLeafUnder root B scan) seen (left_of B store scan) f a.leaf (subst (λ m. AdvancesBy scan.lo scan.hi (HoldsLeaf B seen store scan) (λ root. HasLeafUnder root B scan) Is B seen scan.place.rest (left_of B store scan) new a.place a.leaf m) e (h seen on))) c
+  pub next_err : (f : TreeFault) → a.met ≡ Err f → leaf ≡ None → IsShaped after → SameLoans (base store (loan_of taken)) (base new (loan_of a.leaf)) → IfSome a.leaf (IsInHand new) → Tells store.layout before now (λ B. IsAdvanced scan.lo scan.hi Is B scan.place after taken store new a) → Scanned store new scan (scan_at scan (moved scan after) leaf) before now (Err f)
+  next_err f e free shaped others hand c = scanned (moved scan after) (Err f) shaped (no_leaf scan leaf free) others hand (λ B h seen on. of_err B (HoldsLeaf B seen store scan) (λ root. HasLeafUnder root B scan) seen (left_of B store scan) f a.leaf (subst (λ m. AdvancesBy scan.lo scan.hi (HoldsLeaf B seen store scan) (λ root. HasLeafUnder root B scan) Is B seen scan.place.rest (left_of B store scan) new after a.leaf m) e (h seen on))) c
 
-  pub next_end : a.met ≡ Ok false → leaf ≡ None → IsShaped scan.place.rest → SameLoans (base store (loan_of taken)) (base new (loan_of a.leaf)) → IfSome a.leaf (IsInHand new) → Tells store.layout before now (λ B. IsAdvanced scan.lo scan.hi Is B scan.place taken store new a) → Scanned store new scan (scan_at scan scan.place leaf) before now (Ok None)
-  next_end e free shaped others hand c = scanned scan.place (Ok None) shaped (no_leaf scan leaf free) others hand (λ B h seen on. of_end B (HoldsLeaf B seen store scan) (λ root. HasLeafUnder root B scan) seen (left_of B store scan) a.leaf (subst (λ m. AdvancesBy scan.lo scan.hi (HoldsLeaf B seen store scan) (λ root. HasLeafUnder root B scan) Is B seen scan.place.rest (left_of B store scan) new a.place a.leaf m) e (h seen on))) c
+  pub next_end : a.met ≡ Ok false → leaf ≡ None → IsShaped after → SameLoans (base store (loan_of taken)) (base new (loan_of a.leaf)) → IfSome a.leaf (IsInHand new) → Tells store.layout before now (λ B. IsAdvanced scan.lo scan.hi Is B scan.place after taken store new a) → Scanned store new scan (scan_at scan (moved scan after) leaf) before now (Ok None)
+  next_end e free shaped others hand c = scanned (moved scan after) (Ok None) shaped (no_leaf scan leaf free) others hand (λ B h seen on. of_end B (HoldsLeaf B seen store scan) (λ root. HasLeafUnder root B scan) seen (left_of B store scan) a.leaf (subst (λ m. AdvancesBy scan.lo scan.hi (HoldsLeaf B seen store scan) (λ root. HasLeafUnder root B scan) Is B seen scan.place.rest (left_of B store scan) new after a.leaf m) e (h seen on))) c
 
   module _ (l : LeafAt) (there : leaf ≡ Some l) (found : Found) (block : List ℕ) (is : block_of new l.loan ≡ Some block) (at : (d : Item) → tree_item l.spot.addr (get_or (items block) (l.next - 1) d) ≡ item_of found) where
-    gives : (B : Map) (seen : List Want) → IsInHand new l → Meets scan.lo scan.hi (HoldsLeaf B seen store scan) (λ root. HasLeafUnder root B scan) B seen scan.place.rest (left_of B store scan) new l a.place → Gives B seen store new scan (scan_at scan (in_hand a.place) leaf) found
+    gives : (B : Map) (seen : List Want) → IsInHand new l → Meets scan.lo scan.hi (HoldsLeaf B seen store scan) (λ root. HasLeafUnder root B scan) B seen scan.place.rest (left_of B store scan) new l after → Gives B seen store new scan (scan_at scan (in_hand after) leaf) found
     gives B seen hand m =
         let d : Item = record { key = scan.lo; offset = 0; size = 0; body = [] } in
         let here = block_is new l.loan block (λ b. (l.next ≤ length (items b)) × ((e : Item) → tree_item l.spot.addr (get_or (items b) (l.next - 1) e) ≡ m.item)) is m.at in
@@ -89,20 +93,20 @@ module _ (store new : Blocks) (scan : Scan) (taken : Option LeafAt) (is_taken : 
         record {
           past = m.past;
           is = m.is
-              ∙ ap (λ (i : TreeItem). prepend (wants m.past) (first (Does i) (exec B (left scan.lo scan.hi B new (Some l) (in_hand a.place))))) same
-              ∙ ap (λ x. prepend (wants m.past) (first (Does (item_of found)) (exec B (left scan.lo scan.hi B new x (in_hand a.place))))) (sym there);
+              ∙ ap (λ (i : TreeItem). prepend (wants m.past) (first (Does i) (exec B (left scan.lo scan.hi B new (Some l) (in_hand after))))) same
+              ∙ ap (λ x. prepend (wants m.past) (first (Does (item_of found)) (exec B (left scan.lo scan.hi B new x (in_hand after))))) (sym there);
           on = record { rest = m.on; kept = tt };
           under = m.under;
-          leaf_under = λ root u h. subst (λ x. IsLeafUnder root scan.lo scan.hi B (leaf_at x None) a.place) (sym there) (m.leads root u h);
+          leaf_under = λ root u h. subst (λ x. IsLeafUnder root scan.lo scan.hi B (leaf_at x None) after) (sym there) (m.leads root u h);
           held = λ w. subst (λ x. IfSome x (IsHeld B (seen ++ m.past) new)) (sym there) (m.held w);
           met = subst (λ x. IfSome x (WasMet new (item_of found))) (sym there) (subst (λ (i : TreeItem). WasMet new i l) same m.at);
           below = λ key less. subst (λ x. IfSome x (ArePastBelow new key)) (sym there) (past_below new l block is key (item_of found) hand m.some here.0 at less);
         }
 
-    pub next_item : a.met ≡ Ok true → IsShaped a.place → SameLoans (base store (loan_of taken)) (base new (loan_of a.leaf)) → IfSome a.leaf (IsInHand new) → Tells store.layout before now (λ B. IsAdvanced scan.lo scan.hi Is B scan.place taken store new a) → Scanned store new scan (scan_at scan (in_hand a.place) leaf) before now (Ok (Some found))
+    pub next_item : a.met ≡ Ok true → IsShaped after → SameLoans (base store (loan_of taken)) (base new (loan_of a.leaf)) → IfSome a.leaf (IsInHand new) → Tells store.layout before now (λ B. IsAdvanced scan.lo scan.hi Is B scan.place after taken store new a) → Scanned store new scan (scan_at scan (in_hand after) leaf) before now (Ok (Some found))
     next_item e shaped others hand c =
-        scanned (in_hand a.place) (Ok (Some found)) shaped (free_leaf a.place leaf) others hand
-        (λ B h seen on. gives B seen (subst (λ x. IfSome x (IsInHand new)) (sym is_leaf ∙ there) hand) (subst (λ x. AdvancesBy scan.lo scan.hi (HoldsLeaf B seen store scan) (λ root. HasLeafUnder root B scan) Is B seen scan.place.rest (left_of B store scan) new a.place x (Ok true)) (sym is_leaf ∙ there) (subst (λ m. AdvancesBy scan.lo scan.hi (HoldsLeaf B seen store scan) (λ root. HasLeafUnder root B scan) Is B seen scan.place.rest (left_of B store scan) new a.place a.leaf m) e (h seen on)))) c
+        scanned (in_hand after) (Ok (Some found)) shaped (free_leaf after leaf) others hand
+        (λ B h seen on. gives B seen (subst (λ x. IfSome x (IsInHand new)) (sym is_leaf ∙ there) hand) (subst (λ x. AdvancesBy scan.lo scan.hi (HoldsLeaf B seen store scan) (λ root. HasLeafUnder root B scan) Is B seen scan.place.rest (left_of B store scan) new after x (Ok true)) (sym is_leaf ∙ there) (subst (λ m. AdvancesBy scan.lo scan.hi (HoldsLeaf B seen store scan) (λ root. HasLeafUnder root B scan) Is B seen scan.place.rest (left_of B store scan) new after a.leaf m) e (h seen on)))) c
 
 -- what is kept after a step
 pub keeps_end : (leaf leaf' : Option LeafAt) (met : Result Bool TreeFault) → leaf' ≡ leaf → met ≡ Ok false → HasItem leaf met → leaf' ≡ None
@@ -125,22 +129,29 @@ keeps_item leaf leaf' l met same is e h =
     subst (λ x. IsSomeAnd x (λ y. (0 < y.next) × (y.next ≤ y.end))) (sym is) i
 
 -- the scan came nearer to its end
-pub near_some : (scan : Scan) (taken leaf' : Option LeafAt) (a : Advanced) → taken ≡ scan.leaf → leaf' ≡ a.leaf → StepNears (rank_on scan.place taken) a.place a.leaf a.met → a.met ≡ Ok true → rank_of (scan_at scan (in_hand a.place) leaf') < rank_of scan
-near_some scan taken leaf' a is_taken is_leaf h e =
-    let g : 2 ^ 64 * rank a.place + rank_leaf a.leaf None < rank_on scan.place taken = subst (λ m. StepNears (rank_on scan.place taken) a.place a.leaf m) e h in
+pub near_some : (scan : Scan) (taken leaf' : Option LeafAt) (after : Where) (a : Advanced) → taken ≡ scan.leaf → leaf' ≡ a.leaf → StepNears (rank_on scan.place taken) after a.leaf a.met → a.met ≡ Ok true → rank_of (scan_at scan (in_hand after) leaf') < rank_of scan
+near_some scan taken leaf' after a is_taken is_leaf h e =
+    let g : 2 ^ 64 * rank after + rank_leaf a.leaf None < rank_on scan.place taken = subst (λ m. StepNears (rank_on scan.place taken) after a.leaf m) e h in
     let x : rank_leaf taken scan.place.leaf ≡ rank_leaf scan.leaf scan.place.leaf = ap (λ l. rank_leaf l scan.place.leaf) is_taken in
     let y : rank_leaf leaf' None ≡ rank_leaf a.leaf None = ap (λ l. rank_leaf l None) is_leaf in
     omega (arith, g, x, y)
 
--- .. or stands where it stood
+-- .. or no farther from it
 leaf_gone : (place : ScanPlace) (leaf : Option LeafAt) → IfSome leaf (λ l. place.leaf ≡ None) → rank_leaf None place.leaf ≤ rank_leaf leaf place.leaf
 leaf_gone place None h = omega arith
 leaf_gone place (Some l) h = let e : rank_leaf None place.leaf ≡ 0 = ap (rank_leaf None) h in omega (arith, e)
 
-pub near_none : (scan : Scan) (leaf' : Option LeafAt) → leaf' ≡ None → IfSome scan.leaf (λ l. scan.place.leaf ≡ None) → rank_of (scan_at scan scan.place leaf') ≤ rank_of scan
-near_none scan leaf' e h =
+-- after a fault the place is the same
+pub stays_put : (place after : Where) (met : Result Bool TreeFault) (f : TreeFault) → met ≡ Err f → OnErr met (after ≡ place) → after ≡ place
+stays_put place after met f e h = subst (λ m. OnErr m (after ≡ place)) e h
+
+pub moved_none : (scan : Scan) (after : Where) → after ≡ scan.place.rest → moved scan after ≡ scan.place
+moved_none scan after e = ap (moved scan) e
+
+pub near_none : (scan : Scan) (leaf' : Option LeafAt) (after : Where) → leaf' ≡ None → rank after ≤ rank scan.place.rest → IfSome scan.leaf (λ l. scan.place.leaf ≡ None) → rank_of (scan_at scan (moved scan after) leaf') ≤ rank_of scan
+near_none scan leaf' after e on h =
     let x : rank_leaf leaf' scan.place.leaf ≡ rank_leaf None scan.place.leaf = ap (λ l. rank_leaf l scan.place.leaf) e in
-    omega (arith, x, leaf_gone scan.place scan.leaf h)
+    omega (arith, x, on, leaf_gone scan.place scan.leaf h)
 
 -- a scan that has no leaf in hand is paused
 pub paused_none : (store : Blocks) (scan : Scan) (leaf' : Option LeafAt) → scan.leaf ≡ None → leaf' ≡ None → Paused store store scan (scan_at scan scan.place leaf')

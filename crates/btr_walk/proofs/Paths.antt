@@ -104,7 +104,7 @@ module _ (lo hi : Key) (B : Map) where
   last_read seen w = Contains-append_right seen (w ∷ []) w (0, omega arith, refl)
 
   -- a block that was to be read is a leaf
-  pub gone_leaf : (Is : UnreadBlock → Want → Type 0) (path : List (Option Frame)) (todo : Todo) (store : Blocks) (l : LeafAt) → IsEntered lo hi Is B todo store (Ok (entered.Leaf l)) → IsGone lo hi Is B (record { path = path; todo = Some todo }) store (Ok (Leaf l (record { path = path; todo = None })))
+  pub gone_leaf : (Is : UnreadBlock → Want → Type 0) (path : List (Option Frame)) (todo : Todo) (store : Blocks) (l : LeafAt) → IsEntered lo hi Is B todo store (Ok (entered.Leaf l)) → IsGone lo hi Is B (record { path = path; todo = Some todo }) (record { path = path; todo = None }) store (Ok (Leaf l))
   gone_leaf Is path todo store l h seen on = some_more (block_of store l.loan) h.0
     where
       some_more : (o : Option (List ℕ)) → IsSomeAnd o (λ block. (rest : RangeProg) → exec B (range_at lo hi todo.level todo.spot rest) ≡ first (Wants (want_of todo.level todo.spot)) (exec B (emit_all (part_items l.spot.addr block l.next l.end) rest))) → IsSomeAnd o (λ block. ComesTo lo hi B seen (record { path = path; todo = Some todo }) (emit_all (part_items l.spot.addr block l.next l.end) (place_prog lo hi B (record { path = path; todo = None }))) (record { path = path; todo = None }) store l)
@@ -121,7 +121,7 @@ module _ (lo hi : Key) (B : Map) where
       }
 
   -- .. or an inner node
-  pub gone_inner : (Is : UnreadBlock → Want → Type 0) (path : List (Option Frame)) (todo : Todo) (store : Blocks) (b : Below) (path' : List (Option Frame)) → length path ≡ 7 → 0 < todo.level → todo.level ≤ 7 → path' ≡ set path (todo.level - 1) b.frame → IsEntered lo hi Is B todo store (Ok (entered.Inner b)) → IsGone lo hi Is B (record { path = path; todo = Some todo }) store (Ok (Between (record { path = path'; todo = b.todo })))
+  pub gone_inner : (Is : UnreadBlock → Want → Type 0) (path : List (Option Frame)) (todo : Todo) (store : Blocks) (b : Below) (path' : List (Option Frame)) → length path ≡ 7 → 0 < todo.level → todo.level ≤ 7 → path' ≡ set path (todo.level - 1) b.frame → IsEntered lo hi Is B todo store (Ok (entered.Inner b)) → IsGone lo hi Is B (record { path = path; todo = Some todo }) (record { path = path'; todo = b.todo }) store (Ok Between)
   gone_inner Is path todo store b path' long some few set_is h seen on =
       let i : ℕ = todo.level - 1 in
       let w : Want = want_of todo.level todo.spot in
@@ -145,11 +145,11 @@ module _ (lo hi : Key) (B : Map) where
       }
 
   -- no block is to be read, and no node has more
-  pub gone_end : (Is : UnreadBlock → Want → Type 0) (path : List (Option Frame)) (store : Blocks) → ((k : ℕ) → get_or path k None ≡ None) → IsGone lo hi Is B (record { path = path; todo = None }) store (Ok End)
-  gone_end Is path store h seen on = subst (λ p. Follows Is no_part seen (exec B p) [] (Ok tt)) (sym (path_none 0 path h)) (refl, refl)
+  pub gone_end : (Is : UnreadBlock → Want → Type 0) (path : List (Option Frame)) (after : Where) (store : Blocks) → ((k : ℕ) → get_or path k None ≡ None) → IsGone lo hi Is B (record { path = path; todo = None }) after store (Ok End)
+  gone_end Is path after store h seen on = subst (λ p. Follows Is no_part seen (exec B p) [] (Ok tt)) (sym (path_none 0 path h)) (refl, refl)
 
   -- a node is read again
-  pub gone_again : (Is : UnreadBlock → Want → Type 0) (path : List (Option Frame)) (i level : ℕ) (frame : Frame) (store : Blocks) (b : Below) (path' : List (Option Frame)) → length path ≡ 7 → i < 7 → level ≡ i + 1 → ((k : ℕ) → k < i → get_or path k None ≡ None) → get_or path i None ≡ Some frame → path' ≡ set path i b.frame → IsAgain lo hi Is B level frame (Ok b) → IsGone lo hi Is B (record { path = path; todo = None }) store (Ok (Between (record { path = path'; todo = b.todo })))
+  pub gone_again : (Is : UnreadBlock → Want → Type 0) (path : List (Option Frame)) (i level : ℕ) (frame : Frame) (store : Blocks) (b : Below) (path' : List (Option Frame)) → length path ≡ 7 → i < 7 → level ≡ i + 1 → ((k : ℕ) → k < i → get_or path k None ≡ None) → get_or path i None ≡ Some frame → path' ≡ set path i b.frame → IsAgain lo hi Is B level frame (Ok b) → IsGone lo hi Is B (record { path = path; todo = None }) (record { path = path'; todo = b.todo }) store (Ok Between)
   gone_again Is path i level frame store b path' long lt level_is clear here set_is h seen on =
       let node_here : (Q : ℕ → Spot → Type 0) → ((k : ℕ) → IfSome (get_or path k None) (λ f. Q (k + 1) f.spot)) → Q level frame.spot = λ Q nodes. subst (λ (x : ℕ). Q x frame.spot) (sym level_is) (subst (λ o. IfSome o (λ f. Q (i + 1) f.spot)) here (nodes i)) in
       let within : i < length path = omega (arith, long, lt) in
@@ -175,21 +175,21 @@ module _ (lo hi : Key) (B : Map) where
   todo_halts Is zero spot store f rest seen h = need_halts Is B 0 spot store f (λ block. range_leaf lo hi spot rest (judged 0 spot block)) seen (λ block bad. ap (λ x. exec B (range_leaf lo hi spot rest x)) bad) h
   todo_halts Is (suc n) spot store f rest seen h = need_halts Is B (suc n) spot store f (λ block. range_inner lo hi (range_at lo hi n) spot rest (judged (suc n) spot block)) seen (λ block bad. ap (λ x. exec B (range_inner lo hi (range_at lo hi n) spot rest x)) bad) h
 
-  pub gone_err : (Is : UnreadBlock → Want → Type 0) (path : List (Option Frame)) (todo : Todo) (store store' : Blocks) (f : TreeFault) → IsEntered lo hi Is B todo store (Err f) → IsGone lo hi Is B (record { path = path; todo = Some todo }) store' (Err f)
-  gone_err Is path todo store store' f h seen on = todo_halts Is todo.level todo.spot store f (path_prog lo hi B 0 path) seen h
+  pub gone_err : (Is : UnreadBlock → Want → Type 0) (path : List (Option Frame)) (todo : Todo) (after : Where) (store store' : Blocks) (f : TreeFault) → IsEntered lo hi Is B todo store (Err f) → IsGone lo hi Is B (record { path = path; todo = Some todo }) after store' (Err f)
+  gone_err Is path todo after store store' f h seen on = todo_halts Is todo.level todo.spot store f (path_prog lo hi B 0 path) seen h
 
-  pub again_halts : (Is : UnreadBlock → Want → Type 0) (path : List (Option Frame)) (i level : ℕ) (frame : Frame) (store : Blocks) (f : TreeFault) → level ≡ i + 1 → get_or path i None ≡ Some frame → IsAgain lo hi Is B level frame (Err f) → IsGone lo hi Is B (record { path = path; todo = None }) store (Err f)
-  again_halts Is path i level frame store (tree.Unread a slot) level_is here h seen on =
+  pub again_halts : (Is : UnreadBlock → Want → Type 0) (path : List (Option Frame)) (after : Where) (i level : ℕ) (frame : Frame) (store : Blocks) (f : TreeFault) → level ≡ i + 1 → get_or path i None ≡ Some frame → IsAgain lo hi Is B level frame (Err f) → IsGone lo hi Is B (record { path = path; todo = None }) after store (Err f)
+  again_halts Is path after i level frame store (tree.Unread a slot) level_is here h seen on =
       let f : IsFrame lo hi B seen level frame = subst (λ (x : ℕ). IsFrame lo hi B seen x frame) (sym level_is) (subst (λ o. IfSome o (IsFrame lo hi B seen (i + 1))) here (on.frames i)) in
       record { before = []; behind = (exec B (path_prog lo hi B 0 path)).marks; left = None; place = refl; steps = refl; leaves = tt; holds = subst (Names Is (record { addr = a; slot = slot })) (sym (append-nil seen)) (named Is (record { addr = a; slot = slot }) seen (want_of level frame.spot) h f.read) }
-  again_halts Is path i level frame store (tree.Lost a) level_is here h seen on = absurd (h seen (subst (λ (x : ℕ). IsFrame lo hi B seen x frame) (sym level_is) (subst (λ o. IfSome o (IsFrame lo hi B seen (i + 1))) here (on.frames i))))
-  again_halts Is path i level frame store (tree.Unmapped a) level_is here h seen on = absurd (h seen (subst (λ (x : ℕ). IsFrame lo hi B seen x frame) (sym level_is) (subst (λ o. IfSome o (IsFrame lo hi B seen (i + 1))) here (on.frames i))))
-  again_halts Is path i level frame store (tree.Crosses a) level_is here h seen on = absurd (h seen (subst (λ (x : ℕ). IsFrame lo hi B seen x frame) (sym level_is) (subst (λ o. IfSome o (IsFrame lo hi B seen (i + 1))) here (on.frames i))))
-  again_halts Is path i level frame store (tree.Malformed a) level_is here h seen on = absurd (h seen (subst (λ (x : ℕ). IsFrame lo hi B seen x frame) (sym level_is) (subst (λ o. IfSome o (IsFrame lo hi B seen (i + 1))) here (on.frames i))))
+  again_halts Is path after i level frame store (tree.Lost a) level_is here h seen on = absurd (h seen (subst (λ (x : ℕ). IsFrame lo hi B seen x frame) (sym level_is) (subst (λ o. IfSome o (IsFrame lo hi B seen (i + 1))) here (on.frames i))))
+  again_halts Is path after i level frame store (tree.Unmapped a) level_is here h seen on = absurd (h seen (subst (λ (x : ℕ). IsFrame lo hi B seen x frame) (sym level_is) (subst (λ o. IfSome o (IsFrame lo hi B seen (i + 1))) here (on.frames i))))
+  again_halts Is path after i level frame store (tree.Crosses a) level_is here h seen on = absurd (h seen (subst (λ (x : ℕ). IsFrame lo hi B seen x frame) (sym level_is) (subst (λ o. IfSome o (IsFrame lo hi B seen (i + 1))) here (on.frames i))))
+  again_halts Is path after i level frame store (tree.Malformed a) level_is here h seen on = absurd (h seen (subst (λ (x : ℕ). IsFrame lo hi B seen x frame) (sym level_is) (subst (λ o. IfSome o (IsFrame lo hi B seen (i + 1))) here (on.frames i))))
 
 -- the place by its parts
-pub at_place : (lo hi : Key) (Is : UnreadBlock → Want → Type 0) (B : Map) (place : Where) (todo : Option Todo) (store : Blocks) (result : Result _ TreeFault) → place.todo ≡ todo → IsGone lo hi Is B (record { path = place.path; todo = todo }) store result → IsGone lo hi Is B place store result
-at_place lo hi Is B place todo store result e h = subst (λ t. IsGone lo hi Is B (record { path = place.path; todo = t }) store result) (sym e) h
+pub at_place : (lo hi : Key) (Is : UnreadBlock → Want → Type 0) (B : Map) (place after : Where) (todo : Option Todo) (store : Blocks) (result : Result _ TreeFault) → place.todo ≡ todo → IsGone lo hi Is B (record { path = place.path; todo = todo }) after store result → IsGone lo hi Is B place after store result
+at_place lo hi Is B place after todo store result e h = subst (λ t. IsGone lo hi Is B (record { path = place.path; todo = t }) after store result) (sym e) h
 
 pub level_is : (todo : Todo) (x : _) (b : Below) → x ≡ entered.Inner b → HasLevel todo (Ok x) → (0 < todo.level) × (todo.level ≤ 7)
 level_is todo x b e h = let g = subst (λ y. HasLevel todo (Ok y)) e h in (g.0, g.1)

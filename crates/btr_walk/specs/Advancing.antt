@@ -1,5 +1,5 @@
 -- One item further.
-use Rattle.std.specs.Prelude.{◌≡◌, ℕ, ◌-◌, ◌<◌, ◌≤◌, Bool, true, false, List, [], ◌++◌, length, slice_index_or, Option, Some, None, IfSome, IsSomeAnd, IsTrue, Result, Ok, Err}
+use Rattle.std.specs.Prelude.{◌≡◌, ℕ, ◌+◌, ◌-◌, ◌<◌, ◌≤◌, Bool, true, false, List, [], ◌++◌, length, slice_index_or, Option, Some, None, IfSome, IsSomeAnd, IsTrue, Result, Ok, Err}
 use Rattle.btr_base.specs.declared.key.Key.{Key}
 use Rattle.btr_node.specs.Block.{Item, items, is_leaf}
 use Rattle.btr_prog.specs.Prog.{Does, first, prepend, exec}
@@ -20,6 +20,15 @@ use Rattle.btr_walk.specs.Reading.{Map, UnreadBlock, halt_of}
 use Rattle.btr_walk.specs.Scans.{wants, part_items, IsHeld, IsKept, kept_items, frame_of, leaf_at}
 use Rattle.btr_walk.specs.Going.{place_prog, IsAlong, IsOn, IsUnder, LeadsToLeaf, IsLeafUnder}
 use Rattle.btr_walk.specs.Lending.{base}
+
+-- a leaf behind its next item
+abbrev pub behind_next : LeafAt → LeafAt
+behind_next l = record { spot = l.spot; next = l.next + 1; end = l.end; loan = l.loan }
+
+-- what a step comes to that came to a leaf with an item, or to the end
+abbrev pub arrived : Option LeafAt → Advanced
+arrived None = record { leaf = None; met = Ok false }
+arrived (Some l) = record { leaf = Some (behind_next l); met = Ok true }
 
 -- a leaf in hand: its loan is live, and its block is a good leaf
 pub record IsInHand (store : Blocks) (l : LeafAt) : Type 0 where
@@ -91,22 +100,22 @@ module _ (lo hi : Key) where
   AdvancesBy was led Is B seen from before store place leaf (Err f) = Follows Is no_part seen (exec B before) [] (Err (halt_of f))
 
   -- with no leaf, with one in hand, and with one in hand or given back
-  abbrev pub FromPlace : (UnreadBlock → Want → Type 0) → Map → Where → Blocks → Advanced → Type 0
-  FromPlace Is B place store a =
+  abbrev pub FromPlace : (UnreadBlock → Want → Type 0) → Map → Where → Where → Blocks → Advanced → Type 0
+  FromPlace Is B place after store a =
       (seen : List Want) → IsAlong lo hi B seen place
-      → AdvancesBy (Unit {0}) (λ root. Unit {0}) Is B seen place (place_prog lo hi B place) store a.place a.leaf a.met
+      → AdvancesBy (Unit {0}) (λ root. Unit {0}) Is B seen place (place_prog lo hi B place) store after a.leaf a.met
 
-  abbrev pub FromHand : (UnreadBlock → Want → Type 0) → Map → Where → LeafAt → Blocks → Blocks → Advanced → Type 0
-  FromHand Is B place hand old new a =
+  abbrev pub FromHand : (UnreadBlock → Want → Type 0) → Map → Where → Where → LeafAt → Blocks → Blocks → Advanced → Type 0
+  FromHand Is B place after hand old new a =
       (seen : List Want) → IsAlong lo hi B seen place
       → AdvancesBy (IsHeld B seen old hand) (λ root. LeadsToLeaf root lo hi B (frame_of hand) place)
-      Is B seen place (hand_prog old hand (place_prog lo hi B place)) new a.place a.leaf a.met
+      Is B seen place (hand_prog old hand (place_prog lo hi B place)) new after a.leaf a.met
 
-  abbrev pub IsAdvanced : (UnreadBlock → Want → Type 0) → Map → ScanPlace → Option LeafAt → Blocks → Blocks → Advanced → Type 0
-  IsAdvanced Is B place leaf old new a =
+  abbrev pub IsAdvanced : (UnreadBlock → Want → Type 0) → Map → ScanPlace → Where → Option LeafAt → Blocks → Blocks → Advanced → Type 0
+  IsAdvanced Is B place after leaf old new a =
       (seen : List Want) → IsOn lo hi B seen place
       → AdvancesBy (IfSome leaf (IsHeld B seen old)) (λ root. IsLeafUnder root lo hi B (leaf_at leaf place.leaf) place.rest)
-      Is B seen place.rest (left B old leaf place) new a.place a.leaf a.met
+      Is B seen place.rest (left B old leaf place) new after a.leaf a.met
 
 -- a leaf is kept where an item was met, which stands before `next`, and only there
 abbrev pub HasItem : Option LeafAt → Result Bool TreeFault → Type 0

@@ -99,19 +99,19 @@ module _ (lo hi : Key) where
     pub held : IsHeld B (seen ++ comes.past) store l
     pub leads : (root : RootPlace) → IsUnder root hi B from → LeadsToLeaf root lo hi B (frame_of l) place
 
-  abbrev pub GoneTo : (UnreadBlock → Want → Type 0) → Map → List Want → Where → Blocks → Result Gone TreeFault → Type 0
-  GoneTo Is B seen place store (Ok (Leaf l after)) =
+  abbrev pub GoneTo : (UnreadBlock → Want → Type 0) → Map → List Want → Where → Where → Blocks → Result Gone TreeFault → Type 0
+  GoneTo Is B seen place after store (Ok (Leaf l)) =
       IsSomeAnd (block_of store l.loan)
       (λ block. ComesTo B seen place (emit_all (part_items l.spot.addr block l.next l.end) (place_prog lo hi B after)) after store l)
-  GoneTo Is B seen place store (Ok (Between after)) = Comes B seen place (place_prog lo hi B after) after
-  GoneTo Is B seen place store (Ok End) = Follows Is no_part seen (exec B (place_prog lo hi B place)) [] (Ok tt)
-  GoneTo Is B seen place store (Err f) = Follows Is no_part seen (exec B (place_prog lo hi B place)) [] (Err (halt_of f))
+  GoneTo Is B seen place after store (Ok Between) = Comes B seen place (place_prog lo hi B after) after
+  GoneTo Is B seen place after store (Ok End) = Follows Is no_part seen (exec B (place_prog lo hi B place)) [] (Ok tt)
+  GoneTo Is B seen place after store (Err f) = Follows Is no_part seen (exec B (place_prog lo hi B place)) [] (Err (halt_of f))
 
-  abbrev pub IsGone : (UnreadBlock → Want → Type 0) → Map → Where → Blocks → Result Gone TreeFault → Type 0
-  IsGone Is B place store result = (seen : List Want) → IsAlong B seen place → GoneTo Is B seen place store result
+  abbrev pub IsGone : (UnreadBlock → Want → Type 0) → Map → Where → Where → Blocks → Result Gone TreeFault → Type 0
+  IsGone Is B place after store result = (seen : List Want) → IsAlong B seen place → GoneTo Is B seen place after store result
 
 abbrev pub LendsGone : Blocks → Blocks → Result Gone TreeFault → Type 0
-LendsGone old new (Ok (Leaf l after)) = LendsLeafAt old new l
-LendsGone old new (Ok (Between after)) = SameLoans old new
+LendsGone old new (Ok (Leaf l)) = LendsLeafAt old new l
+LendsGone old new (Ok Between) = SameLoans old new
 LendsGone old new (Ok End) = SameLoans old new
 LendsGone old new (Err f) = SameLoans old new

@@ -1,13 +1,12 @@
 -- How a scan comes to its next leaf.
-use Rattle.std.specs.Prelude.{◌<◌, List, [], IsSomeAnd, Result, Ok, Err}
+use Rattle.std.specs.Prelude.{◌<◌, ◌≤◌, List, [], Option, Some, None, IsSomeAnd, Result, Ok, Err}
 use Rattle.btr_base.specs.declared.key.Key.{Key}
 use Rattle.btr_prog.specs.Prog.{exec}
 use Rattle.btr_prog.specs.Answers.{Follows, no_part}
 use Rattle.btr_read.specs.Store.{Blocks, SameLoans, block_of}
 use Rattle.btr_read.specs.declared.want.Want.{Want}
 use Rattle.btr_walk.specs.declared.fault.TreeFault.{TreeFault}
-use Rattle.btr_walk.specs.declared.leaving.Reached.{Reached}
-use Rattle.btr_walk.specs.declared.leaving.Reached.TheVariants.{Leaf, End}
+use Rattle.btr_walk.specs.declared.entering.LeafAt.{LeafAt}
 use Rattle.btr_walk.specs.declared.going.Where.{Where}
 use Rattle.btr_walk.specs.Range.{emit_all}
 use Rattle.btr_walk.specs.Reading.{Map, UnreadBlock, halt_of}
@@ -17,23 +16,23 @@ use Rattle.btr_walk.specs.Going.{place_prog, IsAlong, ComesTo}
 use Rattle.btr_walk.specs.Ranks.{IsShaped, rank}
 
 module _ (lo hi : Key) where
-  abbrev pub ReachedTo : (UnreadBlock → Want → Type 0) → Map → List Want → Where → Blocks → Result Reached TreeFault → Type 0
-  ReachedTo Is B seen place store (Ok (Leaf l after)) =
+  abbrev pub ReachedTo : (UnreadBlock → Want → Type 0) → Map → List Want → Where → Where → Blocks → Result (Option LeafAt) TreeFault → Type 0
+  ReachedTo Is B seen place after store (Ok (Some l)) =
       IsSomeAnd (block_of store l.loan)
       (λ block. ComesTo lo hi B seen place (emit_all (part_items l.spot.addr block l.next l.end) (place_prog lo hi B after)) after store l)
-  ReachedTo Is B seen place store (Ok End) = Follows Is no_part seen (exec B (place_prog lo hi B place)) [] (Ok tt)
-  ReachedTo Is B seen place store (Err f) = Follows Is no_part seen (exec B (place_prog lo hi B place)) [] (Err (halt_of f))
+  ReachedTo Is B seen place after store (Ok None) = Follows Is no_part seen (exec B (place_prog lo hi B place)) [] (Ok tt)
+  ReachedTo Is B seen place after store (Err f) = Follows Is no_part seen (exec B (place_prog lo hi B place)) [] (Err (halt_of f))
 
-  abbrev pub IsReached : (UnreadBlock → Want → Type 0) → Map → Where → Blocks → Result Reached TreeFault → Type 0
-  IsReached Is B place store result = (seen : List Want) → IsAlong lo hi B seen place → ReachedTo Is B seen place store result
+  abbrev pub IsReached : (UnreadBlock → Want → Type 0) → Map → Where → Where → Blocks → Result (Option LeafAt) TreeFault → Type 0
+  IsReached Is B place after store result = (seen : List Want) → IsAlong lo hi B seen place → ReachedTo Is B seen place after store result
 
-abbrev pub LendsReached : Blocks → Blocks → Result Reached TreeFault → Type 0
-LendsReached old new (Ok (Leaf l after)) = LendsLeafAt old new l × (l.next < l.end)
-LendsReached old new (Ok End) = SameLoans old new
+abbrev pub LendsReached : Blocks → Blocks → Result (Option LeafAt) TreeFault → Type 0
+LendsReached old new (Ok (Some l)) = LendsLeafAt old new l × (l.next < l.end)
+LendsReached old new (Ok None) = SameLoans old new
 LendsReached old new (Err f) = SameLoans old new
 
--- a leaf that was reached is nearer to the end
-abbrev pub NearsReached : Where → Result Reached TreeFault → Type 0
-NearsReached place (Ok (Leaf l after)) = IsShaped after × (rank after < rank place)
-NearsReached place (Ok End) = Unit {0}
-NearsReached place (Err f) = Unit {0}
+-- a place behind a leaf that was reached is nearer to the end, and no place is farther from it
+abbrev pub NearsReached : Where → Where → Result (Option LeafAt) TreeFault → Type 0
+NearsReached place after (Ok (Some l)) = IsShaped after × (rank after < rank place)
+NearsReached place after (Ok None) = IsShaped after × (rank after ≤ rank place)
+NearsReached place after (Err f) = Unit {0}

@@ -11,7 +11,7 @@ use crate::TreeFault;
 use crate::again::read_again;
 use crate::frame::Todo;
 use crate::going::Where;
-use crate::path::{Path, lowest, with_frame};
+use crate::path::{Path, lowest, set_frame};
 use btr_rack::Rack;
 use btr_read::Store;
 
@@ -38,7 +38,7 @@ pub(crate) fn ahead_of<R: Rack>(
     ensures cause { HasCause store.old.layout (R.seen rack.old) (R.seen rack.new) result }
     ensures content { TellsOf store.old (R.seen rack.old) (R.seen rack.new) (λ Is B. IsAhead Is B place.now result) }
 {
-    let path = place.path;
+    let mut path = place.path;
     match place.todo {
         Some(todo) => Ok(Some(Ahead { todo, path })),
         None => match lowest(&path) {
@@ -46,7 +46,7 @@ pub(crate) fn ahead_of<R: Rack>(
             Some(low) => match read_again(low.at as u8 + 1, &low.frame, rack, store) {
                 Err(fault) => Err(fault),
                 Ok(below) => {
-                    let path = with_frame(path, low.at, below.frame);
+                    set_frame(&mut path, low.at, below.frame);
                     let Some(todo) = below.todo else {
                         unreachable!();
                     };

@@ -11,7 +11,7 @@ use crate::TreeFault;
 use crate::again::read_again;
 use crate::entering::{Entered, LeafAt, enter};
 use crate::frame::Todo;
-use crate::path::{Path, lowest, with_frame};
+use crate::path::{Path, lowest, set_frame};
 use btr_base::Key;
 use btr_rack::Rack;
 use btr_read::Store;
@@ -25,14 +25,14 @@ pub(crate) struct Where {
 
 /// What came of reading on.
 pub(crate) enum Gone {
-    Leaf(LeafAt, Where),
-    Between(Where),
+    Leaf(LeafAt),
+    Between,
     End,
 }
 
-// Reads at most one block.
+// Reads at most one block, and goes on to the place behind it.
 pub(crate) fn go_on<R: Rack>(
-    place: &Where,
+    place: &mut Where,
     lo: Key,
     hi: Key,
     rack: &mut R,
@@ -40,38 +40,36 @@ pub(crate) fn go_on<R: Rack>(
 ) -> Result<Gone, TreeFault>
     requires serves { Serves (R.seen rack.old) store.old }
     requires room { 4 ≤ free_count store.old }
-    requires shaped { IsShaped place.now }
-    ensures nears { Nears place.now result }
+    requires shaped { IsShaped place.old }
+    ensures nears { Nears place.old place.new result }
     ensures serves { Serves (R.seen rack.new) store.new }
     ensures reads { OnlyReads (R.seen rack.old) (R.seen rack.new) }
     ensures lent { LendsGone store.old store.new result }
     ensures cause { HasCause store.old.layout (R.seen rack.old) (R.seen rack.new) result }
     ensures content { TellsOf store.old (R.seen rack.old) (R.seen rack.new)
-        (λ Is B. IsGone lo hi Is B place.now store.new result) }
+        (λ Is B. IsGone lo hi Is B place.old place.new store.new result) }
 {
-    let path = place.path;
     match place.todo {
         Some(todo) => match enter(&todo, lo, hi, rack, store) {
             Err(fault) => Err(fault),
-            Ok(Entered::Leaf(leaf)) => Ok(Gone::Leaf(leaf, Where { path, todo: None })),
+            Ok(Entered::Leaf(leaf)) => {
+                place.todo = None;
+                Ok(Gone::Leaf(leaf))
+            }
             Ok(Entered::Inner(below)) => {
-                let path = with_frame(path, todo.level as usize - 1, below.frame);
-                Ok(Gone::Between(Where {
-                    path,
-                    todo: below.todo,
-                }))
+                set_frame(&mut place.path, todo.level as usize - 1, below.frame);
+                place.todo = below.todo;
+                Ok(Gone::Between)
             }
         },
-        None => match lowest(&path) {
+        None => match lowest(&place.path) {
             None => Ok(Gone::End),
             Some(low) => match read_again(low.at as u8 + 1, &low.frame, rack, store) {
                 Err(fault) => Err(fault),
                 Ok(below) => {
-                    let path = with_frame(path, low.at, below.frame);
-                    Ok(Gone::Between(Where {
-                        path,
-                        todo: below.todo,
-                    }))
+                    set_frame(&mut place.path, low.at, below.frame);
+                    place.todo = below.todo;
+                    Ok(Gone::Between)
                 }
             },
         },

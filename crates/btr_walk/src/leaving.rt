@@ -14,40 +14,33 @@ use btr_base::Key;
 use btr_rack::Rack;
 use btr_read::Store;
 
-/// The next leaf with an item, or the end.
-pub(crate) enum Reached {
-    Leaf(LeafAt, Where),
-    End,
-}
-
-// Reads on to the next leaf that has an item in the range.
+// Reads on to the next leaf that has an item in the range, and goes on to the place behind it; `None` at the end.
 pub(crate) fn to_leaf<R: Rack>(
-    place: &Where,
+    place: &mut Where,
     lo: Key,
     hi: Key,
     rack: &mut R,
     store: &mut Store,
-) -> Result<Reached, TreeFault>
+) -> Result<Option<LeafAt>, TreeFault>
     requires serves { Serves (R.seen rack.old) store.old }
     requires room { 4 ≤ free_count store.old }
-    requires shaped { IsShaped place.now }
+    requires shaped { IsShaped place.old }
     ensures serves { Serves (R.seen rack.new) store.new }
     ensures reads { OnlyReads (R.seen rack.old) (R.seen rack.new) }
     ensures lent { LendsReached store.old store.new result }
-    ensures nears { NearsReached place.now result }
+    ensures nears { NearsReached place.old place.new result }
     ensures cause { HasCause store.old.layout (R.seen rack.old) (R.seen rack.new) result }
     ensures content { TellsOf store.old (R.seen rack.old) (R.seen rack.new)
-        (λ Is B. IsReached lo hi Is B place.now store.new result) }
+        (λ Is B. IsReached lo hi Is B place.old place.new store.new result) }
 {
-    let mut at = *place;
     loop {
-        match go_on(&at, lo, hi, rack, store) {
+        match go_on(place, lo, hi, rack, store) {
             Err(fault) => return Err(fault),
-            Ok(Gone::End) => return Ok(Reached::End),
-            Ok(Gone::Between(after)) => at = after,
-            Ok(Gone::Leaf(leaf, after)) => {
+            Ok(Gone::End) => return Ok(None),
+            Ok(Gone::Between) => {}
+            Ok(Gone::Leaf(leaf)) => {
                 if leaf.next < leaf.end {
-                    return Ok(Reached::Leaf(leaf, after));
+                    return Ok(Some(leaf));
                 }
                 let LeafAt {
                     spot: _,
@@ -56,7 +49,6 @@ pub(crate) fn to_leaf<R: Rack>(
                     loan,
                 } = leaf;
                 store.give(loan);
-                at = after;
             }
         }
     }

@@ -16,7 +16,7 @@ use crate::ahead::{Ahead, ahead_of};
 use crate::entering::Below;
 use crate::frame::{Frame, Todo};
 use crate::going::Where;
-use crate::path::with_frame;
+use crate::path::set_frame;
 use crate::reading::read_block;
 use btr_node::Inner;
 use btr_rack::Rack;
@@ -66,8 +66,10 @@ fn behind(ahead: &Ahead, block: &[u8]) -> Where
         };
     }
     let below = children_of(block, &todo);
+    let mut path = ahead.path;
+    set_frame(&mut path, todo.level as usize - 1, below.frame);
     Where {
-        path: with_frame(ahead.path, todo.level as usize - 1, below.frame),
+        path,
         todo: below.todo,
     }
 }

@@ -5,7 +5,7 @@ use crate::RootPlace;
 use crate::begin::begin;
 use crate::frame::Todo;
 use crate::going::Where;
-use crate::path::{HEIGHT, with_frame};
+use crate::path::{HEIGHT, set_frame};
 use btr_base::Key;
 
 // The place at the lowest node of the path that the key is in, which is to be read again; the nodes above it keep their next
@@ -16,7 +16,7 @@ pub(crate) fn rejoin(place: &Where, root: &RootPlace, key: Key) -> Where
     let mut path = place.path;
     for at in 0..HEIGHT {
         let popped = path[at];
-        path = with_frame(path, at, None);
+        set_frame(&mut path, at, None);
         if let Some(frame) = popped {
             if frame.spot.spans(key) {
                 let todo = Todo {

@@ -236,16 +236,22 @@ pub fn next<'e, R: Rack>(
     ensures cause { HasCause store.old.layout (R.seen rack.old) (R.seen rack.new) result }
 {
     let leaf = scan.leaf.take();
-    let Advanced { place, leaf, met } = advance(&scan.place, leaf, scan.lo, scan.hi, rack, store);
+    let place = &mut scan.place;
+    let Advanced { leaf, met } = advance(
+        &place.leaf,
+        &mut place.rest,
+        leaf,
+        scan.lo,
+        scan.hi,
+        rack,
+        store,
+    );
     put(&mut scan.leaf, leaf);
     match met {
         Err(fault) => Err(fault),
         Ok(false) => Ok(None),
         Ok(true) => {
-            scan.place = ScanPlace {
-                leaf: None,
-                rest: place,
-            };
+            scan.place.leaf = None;
             let Some(hand) = &scan.leaf else {
                 unreachable!();
             };

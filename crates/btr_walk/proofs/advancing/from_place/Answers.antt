@@ -1,30 +1,39 @@
-use Rattle.std.proofs.Common.{Ok, Some, None, true, false, subst, arith}
-use Rattle.btr_walk.specs.Reading.{unread_by}
+use Rattle.std.proofs.Common.{◌≡◌, ◌^◌, ◌*◌, ◌<◌, Ok, IfSome, OnErr, sym, subst}
+use Rattle.btr_walk.specs.Reading.{HasCause, unread_by}
 use Rattle.btr_walk.specs.Leaving.{IsReached}
-use Rattle.btr_walk.specs.Advancing.{FromPlace}
+use Rattle.btr_walk.specs.Ranks.{rank, StepNears}
+use Rattle.btr_walk.specs.Advancing.{HasItem, Lends, FromPlace}
 use Rattle.btr_walk.proofs.Joined.{drawn}
-use Rattle.btr_walk.proofs.Hands.{meets_reached, reached_lent, lends_step, hand_of, step}
+use Rattle.btr_walk.proofs.Hands.{lends_arrived, items_arrived, item_arrived, nears_arrived, from_arrived, shaped_arrived, no_fault_arrived, no_cause_arrived}
 use Rattle.btr_walk.proofs.advancing.from_place.Goals as goal
 
-pub returns-in-Ok-End-clause-content : goal.returns-in-Ok-End-clause-content
-returns-in-Ok-End-clause-content g c =
-    let is = unread_by c.args.store.now.layout (g.R.Rack.seen c.args.rack.now) (g.R.Rack.seen c.to_leaf.new.rack) in
-    drawn c.args.store.now.layout (λ B. IsReached c.args.lo c.args.hi is B c.args.place c.to_leaf.new.store (Ok c.in-Ok-End.field-0)) (λ B. FromPlace c.args.lo c.args.hi is B c.args.place c.to_leaf.new.store (record { place = c.args.place; leaf = None; met = Ok false }))
-    (λ B h seen on. (subst (λ x. IsReached c.args.lo c.args.hi is B c.args.place c.to_leaf.new.store (Ok x)) c.in-Ok-End.field-0-is h) seen on) c.in-Ok-End.ensures.content
+pub arrived-requires : goal.arrived-requires
+arrived-requires g c = items_arrived c.args.store.now c.to_leaf.new.store c.in-Ok.reached c.in-Ok.ensures.lent
 
-pub returns-in-Ok-Leaf-clause-lent : goal.returns-in-Ok-Leaf-clause-lent
-returns-in-Ok-Leaf-clause-lent g c =
-    lends_step c.args.store.now c.to_leaf.new.store c.in-Ok-Leaf.reached c.in-Ok-Leaf.after (Ok true) (reached_lent c.args.store.now c.to_leaf.new.store c.in-Ok-Leaf.field-0 c.in-Ok-Leaf.reached c.in-Ok-Leaf.after c.in-Ok-Leaf.field-0-is c.in-Ok-Leaf.ensures.lent).0
-
-pub returns-in-Ok-Leaf-clause-content : goal.returns-in-Ok-Leaf-clause-content
-returns-in-Ok-Leaf-clause-content g c =
-    let is = unread_by c.args.store.now.layout (g.R.Rack.seen c.args.rack.now) (g.R.Rack.seen c.to_leaf.new.rack) in
-    let t = reached_lent c.args.store.now c.to_leaf.new.store c.in-Ok-Leaf.field-0 c.in-Ok-Leaf.reached c.in-Ok-Leaf.after c.in-Ok-Leaf.field-0-is c.in-Ok-Leaf.ensures.lent in
-    drawn c.args.store.now.layout (λ B. IsReached c.args.lo c.args.hi is B c.args.place c.to_leaf.new.store (Ok c.in-Ok-Leaf.field-0)) (λ B. FromPlace c.args.lo c.args.hi is B c.args.place c.to_leaf.new.store (record { place = c.in-Ok-Leaf.after; leaf = Some (step c.in-Ok-Leaf.reached); met = Ok true }))
-    (λ B h. meets_reached c.args.lo c.args.hi B is c.args.place c.in-Ok-Leaf.after c.to_leaf.new.store c.in-Ok-Leaf.reached (hand_of c.args.store.now c.to_leaf.new.store c.in-Ok-Leaf.reached t.0) t.1
-    (subst (λ x. IsReached c.args.lo c.args.hi is B c.args.place c.to_leaf.new.store (Ok x)) c.in-Ok-Leaf.field-0-is h)) c.in-Ok-Leaf.ensures.content
-
-pub returns-in-Ok-Leaf-clause-item : goal.returns-in-Ok-Leaf-clause-item
-returns-in-Ok-Leaf-clause-item g c =
-    let t = reached_lent c.args.store.now c.to_leaf.new.store c.in-Ok-Leaf.field-0 c.in-Ok-Leaf.reached c.in-Ok-Leaf.after c.in-Ok-Leaf.field-0-is c.in-Ok-Leaf.ensures.lent in
-    (omega arith, omega (arith, t.1))
+pub returns-in-Ok : goal.returns-in-Ok
+returns-in-Ok g c =
+    let old = c.args.store.now in
+    let new = c.to_leaf.new.store in
+    let place = c.args.place.now in
+    let after = c.to_leaf.new.place in
+    let o = c.in-Ok.reached in
+    let lent = c.in-Ok.ensures.lent in
+    let nears = c.in-Ok.ensures.nears in
+    let seen = g.R.Rack.seen c.args.rack.now in
+    let now = g.R.Rack.seen c.to_leaf.new.rack in
+    let is = unread_by old.layout seen now in
+    let same = sym c.arrived.ensures.value in
+    let fits = subst (λ a. IfSome a.leaf (λ l. l.end < 2 ^ 64)) c.arrived.ensures.value c.arrived.ensures.fits in
+    record {
+      serves = c.in-Ok.ensures.serves;
+      reads = c.in-Ok.ensures.reads;
+      lent = subst (Lends old new) same (lends_arrived old new o lent);
+      stays = subst (λ a. OnErr a.met (after ≡ place)) same (no_fault_arrived o (after ≡ place));
+      shaped = (shaped_arrived place after o nears).0;
+      on = (shaped_arrived place after o nears).1;
+      nears = subst (λ a. StepNears (2 ^ 64 * rank place) after a.leaf a.met) same (nears_arrived old new place after o nears fits);
+      item = subst (λ a. HasItem a.leaf a.met) same (item_arrived old new o lent);
+      cause = subst (λ a. HasCause old.layout seen now a.met) same (no_cause_arrived old.layout seen now o);
+      content = drawn old.layout (λ B. IsReached c.args.lo c.args.hi is B place after new (Ok o)) (λ B. FromPlace c.args.lo c.args.hi is B place after new c.arrived.result)
+          (λ B h. subst (FromPlace c.args.lo c.args.hi is B place after new) same (from_arrived old new c.args.lo c.args.hi B is place after o lent h)) c.in-Ok.ensures.content;
+    }

@@ -25,8 +25,8 @@ returns-in-Some-todo-clause-nears g c =
     let place = c.args.place.now in
     let low = c.in-Some-lowest.low in
     let b = c.in-Ok.below in
-    near_ahead place c.with_frame-path.result b.todo c.in-Some-todo.todo c.in-Some-todo.is
-    (near_place place None (record { path = c.with_frame-path.result; todo = b.todo }) c.in-None.is c.requires.shaped (near_again place.path c.with_frame-path.result low.at (low.at + 1) low.frame b refl c.in-Some-lowest.ensures.within c.in-Ok.ensures.next c.with_frame-path.ensures.set c.in-Some-lowest.ensures.here c.in-Some-lowest.ensures.before))
+    near_ahead place c.set_frame.new.path b.todo c.in-Some-todo.todo c.in-Some-todo.is
+    (near_place place None (record { path = c.set_frame.new.path; todo = b.todo }) c.in-None.is c.requires.shaped (near_again place.path c.set_frame.new.path low.at (low.at + 1) low.frame b refl c.in-Some-lowest.ensures.within c.in-Ok.ensures.next c.set_frame.ensures.set c.in-Some-lowest.ensures.here c.in-Some-lowest.ensures.before))
 
 pub returns-in-Some-todo-clause-content : goal.returns-in-Some-todo-clause-content
 returns-in-Some-todo-clause-content g c =
@@ -34,5 +34,5 @@ returns-in-Some-todo-clause-content g c =
     let place = c.args.place.now in
     let low = c.in-Some-lowest.low in
     let b = c.in-Ok.below in
-    drawn c.args.store.now.layout (λ B. Rereads is B (low.at + 1) low.frame (Ok b)) (λ B. IsAhead is B place (Ok (Some (record { todo = c.in-Some-todo.todo; path = c.with_frame-path.result }))))
-    (λ B h seen on. ahead_again B place low.at low.frame c.in-None.is c.in-Some-lowest.ensures.here is b c.in-Some-todo.todo c.with_frame-path.result seen c.in-Some-lowest.ensures.long c.in-Some-lowest.ensures.within c.in-Some-lowest.ensures.before c.with_frame-path.ensures.set c.in-Some-todo.is on h) c.in-Ok.ensures.content
+    drawn c.args.store.now.layout (λ B. Rereads is B (low.at + 1) low.frame (Ok b)) (λ B. IsAhead is B place (Ok (Some (record { todo = c.in-Some-todo.todo; path = c.set_frame.new.path }))))
+    (λ B h seen on. ahead_again B place low.at low.frame c.in-None.is c.in-Some-lowest.ensures.here is b c.in-Some-todo.todo c.set_frame.new.path seen c.in-Some-lowest.ensures.long c.in-Some-lowest.ensures.within c.in-Some-lowest.ensures.before c.set_frame.ensures.set c.in-Some-todo.is on h) c.in-Ok.ensures.content

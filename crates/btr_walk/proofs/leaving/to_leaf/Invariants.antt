@@ -12,10 +12,10 @@ invariant-loop-fault g l = record {
   reads : OnlyReads (g.R.Rack.seen l.fn.rack) (g.R.Rack.seen l.rack);
   serves : Serves (g.R.Rack.seen l.rack) l.store;
   same : SameLoans l.fn.store l.store;
-  shaped : IsShaped l.at;
-  near : rank l.at ≤ rank l.fn.place;
-  tells : Tells l.fn.store.layout (g.R.Rack.seen l.fn.rack) (g.R.Rack.seen l.rack) (λ B. Leads l.lo l.hi B l.fn.place l.at);
+  shaped : IsShaped l.place;
+  near : rank l.place ≤ rank l.fn.place;
+  tells : Tells l.fn.store.layout (g.R.Rack.seen l.fn.rack) (g.R.Rack.seen l.rack) (λ B. Leads l.lo l.hi B l.fn.place l.place);
 }
 
 abbrev pub decreases-loop-fault : goal.decreases-loop-fault
-decreases-loop-fault g l = rank l.at
+decreases-loop-fault g l = rank l.place

@@ -17,8 +17,8 @@ children_of-below-requires-clause-good c =
     let ahead = c.args.ahead.now in
     (inner_at ahead.todo.level ahead.todo.spot c.args.block.now c.requires.good c.if-todo-eq0.false).good
 
-pub with_frame-requires : goal.with_frame-requires
-with_frame-requires c =
+pub set_frame-requires : goal.set_frame-requires
+set_frame-requires c =
     let ahead = c.args.ahead.now in
     let inner = inner_at ahead.todo.level ahead.todo.spot c.args.block.now c.requires.good c.if-todo-eq0.false in
     let some = inner.some in
@@ -30,10 +30,10 @@ returns-clause-nears c =
     let ahead = c.args.ahead.now in
     let b = c.children_of-below.result in
     let inner = inner_at ahead.todo.level ahead.todo.spot c.args.block.now c.requires.good c.if-todo-eq0.false in
-    near_inner ahead.path c.with_frame.result ahead.todo b (fits_children ahead.todo.level ahead.todo.spot c.args.block.now b.frame b.todo inner.some inner.few c.children_of-below.ensures.few c.children_of-below.ensures.first) c.with_frame.ensures.set c.requires.shaped
+    near_inner ahead.path c.set_frame.new.path ahead.todo b (fits_children ahead.todo.level ahead.todo.spot c.args.block.now b.frame b.todo inner.some inner.few c.children_of-below.ensures.few c.children_of-below.ensures.first) c.set_frame.ensures.set c.requires.shaped
 
 pub returns-clause-behind : goal.returns-clause-behind
 returns-clause-behind c = λ B seen e on.
     let ahead = c.args.ahead.now in
     let inner = inner_at ahead.todo.level ahead.todo.spot c.args.block.now c.requires.good c.if-todo-eq0.false in
-    enters_node B ahead c.args.block.now seen c.children_of-below.result c.with_frame.result c.requires.shaped.long inner c.with_frame.ensures.set c.children_of-below.ensures.first e on
+    enters_node B ahead c.args.block.now seen c.children_of-below.result c.set_frame.new.path c.requires.shaped.long inner c.set_frame.ensures.set c.children_of-below.ensures.first e on

@@ -1,4 +1,4 @@
-use Rattle.std.proofs.Common.{◌≡◌, None, Err, Ok, refl, sym, ap, ◌∙◌, subst}
+use Rattle.std.proofs.Common.{None, Err, Ok, refl, sym, ap, ◌∙◌, subst}
 use Rattle.btr_read.specs.Fetch.{FitsFetch, AnswersOf, CallsFetch}
 use Rattle.btr_walk.specs.declared.fault.TreeFault.TheVariants as tree
 use Rattle.btr_walk.specs.Le.{want_of}

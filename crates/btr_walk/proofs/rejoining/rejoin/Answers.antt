@@ -5,8 +5,8 @@ use Rattle.btr_walk.proofs.rejoining.rejoin.Goals as goal
 
 pub returns-then-spans : goal.returns-then-spans
 returns-then-spans c =
-    subst (λ x. Rejoins c.args.root.now c.args.key c.args.place.now (record { path = x; todo = Some (record { level = c.loop-at.at + 1; spot = c.in-Some.frame.spot }) })) (sym c.with_frame-path.ensures.set)
-    (joins_node c.args.root.now c.args.key c.args.place.now c.loop-at.path c.loop-at.at c.loop-at.invariant c.with_frame-path.ensures.long (search rules) c.in-Some.frame c.loop-at-test.true c.in-Some.is (sym c.spans.ensures ∙ c.if-spans.true))
+    subst (λ x. Rejoins c.args.root.now c.args.key c.args.place.now (record { path = x; todo = Some (record { level = c.loop-at.at + 1; spot = c.in-Some.frame.spot }) })) (sym c.set_frame.ensures.set)
+    (joins_node c.args.root.now c.args.key c.args.place.now c.loop-at.path c.loop-at.at c.loop-at.invariant c.set_frame.ensures.long (search rules) c.in-Some.frame c.loop-at-test.true c.in-Some.is (sym c.spans.ensures ∙ c.if-spans.true))
 
 pub returns : goal.returns
 returns c =
