@@ -20,14 +20,14 @@ use Rattle.btr_read.specs.Fate.{fate, fate_of, or_lost, sought, sought_at, sough
 use Rattle.btr_read.specs.Layout.{Layout, device_in}
 use Rattle.btr_read.specs.Want.{passes}
 use Rattle.btr_read.specs.declared.candidate.Candidate.{Candidate}
-use Rattle.btr_read.specs.declared.candidate.Candidate.TheVariants.{Stands}
+use Rattle.btr_read.specs.declared.candidate.Candidate.TheVariants.{Read}
 use Rattle.btr_read.specs.declared.device.Device.{Device}
 use Rattle.btr_read.specs.declared.want.Want.{Want}
 use Rattle.btr_read.specs.declared.want.Want.TheVariants.{Sector}
 
 -- the candidates of a profile begin with the part that has the byte itself
 abbrev BeginsWith : Part → List Candidate → Type 0
-BeginsWith part all = (rest : List Candidate) × (all ≡ Stands part ∷ rest)
+BeginsWith part all = (rest : List Candidate) × (all ≡ Read part ∷ rest)
 
 copies_begin : (n : ℕ) → BeginsWith (Mirror 0) (copies (suc n))
 copies_begin n = (_, refl)
@@ -71,7 +71,7 @@ module _ (layout : Layout) (addr : ℕ) (chunk : Chunk) (at : Elements) (device 
   range_is : range_of t part ≡ Some (range_in device.slot off 4096)
   range_is = ap (range_on off 4096) given ∙ ap (λ b. cond b (Some (range_in device.slot off 4096)) None) (le-leb (off + 4096) device.len inside)
 
-  reading_is : reading images t (Stands part) ≡ Some bytes
+  reading_is : reading images t (Read part) ≡ Some bytes
   reading_is = rw range_is refl
 
   first : BeginsWith part (candidates t)

@@ -2,7 +2,8 @@
 //!
 //! A reader that goes through data in ascending order asks `DataAhead` first: where the first copy of a sector was read, and passes, the sector comes to
 //! those bytes, and no call is needed. Whatever is otherwise, as where a read failed or another copy has to be tried, is left to `fetch`.
-//! The layer above is promised that a sector that passes here comes to bytes, over whatever images. `specs/Ahead.antt` says what is kept.
+//! The layer above is promised that a sector that passes here comes to bytes, over whatever images, and, where no read failed and some
+//! sectors are wanted, exactly whether the first copy passes. `specs/Ahead.antt` says what is kept.
 #![tactic(auto)]
 
 mod data_ahead;

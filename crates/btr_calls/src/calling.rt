@@ -25,12 +25,15 @@ pub fn called<R: Rack, T: TreeSink, O: Out>(
     run(alloc, words, rack, tree, out)
 }
 
-/// Calls `run` by these words, with a destination and an output in which nothing is to fail. No image may be open.
+/// Calls `run` by these words, with a destination and an output in which nothing is to fail. No image may be
+/// open. The errors are those of [`call_where`].
 pub fn call(alloc: Global, rack: &mut MemRack, all: &[&str]) -> Result<Told, CallFault> {
     call_where(alloc, rack, all, Failing::Nothing)
 }
 
-/// The same, where a call of the output or of the destination is to fail.
+/// Calls `run` as [`call`] does, where a call of the output or of the destination is to fail. `Open`: an image is open, and
+/// `run` wasn't called. `Memory`: memory is wanted for the words, the destination or the output, or behind the call for what
+/// came of it.
 pub fn call_where(
     alloc: Global,
     rack: &mut MemRack,

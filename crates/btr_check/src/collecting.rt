@@ -9,7 +9,6 @@ use btr_base::Memory;
 use btr_rack::Rack;
 use btr_tour::Visitor;
 use btr_volume::{Stop, TreeRoot, Volume};
-use std::alloc::Global;
 
 /// What a visit of a tree leaves of a visitor; where there is no tree, nothing is met.
 pub(crate) fn collect<R: Rack, V: Visitor<Memory> + Drop>(

@@ -18,7 +18,7 @@ use Rattle.btr_text.specs.Text.{WasCut}
 use Rattle.btr_dump.specs.Stops.{stop_of}
 use Rattle.btr_rack.specs.Rack.{Seen, OnlyReads}
 use Rattle.btr_read.specs.Fate as fate
-use Rattle.btr_read.specs.Fate.{fate as fate_at, fate_of, sought}
+use Rattle.btr_read.specs.Fate.{fate as fate_at, fate_of}
 use Rattle.btr_read.specs.Fetch.{IsFetched, FitsFetch}
 use Rattle.btr_read.specs.Layout.{Layout}
 use Rattle.btr_read.specs.Reading.{OnMap, shown}

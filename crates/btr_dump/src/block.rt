@@ -70,7 +70,8 @@ fn show_block<R: Rack, O: Out>(
     ensures cause { StopCause store.old.layout (R.seen rack.old) (R.seen rack.new) result }
     ensures grows { Grows (O.text out.old) (O.text out.new) }
     ensures content { TellsBlock store.old.layout addr (R.seen rack.old) (R.seen rack.new)
-        (λ B. Writes (unread_by store.old.layout (R.seen rack.old) (R.seen rack.new)) [] (exec B (block_shown kind addr))
+        (λ B. Writes (unread_by store.old.layout (R.seen rack.old) (R.seen rack.new)) []
+        (exec B (block_shown kind addr))
         (O.text out.old) (O.text out.new) text.old text.new result) }
 {
     let loan = match fetch(&Want::Block { addr }, rack, store) {
@@ -102,7 +103,8 @@ pub fn dump_block<R: Rack, O: Out>(
     ensures cause { StopCause vol.old.store.layout (R.seen rack.old) (R.seen rack.new) result }
     ensures grows { Grows (O.text out.old) (O.text out.new) }
     ensures content { TellsBlock vol.old.store.layout addr (R.seen rack.old) (R.seen rack.new)
-        (λ B. Puts (unread_by vol.old.store.layout (R.seen rack.old) (R.seen rack.new)) (exec B (block_shown (kind_in vol.old.sup) addr))
+        (λ B. Puts (unread_by vol.old.store.layout (R.seen rack.old) (R.seen rack.new))
+        (exec B (block_shown (kind_in vol.old.sup) addr))
         (O.text out.old) (O.text out.new) result) }
 {
     let mut text = TextBuffer::new();

@@ -78,7 +78,10 @@ fn show_next<R: Rack, O: Out>(
     ensures grows { Grows (O.text out.old) (O.text out.new) }
     ensures content { Tells store.old.layout (R.seen rack.old) (R.seen rack.new)
         (λ B. (seen : List Want) → IsOn scan.old.lo scan.old.hi B seen scan.old.place
-        → Turns (unread_by store.old.layout (R.seen rack.old) (R.seen rack.new)) (λ ws. IsOn scan.old.lo scan.old.hi B ws scan.new.place) (exec B (spec.item_lines (left_of B store.old scan.old))) (exec B (spec.item_lines (left_of B store.new scan.new))) seen (O.text out.old) (O.text out.new) text.old text.new result) }
+        → Turns (unread_by store.old.layout (R.seen rack.old) (R.seen rack.new))
+        (λ ws. IsOn scan.old.lo scan.old.hi B ws scan.new.place)
+        (exec B (spec.item_lines (left_of B store.old scan.old))) (exec B (spec.item_lines (left_of B store.new scan.new)))
+        seen (O.text out.old) (O.text out.new) text.old text.new result) }
 {
     match next(store, scan, rack) {
         Err(fault) => Err(Stop::Tree(fault)),
@@ -108,7 +111,9 @@ fn show_items<R: Rack, O: Out>(
     ensures grows { Grows (O.text out.old) (O.text out.new) }
     ensures content { Tells store.old.layout (R.seen rack.old) (R.seen rack.new)
         (λ B. (seen : List Want) → IsOn scan.old.lo scan.old.hi B seen scan.old.place
-        → Writes (unread_by store.old.layout (R.seen rack.old) (R.seen rack.new)) seen (exec B (spec.item_lines (left_of B store.old scan.old))) (O.text out.old) (O.text out.new) text.old text.new result) }
+        → Writes (unread_by store.old.layout (R.seen rack.old) (R.seen rack.new)) seen
+        (exec B (spec.item_lines (left_of B store.old scan.old)))
+        (O.text out.old) (O.text out.new) text.old text.new result) }
 {
     loop {
         match show_next(scan, rack, store, text, out) {

@@ -56,7 +56,10 @@ fn show_next<R: Rack, O: Out>(
     ensures grows { Grows (O.text out.old) (O.text out.new) }
     ensures content { Tells store.old.layout (R.seen rack.old) (R.seen rack.new)
         (λ B. (seen : List Want) → IsAmong B seen scan.old.place
-        → Turns (unread_by store.old.layout (R.seen rack.old) (R.seen rack.new)) (λ ws. IsAmong B ws scan.new.place) (exec B (blocks_shown kind (blocks_left B scan.old))) (exec B (blocks_shown kind (blocks_left B scan.new))) seen (O.text out.old) (O.text out.new) text.old text.new result) }
+        → Turns (unread_by store.old.layout (R.seen rack.old) (R.seen rack.new))
+        (λ ws. IsAmong B ws scan.new.place)
+        (exec B (blocks_shown kind (blocks_left B scan.old))) (exec B (blocks_shown kind (blocks_left B scan.new)))
+        seen (O.text out.old) (O.text out.new) text.old text.new result) }
 {
     match next_block(store, scan, rack) {
         Err(fault) => Err(Stop::Tree(fault)),
@@ -87,7 +90,9 @@ fn show_blocks<R: Rack, O: Out>(
     ensures grows { Grows (O.text out.old) (O.text out.new) }
     ensures content { Tells store.old.layout (R.seen rack.old) (R.seen rack.new)
         (λ B. (seen : List Want) → IsAmong B seen scan.old.place
-        → Writes (unread_by store.old.layout (R.seen rack.old) (R.seen rack.new)) seen (exec B (blocks_shown kind (blocks_left B scan.old))) (O.text out.old) (O.text out.new) text.old text.new result) }
+        → Writes (unread_by store.old.layout (R.seen rack.old) (R.seen rack.new)) seen
+        (exec B (blocks_shown kind (blocks_left B scan.old)))
+        (O.text out.old) (O.text out.new) text.old text.new result) }
 {
     loop {
         match show_next(kind, scan, rack, store, text, out) {

@@ -70,7 +70,8 @@ fn next_item<R: Rack>(
     ensures cause { HasCause store.old.layout (R.seen rack.old) (R.seen rack.new) result }
     ensures content { Tells store.old.layout (R.seen rack.old) (R.seen rack.new)
         (λ B. (seen : List Want) → IsOn scan.old.lo scan.old.hi B seen scan.old.place
-        → NextItemBy (unread_by store.old.layout (R.seen rack.old) (R.seen rack.new)) B seen store.old store.new scan.old scan.new result) }
+        → NextItemBy (unread_by store.old.layout (R.seen rack.old) (R.seen rack.new))
+        B seen store.old store.new scan.old scan.new result) }
 {
     match next(store, scan, rack) {
         Err(fault) => Err(fault),
@@ -104,7 +105,10 @@ fn show_next<R: Rack, O: Out>(
     ensures grows { Grows (O.text out.old) (O.text out.new) }
     ensures content { Tells store.old.layout (R.seen rack.old) (R.seen rack.new)
         (λ B. (seen : List Want) → IsOn scan.old.lo scan.old.hi B seen scan.old.place
-        → Turns (unread_by store.old.layout (R.seen rack.old) (R.seen rack.new)) (λ ws. IsOn scan.old.lo scan.old.hi B ws scan.new.place) (exec B (item_trees kind (left_of B store.old scan.old))) (exec B (item_trees kind (left_of B store.new scan.new))) seen (O.text out.old) (O.text out.new) text.old text.new result) }
+        → Turns (unread_by store.old.layout (R.seen rack.old) (R.seen rack.new))
+        (λ ws. IsOn scan.old.lo scan.old.hi B ws scan.new.place)
+        (exec B (item_trees kind (left_of B store.old scan.old))) (exec B (item_trees kind (left_of B store.new scan.new)))
+        seen (O.text out.old) (O.text out.new) text.old text.new result) }
 {
     match next_item(scan, rack, store) {
         Err(fault) => Err(Stop::Tree(fault)),
@@ -136,7 +140,9 @@ fn show_items<R: Rack, O: Out>(
     ensures grows { Grows (O.text out.old) (O.text out.new) }
     ensures content { Tells store.old.layout (R.seen rack.old) (R.seen rack.new)
         (λ B. (seen : List Want) → IsOn scan.old.lo scan.old.hi B seen scan.old.place
-        → Writes (unread_by store.old.layout (R.seen rack.old) (R.seen rack.new)) seen (exec B (item_trees kind (left_of B store.old scan.old))) (O.text out.old) (O.text out.new) text.old text.new result) }
+        → Writes (unread_by store.old.layout (R.seen rack.old) (R.seen rack.new)) seen
+        (exec B (item_trees kind (left_of B store.old scan.old)))
+        (O.text out.old) (O.text out.new) text.old text.new result) }
 {
     loop {
         match show_next(kind, scan, rack, store, text, out) {

@@ -16,7 +16,7 @@ use Rattle.btr_prog.proofs.Runs.{exec-bind}
 use Rattle.btr_rack.specs.Rack.{Seen, OnlyReads}
 use Rattle.btr_read.specs.Candidates.{Target}
 use Rattle.btr_read.specs.Fate as fate
-use Rattle.btr_read.specs.Fate.{fate, fate_of, sought, passing, passing_for, Agree, or_lost, chosen, choice_of, choices}
+use Rattle.btr_read.specs.Fate.{fate, fate_of, sought, passing, passing_for, Agree, or_lost, choice_of, choices}
 use Rattle.btr_read.specs.Fetch.{IsFetched, FitsFetch}
 use Rattle.btr_read.specs.Layout.{Layout}
 use Rattle.btr_read.specs.Reading.{AgreedOn, shown}

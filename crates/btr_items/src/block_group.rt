@@ -16,7 +16,7 @@ impl BlockGroup {
     ghost use Rattle.std.specs.Prelude.{◌≡◌};
     ghost use Rattle.btr_items.specs.BlockGroup.{block_group_of};
 
-    /// The body of a BLOCK_GROUP_ITEM.
+    /// Reads the body of a BLOCK_GROUP_ITEM; `ItemFault` exactly where it hasn't 24 bytes.
     pub fn read(body: &[u8]) -> Result<BlockGroup, ItemFault>
         ensures { result ≡ block_group_of body.now }
     {

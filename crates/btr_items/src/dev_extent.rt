@@ -15,7 +15,7 @@ impl DevExtent {
     ghost use Rattle.std.specs.Prelude.{◌≡◌};
     ghost use Rattle.btr_items.specs.DevExtent.{dev_extent_of};
 
-    /// The body of a DEV_EXTENT.
+    /// Reads the body of a DEV_EXTENT; `ItemFault` exactly where it hasn't 48 bytes.
     pub fn read(body: &[u8]) -> Result<DevExtent, ItemFault>
         ensures { result ≡ dev_extent_of body.now }
     {

@@ -18,7 +18,7 @@ impl DevItem {
     ghost use Rattle.std.specs.Prelude.{◌≡◌};
     ghost use Rattle.btr_items.specs.DevItem.{dev_item_of};
 
-    /// The body of a DEV_ITEM.
+    /// Reads the body of a DEV_ITEM; `ItemFault` exactly where it hasn't 98 bytes.
     pub fn read(body: &[u8]) -> Result<DevItem, ItemFault>
         ensures { result ≡ dev_item_of body.now }
     {

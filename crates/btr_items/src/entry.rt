@@ -34,7 +34,8 @@ impl Entry {
     ghost use Rattle.btr_items.specs.Entry.{entry_at, index_entry_of};
     ghost use Rattle.btr_items.specs.Form.{HasName};
 
-    /// The entry that begins at `at`.
+    /// Reads the entry that begins at `at`; `ItemFault` exactly where its 30 bytes, a name of 1 to 255 bytes and its data don't
+    /// all stand in the body.
     pub fn read(body: &[u8], at: usize) -> Result<Entry, ItemFault>
         requires { at ≤ length body.now }
         ensures form { result ≡ entry_at at body.now }
@@ -60,8 +61,8 @@ impl Entry {
         })
     }
 
-    /// The one entry of a DIR_INDEX: it isn't an extended attribute, has no data, and leads to an inode or, as
-    /// a directory, to a subvolume.
+    /// Reads the body of a DIR_INDEX: one entry, which isn't an extended attribute, has no data, and leads to an inode or, as
+    /// a directory, to a subvolume. `ItemFault` exactly where it hasn't that form.
     pub fn index(body: &[u8]) -> Result<Entry, ItemFault>
         ensures form { result ≡ index_entry_of body.now }
         ensures name { IfOk result (λ entry. HasName body.now entry.name_at entry.name_len) }

@@ -28,7 +28,8 @@ impl ExtRef {
     ghost use Rattle.btr_items.specs.ExtRef.{ext_ref_at};
     ghost use Rattle.btr_items.specs.Form.{HasName};
 
-    /// The reference that begins at `at`.
+    /// Reads the reference that begins at `at`; `ItemFault` exactly where its 18 bytes and a name of 1 to 255 bytes don't all
+    /// stand in the body.
     pub fn read(body: &[u8], at: usize) -> Result<ExtRef, ItemFault>
         requires { at ≤ length body.now }
         ensures form { result ≡ ext_ref_at at body.now }

@@ -32,8 +32,8 @@ impl ExtentItem {
     /// The flag of a tree block whose pointers refer by its address, and not by its owner.
     pub const FULL_BACKREF: u64 = 0x100;
 
-    /// The front of the body of an item of this type, up to the place `first` in the body. Another type than the
-    /// two is a fault.
+    /// Reads the front of the body of an EXTENT_ITEM or a METADATA_ITEM, up to the place `first` in the body. `ItemFault`
+    /// exactly where the type is another, the flags don't fit it, or the front doesn't all stand in the body.
     pub fn read(kind: u8, body: &[u8]) -> Result<ExtentItem, ItemFault>
         ensures form { result ≡ extent_item_of kind body.now }
         ensures first { IfOk result (λ extent. extent.first ≤ length body.now) }

@@ -23,7 +23,8 @@ impl FileExtent {
     ghost use Rattle.std.specs.Prelude.{◌≡◌, ◌≤◌, length, OnOk};
     ghost use Rattle.btr_items.specs.FileExtent.{file_extent_of, file_len, end_of, inline_data};
 
-    /// The body of an EXTENT_DATA whose key has this offset.
+    /// Reads the body of an EXTENT_DATA whose key has this offset, in bytes; `ItemFault` exactly where it hasn't that form, or
+    /// the offset is no multiple of 4096.
     pub fn read(offset: u64, body: &[u8]) -> Result<FileExtent, ItemFault>
         ensures form { result ≡ file_extent_of offset body.now }
         ensures front { OnOk result (21 ≤ length body.now) }

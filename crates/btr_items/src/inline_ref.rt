@@ -21,7 +21,8 @@ impl InlineRef {
     ghost use Rattle.std.specs.Prelude.{◌≡◌, ◌≤◌, length};
     ghost use Rattle.btr_items.specs.InlineRef.{inline_ref_at};
 
-    /// The reference that begins at `at`.
+    /// Reads the reference that begins at `at`; `ItemFault` exactly where the byte there is no type of a reference, or the
+    /// offset and the data of that type don't all stand in the body.
     pub fn read(body: &[u8], at: usize) -> Result<InlineRef, ItemFault>
         requires { at ≤ length body.now }
         ensures { result ≡ inline_ref_at at body.now }

@@ -18,7 +18,7 @@ impl Inode {
     ghost use Rattle.std.specs.Prelude.{◌≡◌};
     ghost use Rattle.btr_items.specs.Inode.{inode_of};
 
-    /// The body of an INODE_ITEM.
+    /// Reads the body of an INODE_ITEM; `ItemFault` exactly where it hasn't 160 bytes.
     pub fn read(body: &[u8]) -> Result<Inode, ItemFault>
         ensures { result ≡ inode_of body.now }
     {

@@ -26,7 +26,8 @@ impl InodeRef {
     ghost use Rattle.btr_items.specs.InodeRef.{inode_ref_at};
     ghost use Rattle.btr_items.specs.Form.{HasName};
 
-    /// The reference that begins at `at`.
+    /// Reads the reference that begins at `at`; `ItemFault` exactly where its 10 bytes and a name of 1 to 255 bytes don't all
+    /// stand in the body.
     pub fn read(body: &[u8], at: usize) -> Result<InodeRef, ItemFault>
         requires { at ≤ length body.now }
         ensures form { result ≡ inode_ref_at at body.now }

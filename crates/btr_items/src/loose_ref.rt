@@ -16,7 +16,8 @@ impl LooseRef {
     ghost use Rattle.std.specs.Prelude.{◌≡◌};
     ghost use Rattle.btr_items.specs.LooseRef.{loose_ref_of};
 
-    /// An item with this key. A key of another type is a fault.
+    /// Reads a reference in an item of its own, with this key; `ItemFault` exactly where the key is of another type or breaks
+    /// its rules, or the body hasn't just the bytes of that type.
     pub fn read(key: Key, body: &[u8]) -> Result<LooseRef, ItemFault>
         ensures { result ≡ loose_ref_of key body.now }
     {

@@ -25,7 +25,7 @@ impl RootItem {
     ghost use Rattle.std.specs.Prelude.{◌≡◌};
     ghost use Rattle.btr_items.specs.RootItem.{root_item_of};
 
-    /// The body of a ROOT_ITEM, in its present form or the old one.
+    /// Reads the body of a ROOT_ITEM, in its present form or the old one; `ItemFault` exactly where it has neither 439 bytes nor 239.
     pub fn read(body: &[u8]) -> Result<RootItem, ItemFault>
         ensures { result ≡ root_item_of body.now }
     {

@@ -21,7 +21,8 @@ impl RootRef {
     ghost use Rattle.btr_items.specs.Form.{HasName};
     ghost use Rattle.btr_items.specs.RootRef.{root_ref_of};
 
-    /// The body of a ROOT_REF or a ROOT_BACKREF.
+    /// Reads the body of a ROOT_REF or a ROOT_BACKREF; `ItemFault` exactly where it isn't 18 bytes and then, to its end, a
+    /// name as long as they say.
     pub fn read(body: &[u8]) -> Result<RootRef, ItemFault>
         ensures form { result ≡ root_ref_of body.now }
         ensures name { IfOk result (λ found. HasName body.now found.name_at found.name_len) }

@@ -15,8 +15,9 @@ impl SumRun {
     ghost use Rattle.btr_base.specs.Sum.{sum_size, stored_sum};
     ghost use Rattle.btr_items.specs.SumRun.{sum_run_of};
 
-    /// An item with this key, where checksums are of this kind: its body is `count` whole checksums. A key of
-    /// another type is a fault.
+    /// Reads an EXTENT_CSUM with this key, where checksums are of this kind: its body is `count` whole checksums, one or more.
+    /// `ItemFault` exactly where the key is of another type or breaks its rules, the body isn't that, or the sectors end
+    /// at 2^64 or behind.
     pub fn read(kind: SumKind, key: Key, body: &[u8]) -> Result<SumRun, ItemFault>
         ensures form { result ≡ sum_run_of kind key body.now }
         ensures size { IfOk result (λ run. run.count * sum_size kind ≡ length body.now) }

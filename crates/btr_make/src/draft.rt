@@ -5,13 +5,13 @@ use crate::disks::write;
 use crate::fault::MakeFault;
 use crate::files::{Files, TOP};
 use crate::plan::{CHUNK_TREE_UUID, FSID, GENERATION, NODE, Plan};
-use btr_base::{Sum, SumKind, sum};
+use btr_base::{Sum, sum};
 use btr_blocks::{Body, Form, Items, Tree, bodies};
 use btr_chunk::ChunkTable;
 use btr_items::item::ROOT_ITEM;
 use btr_items::{FileExtent, Link, RootItem, Shape};
 use btr_rack::MemRack;
-use std::alloc::{AllocError, Global};
+use std::alloc::Global;
 use std::collections::BTreeMap;
 
 pub(crate) const SECTOR: usize = 4096;

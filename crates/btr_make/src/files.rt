@@ -1,6 +1,6 @@
 use crate::plan::GENERATION;
 use btr_base::{Key, name_hash};
-use btr_blocks::{Body, Items, bodies};
+use btr_blocks::{Items, bodies};
 use btr_items::item::{DIR_INDEX, DIR_ITEM, EXTENT_DATA, INODE_ITEM, INODE_REF, ROOT_ITEM};
 use btr_items::{FileExtent, Inode, Shape};
 use std::alloc::{AllocError, Global};

@@ -5,7 +5,6 @@ mod plans;
 use crate::disks::add_images;
 use crate::draft::Draft;
 use crate::fault::MakeFault;
-use crate::plan::Plan;
 use btr_base::Memory;
 use btr_rack::MemRack;
 use std::alloc::Global;

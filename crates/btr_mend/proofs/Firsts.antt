@@ -14,7 +14,7 @@ use Rattle.btr_read.specs.Candidates.{Target, candidates, copies, element, range
 use Rattle.btr_read.specs.Fate.{passing}
 use Rattle.btr_read.specs.Mirror.{HasMirror, mirror_candidate}
 use Rattle.btr_read.specs.Want.{passes}
-use Rattle.btr_read.specs.declared.candidate.Candidate.TheVariants.{Stands}
+use Rattle.btr_read.specs.declared.candidate.Candidate.TheVariants.{Read}
 use Rattle.btr_mend.specs.Blocks.{accepted, bad_parts, block_writes, copy_writes, is_good, own_parts}
 use Rattle.btr_mend.specs.Mending.{AreBad, IsFirst, flagged, mended_of}
 use Rattle.btr_mend.specs.Writes.{Images, writes_if}
@@ -72,7 +72,7 @@ module _ (images : Images) (t : Target) where
     candidates_are : candidates t ≡ copies n
     candidates_are = ap (λ o. option_map_or copies o (rebuilt t.chunk.profile (slice_count t) t.at.index)) has
 
-    copies_are : (xs : List ℕ) → map (λ copy. Stands (Mirror copy)) xs ≡ map mirror_candidate xs
+    copies_are : (xs : List ℕ) → map (λ copy. Read (Mirror copy)) xs ≡ map mirror_candidate xs
     copies_are xs = refl
 
     passing_is : passing images t ≡ passing_from 0 n

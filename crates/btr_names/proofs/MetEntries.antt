@@ -1,5 +1,5 @@
 -- Entries and references that meet, one item after another.
-use Rattle.std.proofs.Common.{◌≡◌, ℕ, Bool, true, false, not, ◌==◌, ◌&&◌, ◌||◌, ◌⊎◌, List, [], ◌∷◌, ◌++◌, map, filter, All, inl, inr, refl, sym, ap, ◌∙◌, subst, true≢false, eq-eqb}
+use Rattle.std.proofs.Common.{◌≡◌, ℕ, Bool, true, false, ◌==◌, ◌&&◌, ◌||◌, ◌⊎◌, List, [], ◌∷◌, ◌++◌, map, filter, All, inl, inr, refl, sym, ap, ◌∙◌, true≢false, eq-eqb}
 use Rattle.std.proofs.lemmas.List.{map-append}
 use Rattle.std.proofs.lemmas.List.Elements.{All-nil, All-push, All-weaker, filter-append}
 use Rattle.std.proofs.lemmas.List.Folds.{list_any-append}
@@ -12,7 +12,7 @@ use Rattle.btr_names.specs.Names.{is_entry, under_hash, leads_to_inode, ref_to, 
 use Rattle.btr_names.specs.Pairs.{Pairs, met, met_fits, waiting_at, no_pairs, entry_claim, link_claim, ref_claim}
 use Rattle.btr_names.proofs.Claims.{name_itself}
 use Rattle.btr_names.proofs.Looking.{asked-first}
-use Rattle.btr_names.proofs.Pairing.{Item, Came, Paired, no_pairs_paired, one_more, other_came}
+use Rattle.btr_names.proofs.Pairing.{Item, Came, Paired, no_pairs_paired, one_more}
 
 abbrev item : Bool → Claim → List ℕ → Item
 item s k n = record { is_first = s; claim = k; name = n }

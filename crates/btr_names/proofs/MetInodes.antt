@@ -1,5 +1,5 @@
 -- Inodes, one after another, and what is counted of each one's items.
-use Rattle.std.proofs.Common.{◌≡◌, ℕ, ◌+◌, ◌*◌, ◌<◌, ◌≤◌, Bool, true, false, not, cond, if◌then◌else◌, ◌==◌, ◌&&◌, ◌||◌, ◌⊎◌, nat_le, List, [], ◌∷◌, ◌++◌, length, All, Option, Some, None, inl, inr, refl, sym, ap, ◌∙◌, subst, true≢false, eqb-true, eq-eqb, ne_eqb, leb-false, lt_trans, add-zero, arith}
+use Rattle.std.proofs.Common.{◌≡◌, ℕ, ◌+◌, ◌*◌, ◌<◌, Bool, true, false, not, cond, if◌then◌else◌, ◌==◌, ◌&&◌, ◌⊎◌, nat_le, List, [], ◌∷◌, ◌++◌, length, All, Option, Some, None, inl, inr, refl, sym, ap, ◌∙◌, subst, true≢false, eqb-true, eq-eqb, ne_eqb, leb-false, lt_trans, add-zero, arith}
 use Rattle.std.proofs.lemmas.List.Elements.{All-nil, All-push, All-weaker}
 use Rattle.std.proofs.lemmas.List.Sums.{sum_by_push}
 use Rattle.std.specs.List.{list_any}
@@ -12,11 +12,11 @@ use Rattle.std.specs.declared.cmp.Ordering.TheVariants.{Less, Equal, Greater}
 use Rattle.btr_names.specs.declared.current.Current.{Current}
 use Rattle.btr_names.specs.declared.inode_at.InodeAt.{InodeAt}
 use Rattle.btr_names.specs.Entry.{Entry, NameRef}
-use Rattle.btr_names.specs.Inodes.{Inodes, no_inodes, begun_with, is_counted, last_counted, last_format, may_follow, is_last, one_link, one_name, last_linked, last_named, with_unlinked, begun, linked, named, released, are_settled}
+use Rattle.btr_names.specs.Inodes.{Inodes, begun_with, is_counted, last_counted, last_format, may_follow, is_last, last_linked, last_named, with_unlinked, linked, named, are_settled}
 use Rattle.btr_names.specs.Names.{fits_mode, format_of, links_of, mode_of_kind, names_size}
 use Rattle.btr_names.proofs.Claims.{number_is}
 use Rattle.btr_names.proofs.MetEntries.{any_left, any_right, any_head}
-use Rattle.btr_names.proofs.Pairing.{both, holds_not, is_not}
+use Rattle.btr_names.proofs.Pairing.{both, is_not}
 
 -- an inode states what its references and the names in it are
 abbrev counted_of : List Entry → List NameRef → InodeAt → Current

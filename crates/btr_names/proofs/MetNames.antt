@@ -1,5 +1,5 @@
 -- Where all names of a tree have met their counterparts, nothing is wrong with them.
-use Rattle.std.proofs.Common.{◌≡◌, ℕ, Bool, true, false, not, cond, if◌then◌else◌, ◌==◌, ◌&&◌, ◌||◌, ◌⊎◌, List, [], ◌∷◌, ◌++◌, map, filter, filter_map, flat_map, fold, All, Option, Some, None, inl, inr, refl, sym, ap, ◌∙◌, subst, true≢false, append_assoc, append-nil}
+use Rattle.std.proofs.Common.{◌≡◌, ℕ, Bool, true, false, not, if◌then◌else◌, ◌==◌, ◌&&◌, ◌||◌, List, [], ◌∷◌, ◌++◌, map, filter, filter_map, fold, All, Option, None, inl, inr, refl, sym, ap, ◌∙◌, subst, append_assoc, append-nil}
 use Rattle.std.proofs.lemmas.List.Elements.{All-nil, All-weaker, recursion_from_All, filter-append}
 use Rattle.std.specs.List.{AllByRecursion, cons_option, list_any}
 use Rattle.btr_base.specs.declared.key.Key.{Key}
@@ -12,10 +12,10 @@ use Rattle.btr_names.specs.declared.unpaired.Unpaired.{Unpaired}
 use Rattle.btr_names.specs.Entry.{Entry, NameRef}
 use Rattle.btr_names.specs.Inodes.{last_format, may_follow, is_last, are_settled}
 use Rattle.btr_names.specs.Items.{inodes_in, indexed_in, hashed_in, refs_in, orphans_in}
-use Rattle.btr_names.specs.Names.{Names, NamesLaw, no_names, names_in, names_with, names_step, names_findings, entry_item, entry_index, entry_ref, ref_entry, entry_mode, link_count, dir_size, orphan, is_entry, is_free, leads_to_inode, ref_to, same_ref, asked, fits_mode, format_of, links_of, names_size, under_hash}
+use Rattle.btr_names.specs.Names.{Names, no_names, names_in, names_with, names_step, names_findings, entry_item, entry_index, entry_ref, ref_entry, entry_mode, link_count, dir_size, orphan, is_entry, is_free, leads_to_inode, ref_to, same_ref, asked, fits_mode, format_of, links_of, names_size, under_hash}
 use Rattle.btr_names.specs.Pairs.{Pairs, met, met_fits, waiting_at, entry_claim, link_claim, ref_claim, are_met}
 use Rattle.btr_names.specs.Subvolumes.{leads_to_root}
-use Rattle.btr_names.specs.Unpaired.{nothing_unpaired, link_asked, link_met, with_inode, with_indexed, with_hashed, with_ref, with_orphan, unpaired_with, unpaired_step, are_paired, Tells, UnpairedLaw}
+use Rattle.btr_names.specs.Unpaired.{nothing_unpaired, link_met, with_inode, with_indexed, with_hashed, with_ref, with_orphan, unpaired_with, unpaired_step, are_paired, UnpairedLaw}
 use Rattle.btr_names.proofs.Meeting as meeting
 use Rattle.btr_names.proofs.MetEntries.{EntriesMet, LinksMet, IsAsked, IsMet, no_entries, no_links, indexed_more, hashed_more, inode_more, entry_aside, entry_more, ref_free, ref_more}
 use Rattle.btr_names.proofs.MetInodes.{IsCounted, IsKept, LastMet, no_last, inode_comes, ref_comes, name_comes, all_counted, last_fits, kept_more, orphan_comes, AreSettled, all_settled}

@@ -7,7 +7,7 @@ use Rattle.btr_names.specs.declared.unpaired.Unpaired.{Unpaired}
 use Rattle.btr_names.specs.Entry.{Entry, NameRef}
 use Rattle.btr_names.specs.Inodes.{no_inodes, begun, linked, named, released, last_format, are_settled}
 use Rattle.btr_names.specs.Items.{inodes_in, indexed_in, hashed_in, refs_in, orphans_in}
-use Rattle.btr_names.specs.Names.{Names, names_in, names_findings, leads_to_inode, is_free, under_hash}
+use Rattle.btr_names.specs.Names.{names_in, names_findings, leads_to_inode, is_free, under_hash}
 use Rattle.btr_names.specs.Pairs.{Pairs, no_pairs, met, entry_claim, link_claim, ref_claim, are_met}
 use Rattle.btr_names.specs.Subvolumes.{leads_to_root}
 

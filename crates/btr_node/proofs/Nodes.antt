@@ -1,5 +1,5 @@
 -- What a block holds that is known to be a good one, by its level.
-use Rattle.std.proofs.Common.{◌≡◌, ℕ, Bool, true, false, cond, List, Option, Some, None, IsSome, refl, sym, ap, ◌∙◌, subst}
+use Rattle.std.proofs.Common.{◌≡◌, ℕ, Bool, true, false, cond, List, Some, None, IsSome, refl, ap, ◌∙◌}
 use Rattle.std.proofs.lemmas.Bool.{false≢true}
 use Rattle.btr_node.specs.Block.{level_of, items, pointers, is_leaf, is_inner}
 use Rattle.btr_node.specs.Node.{node_of}

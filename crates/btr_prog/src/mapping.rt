@@ -11,12 +11,12 @@ pub fn cut_law<W, F, S, A>()
     ensures { CutLaw W F S A }
 {}
 
-/// .. and is the whole of it where it has them all.
+/// Where one map has all wants of the other's run, its run is the whole of it.
 pub fn whole_law<W, F, S, A>()
     ensures { WholeLaw W F S A }
 {}
 
-/// .. and else stops at the first want that it lacks, with exactly the marks before.
+/// Else its run stops at the first want that it lacks, with exactly the marks before.
 pub fn lost_law<W, F, S, A>()
     ensures { LostLaw W F S A }
 {}

@@ -22,7 +22,7 @@ pub fn staged_cut<T, X, W, F, S, A>()
     ensures { StagedCut T X W F S A }
 {}
 
-/// .. or is whole where none is.
+/// Where no block that it needs is lacked, the run of both parts is whole.
 pub fn staged_lost<T, X, W, F, S, A>()
     ensures { StagedLost T X W F S A }
 {}

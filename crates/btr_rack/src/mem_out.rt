@@ -37,7 +37,7 @@ impl MemOut {
         }
     }
 
-    /// Makes the nth call of `put` fail, counted from 1.
+    /// Makes the nth call of `put` fail, counted from 1. `Memory`: want of memory, and nothing is changed.
     pub fn fail_call(&mut self, n: u64) -> Result<(), Memory>
         ensures ok { OnOk result (self.new ≡ record self.old { calls = failing_call n self.old.calls }) }
         ensures refused { OnErr result (self.new ≡ self.old) }

@@ -57,7 +57,8 @@ impl MemRack {
         }
     }
 
-    /// Puts an image of `len` zeros on the shelf.
+    /// Puts an image of `len` bytes, all zeros, on the shelf. `Name`: an image has that name; `Memory`: want of memory. Then
+    /// nothing is changed.
     pub fn add(&mut self, name: &str, len: u64) -> Result<(), AddError>
         requires { len < 2 ^ 63 }
         ensures name { (result ≡ Err AddError.Name) ↔ IsSome (named self.old name.now) }
@@ -76,7 +77,8 @@ impl MemRack {
         Ok(())
     }
 
-    /// Writes over the bytes of an image from `off` on, open or not.
+    /// Writes over the bytes of an image from `off` on, open or not. `NoImage`: no image has that name; `Range`: the bytes pass
+    /// the end of the image; then nothing is changed. `Memory`: want of memory; then any bytes stand in that range.
     pub fn poke(&mut self, name: &str, off: u64, bytes: &[u8]) -> Result<(), PokeError>
         ensures { Pokes name.now off bytes.now self.old self.new result }
     {
@@ -134,7 +136,8 @@ impl MemRack {
         self.failing.clear();
     }
 
-    /// Makes the nth call of `open`, `read_at`, `write_at` and `sync` fail, counted from 1.
+    /// Makes the nth call of `open`, `read_at`, `write_at` and `sync` fail, counted from 1. `Memory`: want of memory, and nothing
+    /// is changed.
     pub fn fail_call(&mut self, n: u64) -> Result<(), Memory>
         ensures ok { OnOk result (self.new ≡ with_failing (failing_call n self.old.failing) self.old) }
         ensures refused { OnErr result (self.new ≡ self.old) }
@@ -142,7 +145,8 @@ impl MemRack {
         self.failing.fail_call(n)
     }
 
-    /// Makes each read or write fail that touches a byte of this range of an image.
+    /// Makes each read or write fail that touches a byte of this range of an image, of `len` bytes from `off` on. `Memory`: want
+    /// of memory, and nothing is changed.
     pub fn fail_range(&mut self, name: &str, off: u64, len: u64) -> Result<(), Memory>
         ensures ok { OnOk result (self.new ≡ with_failing (failing_range name.now off len self.old.failing) self.old) }
         ensures refused { OnErr result (self.new ≡ self.old) }
@@ -150,7 +154,7 @@ impl MemRack {
         self.failing.fail_range(name, off, len)
     }
 
-    /// Makes the nth call of `write_at` fail, counted from 1.
+    /// Makes the nth call of `write_at` fail, counted from 1. `Memory`: want of memory, and nothing is changed.
     pub fn fail_write(&mut self, n: u64) -> Result<(), Memory>
         ensures ok { OnOk result (self.new ≡ with_failing (failing_write n self.old.failing) self.old) }
         ensures refused { OnErr result (self.new ≡ self.old) }

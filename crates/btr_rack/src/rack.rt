@@ -2,7 +2,7 @@
 ghost use Rattle.std.specs.Prelude.{◌≡◌, ◌+◌, ◌<◌, ◌≤◌, ◌^◌, length, IsTrue, OnOk, IsErrOf};
 ghost use Rattle.btr_rack.specs.Rack.{Seen, IsRack, OnlyCounts, Unsyncs, Syncs, OpensSurely, FailsUnsure, len_of, opened_to_write, range_in, forgotten, Opens, Writes, AreBytesOf, TakesFromShelf, AccountsCall, AccountsNextOpening};
 
-use crate::{Place, RackError};
+use crate::RackError;
 
 /// A rack of images, which are opened by name into slots. Each call that answers `Failed` is in the account, and no
 /// other. A rack in which nothing is to fail is sure.

@@ -7,7 +7,7 @@ use Rattle.std.specs.List.{range_with_len}
 use Rattle.btr_chunk.specs.declared.place.Part.TheVariants.{Slice}
 use Rattle.btr_chunk.specs.declared.profile.Profile.TheVariants.{Raid5, Raid6}
 use Rattle.btr_read.specs.declared.candidate.Candidate.{Candidate}
-use Rattle.btr_read.specs.declared.candidate.Candidate.TheVariants.{Stands, ByP, ByQ, ByBoth}
+use Rattle.btr_read.specs.declared.candidate.Candidate.TheVariants.{Read, ByP, ByQ, ByBoth}
 use Rattle.btr_chunk.specs.declared.profile.Profile.{Profile}
 use Rattle.btr_chunk.specs.declared.place.Part.{Part}
 use Rattle.btr_chunk.specs.Chunk.{data_count, mirror_count}
@@ -45,7 +45,7 @@ pub pair_at : (k i n j other : ℕ) → i < k → n ≡ j + 3 → j + 1 < k → 
 pair_at k i n j other lt is below e =
     let long : j < length (map ByBoth (others k i)) = omega (arith, length-map (others k i) ByBoth, length-others k i lt, below) in
     let at : get_or (map ByBoth (others k i)) j (ByBoth 0) ≡ ByBoth other = get_or-map ByBoth (others k i) j 0 (ByBoth 0) (omega (arith, length-others k i lt, below)) ∙ ap ByBoth e in
-    past_three (Stands (Slice i)) ByP ByQ (map ByBoth (others k i)) n j (omega (arith, is))
+    past_three (Read (Slice i)) ByP ByQ (map ByBoth (others k i)) n j (omega (arith, is))
     ∙ (slice_get-get_or (map ByBoth (others k i)) j (ByBoth 0) long ∙ ap Some at)
 
 -- the candidates of a row with P, and with P and Q
@@ -63,13 +63,13 @@ slice_there : (p : Profile) (n i : ℕ) (part : Part) → HasPart p n (Slice i) 
 slice_there p n i part h e = subst (HasPart p n) (sym e) h
 
 pub can_try_one : (t : Target) (c : Candidate) → IsTarget t.setting t.chunk t.at → t.chunk.profile ≡ Raid5 → IsOneParity t.at.index c → CanTry t c
-can_try_one t (Stands part) h e is = slice_there t.chunk.profile (length t.chunk.stripes) t.at.index part (subst (λ p. HasPart p (length t.chunk.stripes) (Slice t.at.index)) (sym e) (refl, is_slice t Raid5 h e)) is
+can_try_one t (Read part) h e is = slice_there t.chunk.profile (length t.chunk.stripes) t.at.index part (subst (λ p. HasPart p (length t.chunk.stripes) (Slice t.at.index)) (sym e) (refl, is_slice t Raid5 h e)) is
 can_try_one t ByP h e is = subst (λ p. IsNone (mirror_count p (length t.chunk.stripes))) (sym e) refl
 can_try_one t ByQ h e is = absurd is
 can_try_one t (ByBoth j) h e is = absurd is
 
 pub can_try_two : (t : Target) (c : Candidate) → IsTarget t.setting t.chunk t.at → t.chunk.profile ≡ Raid6 → IsTwoParities (length t.chunk.stripes - 2) t.at.index c → CanTry t c
-can_try_two t (Stands part) h e is = slice_there t.chunk.profile (length t.chunk.stripes) t.at.index part (subst (λ p. HasPart p (length t.chunk.stripes) (Slice t.at.index)) (sym e) (refl, is_slice t Raid6 h e)) is
+can_try_two t (Read part) h e is = slice_there t.chunk.profile (length t.chunk.stripes) t.at.index part (subst (λ p. HasPart p (length t.chunk.stripes) (Slice t.at.index)) (sym e) (refl, is_slice t Raid6 h e)) is
 can_try_two t ByP h e is = subst (λ p. IsNone (mirror_count p (length t.chunk.stripes))) (sym e) refl
 can_try_two t ByQ h e is = e
 can_try_two t (ByBoth j) h e is = (e, subst (λ p. j < data_count p (length t.chunk.stripes)) (sym e) is.0, is.1)

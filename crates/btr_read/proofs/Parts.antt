@@ -6,7 +6,7 @@ use Rattle.btr_rack.specs.declared.place.Place.{Place as Range}
 use Rattle.btr_chunk.specs.declared.place.Part.{Part}
 use Rattle.btr_chunk.specs.declared.place.Part.TheVariants.{Mirror, Slice, P, Q}
 use Rattle.btr_read.specs.declared.candidate.Candidate.{Candidate}
-use Rattle.btr_read.specs.declared.candidate.Candidate.TheVariants.{Stands, ByP, ByQ, ByBoth}
+use Rattle.btr_read.specs.declared.candidate.Candidate.TheVariants.{Read, ByP, ByQ, ByBoth}
 use Rattle.btr_read.specs.declared.parity.Parity.{Parity}
 use Rattle.btr_read.specs.declared.parity.Parity.TheVariants as parity
 use Rattle.btr_read.specs.Candidates.{Target, slice_count, range_of, ranges_of, reads_slice, slices_read, parts_read, stands}
@@ -31,18 +31,18 @@ in_filter p x (y ∷ xs) i e = by (p y) refl i (λ j. in_filter p x xs j e)
 
 -- a slice that is read is among the parts
 pub slice_in : (k i : ℕ) (c : Candidate) (s : ℕ) → s < k → reads_slice i c s ≡ true → In (Slice s) (parts_read k i c)
-slice_in k i (Stands part) s lt e = absurd (false≢true e)
+slice_in k i (Read part) s lt e = absurd (false≢true e)
 slice_in k i ByP s lt e = inr (in_map Slice s (filter (reads_slice i ByP) (range_with_len 0 k)) (in_filter (reads_slice i ByP) s (range_with_len 0 k) (below_in k s lt) e))
 slice_in k i ByQ s lt e = inr (in_map Slice s (filter (reads_slice i ByQ) (range_with_len 0 k)) (in_filter (reads_slice i ByQ) s (range_with_len 0 k) (below_in k s lt) e))
 slice_in k i (ByBoth j) s lt e = inr (inr (in_map Slice s (filter (reads_slice i (ByBoth j)) (range_with_len 0 k)) (in_filter (reads_slice i (ByBoth j)) s (range_with_len 0 k) (below_in k s lt) e)))
 
 -- so is a parity
 pub parity_in : (k i : ℕ) (p : Parity) (c : Candidate) → Uses p c → In (part_of p) (parts_read k i c)
-parity_in k i parity.P (Stands part) u = absurd u
+parity_in k i parity.P (Read part) u = absurd u
 parity_in k i parity.P ByP u = inl refl
 parity_in k i parity.P ByQ u = absurd u
 parity_in k i parity.P (ByBoth j) u = inl refl
-parity_in k i parity.Q (Stands part) u = absurd u
+parity_in k i parity.Q (Read part) u = absurd u
 parity_in k i parity.Q ByP u = absurd u
 parity_in k i parity.Q ByQ u = inl refl
 parity_in k i parity.Q (ByBoth j) u = inr (inl refl)
@@ -71,7 +71,7 @@ row_stands t p q P h = part_stands t ByP P p (inl refl)
 row_stands t p q Q h = part_stands t ByQ Q q (inl refl)
 
 pub stands_in_row : (t : Target) (c : Candidate) → RowStands t ByP → IsByParities c → stands t c ≡ true
-stands_in_row t (Stands part) h by = absurd by
+stands_in_row t (Read part) h by = absurd by
 stands_in_row t ByP h by = both (is_some (range_of t P)) (list_all (λ part. is_some (range_of t part)) (slices_read (slice_count t) t.at.index ByP)) (h P tt) (all_read (λ part. is_some (range_of t part)) (reads_slice t.at.index ByP) (slice_count t) (λ s lt e. h (Slice s) (lt, e)))
 stands_in_row t ByQ h by = both (is_some (range_of t Q)) (list_all (λ part. is_some (range_of t part)) (slices_read (slice_count t) t.at.index ByQ)) (h Q tt) (all_read (λ part. is_some (range_of t part)) (reads_slice t.at.index ByQ) (slice_count t) (λ s lt e. h (Slice s) (lt, e)))
 stands_in_row t (ByBoth j) h by =

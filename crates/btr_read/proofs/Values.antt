@@ -16,7 +16,7 @@ use Rattle.btr_parity.specs.Solutions.{IsTheOne}
 use Rattle.btr_parity.proofs.Folding.{quotient_is_one, pair_is_one}
 use Rattle.btr_parity.proofs.Lost.{plus_slice, zeros_slice, parity_p_slice, weighted_slice}
 use Rattle.btr_read.specs.declared.candidate.Candidate.{Candidate}
-use Rattle.btr_read.specs.declared.candidate.Candidate.TheVariants.{Stands, ByP, ByQ, ByBoth}
+use Rattle.btr_read.specs.declared.candidate.Candidate.TheVariants.{Read, ByP, ByQ, ByBoth}
 use Rattle.btr_read.specs.declared.parity.Parity.{Parity}
 use Rattle.btr_read.specs.declared.parity.Parity.TheVariants as parity
 use Rattle.btr_read.specs.Candidates.{Target, size_of, slice_count, range_of, ranges_of, reads_slice, parts_read, element, slices}
@@ -67,7 +67,7 @@ below_62 t i is six lt =
     omega (arith, below, is.keeps_rule.few)
 
 pub value_is_the_one : ValueIsTheOne
-value_is_the_one images t (Stands part) is rebuilt whole = absurd rebuilt
+value_is_the_one images t (Read part) is rebuilt whole = absurd rebuilt
 value_is_the_one images t ByP is rebuilt whole =
     let X = left images t ByP whole parity.P in
     let h = gathered images t ByP whole parity.P tt in
@@ -149,7 +149,7 @@ module _ (images others : List (List ℕ)) (t : Target) (c : Candidate) (agree :
       ])
 
 pub value_by_ranges : ValueByRanges
-value_by_ranges images others t (Stands part) agree = same_part images others t (Stands part) agree part (inl refl)
+value_by_ranges images others t (Read part) agree = same_part images others t (Read part) agree part (inl refl)
 value_by_ranges images others t ByP agree =
     let n = size_of t in
     let i = t.at.index in

@@ -8,7 +8,7 @@ use Rattle.btr_read.specs.declared.attempt.Attempt.TheVariants.{Passed, Differs,
 use Rattle.btr_read.specs.declared.attempt.Outcome.{Outcome}
 use Rattle.btr_read.specs.declared.attempt.Outcome.TheVariants as outcome
 use Rattle.btr_read.specs.declared.candidate.Candidate.{Candidate}
-use Rattle.btr_read.specs.declared.candidate.Candidate.TheVariants.{Stands}
+use Rattle.btr_read.specs.declared.candidate.Candidate.TheVariants.{Read}
 use Rattle.btr_read.specs.Want.{passes}
 use Rattle.btr_read.specs.Candidates.{Target, size_of, candidates, stands, value_of}
 use Rattle.btr_read.specs.Fate.{passing}
@@ -25,7 +25,7 @@ FitsAttempt t c held slot (Failed s) = stands t c ≡ true
 
 -- a part
 abbrev pub FitsPart : Target → Part → Option (List (List ℕ)) → List ℕ → Attempt → Type 0
-FitsPart t part held slot attempt = FitsAttempt t (Stands part) held slot attempt
+FitsPart t part held slot attempt = FitsAttempt t (Read part) held slot attempt
 
 -- one candidate fails by one read, in a range that the candidate reads
 abbrev pub AccountsAttempt : Target → Candidate → Seen → Seen → Attempt → Type 0

@@ -15,7 +15,7 @@ use Rattle.btr_chunk.specs.Chunk.{data_count, mirror_count}
 use Rattle.btr_chunk.specs.Mapping.{place_at}
 use Rattle.btr_parity.specs.Slices.{parity_p, parity_q}
 use Rattle.btr_read.specs.declared.candidate.Candidate.{Candidate}
-use Rattle.btr_read.specs.declared.candidate.Candidate.TheVariants.{Stands, ByP, ByQ, ByBoth}
+use Rattle.btr_read.specs.declared.candidate.Candidate.TheVariants.{Read, ByP, ByQ, ByBoth}
 use Rattle.btr_read.specs.declared.device.Device.{Device}
 use Rattle.btr_read.specs.declared.device.Member.{Member}
 use Rattle.btr_read.specs.declared.setting.Setting.{Setting}
@@ -46,12 +46,12 @@ others k i = range_with_len 0 i ++ range_with_len (i + 1) (k - (i + 1))
 
 -- the candidates where there are copies: each of them
 abbrev pub copies : ℕ → List Candidate
-copies n = map (λ copy. Stands (Mirror copy)) (range_with_len 0 n)
+copies n = map (λ copy. Read (Mirror copy)) (range_with_len 0 n)
 
 -- the candidates for slice i of k where there is parity: P for RAID5, and P and Q for RAID6
 abbrev pub rebuilt : Profile → ℕ → ℕ → List Candidate
-rebuilt Raid5 k i = Stands (Slice i) ∷ ByP ∷ []
-rebuilt Raid6 k i = Stands (Slice i) ∷ ByP ∷ ByQ ∷ map ByBoth (others k i)
+rebuilt Raid5 k i = Read (Slice i) ∷ ByP ∷ []
+rebuilt Raid6 k i = Read (Slice i) ∷ ByP ∷ ByQ ∷ map ByBoth (others k i)
 rebuilt _ k i = []
 
 -- the candidates in their order
@@ -61,7 +61,7 @@ candidates t =
 
 -- whether a candidate by parities, for slice i, reads a slice
 abbrev pub reads_slice : ℕ → Candidate → ℕ → Bool
-reads_slice i (Stands part) slice = false
+reads_slice i (Read part) slice = false
 reads_slice i ByP slice = not (slice == i)
 reads_slice i ByQ slice = not (slice == i)
 reads_slice i (ByBoth j) slice = not (slice == i) && not (slice == j)
@@ -72,7 +72,7 @@ slices_read k i candidate = map Slice (filter (reads_slice i candidate) (range_w
 
 -- the parts that a candidate for slice i of k reads
 abbrev pub parts_read : ℕ → ℕ → Candidate → List Part
-parts_read k i (Stands part) = part ∷ []
+parts_read k i (Read part) = part ∷ []
 parts_read k i ByP = P ∷ slices_read k i ByP
 parts_read k i ByQ = Q ∷ slices_read k i ByQ
 parts_read k i (ByBoth j) = P ∷ Q ∷ slices_read k i (ByBoth j)
@@ -127,7 +127,7 @@ module _ (images : List (List ℕ)) (t : Target) where
 
   -- what a candidate gives: the bytes of a part, or the one X that solves the equations of the parities
   abbrev pub value_of : Candidate → List ℕ
-  value_of (Stands part) = element part
+  value_of (Read part) = element part
   value_of ByP = the_one (size_of t) fits_p
   value_of ByQ = the_one (size_of t) fits_q
   value_of (ByBoth j) = the_one (size_of t) (λ X. list_any (fits_both j X) (byte_lists (size_of t)))

@@ -4,7 +4,7 @@ use Rattle.btr_rack.specs.Rack.{Seen, NoneFailed}
 use Rattle.btr_chunk.specs.declared.place.Part.TheVariants.{Mirror}
 use Rattle.btr_chunk.specs.Mapping.{HasPart}
 use Rattle.btr_read.specs.declared.candidate.Candidate.{Candidate}
-use Rattle.btr_read.specs.declared.candidate.Candidate.TheVariants.{Stands}
+use Rattle.btr_read.specs.declared.candidate.Candidate.TheVariants.{Read}
 use Rattle.btr_read.specs.declared.mirror.Tried.{Tried}
 use Rattle.btr_read.specs.declared.mirror.Tried.TheVariants.{Passed, Differs, Absent}
 use Rattle.btr_read.specs.declared.mirror.TryFault.{TryFault}
@@ -23,7 +23,7 @@ HasMirror mirror t = HasPart t.chunk.profile (length t.chunk.stripes) (Mirror mi
 
 -- the candidate that a mirror is
 abbrev pub mirror_candidate : ℕ → Candidate
-mirror_candidate mirror = Stands (Mirror mirror)
+mirror_candidate mirror = Read (Mirror mirror)
 
 -- bytes pass, and are the candidate's
 pub record IsTried (t : Target) (c : Candidate) (held : Option (List (List ℕ))) (bytes : List ℕ) : Type 0 where

@@ -7,14 +7,14 @@ use Rattle.btr_parity.specs.Solutions.{IsTheOne}
 use Rattle.btr_rack.specs.Rack.{bytes_of}
 use Rattle.btr_rack.specs.declared.place.Place.{Place as Range}
 use Rattle.btr_read.specs.declared.candidate.Candidate.{Candidate}
-use Rattle.btr_read.specs.declared.candidate.Candidate.TheVariants.{Stands, ByP, ByQ, ByBoth}
+use Rattle.btr_read.specs.declared.candidate.Candidate.TheVariants.{Read, ByP, ByQ, ByBoth}
 use Rattle.btr_read.specs.Candidates.{Target, size_of, slice_count, parts_read, ranges_of, element, fits_p, fits_q, fits_both, value_of}
 use Rattle.btr_read.specs.Sought.{IsTarget, IsRebuilt}
 
 -- a slice solves the equations of a candidate by parities: with it, and for two parities with some slice in the place of
 -- the other one, the row has these parities
 abbrev pub Solves : List (List ℕ) → Target → Candidate → List ℕ → Type 0
-Solves images t (Stands part) X = X ≡ element images t part
+Solves images t (Read part) X = X ≡ element images t part
 Solves images t ByP X = fits_p images t X ≡ true
 Solves images t ByQ X = fits_q images t X ≡ true
 Solves images t (ByBoth j) X = (Y : List ℕ) × IsSlice (size_of t) Y × (fits_both images t j X Y ≡ true)

@@ -4,7 +4,7 @@ use btr_chunk::Part;
 #[derive(Clone, Copy, Debug, PartialEq, Eq)]
 pub enum Candidate {
     /// As they stand in a part.
-    Stands(Part),
+    Read(Part),
     /// The slice that P and all other slices leave.
     ByP,
     /// The slice that Q and all other slices leave.
@@ -22,7 +22,7 @@ impl Candidate {
         ensures { result ≡ reads_slice index self slice }
     {
         match self {
-            Candidate::Stands(_) => false,
+            Candidate::Read(_) => false,
             Candidate::ByP => slice != index,
             Candidate::ByQ => slice != index,
             Candidate::ByBoth(other) => slice != index && slice != other,

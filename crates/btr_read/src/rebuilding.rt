@@ -74,7 +74,7 @@ fn rebuild<R: Rack>(
     ensures account { AccountsGather search.now candidate (R.seen rack.old) (R.seen rack.new) result }
 {
     match candidate {
-        Candidate::Stands(_) => unreachable!(),
+        Candidate::Read(_) => unreachable!(),
         Candidate::ByP => rebuild_by_p(search, rack, pool, loan, spare),
         Candidate::ByQ => rebuild_by_q(search, rack, pool, loan, spare),
         Candidate::ByBoth(other) => rebuild_by_both(search, other, rack, pool, loan, q, spare),

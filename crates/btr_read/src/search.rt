@@ -110,7 +110,7 @@ impl Search<'_> {
         ensures { result ≡ parts_stand self.now (parities_read candidate) }
     {
         match candidate {
-            Candidate::Stands(_) => true,
+            Candidate::Read(_) => true,
             Candidate::ByP => self.range(Part::P).is_some(),
             Candidate::ByQ => self.range(Part::Q).is_some(),
             Candidate::ByBoth(_) => self.range(Part::P).is_some() && self.range(Part::Q).is_some(),
@@ -203,7 +203,7 @@ impl Search<'_> {
         match self.chunk.profile {
             Profile::Raid5 => by_one_parity(self.at.index, k),
             Profile::Raid6 => by_two_parities(self.at.index, k),
-            _ => Candidate::Stands(Part::Mirror(k)),
+            _ => Candidate::Read(Part::Mirror(k)),
         }
     }
 }
@@ -215,7 +215,7 @@ fn by_one_parity(index: u32, k: u32) -> Candidate
     ensures parts { IsOneParity index result }
 {
     if k == 0 {
-        Candidate::Stands(Part::Slice(index))
+        Candidate::Read(Part::Slice(index))
     } else {
         Candidate::ByP
     }
@@ -228,7 +228,7 @@ fn by_two_parities(index: u32, k: u32) -> Candidate
     ensures behind { 0 < k → IsByParities result }
 {
     match k {
-        0 => Candidate::Stands(Part::Slice(index)),
+        0 => Candidate::Read(Part::Slice(index)),
         1 => Candidate::ByP,
         2 => Candidate::ByQ,
         _ => {

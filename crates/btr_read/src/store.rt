@@ -156,7 +156,8 @@ impl Store {
         }
     }
 
-    /// Whether the block of a live loan is a good node, as `Node::view` tests it. While a block is kept that is tested once.
+    /// Whether the block of a live loan of 101 bytes at least is a good node, as `Node::view` tests it. While a block is kept
+    /// that is tested once.
     pub fn has_node(&mut self, loan: &Loan) -> bool
         requires live { IsLiveIn self.old loan.now }
         requires header { 101 ≤ loan.now.len }

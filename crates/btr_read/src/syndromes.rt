@@ -143,7 +143,7 @@ fn rebuild_by_syndromes<R: Rack>(
     let len = search.size();
     let index = search.index() as u8;
     match candidate {
-        Candidate::Stands(_) => unreachable!(),
+        Candidate::Read(_) => unreachable!(),
         Candidate::ByP => {
             copy_slot(pool, loan, p, len);
             Ok(())

@@ -38,7 +38,7 @@ pub(crate) fn try_part<R: Rack>(
     ensures reads { OnlyReads (R.seen rack.old) (R.seen rack.new) }
     ensures kept { (w : List ℕ) × (pool.new ≡ with_bytes pool.old loan.now w) }
     ensures attempt { FitsPart search.now part (R.seen rack.old).held (bytes_at pool.new loan.now) result }
-    ensures account { AccountsAttempt search.now (Candidate.Stands part) (R.seen rack.old) (R.seen rack.new) result }
+    ensures account { AccountsAttempt search.now (Candidate.Read part) (R.seen rack.old) (R.seen rack.new) result }
 {
     let Some(range) = search.range(part) else {
         return Attempt::Absent;
@@ -79,7 +79,7 @@ fn try_candidate<R: Rack>(
     ensures account { AccountsAttempt search.now candidate (R.seen rack.old) (R.seen rack.new) result }
 {
     match candidate {
-        Candidate::Stands(part) => try_part(search, part, rack, pool, loan),
+        Candidate::Read(part) => try_part(search, part, rack, pool, loan),
         Candidate::ByP => try_with_spares(search, Candidate::ByP, rack, pool, kept, loan),
         Candidate::ByQ => try_with_spares(search, Candidate::ByQ, rack, pool, kept, loan),
         Candidate::ByBoth(other) => {

@@ -1,5 +1,5 @@
 -- A map that is made at once of what another one has.
-use Rattle.std.proofs.Common.{◌≡◌, ℕ, None, refl, ◌∙◌}
+use Rattle.std.proofs.Common.{◌≡◌, ℕ, refl, ◌∙◌}
 use Rattle.std.proofs.lemmas.Map.Keys.{IsDistinct-from_sorted}
 use Rattle.std.proofs.lemmas.Map.Lookups.{btree_map_from_get}
 use Rattle.std.proofs.lemmas.Map.Made.{update_all_none}

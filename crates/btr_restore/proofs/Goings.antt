@@ -14,7 +14,6 @@ use Rattle.btr_prog.proofs.Successive.{calls_then, calls_as, calls_none}
 use Rattle.btr_rack.specs.Rack.{Seen, OnlyReads}
 use Rattle.btr_rack.specs.Sink.{Sink}
 use Rattle.btr_read.specs.Fate as fate
-use Rattle.btr_read.specs.Fate.{choices}
 use Rattle.btr_read.specs.Layout.{Layout}
 use Rattle.btr_read.specs.declared.want.Want.{Want}
 use Rattle.btr_walk.specs.Reading.{Map, UnreadBlock, unread_by, answer_of}

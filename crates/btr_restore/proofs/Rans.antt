@@ -7,7 +7,6 @@ use Rattle.btr_prog.proofs.Choices.{goes_nowhere, goes_step, goes_broke}
 use Rattle.btr_rack.specs.Rack.{Seen, OnlyReads}
 use Rattle.btr_rack.specs.Sink.{Sink}
 use Rattle.btr_read.specs.Fate as fate
-use Rattle.btr_read.specs.Fate.{choices}
 use Rattle.btr_read.specs.Serves.{Serves}
 use Rattle.btr_walk.specs.Reading.{unread_by, HasCause}
 use Rattle.btr_walk.specs.declared.fault.TreeFault.{TreeFault}

@@ -9,7 +9,7 @@ ghost use Rattle.btr_restore.specs.Writing.{PutsNext, PutsPiece, PutsRest};
 
 use crate::job::Job;
 use crate::telling::sink_stop;
-use btr_files::{FileBytes, Piece, RestorePlan, next_piece};
+use btr_files::{FileBytes, Piece, next_piece};
 use btr_items::Inode;
 use btr_rack::{Rack, TreeSink};
 use btr_volume::{Stop, TreeRoot, Volume};

@@ -17,7 +17,7 @@ use Rattle.btr_read.specs.Fate.{passing}
 use Rattle.btr_read.specs.Sought.{IsTwoParities}
 use Rattle.btr_read.specs.Want.{passes}
 use Rattle.btr_read.specs.declared.candidate.Candidate.{Candidate}
-use Rattle.btr_read.specs.declared.candidate.Candidate.TheVariants.{Stands, ByP, ByQ, ByBoth}
+use Rattle.btr_read.specs.declared.candidate.Candidate.TheVariants.{Read, ByP, ByQ, ByBoth}
 use Rattle.btr_read.proofs.InOrder.{length-with_p_and_q, with_p, with_p_and_q}
 use Rattle.btr_read.proofs.Standing.{all_read, both}
 use Rattle.btr_read.specs.Trial.{passing_of}
@@ -77,7 +77,7 @@ module _ (t : Target) (parity : mirrors t.chunk ≡ None) (stand : (part : Part)
   slices_stand c = all_read (λ part. is_some (range_of t part)) (reads_slice t.at.index c) (slice_count t) (λ s lt e. slice_stands s lt)
 
   pub stands_all : (c : Candidate) → t.at.index < slice_count t → IsTwoParities (slice_count t) t.at.index c → (ReadsQ c → t.chunk.profile ≡ Raid6) → stands t c ≡ true
-  stands_all (Stands part) lt is q = both (is_some (range_of t part)) true (subst (λ p. IsSome (range_of t p)) (sym is) (slice_stands t.at.index lt)) refl
+  stands_all (Read part) lt is q = both (is_some (range_of t part)) true (subst (λ p. IsSome (range_of t p)) (sym is) (slice_stands t.at.index lt)) refl
   stands_all ByP lt is q = both (is_some (range_of t P)) _ (stand P none) (slices_stand ByP)
   stands_all ByQ lt is q = both (is_some (range_of t Q)) _ (stand Q (q tt)) (slices_stand ByQ)
   stands_all (ByBoth j) lt is q = both (is_some (range_of t P)) _ (stand P none) (both (is_some (range_of t Q)) _ (stand Q (q tt)) (slices_stand (ByBoth j)))
@@ -129,7 +129,7 @@ module _ (images : Images) (t : Target) (spot : Spot) (bytes : List ℕ) (h : Is
     candidate_stands = stands_all t h.block.parity h.block.stand c index_below parts_are (λ reads. sym h.place.profile ∙ q_there spot count k c is lt at reads)
 
   -- the first is the block's own place
-  pub first_is : slice_get (candidates t) 0 ≡ Some (Stands (Slice t.at.index))
+  pub first_is : slice_get (candidates t) 0 ≡ Some (Read (Slice t.at.index))
   first_is = elim either [
     | inl five ↦ ap (λ cs. slice_get cs 0) (with_p t five)
     | inr e ↦ ap (λ cs. slice_get cs 0) (with_p_and_q t e)
@@ -145,7 +145,7 @@ pub record TriedTo (images : Images) (t : Target) (k : ℕ) : Type 0 where
 pub tried_none : (images : Images) (t : Target) → TriedTo images t 0
 tried_none images t = record { none = refl; bad = λ lt. absurd (omega (arith, lt)) }
 
-module _ (images : Images) (t : Target) (k : ℕ) (c : Candidate) (is : slice_get (candidates t) k ≡ Some c) (standing : stands t c ≡ true) (lt : k < length (candidates t)) (so_far : TriedTo images t k) (own : slice_get (candidates t) 0 ≡ Some (Stands (Slice t.at.index))) where
+module _ (images : Images) (t : Target) (k : ℕ) (c : Candidate) (is : slice_get (candidates t) k ≡ Some c) (standing : stands t c ≡ true) (lt : k < length (candidates t)) (so_far : TriedTo images t k) (own : slice_get (candidates t) 0 ≡ Some (Read (Slice t.at.index))) where
   take_one_more : passing_of images t (take (k + 1) (candidates t)) ≡ passing_of images t (take k (candidates t)) ++ passing_of images t (c ∷ [])
   take_one_more =
       ap (passing_of images t) (take_more (candidates t) k c lt)
@@ -153,8 +153,8 @@ module _ (images : Images) (t : Target) (k : ℕ) (c : Candidate) (is : slice_ge
       ∙ ap (λ x. passing_of images t (take k (candidates t)) ++ passing_of images t (x ∷ [])) (get_or_from_slice_get (candidates t) k c c is)
 
   -- the candidate at place 0 is the block's own place
-  is_own : k ≡ 0 → c ≡ Stands (Slice t.at.index)
-  is_own e = same_Some c (Stands (Slice t.at.index)) (sym is ∙ ap (slice_get (candidates t)) e ∙ own)
+  is_own : k ≡ 0 → c ≡ Read (Slice t.at.index)
+  is_own e = same_Some c (Read (Slice t.at.index)) (sym is ∙ ap (slice_get (candidates t)) e ∙ own)
 
   pub tried_more : passes t.setting t.want (value_of images t c) ≡ false → TriedTo images t (k + 1)
   tried_more test = record {

@@ -15,7 +15,7 @@ use Rattle.btr_read.specs.Fate.{sought}
 use Rattle.btr_read.specs.Gathering.{read_slices}
 use Rattle.btr_read.specs.Layout.{Layout}
 use Rattle.btr_read.specs.declared.candidate.Candidate.{Candidate}
-use Rattle.btr_read.specs.declared.candidate.Candidate.TheVariants.{Stands, ByP, ByQ, ByBoth}
+use Rattle.btr_read.specs.declared.candidate.Candidate.TheVariants.{Read, ByP, ByQ, ByBoth}
 use Rattle.btr_read.specs.declared.want.Want.{Want}
 use Rattle.btr_rack.specs.Rack.{Seen}
 use Rattle.btr_mend.specs.Blocks.{accepted, is_good}
@@ -165,7 +165,7 @@ HasParity profile parity.Q = profile ≡ Raid6
 
 -- a candidate reads Q
 abbrev pub ReadsQ : Candidate → Type 0
-ReadsQ (Stands part) = ⊥
+ReadsQ (Read part) = ⊥
 ReadsQ ByP = ⊥
 ReadsQ ByQ = Unit {0}
 ReadsQ (ByBoth j) = Unit {0}

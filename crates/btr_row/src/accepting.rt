@@ -20,7 +20,7 @@ fn candidate_at(index: u32, k: u32) -> Candidate
     ensures first { k < 2 → ReadsQ result → ⊥ }
 {
     match k {
-        0 => Candidate::Stands(Part::Slice(index)),
+        0 => Candidate::Read(Part::Slice(index)),
         1 => Candidate::ByP,
         2 => Candidate::ByQ,
         _ => {
@@ -54,7 +54,7 @@ fn compute(bytes: &[u8], spot: &Spot, candidate: Candidate, block: &mut [u8], sp
     ensures spare_long { length spare.new ≡ length spare.old }
 {
     match candidate {
-        Candidate::Stands(_) => copy_front(block, bytes, spot.start(spot.index), spot.len),
+        Candidate::Read(_) => copy_front(block, bytes, spot.start(spot.index), spot.len),
         Candidate::ByP => gather(bytes, spot, Candidate::ByP, Parity::P, block),
         Candidate::ByQ => {
             gather(bytes, spot, Candidate::ByQ, Parity::Q, block);

@@ -70,7 +70,7 @@ fn reads(candidate: Candidate, index: u32, slice: u32) -> bool
     ensures { result ≡ reads_slice index candidate slice }
 {
     match candidate {
-        Candidate::Stands(_) => false,
+        Candidate::Read(_) => false,
         Candidate::ByP => slice != index,
         Candidate::ByQ => slice != index,
         Candidate::ByBoth(other) => slice != index && slice != other,

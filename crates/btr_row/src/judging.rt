@@ -8,7 +8,6 @@ ghost use Rattle.btr_row.specs.Judging.{IsIn, IsPlaced, JudgesBlock};
 ghost use Rattle.btr_row.specs.Memory.{OfRow};
 
 use crate::accepting::accept;
-use crate::shape::Shape;
 use crate::spot::Spot;
 use crate::stripe::FullStripe;
 use btr_chunk::elements;

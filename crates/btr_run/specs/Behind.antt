@@ -1,5 +1,6 @@
 -- What lies behind the answer of a command over opened images.
 use Rattle.std.specs.Prelude.{◌≡◌, ◌≢◌, ◌⊎◌, ℕ, Option, IfSome}
+use Rattle.btr_rack.specs.Out.{CallAccount}
 use Rattle.btr_rack.specs.Rack.{Seen, Account, Steady, NoneFailed, OnlyReads}
 use Rattle.btr_read.specs.Layout.{Layout}
 use Rattle.btr_run.specs.Faults.{tree_answer}
@@ -14,6 +15,10 @@ use Rattle.btr_run.specs.declared.answer.Answer.TheVariants.{Usage, Limit, Image
 -- where something is told, and no call on an image failed
 abbrev pub IfSteady : {T : Type 0} → Option T → Account → Account → (T → Type 0) → Type 0
 IfSteady told old new P = IfSome told (λ x. Steady old.faults new.faults → P x)
+
+-- where no call of the sink and of the output failed, and memory sufficed
+abbrev pub IfServed : CallAccount → CallAccount → CallAccount → CallAccount → Answer → Type 0 → Type 0
+IfServed sink new_sink out new_out answer P = Steady sink.faults new_sink.faults → Steady out.faults new_out.faults → answer ≢ Memory → P
 
 -- an image, the sink or the output failed, or memory was wanted
 abbrev pub IsFault : Answer → Type 0

@@ -41,14 +41,16 @@ pub(crate) fn perform<R: Rack, T: TreeSink, O: Out>(
     requires writable { opens_to_write command ≡ true → AreWritable (R.seen rack.old).slots }
     requires fresh { (T.sink tree.old).stage ≡ NotStarted }
     ensures effect { IfSteady (R.seen rack.old).held (R.seen rack.old).account (R.seen rack.new).account (λ images.
-        Comes (MayWant command (O.account out.old)) (OrMemory (λ outcome. command_outcome command (map string_bytes words.now) images ≡ Some outcome))
+        Comes (MayWant command (O.account out.old))
+        (OrMemory (λ outcome. command_outcome command (map string_bytes words.now) images ≡ Some outcome))
         (outside (T.sink tree.old) (T.account tree.old) (O.text out.old) (O.account out.old))
         (outside (T.sink tree.new) (T.account tree.new) (O.text out.new) (O.account out.new)) (answer_of result)) }
     ensures told { Comes (MayWant command (O.account out.old)) (OrBare (MayCome command))
         (outside (T.sink tree.old) (T.account tree.old) (O.text out.old) (O.account out.old))
         (outside (T.sink tree.new) (T.account tree.new) (O.text out.new) (O.account out.new)) (answer_of result) }
     ensures order { (number : ℕ) (plan : RestorePlan) → command ≡ Command.Restore number plan
-        → IfSome (R.seen rack.old).held (λ images. InOrder plan (get_or (map string_bytes words.now) number []) images (R.seen rack.old) (R.seen rack.new)
+        → IfSome (R.seen rack.old).held (λ images.
+        InOrder plan (get_or (map string_bytes words.now) number []) images (R.seen rack.old) (R.seen rack.new)
         (outside (T.sink tree.old) (T.account tree.old) (O.text out.old) (O.account out.old))
         (outside (T.sink tree.new) (T.account tree.new) (O.text out.new) (O.account out.new)) (answer_of result)) }
     ensures agreed { IfSome (R.seen rack.old).held (λ images. AreAgreedFor command images →
@@ -60,7 +62,8 @@ pub(crate) fn perform<R: Rack, T: TreeSink, O: Out>(
         answer_of result ≢ Answer.Memory → (R.seen rack.new).held ≡ Some (scrubbed_images images)) }
     ensures left { command ≡ Command.Scrub true
         → IfSome (R.seen rack.old).held (λ images. IfSome (R.seen rack.new).held (λ left.
-        LeavesImages (Steady (R.seen rack.old).account.faults (R.seen rack.new).account.faults) images left (answer_of result))) }
+        LeavesImages (Steady (R.seen rack.old).account.faults (R.seen rack.new).account.faults)
+        images left (answer_of result))) }
     ensures cause { IsBehindCommand command (R.seen rack.old) (R.seen rack.new) (answer_of result) }
 {
     match command {

@@ -6,7 +6,7 @@ ghost use Rattle.btr_rack.specs.Sink.{NotStarted};
 ghost use Rattle.btr_restore.specs.Running.{outside};
 ghost use Rattle.btr_run.specs.Agreeing.{FollowsAgreed, KeepsAgreed};
 ghost use Rattle.btr_run.specs.Answers.{answer_of, error_line};
-ghost use Rattle.btr_run.specs.Behind.{IfSteady};
+ghost use Rattle.btr_run.specs.Behind.{IfServed, IfSteady};
 ghost use Rattle.btr_run.specs.Causes.{HidesNone, ImageCause, IsBehindWords, IsMissingImage, IsShut, TreeCause, opened_with};
 ghost use Rattle.btr_run.specs.Effects.{FollowsWords, HasEffect, HasPart, IsDecided, IsOutcome, IsTold, MayFollow, MayWantBy};
 ghost use Rattle.btr_run.specs.Images.{AreUnchanged};
@@ -41,31 +41,33 @@ pub fn run<R: Rack, T: TreeSink, O: Out>(
 
     // Where no call failed and memory sufficed, the answer, what was done in the sink and the text are those of the words and the images.
     ensures effect { IfSteady (R.seen rack.old).shelf (R.seen rack.old).account (R.seen rack.new).account (λ shelf.
-        Steady (T.account tree.old).faults (T.account tree.new).faults → Steady (O.account out.old).faults (O.account out.new).faults → result ≢ Answer.Memory
-        → HasEffect (map string_bytes words.now) shelf
+        IfServed (T.account tree.old) (T.account tree.new) (O.account out.old) (O.account out.new) result
+        (HasEffect (map string_bytes words.now) shelf
         (outside (T.sink tree.old) (T.account tree.old) (O.text out.old) (O.account out.old))
-        (outside (T.sink tree.new) (T.account tree.new) (O.text out.new) (O.account out.new)) result) }
+        (outside (T.sink tree.new) (T.account tree.new) (O.text out.new) (O.account out.new)) result)) }
 
     // Of a restore this is the outcome over the bytes of the images. Where every candidate that passes its test is the committed block, that is what was
     // committed, whole, or up to exactly the first block without such a candidate, which the answer names.
     ensures outcome { IfSteady (R.seen rack.old).shelf (R.seen rack.old).account (R.seen rack.new).account (λ shelf.
-        Steady (T.account tree.old).faults (T.account tree.new).faults → Steady (O.account out.old).faults (O.account out.new).faults → result ≢ Answer.Memory
-        → KeepsOutcome (map string_bytes words.now) shelf
+        IfServed (T.account tree.old) (T.account tree.new) (O.account out.old) (O.account out.new) result
+        (KeepsOutcome (map string_bytes words.now) shelf
         (outside (T.sink tree.old) (T.account tree.old) (O.text out.old) (O.account out.old))
-        (outside (T.sink tree.new) (T.account tree.new) (O.text out.new) (O.account out.new)) result) }
+        (outside (T.sink tree.new) (T.account tree.new) (O.text out.new) (O.account out.new)) result)) }
     ensures headline { IfSteady (R.seen rack.old).shelf (R.seen rack.old).account (R.seen rack.new).account (λ shelf.
-        Steady (T.account tree.old).faults (T.account tree.new).faults → Steady (O.account out.old).faults (O.account out.new).faults → result ≢ Answer.Memory
-        → KeepsHeadline (map string_bytes words.now) shelf
+        IfServed (T.account tree.old) (T.account tree.new) (O.account out.old) (O.account out.new) result
+        (KeepsHeadline (map string_bytes words.now) shelf
         (outside (T.sink tree.old) (T.account tree.old) (O.text out.old) (O.account out.old))
-        (outside (T.sink tree.new) (T.account tree.new) (O.text out.new) (O.account out.new)) result) }
+        (outside (T.sink tree.new) (T.account tree.new) (O.text out.new) (O.account out.new)) result)) }
 
     // Whatever failed, a restore follows its journey, where the images' copies agree; so it follows what was committed, or stopped where a block of that is lost.
     ensures order { IfSome (R.seen rack.old).shelf (λ shelf.
-        KeepsOrder (map string_bytes words.now) shelf (opened_with (R.seen rack.old).account (R.seen rack.new)) (R.seen rack.new)
+        KeepsOrder (map string_bytes words.now) shelf
+        (opened_with (R.seen rack.old).account (R.seen rack.new)) (R.seen rack.new)
         (outside (T.sink tree.old) (T.account tree.old) (O.text out.old) (O.account out.old))
         (outside (T.sink tree.new) (T.account tree.new) (O.text out.new) (O.account out.new)) result) }
     ensures committed { IfSome (R.seen rack.old).shelf (λ shelf.
-        KeepsCommittedOrder (map string_bytes words.now) shelf (opened_with (R.seen rack.old).account (R.seen rack.new)) (R.seen rack.new)
+        KeepsCommittedOrder (map string_bytes words.now) shelf
+        (opened_with (R.seen rack.old).account (R.seen rack.new)) (R.seen rack.new)
         (outside (T.sink tree.old) (T.account tree.old) (O.text out.old) (O.account out.old))
         (outside (T.sink tree.new) (T.account tree.new) (O.text out.new) (O.account out.new)) result) }
 
@@ -85,7 +87,8 @@ pub fn run<R: Rack, T: TreeSink, O: Out>(
 
     // What the words alone decide is answered before any call on the rack and on the sink, and only then.
     ensures decided { (answer : Answer) → IsDecided (map string_bytes words.now) answer
-        → (rack.new ≡ rack.old) × (tree.new ≡ tree.old) × ((result ≡ answer) ⊎ (result ≡ Answer.OutFault) ⊎ (result ≡ Answer.Memory)) }
+        → (rack.new ≡ rack.old) × (tree.new ≡ tree.old)
+        × ((result ≡ answer) ⊎ (result ≡ Answer.OutFault) ⊎ (result ≡ Answer.Memory)) }
     ensures stated { FollowsWords (map string_bytes words.now) result }
 
     // A fault of an image, of the sink or of the output is answered only where a call on it failed.
@@ -143,7 +146,8 @@ fn carry_out<R: Rack, T: TreeSink, O: Out>(
     requires closed { (R.seen rack.old).slots ≡ [] }
     requires fresh { (T.sink tree.old).stage ≡ NotStarted }
     ensures effect { IfSteady (R.seen rack.old).shelf (R.seen rack.old).account (R.seen rack.new).account (λ shelf.
-        Comes (MayWantBy (map string_bytes words.now) (O.account out.old)) (OrMemory (IsOutcome (map string_bytes words.now) shelf))
+        Comes (MayWantBy (map string_bytes words.now) (O.account out.old))
+        (OrMemory (IsOutcome (map string_bytes words.now) shelf))
         (outside (T.sink tree.old) (T.account tree.old) (O.text out.old) (O.account out.old))
         (outside (T.sink tree.new) (T.account tree.new) (O.text out.new) (O.account out.new)) (answer_of result)) }
     ensures told { Comes (MayWantBy (map string_bytes words.now) (O.account out.old))
@@ -151,7 +155,8 @@ fn carry_out<R: Rack, T: TreeSink, O: Out>(
         (outside (T.sink tree.old) (T.account tree.old) (O.text out.old) (O.account out.old))
         (outside (T.sink tree.new) (T.account tree.new) (O.text out.new) (O.account out.new)) (answer_of result) }
     ensures order { IfSome (R.seen rack.old).shelf (λ shelf.
-        FollowsOrder (map string_bytes words.now) shelf (opened_with (R.seen rack.old).account (R.seen rack.new)) (R.seen rack.new)
+        FollowsOrder (map string_bytes words.now) shelf
+        (opened_with (R.seen rack.old).account (R.seen rack.new)) (R.seen rack.new)
         (outside (T.sink tree.old) (T.account tree.old) (O.text out.old) (O.account out.old))
         (outside (T.sink tree.new) (T.account tree.new) (O.text out.new) (O.account out.new)) (answer_of result)) }
     ensures agreed { IfSome (R.seen rack.old).shelf (λ shelf.

@@ -44,7 +44,8 @@ pub(crate) fn scrub_images<R: Rack, O: Out>(
         → IfSteady (R.seen rack.old).held (R.seen rack.old).account (R.seen rack.new).account (λ images.
         answer_of result ≢ Answer.Memory → (R.seen rack.new).held ≡ Some (scrubbed_images images)) }
     ensures left { write ≡ true → IfSome (R.seen rack.old).held (λ images. IfSome (R.seen rack.new).held (λ left.
-        LeavesImages (Steady (R.seen rack.old).account.faults (R.seen rack.new).account.faults) images left (answer_of result))) }
+        LeavesImages (Steady (R.seen rack.old).account.faults (R.seen rack.new).account.faults)
+        images left (answer_of result))) }
     ensures cause { IsBehindCommand (Command.Scrub write) (R.seen rack.old) (R.seen rack.new) (answer_of result) }
 {
     let tally = scrub_filesystem(alloc, write, rack)?;

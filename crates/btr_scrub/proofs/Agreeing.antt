@@ -8,7 +8,7 @@ use Rattle.btr_chunk.specs.declared.place.Part.TheVariants.{Mirror, Slice}
 use Rattle.btr_read.specs.Candidates.{Target, candidates, copies, element, reading, rebuilt, slice_count, stands}
 use Rattle.btr_read.specs.Want.{passes}
 use Rattle.btr_read.specs.declared.candidate.Candidate.{Candidate}
-use Rattle.btr_read.specs.declared.candidate.Candidate.TheVariants.{Stands}
+use Rattle.btr_read.specs.declared.candidate.Candidate.TheVariants.{Read}
 use Rattle.btr_read.proofs.Ones.{in_below}
 use Rattle.btr_mend.specs.Blocks.{accepted, bad_parts, block_writes, copy_writes, is_good, own_parts}
 use Rattle.btr_mend.specs.Writes.{Images}
@@ -52,8 +52,8 @@ module _ (images images' : Images) (t : Target) (n : ℕ) (has : mirrors t.chunk
   good : (k : ℕ) → k < n → is_good images' t (Mirror k) ≡ is_good images t (Mirror k)
   good k lt = ap (passes t.setting t.want) (same k lt)
 
-  read : (k : ℕ) → k < n → reading images' t (Stands (Mirror k)) ≡ reading images t (Stands (Mirror k))
-  read k lt = ap (λ bytes. cond (stands t (Stands (Mirror k))) (Some bytes) None) (same k lt)
+  read : (k : ℕ) → k < n → reading images' t (Read (Mirror k)) ≡ reading images t (Read (Mirror k))
+  read k lt = ap (λ bytes. cond (stands t (Read (Mirror k))) (Some bytes) None) (same k lt)
 
   bads : (part : Part) → In part (own_parts t) → not (is_good images' t part) ≡ not (is_good images t part)
   bads part i =
@@ -62,7 +62,7 @@ module _ (images images' : Images) (t : Target) (n : ℕ) (has : mirrors t.chunk
 
   reads : (c : Candidate) → In c (candidates t) → reading images' t c ≡ reading images t c
   reads c i =
-      let r = of_mapped (λ k. Stands (Mirror k)) c (range_with_len 0 n) (subst (In c) all i) in
+      let r = of_mapped (λ k. Read (Mirror k)) c (range_with_len 0 n) (subst (In c) all i) in
       subst (λ d. reading images' t d ≡ reading images t d) r.2 (read r.0 (in_below n r.0 r.1))
 
   -- a block whose copies are the same

@@ -16,7 +16,7 @@ use Rattle.btr_read.specs.Candidates.{Target, candidates, copies, element, range
 use Rattle.btr_read.specs.Layout.{HaveOwnSlots, Layout, device_in}
 use Rattle.btr_read.specs.Want.{addr_of, passes}
 use Rattle.btr_read.specs.declared.candidate.Candidate.{Candidate}
-use Rattle.btr_read.specs.declared.candidate.Candidate.TheVariants.{Stands}
+use Rattle.btr_read.specs.declared.candidate.Candidate.TheVariants.{Read}
 use Rattle.btr_read.specs.declared.device.Device.{Device}
 use Rattle.btr_read.proofs.Ones.{in_below}
 use Rattle.btr_read.proofs.Pieces.{length-slice_range}
@@ -118,7 +118,7 @@ module _ (images : Images) (layout : Layout) (lengths : HaveLengths images layou
     own : own_parts t ≡ map Mirror (range_with_len 0 n)
     own = ap (λ o. option_map_or (λ copies. map Mirror (range_with_len 0 copies)) o (Slice t.at.index ∷ [])) has
 
-    long_reading : (k : ℕ) (bytes : List ℕ) → reading images t (Stands (Mirror k)) ≡ Some bytes → length bytes ≡ size_of t
+    long_reading : (k : ℕ) (bytes : List ℕ) → reading images t (Read (Mirror k)) ≡ Some bytes → length bytes ≡ size_of t
     long_reading k bytes e = by (is_some (range_of t (Mirror k))) refl e
       where
         by : (b : Bool) → is_some (range_of t (Mirror k)) ≡ b → cond (b && true) (Some (element images t (Mirror k))) None ≡ Some bytes → length bytes ≡ size_of t
@@ -128,7 +128,7 @@ module _ (images : Images) (layout : Layout) (lengths : HaveLengths images layou
     long_accepted : (bytes : List ℕ) → accepted images t ≡ Some bytes → length bytes ≡ size_of t
     long_accepted bytes e =
         let f = first_of images t (candidates t) bytes e in
-        let m = of_mapped (λ k. Stands (Mirror k)) f.0 (range_with_len 0 n) (subst (In f.0) all f.1) in
+        let m = of_mapped (λ k. Read (Mirror k)) f.0 (range_with_len 0 n) (subst (In f.0) all f.1) in
         long_reading m.0 bytes (ap (reading images t) m.2 ∙ f.2)
 
     -- the writes over copies fit

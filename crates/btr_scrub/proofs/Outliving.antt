@@ -17,7 +17,7 @@ use Rattle.btr_read.specs.Candidates.{Target, candidates, copies, element, range
 use Rattle.btr_read.specs.Fate.{Fault, sought}
 use Rattle.btr_read.specs.Layout.{HaveOwnSlots, Layout}
 use Rattle.btr_read.specs.Want.{addr_of, len_of, passes}
-use Rattle.btr_read.specs.declared.candidate.Candidate.TheVariants.{Stands}
+use Rattle.btr_read.specs.declared.candidate.Candidate.TheVariants.{Read}
 use Rattle.btr_read.specs.declared.want.Want.{Want}
 use Rattle.btr_read.proofs.Fates.{sought_of}
 use Rattle.btr_read.proofs.Ones.{in_below}
@@ -274,7 +274,7 @@ module _ (images : Images) (layout : Layout) (C : Committed) (wants : List Want)
         let given = part_is_given layout t (Mirror j.0) table is (has_mirror t n j.0 has lt) none in
         let r = some_of (range_of t (Mirror j.0)) given in
         let all : candidates t ≡ copies n = ap (λ o. option_map_or copies o (rebuilt t.chunk.profile (slice_count t) t.at.index)) has in
-        any_in (λ c. (stands t c ≡ true) × (C t.want ≡ Some (value_of left t c))) (candidates t) (Stands (Mirror j.0)) (subst (In (Stands (Mirror j.0))) (sym all) (in_map (λ copy. Stands (Mirror copy)) j.0 (range_with_len 0 n) j.1))
+        any_in (λ c. (stands t c ≡ true) × (C t.want ≡ Some (value_of left t c))) (candidates t) (Read (Mirror j.0)) (subst (In (Read (Mirror j.0))) (sym all) (in_map (λ copy. Read (Mirror copy)) j.0 (range_with_len 0 n) j.1))
         (ap (λ b. b && true) given, right ∙ ap Some (sym (stays j.0 lt right r.0 r.1 left keeps)))
 
   -- ---- all blocks

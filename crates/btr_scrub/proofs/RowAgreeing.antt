@@ -18,7 +18,7 @@ use Rattle.btr_read.specs.Layout.{Layout}
 use Rattle.btr_read.specs.Solution.{byte_lists, the_one}
 use Rattle.btr_read.specs.Want.{passes}
 use Rattle.btr_read.specs.declared.candidate.Candidate.{Candidate}
-use Rattle.btr_read.specs.declared.candidate.Candidate.TheVariants.{Stands, ByP, ByQ, ByBoth}
+use Rattle.btr_read.specs.declared.candidate.Candidate.TheVariants.{Read, ByP, ByQ, ByBoth}
 use Rattle.btr_read.proofs.Ones.{in_below}
 use Rattle.btr_mend.specs.Blocks.{accepted, block_writes, is_good, own_parts}
 use Rattle.btr_mend.specs.Writes.{Images}
@@ -62,8 +62,8 @@ module _ (images images' : Images) (t : Target) (none : mirrors t.chunk ≡ None
   by_value : (c : Candidate) → value_of images' t c ≡ value_of images t c → reading images' t c ≡ reading images t c
   by_value c e = ap (λ bytes. cond (stands t c) (Some bytes) None) e
 
-  own_value : reading images' t (Stands (part.Slice t.at.index)) ≡ reading images t (Stands (part.Slice t.at.index))
-  own_value = by_value (Stands (part.Slice t.at.index)) (same (part.Slice t.at.index) (slice_has t.at.index index))
+  own_value : reading images' t (Read (part.Slice t.at.index)) ≡ reading images t (Read (part.Slice t.at.index))
+  own_value = by_value (Read (part.Slice t.at.index)) (same (part.Slice t.at.index) (slice_has t.at.index index))
 
   p_value : reading images' t ByP ≡ reading images t ByP
   p_value = by_value ByP (

@@ -14,7 +14,7 @@ use Rattle.btr_read.specs.Candidates.{Target, candidates, element, range_of, ran
 use Rattle.btr_read.specs.Layout.{Layout, device_in}
 use Rattle.btr_read.specs.Solution.{byte_lists, the_one}
 use Rattle.btr_read.specs.declared.candidate.Candidate.{Candidate}
-use Rattle.btr_read.specs.declared.candidate.Candidate.TheVariants.{Stands, ByP, ByQ, ByBoth}
+use Rattle.btr_read.specs.declared.candidate.Candidate.TheVariants.{Read, ByP, ByQ, ByBoth}
 use Rattle.btr_read.proofs.Ones.{all_slices}
 use Rattle.btr_mend.specs.Blocks.{accepted, bad_parts, block_writes, copy_writes, written_over}
 use Rattle.btr_mend.specs.Writes.{Images, Write, write_on, writes_if}
@@ -105,7 +105,7 @@ element_short images t part = by (device_in t.devices (place_at t.chunk part t.a
     by (Some device) = or _ device.slot (place_at t.chunk part t.at).offset
 
 value_short : (images : Images) (t : Target) (c : Candidate) → length (value_of images t c) ≤ size_of t
-value_short images t (Stands part) = element_short images t part
+value_short images t (Read part) = element_short images t part
 value_short images t ByP = the_one_short (size_of t) _
 value_short images t ByQ = the_one_short (size_of t) _
 value_short images t (ByBoth j) = the_one_short (size_of t) _

@@ -52,7 +52,7 @@ impl TextBuffer {
         put
     }
 
-    /// Writes pieces, one behind another. The error is the output's.
+    /// Writes pieces, one behind another. The error is the output's; then a first part of the text was put, and nothing waits.
     pub fn push_all<O: Out>(&mut self, pieces: &[Piece], out: &mut O) -> Result<(), SinkError>
         ensures text { Writes (O.text out.old) (O.text out.new) self.old self.new (text_of pieces.now) result }
         ensures account { Counts (O.account out.old) (O.account out.new) result }
@@ -63,7 +63,7 @@ impl TextBuffer {
         Ok(())
     }
 
-    /// Writes a piece. The error is the output's.
+    /// Writes a piece. The error is the output's; then a first part of the text was put, and nothing waits.
     pub fn push<O: Out>(&mut self, piece: Piece, out: &mut O) -> Result<(), SinkError>
         ensures text { Writes (O.text out.old) (O.text out.new) self.old self.new (piece_text piece.entry) result }
         ensures account { Counts (O.account out.old) (O.account out.new) result }

@@ -1,6 +1,6 @@
 use btr_make::RowVolume;
 
-/// The small volume of a name.
+/// The small volume of a name, and `None` where no volume has it.
 pub fn row_of(name: &str) -> Option<RowVolume> {
     match name {
         "V1" => Some(RowVolume::V1),

@@ -154,7 +154,8 @@ fn clear(dropped: &mut [u64; ROOM])
 fn take_sent_pair(reg: u32, dropped: &[u64; ROOM], bytes: &[u8], j: usize) -> u32
     requires room { j + 2 ≤ AHEAD }
     requires words { 8 * (j + 2) ≤ length bytes.now }
-    ensures { result ≡ shifted_by 64 (bit_xor (shifted_by 64 (bit_xor reg (received dropped.now bytes.now j))) (received dropped.now bytes.now (j + 1))) }
+    ensures { result ≡ shifted_by 64 (bit_xor (shifted_by 64 (bit_xor reg (received dropped.now bytes.now j)))
+        (received dropped.now bytes.now (j + 1))) }
 {
     let pair = u64x2::from_array([u64_at(bytes, 8 * j), u64_at(bytes, 8 * j + 8)]);
     let [first, second] = (pair ^ pair_sent_to(dropped, j)).to_array();

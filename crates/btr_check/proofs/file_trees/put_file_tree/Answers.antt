@@ -1,4 +1,4 @@
-use Rattle.std.proofs.Common.{◌≡◌, true, false, [], ◌∷◌, fold, Some, Ok, refl, sym, ap, ◌∙◌}
+use Rattle.std.proofs.Common.{◌≡◌, true, false, [], ◌∷◌, fold, Some, refl, sym, ap, ◌∙◌}
 use Rattle.btr_volume.specs.declared.stop.Stop.TheVariants.{Memory as NoMemory}
 use Rattle.btr_check.specs.Counting.{Unless}
 use Rattle.btr_check.specs.Data.{sum_runs}

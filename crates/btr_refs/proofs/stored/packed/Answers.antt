@@ -1,4 +1,4 @@
-use Rattle.std.proofs.Common.{◌≡◌, ℕ, rules}
+use Rattle.std.proofs.Common.{rules}
 use Rattle.std.specs.BTreeMap.{IsFromIterResult, IsOrdered}
 use Rattle.btr_refs.specs.RefKey.{ref_cmp}
 use Rattle.btr_refs.proofs.Packed.{packed_same}

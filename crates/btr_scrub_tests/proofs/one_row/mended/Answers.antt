@@ -1,6 +1,4 @@
-use Rattle.std.proofs.Common.{◌+◌, ◌*◌, ◌≤◌, ◌∷◌, [], length, arith}
-use Rattle.btr_read.specs.declared.want.Want.TheVariants.{Sector}
-use Rattle.btr_row.specs.Mending.{HasRoom}
+use Rattle.std.proofs.Common.{◌≤◌, length, arith}
 use Rattle.btr_scrub.proofs.OneRow.{chunk_number}
 use Rattle.btr_scrub_tests.proofs.one_row.mended.Goals as goal
 

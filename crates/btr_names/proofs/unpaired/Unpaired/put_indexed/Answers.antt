@@ -1,10 +1,9 @@
-use Rattle.std.proofs.Common.{◌≡◌, ◌∷◌, ◌++◌, [], true, filter, ap, ◌∙◌}
+use Rattle.std.proofs.Common.{◌≡◌, true, ap, ◌∙◌}
 use Rattle.std.proofs.lemmas.Result.{on_ok_weaker}
 use Rattle.btr_names.specs.declared.claim.Claim.{Claim}
-use Rattle.btr_names.specs.Entry.{Entry, entry_of}
+use Rattle.btr_names.specs.Entry.{entry_of}
 use Rattle.btr_names.specs.Names.{under_hash}
-use Rattle.btr_names.specs.Pairs.{Pairs, met, entry_claim}
-use Rattle.btr_names.specs.Subvolumes.{leads_to_root}
+use Rattle.btr_names.specs.Pairs.{met, entry_claim}
 use Rattle.btr_names.proofs.unpaired.Unpaired.put_indexed.Goals as goal
 
 pub returns : goal.returns

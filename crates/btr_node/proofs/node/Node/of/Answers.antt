@@ -1,4 +1,4 @@
-use Rattle.std.proofs.Common.{◌≡◌, Some, sym, ap, ◌∙◌}
+use Rattle.std.proofs.Common.{Some, sym, ap, ◌∙◌}
 use Rattle.btr_node.specs.declared.node.Node.TheVariants.{Leaf, Inner}
 use Rattle.btr_node.proofs.Leaves.{leaf_level}
 use Rattle.btr_node.proofs.Nodes.{good_leaf, good_inner, leaf_is, inner_is}

@@ -1,4 +1,4 @@
-use Rattle.std.proofs.Common.{true, IsSomeAnd, take, get_or, set, subst, sym, ap, ◌∙◌}
+use Rattle.std.proofs.Common.{true, IsSomeAnd, take, set, subst, ap, ◌∙◌}
 use Rattle.btr_pool.specs.Slots.{bytes_at}
 use Rattle.btr_read.specs.Store.{IsNode, kept_in}
 use Rattle.btr_read.proofs.Loans.{block_there}
