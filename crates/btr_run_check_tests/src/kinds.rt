@@ -3,6 +3,7 @@ ghost use Rattle.std.specs.Prelude.{◌≤◌};
 
 mod names;
 mod space;
+mod together;
 mod trees;
 
 use crate::answers::answers;
@@ -29,9 +30,6 @@ const FILES: u64 = 2146304;
 
 const SUMS: u64 = 2162688;
 
-// Where the second sector of data lies on the device.
-const SECTOR: u64 = 10489856;
-
 // Bytes that are written over, from a byte of a block on.
 #[derive(Clone, Copy)]
 struct Poke {
@@ -48,6 +46,13 @@ struct Case {
     text: &'static [u8],
 }
 
+// Cases in one volume, and what is found of them together.
+#[derive(Clone, Copy)]
+struct Several {
+    cases: &'static [Case],
+    text: &'static [u8],
+}
+
 // How many bytes the checksum of a block covers, and its own.
 fn len_of(block: u64) -> u64
     ensures { 36 ≤ result }
@@ -55,14 +60,22 @@ fn len_of(block: u64) -> u64
     if block == SUPER { 4096 } else { NODE }
 }
 
-// A small volume, edited.
-fn edited(alloc: Global, volume: RowVolume, case: &Case) -> Result<MemRack, CallFault> {
-    let mut rack = row(alloc, volume)?;
+// Edits a small volume.
+fn edit(rack: &mut MemRack, case: &Case) -> Result<(), CallFault> {
     for poke in case.pokes {
         rack.poke("a", case.block.saturating_add(poke.at), poke.bytes)?;
     }
     if case.is_sealed {
-        seal(&mut rack, "a", case.block, len_of(case.block))?;
+        seal(rack, "a", case.block, len_of(case.block))?;
+    }
+    Ok(())
+}
+
+// A small volume, edited.
+fn edited(alloc: Global, volume: RowVolume, cases: &[Case]) -> Result<MemRack, CallFault> {
+    let mut rack = row(alloc, volume)?;
+    for case in cases {
+        edit(&mut rack, case)?;
     }
     Ok(rack)
 }
@@ -75,7 +88,7 @@ fn tells(
     case: &Case,
     code: u8,
 ) -> Result<(), CallFault> {
-    let mut rack = edited(alloc, volume, case)?;
+    let mut rack = edited(alloc, volume, &[*case])?;
     answers(rt, alloc, &mut rack, &["check", "a"], case.text, code)
 }
 
@@ -91,12 +104,40 @@ fn one_fault_each(rt: HostRuntime) -> Result<(), CallFault> {
     tells_all(&rt, rt.alloc(), trees::FOUND, 1)?;
     tells_all(&rt, rt.alloc(), names::FOUND, 1)?;
     tells_all(&rt, rt.alloc(), space::FOUND, 1)?;
+    tells(&rt, rt.alloc(), RowVolume::S, &trees::OVERLAP, 1)?;
     tells(&rt, rt.alloc(), RowVolume::S, &names::SUBVOLUME, 1)
 }
 
 #[test]
+fn several_faults(rt: HostRuntime) -> Result<(), CallFault> {
+    let alloc = rt.alloc();
+    for several in together::FOUND {
+        let mut rack = edited(alloc, RowVolume::V1, several.cases)?;
+        answers(&rt, alloc, &mut rack, &["check", "a"], several.text, 1)?;
+    }
+    Ok(())
+}
+
+const PENDING: &[(RowVolume, &[u8])] = &[
+    (RowVolume::P, b"error: tree 257 is being deleted\n"),
+    (RowVolume::Q, b"error: a balance is pending\n"),
+];
+
+#[test]
 fn filesystems_that_are_refused(rt: HostRuntime) -> Result<(), CallFault> {
-    tells_all(&rt, rt.alloc(), space::REFUSED, 3)
+    let alloc = rt.alloc();
+    tells_all(&rt, alloc, space::REFUSED, 3)?;
+    for (volume, text) in PENDING {
+        answers(
+            &rt,
+            alloc,
+            &mut row(alloc, *volume)?,
+            &["check", "a"],
+            text,
+            3,
+        )?;
+    }
+    Ok(())
 }
 
 const SOUND: &[(RowVolume, &[&str])] = &[
@@ -122,7 +163,7 @@ fn sound_volumes(rt: HostRuntime) -> Result<(), CallFault> {
             0,
         )?;
     }
-    Ok(())
+    tells(&rt, rt.alloc(), RowVolume::V1, &names::ORPHAN, 0)
 }
 
 #[test]
@@ -132,20 +173,28 @@ fn a_reference_too_many(rt: HostRuntime) -> Result<(), CallFault> {
     answers(&rt, rt.alloc(), &mut rack, &["check", "a"], text, 1)
 }
 
-// The small volume, of whose data a sector is wrong.
-fn without_sector(alloc: Global) -> Result<MemRack, CallFault> {
+// The small volume, of whose data the sector at a place of the device is wrong.
+fn without_sector(alloc: Global, place: u64) -> Result<MemRack, CallFault> {
     let mut rack = row(alloc, RowVolume::V1)?;
-    rack.poke("a", SECTOR, &[1])?;
+    rack.poke("a", place, &[1])?;
     Ok(rack)
 }
+
+// Where the sectors of data lie on the device, and what is found of each.
+const SECTORS: &[(u64, &[u8])] = &[
+    (10485760, b"data-lost 16777216\nfindings 1\n"),
+    (10489856, b"data-lost 16781312\nfindings 1\n"),
+];
 
 #[test]
 fn data_that_is_lost(rt: HostRuntime) -> Result<(), CallFault> {
     let alloc = rt.alloc();
-    let rack = &mut without_sector(alloc)?;
-    answers(&rt, alloc, rack, &["check", "a"], b"no findings\n", 0)?;
-    let rack = &mut without_sector(alloc)?;
-    let text = b"data-lost 16781312\nfindings 1\n";
     let words = ["check", "--check-data-csum", "a"];
-    answers(&rt, alloc, rack, &words, text, 1)
+    for (place, text) in SECTORS {
+        let rack = &mut without_sector(alloc, *place)?;
+        answers(&rt, alloc, rack, &["check", "a"], b"no findings\n", 0)?;
+        let rack = &mut without_sector(alloc, *place)?;
+        answers(&rt, alloc, rack, &words, text, 1)?;
+    }
+    Ok(())
 }

@@ -14,6 +14,32 @@ pub(super) const FOUND: &[Case] = &[
         }],
         text: b"entry-item 5 256 2\nfindings 1\n",
     },
+    // 16: an entry by hash alone, of a directory that isn't there
+    Case {
+        block: FILES,
+        is_sealed: true,
+        pokes: &[
+            Poke {
+                at: 96,
+                bytes: &[0x19, 0, 0, 0],
+            },
+            Poke {
+                at: 701,
+                bytes: &[
+                    0x2c, 1, 0, 0, 0, 0, 0, 0, 0x54, 5, 0, 0, 0, 0, 0, 0, 0, 0x43, 0x3a, 0, 0,
+                    0x1f, 0, 0, 0,
+                ],
+            },
+            Poke {
+                at: 15016,
+                bytes: &[
+                    1, 1, 0, 0, 0, 0, 0, 0, 1, 0, 0, 0, 0, 0, 0, 0, 0, 7, 0, 0, 0, 0, 0, 0, 0, 0,
+                    0, 1, 0, 1, b'q',
+                ],
+            },
+        ],
+        text: b"entry-index 5 300 5\nfindings 1\n",
+    },
     // 16, 18, 21: no entry by index
     Case {
         block: FILES,
@@ -23,6 +49,33 @@ pub(super) const FOUND: &[Case] = &[
             bytes: &[0, 1, 0, 0, 0, 0, 0, 0, 0x5f, 2, 0, 0, 0, 0, 0, 0, 0],
         }],
         text: b"entry-index 5 256 199141587\nref-entry 5 257 256 2\ndir-size 5 256 14 12\nfindings 3\n",
+    },
+    // 17: no reference of an inode that is an orphan
+    Case {
+        block: FILES,
+        is_sealed: true,
+        pokes: &[
+            Poke {
+                at: 96,
+                bytes: &[0x19, 0, 0, 0],
+            },
+            Poke {
+                at: 434,
+                bytes: &[0x0e],
+            },
+            Poke {
+                at: 15778,
+                bytes: &[0, 0, 0, 0],
+            },
+            Poke {
+                at: 701,
+                bytes: &[
+                    0xfb, 0xff, 0xff, 0xff, 0xff, 0xff, 0xff, 0xff, 0x30, 1, 1, 0, 0, 0, 0, 0, 0,
+                    0x62, 0x3a, 0, 0, 0, 0, 0, 0,
+                ],
+            },
+        ],
+        text: b"entry-ref 5 256 2\nfindings 1\n",
     },
     // 17, 20: no reference
     Case {
@@ -43,6 +96,16 @@ pub(super) const FOUND: &[Case] = &[
             bytes: &[9, 0, 0, 0, 0, 0, 0, 0],
         }],
         text: b"entry-ref 5 256 2\nref-entry 5 257 256 9\nfindings 2\n",
+    },
+    // 18: the reference of the first directory to itself by another name
+    Case {
+        block: FILES,
+        is_sealed: true,
+        pokes: &[Poke {
+            at: 16223,
+            bytes: b"x",
+        }],
+        text: b"ref-entry 5 256 256 0\nfindings 1\n",
     },
     // 19: a file as a symbolic link
     Case {
@@ -84,7 +147,49 @@ pub(super) const FOUND: &[Case] = &[
         }],
         text: b"link-count 5 257 0 1\norphan 5 257\nfindings 2\n",
     },
+    // 22: an inode without links
+    Case {
+        block: FILES,
+        is_sealed: true,
+        pokes: &[
+            Poke {
+                at: 96,
+                bytes: &[0x19, 0, 0, 0],
+            },
+            NO_LINKS,
+        ],
+        text: b"orphan 5 300\nfindings 1\n",
+    },
 ];
+
+// the item of inode 300, which is zeros
+const NO_LINKS: Poke = Poke {
+    at: 701,
+    bytes: &[
+        0x2c, 1, 0, 0, 0, 0, 0, 0, 1, 0, 0, 0, 0, 0, 0, 0, 0, 0xc2, 0x39, 0, 0, 0xa0, 0, 0, 0,
+    ],
+};
+
+// the same, and its orphan item
+pub(super) const ORPHAN: Case = Case {
+    block: FILES,
+    is_sealed: true,
+    pokes: &[
+        Poke {
+            at: 96,
+            bytes: &[0x1a, 0, 0, 0],
+        },
+        NO_LINKS,
+        Poke {
+            at: 726,
+            bytes: &[
+                0xfb, 0xff, 0xff, 0xff, 0xff, 0xff, 0xff, 0xff, 0x30, 0x2c, 1, 0, 0, 0, 0, 0, 0,
+                0xc2, 0x39, 0, 0, 0, 0, 0, 0,
+            ],
+        },
+    ],
+    text: b"no findings\n",
+};
 
 // 23: no ROOT_BACKREF
 pub(super) const SUBVOLUME: Case = Case {
