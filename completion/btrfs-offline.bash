@@ -5,62 +5,90 @@ _btrfs_offline_images() {
     mapfile -t COMPREPLY < <(compgen -f -- "$1")
 }
 
+# _btrfs_offline_words CURRENT WORD..: offers these words
+_btrfs_offline_words() {
+    mapfile -t COMPREPLY < <(compgen -W "${*:2}" -- "$1")
+}
+
+# _btrfs_offline_restore CURRENT FIRST: the words behind `restore`, which stands at FIRST
+_btrfs_offline_restore() {
+    local current=$1 at word options=' -r -s -v -D '
+    for ((at = $2 + 1; at < COMP_CWORD; at++)); do
+        word=${COMP_WORDS[at]}
+        case $word in
+        -r)
+            # the number of the subvolume is the next word
+            ((at + 1 == COMP_CWORD)) && return
+            at=$((at + 1))
+            options=${options/ -r / }
+            ;;
+        -s | -v | -D)
+            options=${options/ $word / }
+            ;;
+        *)
+            # -l, or DEST: images follow
+            options=
+            break
+            ;;
+        esac
+    done
+    if [[ $current != -* ]]; then
+        _btrfs_offline_images "$current"
+    elif ((COMP_CWORD == $2 + 1)); then
+        _btrfs_offline_words "$current" -l "$options" --help -h
+    else
+        _btrfs_offline_words "$current" "$options"
+    fi
+}
+
 _btrfs_offline() {
     local current=${COMP_WORDS[COMP_CWORD]} first=1 command
     COMPREPLY=()
-    [[ ${COMP_WORDS[1]-} == --build ]] && first=2
+    while [[ ${COMP_WORDS[first]-} == --build ]] && ((COMP_CWORD > first)); do
+        first=$((first + 1))
+    done
     if ((COMP_CWORD <= first)); then
-        local words='super inspect-internal check scrub restore help --help -h --version --build'
-        ((first == 2)) && words='super inspect-internal check scrub restore'
-        mapfile -t COMPREPLY < <(compgen -W "$words" -- "$current")
+        _btrfs_offline_words "$current" super inspect-internal check scrub restore help --help -h --version --build
         return
     fi
     command=${COMP_WORDS[first]}
     case $command in
     super)
         if [[ $current == -* ]]; then
-            ((COMP_CWORD == first + 1)) && mapfile -t COMPREPLY < <(compgen -W '--help -h' -- "$current")
+            ((COMP_CWORD == first + 1)) && _btrfs_offline_words "$current" --help -h
             return
         fi
         _btrfs_offline_images "$current"
         ;;
     inspect-internal)
         if ((COMP_CWORD == first + 1)); then
-            mapfile -t COMPREPLY < <(compgen -W 'dump-tree --help -h' -- "$current")
-        elif [[ ${COMP_WORDS[COMP_CWORD - 1]} == -[bt] ]]; then
+            _btrfs_offline_words "$current" dump-tree --help -h
+        elif ((COMP_CWORD == first + 3)) && [[ ${COMP_WORDS[first + 2]} == -[bt] ]]; then
             return
         elif [[ $current == -* ]]; then
-            ((COMP_CWORD == first + 2)) && mapfile -t COMPREPLY < <(compgen -W '-b -t -r --help -h' -- "$current")
+            ((COMP_CWORD == first + 2)) && _btrfs_offline_words "$current" -b -t -r --help -h
         else
             _btrfs_offline_images "$current"
         fi
         ;;
     check)
         if [[ $current == -* ]]; then
-            ((COMP_CWORD == first + 1)) && mapfile -t COMPREPLY < <(compgen -W '--check-data-csum --help -h' -- "$current")
+            ((COMP_CWORD == first + 1)) && _btrfs_offline_words "$current" --check-data-csum --help -h
             return
         fi
         _btrfs_offline_images "$current"
         ;;
     scrub)
         if ((COMP_CWORD == first + 1)); then
-            mapfile -t COMPREPLY < <(compgen -W 'start --help -h' -- "$current")
+            _btrfs_offline_words "$current" start --help -h
         elif [[ $current == -* ]]; then
-            ((COMP_CWORD == first + 2)) && mapfile -t COMPREPLY < <(compgen -W '-r --help -h' -- "$current")
+            ((COMP_CWORD == first + 2)) && _btrfs_offline_words "$current" -r --help -h
         else
             _btrfs_offline_images "$current"
         fi
         ;;
     restore)
-        if [[ ${COMP_WORDS[COMP_CWORD - 1]} == -r ]]; then
-            return
-        elif [[ $current == -* ]]; then
-            local options='-r -s -v -D'
-            ((COMP_CWORD == first + 1)) && options='-l -r -s -v -D --help -h'
-            mapfile -t COMPREPLY < <(compgen -W "$options" -- "$current")
-        else
-            _btrfs_offline_images "$current"
-        fi
+        _btrfs_offline_restore "$current" "$first"
         ;;
     esac
 }

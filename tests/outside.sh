@@ -35,7 +35,7 @@ expect 'an image, with the output closed' 4
 expect 'an image, with all closed' 4
 
 if command -v strace >/dev/null 2>&1; then
-    strace -o "$folder/calls" "$top/crates/btr_tool/out/btr_tool" super "$image" <&- >&- 2>&-
+    strace -o "$folder/calls" "$top/crates/btr_tool/out/launcher/btr_tool" super "$image" <&- >&- 2>&-
     expect 'an image, traced' 4
     opened=$(grep -F "\"$image\"" "$folder/calls" | sed -n 's/^open.* = \([0-9]*\)$/\1/p')
     if [ "${opened:-0}" -le 2 ]; then
