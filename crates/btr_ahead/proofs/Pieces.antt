@@ -11,20 +11,8 @@ use Rattle.btr_read.specs.declared.want.Want.TheVariants.{Sector}
 use Rattle.btr_read.specs.Cause.{LiesIn}
 use Rattle.btr_ahead.specs.Ahead.{Comes, IsAhead, IsFirstPlace, SaysFirst, first_passes, first_place, passes_at, piece_of}
 use Rattle.btr_ahead.specs.declared.data_ahead.DataAhead.{DataAhead}
-use Rattle.std.proofs.lemmas.List.{drop-take, take-take, drop-drop}
-
--- a range of a range
-pub range-range : (xs : List ℕ) (o n a b : ℕ) → a ≤ b → b ≤ n → slice_range (slice_range xs o (o + n)) a b ≡ slice_range xs (o + a) (o + b)
-range-range xs o n a b le most =
-    let ys = drop o xs in
-    let whole : o + n - o ≡ n = omega arith in
-    let long : a + (n - a) ≡ n = omega (arith, le, most) in
-    let cut : drop a (take n ys) ≡ take (n - a) (drop a ys) = ap (λ m. drop a (take m ys)) (sym long) ∙ drop-take a (n - a) ys in
-    let inner : take (b - a) (take (n - a) (drop a ys)) ≡ take (b - a) (drop a ys) = take-take (b - a) (n - a) (drop a ys) (omega (arith, le, most)) in
-    ap (λ m. take (b - a) (drop a (take m ys))) whole
-    ∙ ap (take (b - a)) cut ∙ inner
-    ∙ ap (take (b - a)) (drop-drop a o xs)
-    ∙ ap (λ m. take m (drop (o + a) xs)) (omega arith)
+use Rattle.std.proofs.lemmas.List.{drop-take, take-take}
+use Rattle.btr_read.proofs.Pieces.{range-range}
 
 -- a range of the front of a list
 pub range-front : (xs : List ℕ) (n a b : ℕ) → a ≤ b → b ≤ n → slice_range (take n xs) a b ≡ slice_range xs a b

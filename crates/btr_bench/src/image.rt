@@ -68,7 +68,8 @@ pub fn sector(bytes: &[u8]) -> Want {
     }
 }
 
-/// A rack with the open image of a device, on which these bytes stand at the beginning of the chunk.
+/// A rack with the open image of a device, on which these bytes stand at the beginning of the chunk. `AllocError`: want of
+/// memory, or the bytes pass the end of the chunk.
 pub fn image_of(alloc: Global, bytes: &[u8]) -> Result<MemRack, AllocError>
     ensures { IfOk result (λ rack. SLOT < length (slots_of rack)) }
 {
@@ -81,7 +82,8 @@ pub fn image_of(alloc: Global, bytes: &[u8]) -> Result<MemRack, AllocError>
     Ok(rack)
 }
 
-/// The same, with a tree whose blocks stand from the chunk's first address on.
+/// The same, with the blocks of a tree, each at its address in the chunk. `AllocError`: want of memory, or a block passes the
+/// end of the chunk.
 pub fn image_with(alloc: Global, tree: &Tree) -> Result<MemRack, AllocError>
     ensures { IfOk result (λ rack. SLOT < length (slots_of rack)) }
 {
@@ -114,7 +116,7 @@ fn item(alloc: Global) -> Result<Vec<u8>, AllocError> {
     Ok(bytes)
 }
 
-/// The store that reads the chunk from the image, with nodes of this size.
+/// The store that reads the chunk from the image, with nodes of `nodesize` bytes. `AllocError`: want of memory.
 pub fn store_over(alloc: Global, nodesize: u32, rack: &MemRack) -> Result<Store, AllocError>
     requires large { 4096 ≤ nodesize }
     requires small { nodesize ≤ 65536 }

@@ -55,7 +55,7 @@ impl Kernel {
         }
     }
 
-    /// Makes the piece before the first turn.
+    /// Makes the piece of `size` bytes before the first turn. `AllocError`: want of memory.
     pub fn first_piece(self, alloc: Global, size: usize) -> Result<Vec<u8>, AllocError>
         requires { IsTrue (takes self size) }
         ensures value { IfOk result (λ piece. piece.items ≡ first_piece self size) }
@@ -67,7 +67,8 @@ impl Kernel {
         }
     }
 
-    /// Makes what the kernel keeps from turn to turn, as it is before the first one.
+    /// Makes what the kernel keeps from turn to turn over a piece of `size` bytes, as it is before the first one. `AllocError`:
+    /// want of memory.
     pub fn first_kept(self, alloc: Global, size: usize) -> Result<Vec<u8>, AllocError>
         ensures value { IfOk result (λ kept. kept.items ≡ first_kept self size) }
         ensures len { IfOk result (λ kept. length kept.items ≡ kept_size self size) }

@@ -50,7 +50,7 @@ fn push_entry(block: &mut Vec<u8>, size: usize, i: usize) -> Result<(), AllocErr
     append(block, &(BODY as u32).to_le_bytes())
 }
 
-/// Makes a leaf with as many items as fit, whose bodies are zeros.
+/// Makes a leaf of `size` bytes with as many items as fit, whose bodies are zeros. `AllocError`: want of memory.
 pub fn leaf(alloc: Global, size: usize) -> Result<Vec<u8>, AllocError>
     requires header { HEADER ≤ size }
     requires small { size ≤ LARGEST }

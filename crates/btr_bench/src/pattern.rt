@@ -14,7 +14,7 @@ fn fill(piece: &mut [u8])
     }
 }
 
-/// Makes a piece of so many bytes, of which byte i is (7i + 3) mod 256.
+/// Makes a piece of `size` bytes, of which byte i is (7i + 3) mod 256. `AllocError`: want of memory.
 pub fn pattern(alloc: Global, size: usize) -> Result<Vec<u8>, AllocError>
     ensures value { IfOk result (λ piece. piece.items ≡ pattern size) }
     ensures len { IfOk result (λ piece. length piece.items ≡ size) }

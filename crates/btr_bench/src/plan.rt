@@ -20,7 +20,8 @@ impl Plan {
     ghost use Rattle.btr_bench.specs.Task.{task_of, Gives};
     ghost use Rattle.btr_bench.specs.Plan.{IfPlanned, number_of};
 
-    /// Reads the name of a task and two decimal numbers, of which the first is a size that the task takes.
+    /// Reads the name of a task and two decimal numbers, of which the first is a size that the task takes, in bytes or, of a
+    /// walk, in items. The error names the first of the three that isn't that.
     pub fn parse(task: &str, size: &str, times: &str) -> Result<Plan>
         ensures task { IfOk result (λ plan. task_of task.now ≡ Some plan.task) }
         ensures size { IfOk result (λ plan. plan.size ≡ number_of size.now) }
@@ -36,7 +37,7 @@ impl Plan {
         Ok(Plan { task, size, times })
     }
 
-    /// Runs the turns, and answers the number that they come to.
+    /// Runs the turns, and answers the number that they come to. `AllocError`: want of memory.
     pub fn run(self, alloc: Global) -> Result<u64, AllocError>
         ensures { IfOk result (Gives self.task self.size self.times) }
     {

@@ -28,7 +28,8 @@ fn exclusive_or(kernel: Kernel, piece: &mut [u8], kept: &mut [u8], times: u64) -
     all
 }
 
-/// Runs the turns of a kernel over a piece of so many bytes, and answers the exclusive or of their results.
+/// Runs the turns of a kernel over a piece of `size` bytes, and answers the exclusive or of their results. `AllocError`: want
+/// of memory.
 pub fn run(alloc: Global, kernel: Kernel, size: usize, times: u64) -> Result<u64, AllocError>
     requires { IsTrue (takes kernel size) }
     ensures { IfOk result (TurnsGive kernel (first_piece kernel size) (first_kept kernel size) 0 times) }

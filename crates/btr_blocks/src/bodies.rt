@@ -1,4 +1,5 @@
-//! The bodies of items, one function a type. Times, users and whatever nothing reads are zeros.
+//! The bodies of items, one function a type. Times, users and whatever nothing reads are zeros. `AllocError` of
+//! each is want of memory.
 
 mod chunks;
 mod extents;

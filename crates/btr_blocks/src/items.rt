@@ -36,7 +36,7 @@ impl Items {
         self.bodies.is_empty()
     }
 
-    /// Puts an item, in the place of one with this key.
+    /// Puts an item, in the place of one with this key. `AllocError`: want of memory.
     pub fn put(
         &mut self,
         objectid: u64,
@@ -54,6 +54,7 @@ impl Items {
     }
 
     /// Appends a part to the body of the item with this key, as entries with one hash stand together, or puts it.
+    /// `AllocError`: want of memory, and there may be no item with this key any more.
     pub fn append(
         &mut self,
         objectid: u64,

@@ -1,6 +1,6 @@
 use std::alloc::{AllocError, Global};
 
-/// The rows of the five files of the small volumes.
+/// The rows of the five files of the small volumes, in the folder `out`. `AllocError`: want of memory.
 pub fn five_files(alloc: Global) -> Result<Vec<u8>, AllocError> {
     let mut rows = Vec::new(alloc);
     rows.extend_from_slice(b"out\ne \ni x\nh1 hello\nh2 hello\na ")?;

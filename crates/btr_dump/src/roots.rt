@@ -80,7 +80,8 @@ fn show_next<R: Rack, O: Out>(
         (λ B. (seen : List Want) → IsOn scan.old.lo scan.old.hi B seen scan.old.place
         → Turns (unread_by store.old.layout (R.seen rack.old) (R.seen rack.new))
         (λ ws. IsOn scan.old.lo scan.old.hi B ws scan.new.place)
-        (exec B (spec.item_lines (left_of B store.old scan.old))) (exec B (spec.item_lines (left_of B store.new scan.new)))
+        (exec B (spec.item_lines (left_of B store.old scan.old)))
+        (exec B (spec.item_lines (left_of B store.new scan.new)))
         seen (O.text out.old) (O.text out.new) text.old text.new result) }
 {
     match next(store, scan, rack) {

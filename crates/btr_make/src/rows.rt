@@ -47,7 +47,7 @@ pub enum RowVolume {
     Rows6,
 }
 
-/// The images of a small volume, on the shelf of a rack in which nothing is to fail.
+/// The images of a small volume, on the shelf of a rack in which nothing is to fail. `Memory`: want of memory.
 pub fn row(alloc: Global, which: RowVolume) -> Result<MemRack, Memory> {
     Ok(made(alloc, which)?)
 }

@@ -1,6 +1,6 @@
 -- A slot that is written piece by piece.
 use Rattle.std.proofs.Common.{◌≡◌, ◌≢◌, ℕ, ◌+◌, ◌-◌, ◌<◌, ◌≤◌, List, [], ◌∷◌, ◌++◌, length, take, drop, refl, sym, ap, ap₂, ◌∙◌, subst, arith, length-append, length-take, length-drop, bit_xor}
-use Rattle.std.proofs.lemmas.List.{take_at, drop_at, drop-drop, map-append, set-set}
+use Rattle.std.proofs.lemmas.List.{take_at, drop_at, drop-drop, drop-take, take-take, map-append, set-set}
 use Rattle.std.proofs.lemmas.Simd.{length-zip2}
 use Rattle.std.proofs.lemmas.List.{length-map}
 use Rattle.std.proofs.Math.Seq.{take-add}
@@ -15,6 +15,19 @@ use Rattle.btr_read.specs.declared.parity.Parity.TheVariants as parity
 use Rattle.btr_read.specs.Gathering.{weighed}
 
 -- ---- a list and its pieces
+
+-- a range of a range
+pub range-range : (xs : List ℕ) (o n a b : ℕ) → a ≤ b → b ≤ n → slice_range (slice_range xs o (o + n)) a b ≡ slice_range xs (o + a) (o + b)
+range-range xs o n a b le most =
+    let ys = drop o xs in
+    let whole : o + n - o ≡ n = omega arith in
+    let long : a + (n - a) ≡ n = omega (arith, le, most) in
+    let cut : drop a (take n ys) ≡ take (n - a) (drop a ys) = ap (λ m. drop a (take m ys)) (sym long) ∙ drop-take a (n - a) ys in
+    let inner : take (b - a) (take (n - a) (drop a ys)) ≡ take (b - a) (drop a ys) = take-take (b - a) (n - a) (drop a ys) (omega (arith, le, most)) in
+    ap (λ m. take (b - a) (drop a (take m ys))) whole
+    ∙ ap (take (b - a)) cut ∙ inner
+    ∙ ap (take (b - a)) (drop-drop a o xs)
+    ∙ ap (λ m. take m (drop (o + a) xs)) (omega arith)
 
 -- a longer first part is a first part and the piece behind it
 pub take_on : (xs : List ℕ) (done end : ℕ) → done ≤ end → take end xs ≡ take done xs ++ slice_range xs done end

@@ -19,7 +19,8 @@ use Rattle.btr_row.specs.Mending.{IsOfRow}
 use Rattle.btr_row.specs.Memory.{IsStripeOf, element_in}
 use Rattle.btr_row.specs.Writing.{column_writes, write_at}
 use Rattle.btr_row.specs.declared.stripe.FullStripe.{FullStripe}
-use Rattle.btr_row.proofs.Elements.{Lies, is_at, is_of_row, lies, lies_at, open_at, range-range}
+use Rattle.btr_read.proofs.Pieces.{range-range}
+use Rattle.btr_row.proofs.Elements.{Lies, is_at, is_of_row, lies, lies_at, open_at}
 use Rattle.btr_row.proofs.Held.{good}
 use Rattle.btr_row.proofs.Pasted.{length-range}
 

@@ -1,7 +1,6 @@
 -- Where the elements of a row lie, and the blocks in them.
-use Rattle.std.proofs.Common.{◌≡◌, ℕ, ◌+◌, ◌-◌, ◌*◌, ◌%◌, ◌^◌, ◌<◌, ◌≤◌, Bool, true, false, cond, List, [], length, take, drop, slice_range, slice_get, Option, Some, None, IsSome, IsSomeAnd, leb, refl, sym, ap, ◌∙◌, subst, inl, inr, arith}
+use Rattle.std.proofs.Common.{◌≡◌, ℕ, ◌+◌, ◌-◌, ◌*◌, ◌%◌, ◌^◌, ◌<◌, ◌≤◌, Bool, true, false, cond, List, [], length, slice_range, slice_get, Option, Some, None, IsSome, IsSomeAnd, leb, refl, sym, ap, ◌∙◌, subst, inl, inr, arith}
 use Rattle.std.proofs.lemmas.Bool.{false≢true, leb-true, le-leb}
-use Rattle.std.proofs.lemmas.List.{drop-take, take-take, drop-drop}
 use Rattle.std.proofs.lemmas.Option.{same_Some}
 use Rattle.std.specs.Option.{option_map_or}
 use Rattle.btr_chunk.specs.Chunk.{IsChunk, data_count, mirror_count}
@@ -17,25 +16,13 @@ use Rattle.btr_chunk.proofs.Rows.{without_copies}
 use Rattle.btr_rack.specs.Rack.{Slot, bytes_of, image_of, len_of, range_in}
 use Rattle.btr_rack.specs.declared.place.Place.{Place as Range}
 use Rattle.btr_read.specs.Candidates.{Target, range_of, range_on, size_of}
+use Rattle.btr_read.proofs.Pieces.{range-range}
 use Rattle.btr_read.specs.Candidates as candidates
 use Rattle.btr_read.specs.Cause.{LiesIn}
 use Rattle.btr_read.specs.Layout.{AreOpen, Layout, device_in}
 use Rattle.btr_read.specs.declared.device.Device.{Device}
 use Rattle.btr_row.specs.Rows.{Row, element, range_in_element}
 use Rattle.btr_row.specs.Mending.{IsFullStripe, IsOfRow, IsOn}
-
--- a range of a range
-pub range-range : (xs : List ℕ) (o n a b : ℕ) → a ≤ b → b ≤ n → slice_range (slice_range xs o (o + n)) a b ≡ slice_range xs (o + a) (o + b)
-range-range xs o n a b le most =
-    let ys = drop o xs in
-    let whole : o + n - o ≡ n = omega arith in
-    let long : a + (n - a) ≡ n = omega (arith, le, most) in
-    let cut : drop a (take n ys) ≡ take (n - a) (drop a ys) = ap (λ m. drop a (take m ys)) (sym long) ∙ drop-take a (n - a) ys in
-    let inner : take (b - a) (take (n - a) (drop a ys)) ≡ take (b - a) (drop a ys) = take-take (b - a) (n - a) (drop a ys) (omega (arith, le, most)) in
-    ap (λ m. take (b - a) (drop a (take m ys))) whole
-    ∙ ap (take (b - a)) cut ∙ inner
-    ∙ ap (take (b - a)) (drop-drop a o xs)
-    ∙ ap (λ m. take m (drop (o + a) xs)) (omega arith)
 
 -- a range that stands on a device
 pub record StandsOn (off len : ℕ) (o : Option Device) : Type 0 where

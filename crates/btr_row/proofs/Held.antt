@@ -19,7 +19,8 @@ use Rattle.btr_row.specs.Memory.{FitsIn, HoldsRow, IsHeld, IsStripeOf, element_c
 use Rattle.btr_row.specs.Judging.{IsIn, IsPlaced}
 use Rattle.btr_row.specs.declared.spot.Spot.{Spot}
 use Rattle.btr_row.specs.declared.stripe.FullStripe.{FullStripe}
-use Rattle.btr_row.proofs.Elements.{IsGood, Lies, block_bytes, block_lies, lies, range-range}
+use Rattle.btr_read.proofs.Pieces.{range-range}
+use Rattle.btr_row.proofs.Elements.{IsGood, Lies, block_bytes, block_lies, lies}
 use Rattle.btr_row.proofs.Shapes.{part_p, part_q, part_slice, row_counted}
 
 pub good : (layout : Layout) (stripe : FullStripe) (row : Row) → IsStripeOf layout stripe row → IsGood layout stripe.chunk stripe.number row

@@ -25,7 +25,7 @@ use Rattle.btr_row.specs.Judging.{AreJudged, FitsVerdict, IsCounted, IsIn, meets
 use Rattle.btr_row.specs.declared.stripe.FullStripe.{FullStripe}
 use Rattle.btr_row.specs.declared.judged.Judged.{Judged}
 use Rattle.btr_row.specs.declared.judging.Verdict.{Verdict}
-use Rattle.btr_row.proofs.Elements.{range-range}
+use Rattle.btr_read.proofs.Pieces.{range-range}
 use Rattle.btr_row.proofs.Shapes.{part_slice}
 use Rattle.btr_row.proofs.Pasted.{element_other, range_around}
 

@@ -41,7 +41,7 @@ impl TextBuffer {
         }
     }
 
-    /// Puts what waits. The error is the output's.
+    /// Puts what waits, and nothing waits behind it. The error is the output's; then a first part of it was put.
     pub fn flush<O: Out>(&mut self, out: &mut O) -> Result<(), SinkError>
         ensures text { Puts (O.text out.old) (O.text out.new) self.old result }
         ensures empty { self.new ≡ [] }

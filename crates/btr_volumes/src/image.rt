@@ -7,7 +7,8 @@ const PAGE: u64 = 4096;
 
 const NAMES: [&str; 5] = ["a", "b", "c", "d", "e"];
 
-/// Writes each image that stands on the shelf of a rack into a folder.
+/// Writes each image that stands on the shelf of a rack into a folder, as a file of its name; pages that aren't kept are holes.
+/// The error is that of the first file that couldn't be made or written.
 pub fn write_images(rt: &HostRuntime, rack: &mut MemRack, folder: &str) -> Result<()> {
     for name in NAMES {
         if let Ok(slot) = rack.open(name, false) {

@@ -11,7 +11,7 @@ const SECTOR: u32 = 4096;
 // The bit of the type RAID10.
 const RAID10: u64 = 0x40;
 
-/// A CHUNK_ITEM of a length and a type, whose bytes lie on these stripes.
+/// A CHUNK_ITEM of a length in bytes and a type, whose bytes lie on these stripes: 48 bytes, and 32 a stripe.
 pub fn chunk_item(
     alloc: Global,
     length: u64,
@@ -37,7 +37,7 @@ pub fn chunk_item(
     Ok(body)
 }
 
-/// A BLOCK_GROUP_ITEM.
+/// A BLOCK_GROUP_ITEM, of 24 bytes.
 pub fn block_group(alloc: Global, group: &BlockGroup) -> Result<Body, AllocError> {
     Body::new(alloc)
         .u64(group.used)?
@@ -45,7 +45,7 @@ pub fn block_group(alloc: Global, group: &BlockGroup) -> Result<Body, AllocError
         .u64(group.flags)
 }
 
-/// A DEV_EXTENT.
+/// A DEV_EXTENT, of 48 bytes.
 pub fn dev_extent(
     alloc: Global,
     extent: &DevExtent,
@@ -59,7 +59,7 @@ pub fn dev_extent(
         .bytes(chunk_tree_uuid)
 }
 
-/// A DEV_ITEM, as the chunk tree has it and a superblock for its own device.
+/// A DEV_ITEM, of 98 bytes, as the chunk tree has it and a superblock for its own device.
 pub fn dev_item(alloc: Global, device: &DevItem, fsid: &[u8; 16]) -> Result<Body, AllocError> {
     Body::new(alloc)
         .u64(device.devid)?

@@ -5,7 +5,8 @@ use btr_base::crc_register;
 use btr_items::{ExtentItem, Link, item};
 use std::alloc::{AllocError, Global};
 
-/// The front of an EXTENT_ITEM or, for a tree block without a level, of a METADATA_ITEM. Inline references come behind it.
+/// The front of an EXTENT_ITEM or, for a tree block without a level, of a METADATA_ITEM: 24 bytes, and 18 for a key and a
+/// level, where there is one. Inline references come behind it.
 pub fn extent_item(alloc: Global, extent: &ExtentItem) -> Result<Body, AllocError> {
     let front = Body::new(alloc)
         .u64(extent.refs)?

@@ -4,7 +4,7 @@ use btr_base::{Sum, SumKind};
 use btr_items::{FileExtent, Inode, Shape};
 use std::alloc::{AllocError, Global};
 
-/// An INODE_ITEM of a generation, with this many bytes in extents.
+/// An INODE_ITEM, of 160 bytes, of a generation, with `nbytes` bytes in extents.
 pub fn inode_item(
     alloc: Global,
     inode: &Inode,
@@ -25,7 +25,7 @@ pub fn inode_item(
         .zeros(88)
 }
 
-/// An EXTENT_DATA that holds the file's bytes.
+/// An EXTENT_DATA that holds the file's bytes, behind 21 of its own.
 pub fn inline(alloc: Global, generation: u64, bytes: &[u8]) -> Result<Body, AllocError> {
     let extent = FileExtent {
         generation,
@@ -37,7 +37,7 @@ pub fn inline(alloc: Global, generation: u64, bytes: &[u8]) -> Result<Body, Allo
     front(alloc, &extent, 0)?.bytes(bytes)
 }
 
-/// An EXTENT_DATA. One of inline shape holds zeros.
+/// An EXTENT_DATA, of 53 bytes. One of inline shape has 21, and holds zeros behind them.
 pub fn file_extent(alloc: Global, extent: &FileExtent) -> Result<Body, AllocError> {
     match extent.shape {
         Shape::Inline { len } => front(alloc, extent, 0)?.zeros(len as usize),

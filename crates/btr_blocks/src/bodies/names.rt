@@ -7,7 +7,7 @@ use std::alloc::{AllocError, Global};
 /// The kind of an entry that is an extended attribute.
 const XATTR: u8 = 8;
 
-/// An entry of a DIR_ITEM or a DIR_INDEX. `kind` is 1 for a file, 2 for a directory and so on.
+/// An entry of a DIR_ITEM or a DIR_INDEX: 30 bytes, and the name. `kind` is 1 for a file, 2 for a directory and so on.
 pub fn entry(
     alloc: Global,
     location: Key,
@@ -24,7 +24,7 @@ pub fn entry(
         .bytes(name)
 }
 
-/// An extended attribute of an XATTR_ITEM.
+/// An extended attribute of an XATTR_ITEM: 30 bytes, the name and the data.
 pub fn xattr(alloc: Global, transid: u64, name: &[u8], data: &[u8]) -> Result<Body, AllocError> {
     Body::new(alloc)
         .key(NO_KEY)?
@@ -36,7 +36,7 @@ pub fn xattr(alloc: Global, transid: u64, name: &[u8], data: &[u8]) -> Result<Bo
         .bytes(data)
 }
 
-/// A name of an INODE_REF, by its index in the directory.
+/// A name of an INODE_REF, by its index in the directory: 10 bytes, and the name.
 pub fn inode_ref(alloc: Global, index: u64, name: &[u8]) -> Result<Body, AllocError> {
     Body::new(alloc)
         .u64(index)?
@@ -44,7 +44,7 @@ pub fn inode_ref(alloc: Global, index: u64, name: &[u8]) -> Result<Body, AllocEr
         .bytes(name)
 }
 
-/// A name of an INODE_EXTREF, by its directory and its index there.
+/// A name of an INODE_EXTREF, by its directory and its index there: 18 bytes, and the name.
 pub fn ext_ref(alloc: Global, parent: u64, index: u64, name: &[u8]) -> Result<Body, AllocError> {
     Body::new(alloc)
         .u64(parent)?
@@ -53,7 +53,7 @@ pub fn ext_ref(alloc: Global, parent: u64, index: u64, name: &[u8]) -> Result<Bo
         .bytes(name)
 }
 
-/// A ROOT_REF or a ROOT_BACKREF: the name of a subvolume, by its directory and its index there.
+/// A ROOT_REF or a ROOT_BACKREF: the name of a subvolume, by its directory and its index there. It has 18 bytes, and the name.
 pub fn root_ref(alloc: Global, dirid: u64, sequence: u64, name: &[u8]) -> Result<Body, AllocError> {
     ext_ref(alloc, dirid, sequence, name)
 }

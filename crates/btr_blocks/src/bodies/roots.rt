@@ -10,7 +10,7 @@ const INODE: Inode = Inode {
     flags: 0x8000_0000,
 };
 
-/// A ROOT_ITEM of 439 bytes for a tree whose blocks have this many bytes.
+/// A ROOT_ITEM of 439 bytes for a tree whose blocks have `used` bytes in all.
 pub fn root_item(alloc: Global, root: &RootItem, used: u64) -> Result<Body, AllocError> {
     bodies::inode_item(alloc, &INODE, 1, used)?
         .u64(root.generation)?
