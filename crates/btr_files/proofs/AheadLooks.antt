@@ -22,7 +22,7 @@ use Rattle.btr_volume.specs.Looking.{Looks}
 use Rattle.btr_volume.specs.declared.root.TreeRoot.{TreeRoot}
 use Rattle.btr_files.specs.declared.progress.Progress.{Progress}
 use Rattle.btr_files.specs.declared.progress.Source.{Source}
-use Rattle.btr_files.specs.declared.streaming.Step.{Step}
+use Rattle.btr_files.specs.declared.streaming.Shown.{Shown}
 use Rattle.btr_files.specs.declared.sums_ahead.SumsAhead.{SumsAhead}
 use Rattle.btr_files.specs.Aheads.{kept_sum, sum_key, ComesOf, IsAheadIn, IsReadAhead, IsSummed}
 use Rattle.btr_files.specs.Content.{sector_want, want_by}
@@ -89,8 +89,8 @@ kept_still layout sums ahead = unread_on layout (λ B. IsSummed B sums ahead →
 -- ---- a sector
 
 -- what a sector comes to where the checksums that are kept are those of the tree, and they are so behind it
-abbrev pub GivenWithSums : SumKind → Source → (UnreadBlock → Want → Type 0) → (ℕ → Map) → Progress → Blocks → SumsAhead → SumsAhead → Result Step TreeFault → Type 0
-GivenWithSums kind source Is Bs p store ahead ahead' result = IsSummed (Bs 0) source.sums ahead → IsGiven kind source Is Bs p store result × IsSummed (Bs 0) source.sums ahead'
+abbrev pub GivenWithSums : SumKind → Source → (UnreadBlock → Want → Type 0) → (ℕ → Map) → Progress → Progress → Blocks → SumsAhead → SumsAhead → Result Shown TreeFault → Type 0
+GivenWithSums kind source Is Bs p p' store ahead ahead' result = IsSummed (Bs 0) source.sums ahead → IsGiven kind source Is Bs p p' store result × IsSummed (Bs 0) source.sums ahead'
 
 abbrev pub with_sums : (Map → Type 0) → Option TreeRoot → SumsAhead → SumsAhead → Map → Type 0
 with_sums P sums ahead ahead' B = IsSummed B sums ahead → P B × IsSummed B sums ahead'

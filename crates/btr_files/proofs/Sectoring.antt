@@ -148,7 +148,7 @@ module _ (kind : SumKind) (source : Source) (Bs : ℕ → Map) (p : Progress) (p
           ∙ ap (Bytes (take len block)) (sym verified_is)
           ∙ ap shown_by (sym is)
 
-      pub sector_given : SectorComes Is Bs want store (Ok loan) → IsGiven kind source Is Bs p store (Ok (record { progress = behind_sector source.size p part; shown = shown.Bytes loan (span.Sector len verified) }))
+      pub sector_given : SectorComes Is Bs want store (Ok loan) → IsGiven kind source Is Bs p (behind_sector source.size p part) store (Ok (shown.Bytes loan (span.Sector len verified)))
       sector_given h seen g =
           let came : Bs h.0 want ≡ Ok block = subst (λ o. IsSomeAnd o (λ b. Bs h.0 want ≡ Ok b)) is h.1 in
           record {
@@ -158,7 +158,7 @@ module _ (kind : SumKind) (source : Source) (Bs : ℕ → Map) (p : Progress) (p
           }
 
     -- it could not be had
-    module _ (Is : UnreadBlock → Want → Type 0) (store store' : Blocks) where
+    module _ (Is : UnreadBlock → Want → Type 0) (p' : Progress) (store store' : Blocks) where
       abbrev next : List ℕ → Program Piece (Result Given ℕ)
       next bytes = Emit (piece_with want bytes) S
 
@@ -169,7 +169,7 @@ module _ (kind : SumKind) (source : Source) (Bs : ℕ → Map) (p : Progress) (p
       want_halts seen (tree.Crosses a) h = goes_faults Bs Is no_part seen h.0 want (fate.Crosses a) next h.1
       want_halts seen (tree.Malformed a) h = absurd h
 
-      pub sector_lacked : (f : TreeFault) → SectorComes Is Bs want store (Err f) → IsGiven kind source Is Bs p store' (Err f)
+      pub sector_lacked : (f : TreeFault) → SectorComes Is Bs want store (Err f) → IsGiven kind source Is Bs p p' store' (Err f)
       sector_lacked f h seen g =
           let r : Run Want fate.Fault Piece Want = quiet_run looked in
           let all : Goes Is no_part seen Bs (looks W K) [] (Err (halt_of f)) = goes_then Bs Is no_part seen (quiet W) K r want [] [] (Err (halt_of f)) (quiet_goes Piece Bs W looked (goes_map Bs 0 W)) (quiet_follows Was no_part seen looked [] (Ok want) wanted) (want_halts (seen ++ wants_of r.marks) f h) in
@@ -177,8 +177,8 @@ module _ (kind : SumKind) (source : Source) (Bs : ℕ → Map) (p : Progress) (p
           (e.0, left_as kind source Bs p (Sectors part) e.0 todo e.1, e.2)
 
   -- the sum of the sector could not be had
-  pub sum_lacked : (Is : UnreadBlock → Want → Type 0) (store : Blocks) (f : TreeFault) → Follows {S = ⊥} Is no_part [] (exec (Bs 0) W) [] (Err (halt_of f)) → IsGiven kind source Is Bs p store (Err f)
-  sum_lacked Is store f h seen g =
+  pub sum_lacked : (Is : UnreadBlock → Want → Type 0) (p' : Progress) (store : Blocks) (f : TreeFault) → Follows {S = ⊥} Is no_part [] (exec (Bs 0) W) [] (Err (halt_of f)) → IsGiven kind source Is Bs p p' store (Err f)
+  sum_lacked Is p' store f h seen g =
       let quietly : Goes Is no_part [] Bs (quiet W) [] (Err (halt_of f)) = goes_quiet Is no_part [] Bs W [] (Err (halt_of f)) (exec (Bs 0) W, goes_map Bs 0 W, h) in
       let all : Goes Is no_part seen Bs (looks W K) [] (Err (halt_of f)) = goes_halt Bs Is no_part seen (quiet W) K 0 [] (halt_of f) (goes_alone Bs Is no_part seen (quiet W) [] (Err (halt_of f)) quietly) in
       let e = then_halts kind source Bs Is seen whole (ahead kind source Bs p) (halt_of f) (subst (λ x. Goes Is no_part seen Bs x [] (Err (halt_of f))) (sym whole_is) all) in

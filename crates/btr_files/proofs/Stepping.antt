@@ -107,7 +107,7 @@ module _ (kind : SumKind) (source : Source) (Bs : ℕ → Map) (p : Progress) wh
     gap_by (Sectors part) q e is h = gap_bytes part.start _ q is h
     gap_by Over q e is h = gap_end q is h
 
-    pub zeros_given : (Is : UnreadBlock → Want → Type 0) (store : Blocks) → zeros ≡ zeros_at source.size p.at p.todo → IsNextStep kind source Is Bs p store (Ok (Some (record { progress = behind; shown = shown.Gap zeros })))
+    pub zeros_given : (Is : UnreadBlock → Want → Type 0) (store : Blocks) → zeros ≡ zeros_at source.size p.at p.todo → IsNextStep kind source Is Bs p behind store (Ok (Some (shown.Gap zeros)))
     zeros_given Is store is seen g = record {
       past = [];
       goes = λ q h. gap_by p.todo q refl is h;
@@ -115,8 +115,8 @@ module _ (kind : SumKind) (source : Source) (Bs : ℕ → Map) (p : Progress) wh
     }
 
   -- ---- nothing is left
-  pub nothing_left : (Is : UnreadBlock → Want → Type 0) (store : Blocks) → p.todo ≡ Over → source.size ≤ p.at → IsNextStep kind source Is Bs p store (Ok None)
-  nothing_left Is store e le seen g =
+  pub nothing_left : (Is : UnreadBlock → Want → Type 0) (p' : Progress) (store : Blocks) → p.todo ≡ Over → source.size ≤ p.at → IsNextStep kind source Is Bs p p' store (Ok None)
+  nothing_left Is p' store e le seen g =
       let q : Pieces = run [] (Ok tt) in
       let none : source.size - p.at ≡ 0 = omega (arith, le) in (
         q,
@@ -127,15 +127,15 @@ module _ (kind : SumKind) (source : Source) (Bs : ℕ → Map) (p : Progress) wh
   -- ---- an inline extent
   module _ (Is : UnreadBlock → Want → Type 0) (part : InlinePart) (todo : p.todo ≡ Inline part) where
     -- its leaf could not be read again
-    pub inline_err : (store store' : Blocks) (f : TreeFault) → IsMetAgain Is B p.rest store (Err f) → IsGiven kind source Is Bs p store' (Err f)
-    inline_err store store' (tree.Lost a) h seen g = absurd (h seen g.rest)
-    inline_err store store' (tree.Unread a slot) h seen g =
+    pub inline_err : (p' : Progress) (store store' : Blocks) (f : TreeFault) → IsMetAgain Is B p.rest store (Err f) → IsGiven kind source Is Bs p p' store' (Err f)
+    inline_err p' store store' (tree.Lost a) h seen g = absurd (h seen g.rest)
+    inline_err p' store store' (tree.Unread a slot) h seen g =
         let prog = todo_prog kind source p.at p.end inline p.todo in
         let u : UnreadBlock = record { addr = a; slot = slot } in
         then_halts kind source Bs Is seen prog ahead (Unread u) (exec B prog, goes_map Bs 0 prog, unread_here Is no_part seen u (exec B prog) (h seen g.rest))
-    inline_err store store' (tree.Unmapped a) h seen g = absurd (h seen g.rest)
-    inline_err store store' (tree.Crosses a) h seen g = absurd (h seen g.rest)
-    inline_err store store' (tree.Malformed a) h seen g = absurd (h seen g.rest)
+    inline_err p' store store' (tree.Unmapped a) h seen g = absurd (h seen g.rest)
+    inline_err p' store store' (tree.Crosses a) h seen g = absurd (h seen g.rest)
+    inline_err p' store store' (tree.Malformed a) h seen g = absurd (h seen g.rest)
 
     module _ (store : Blocks) (loan : Lent) (at : ℕ) (block : List ℕ) (is : block_of store loan ≡ Some block) (met : IsMetAgain Is B p.rest store (Ok (record { loan = loan; at = at }))) where
       -- the item that was met last
@@ -155,8 +155,8 @@ module _ (kind : SumKind) (source : Source) (Bs : ℕ → Map) (p : Progress) wh
       item_of seen g = item_by seen (met_last B p.rest) refl (subst (IsInline (met_last B p.rest)) todo g.inline) g
 
       -- it isn't an inline extent of another length
-      pub inline_other : (store' : Blocks) (f : TreeFault) → (length (body_at block at) ≡ 21 + part.len → ⊥) → IsGiven kind source Is Bs p store' (Err f)
-      inline_other store' f other seen g = let i = item_of seen g in absurd (other (ap length i.body ∙ i.len))
+      pub inline_other : (p' : Progress) (store' : Blocks) (f : TreeFault) → (length (body_at block at) ≡ 21 + part.len → ⊥) → IsGiven kind source Is Bs p p' store' (Err f)
+      inline_other p' store' f other seen g = let i = item_of seen g in absurd (other (ap length i.body ∙ i.len))
 
       -- its bytes are given
       module _ (at_start : p.at ≡ part.start) (len : ℕ) (len_is : len ≡ min (source.size - part.start) part.len) where
@@ -176,7 +176,7 @@ module _ (kind : SumKind) (source : Source) (Bs : ℕ → Map) (p : Progress) wh
             data_len : (body : List ℕ) (n : ℕ) → length body ≡ 21 + n → length (inline_data body) ≡ n
             data_len body n e = grind (arith, length-drop {A = ℕ})
 
-        pub inline_given : IsGiven kind source Is Bs p store (Ok (record { progress = behind_end source.size p; shown = shown.Bytes loan (span.Inline at len) }))
+        pub inline_given : IsGiven kind source Is Bs p (behind_end source.size p) store (Ok (shown.Bytes loan (span.Inline at len)))
         inline_given seen g =
             let i = item_of seen g in
             let none : part.start - p.at ≡ 0 = omega (arith, at_start) in

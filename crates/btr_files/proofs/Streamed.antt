@@ -17,9 +17,9 @@ use Rattle.btr_files.specs.declared.file.FileBytes.{FileBytes}
 use Rattle.btr_files.specs.declared.piece.Piece.{Piece as Lending}
 use Rattle.btr_files.specs.declared.progress.Progress.{Progress}
 use Rattle.btr_files.specs.declared.progress.Source.{Source}
+use Rattle.btr_files.specs.declared.streaming.Shown.{Shown}
 use Rattle.btr_files.specs.declared.streaming.Shown.TheVariants as shown
 use Rattle.btr_files.specs.declared.streaming.Span.{Span}
-use Rattle.btr_files.specs.declared.streaming.Step.{Step}
 use Rattle.btr_files.specs.declared.sums_ahead.SumsAhead.{SumsAhead}
 use Rattle.btr_files.specs.Aheads.{IsSummed}
 use Rattle.btr_files.specs.Content.{Piece}
@@ -33,15 +33,15 @@ abbrev pub file_at : FileBytes → Progress → SumsAhead → Option Lent → Fi
 file_at file p ahead loan = record { source = file.source; progress = p; ahead = ahead; loan = loan }
 
 -- what a step comes to where the checksums that are kept are those of the tree, and they are so behind it
-abbrev pub NextWithSums : SumKind → Source → (UnreadBlock → Want → Type 0) → (ℕ → Map) → Progress → Blocks → SumsAhead → SumsAhead → Result (Option Step) TreeFault → Type 0
-NextWithSums kind source Is Bs p store ahead ahead' result = IsSummed (Bs 0) source.sums ahead → IsNextStep kind source Is Bs p store result × IsSummed (Bs 0) source.sums ahead'
+abbrev pub NextWithSums : SumKind → Source → (UnreadBlock → Want → Type 0) → (ℕ → Map) → Progress → Progress → Blocks → SumsAhead → SumsAhead → Result (Option Shown) TreeFault → Type 0
+NextWithSums kind source Is Bs p p' store ahead ahead' result = IsSummed (Bs 0) source.sums ahead → IsNextStep kind source Is Bs p p' store result × IsSummed (Bs 0) source.sums ahead'
 
 -- a step with its piece
-gives : (kind : SumKind) (Is : UnreadBlock → Want → Type 0) (Bs : ℕ → Map) (file : FileBytes) (store : Blocks) (ahead : SumsAhead) (step : Step) (loan : Option Lent) (piece : Lending) → shown_piece store step.shown ≡ piece_of piece → NextWithSums kind file.source Is Bs file.progress store file.ahead ahead (Ok (Some step)) → IsNextPiece kind Is Bs file (file_at file step.progress ahead loan) (Ok (Some piece))
-gives kind Is Bs file store ahead step loan piece e h seen on =
+gives : (kind : SumKind) (Is : UnreadBlock → Want → Type 0) (Bs : ℕ → Map) (file : FileBytes) (store : Blocks) (ahead : SumsAhead) (p' : Progress) (given : Shown) (loan : Option Lent) (piece : Lending) → shown_piece store given ≡ piece_of piece → NextWithSums kind file.source Is Bs file.progress p' store file.ahead ahead (Ok (Some given)) → IsNextPiece kind Is Bs file (file_at file p' ahead loan) (Ok (Some piece))
+gives kind Is Bs file store ahead p' given loan piece e h seen on =
     let both = h on.1 in
     let s = both.0 seen on.0 in
-    subst (GivesPiece kind Bs seen file (file_at file step.progress ahead loan)) e (record { past = s.past; goes = s.goes; on = (s.on, both.1) })
+    subst (GivesPiece kind Bs seen file (file_at file p' ahead loan)) e (record { past = s.past; goes = s.goes; on = (s.on, both.1) })
 
 -- a store whose loan was given back serves
 pub served_back : (rack : Seen) (old new : Blocks) (loan : Option Lent) → new ≡ base old loan → Serves rack old → Serves rack new
@@ -51,57 +51,57 @@ module _ (old new : Volume) (mid : Blocks) (file : FileBytes) (taken : Option Le
   pub layout_is : mid.layout ≡ old.store.layout
   layout_is = ap (λ (s : Blocks). s.layout) back ∙ base_layout old.store taken
 
-  abbrev Told : SumsAhead → Layout → Result (Option Step) TreeFault → Type 0
-  Told ahead l r = TellsAll l before now (λ Bs. NextWithSums (kind_in old.sup) file.source (unread_by l before now) Bs file.progress new.store file.ahead ahead r)
+  abbrev Told : Progress → SumsAhead → Layout → Result (Option Shown) TreeFault → Type 0
+  Told p' ahead l r = TellsAll l before now (λ Bs. NextWithSums (kind_in old.sup) file.source (unread_by l before now) Bs file.progress p' new.store file.ahead ahead r)
 
   -- after a step that gives a piece
-  pub streamed : (ahead : SumsAhead) (step : Step) (loan : Option Lent) (piece : Lending) → shown_piece new.store step.shown ≡ piece_of piece → new.sup ≡ old.sup → SameLoans mid (base new.store loan) → IfSome loan (IsLiveIn new.store) → Serves now new.store → StepsOn file.source file.progress step → Told ahead mid.layout (Ok (Some step)) → Streamed old new file (file_at file step.progress ahead loan) before now (Ok (Some piece))
-  streamed ahead step loan piece e sup others live serves on told = record {
+  pub streamed : (ahead : SumsAhead) (p' : Progress) (given : Shown) (loan : Option Lent) (piece : Lending) → shown_piece new.store given ≡ piece_of piece → new.sup ≡ old.sup → SameLoans mid (base new.store loan) → IfSome loan (IsLiveIn new.store) → Serves now new.store → StepsOn file.source file.progress p' given → Told p' ahead mid.layout (Ok (Some given)) → Streamed old new file (file_at file p' ahead loan) before now (Ok (Some piece))
+  streamed ahead p' given loan piece e sup others live serves on told = record {
     sup = sup;
     others = subst (λ (s : Blocks). SameLoans s (base new.store loan)) (back ∙ ap (base old.store) is_taken) others;
     reading = record { serves = serves; held = live; underway = on.underway };
-    content = all_drawn old.store.layout (λ Bs. NextWithSums (kind_in old.sup) file.source (unread_by old.store.layout before now) Bs file.progress new.store file.ahead ahead (Ok (Some step)))
-        (λ Bs. IsNextPiece (kind_in old.sup) (unread_by old.store.layout before now) Bs file (file_at file step.progress ahead loan) (Ok (Some piece)))
-        (λ Bs h. gives (kind_in old.sup) (unread_by old.store.layout before now) Bs file new.store ahead step loan piece e h)
-        (subst (λ l. Told ahead l (Ok (Some step))) layout_is told);
+    content = all_drawn old.store.layout (λ Bs. NextWithSums (kind_in old.sup) file.source (unread_by old.store.layout before now) Bs file.progress p' new.store file.ahead ahead (Ok (Some given)))
+        (λ Bs. IsNextPiece (kind_in old.sup) (unread_by old.store.layout before now) Bs file (file_at file p' ahead loan) (Ok (Some piece)))
+        (λ Bs h. gives (kind_in old.sup) (unread_by old.store.layout before now) Bs file new.store ahead p' given loan piece e h)
+        (subst (λ l. Told p' ahead l (Ok (Some given))) layout_is told);
   }
 
   -- after a step that gives none: the end, or a fault
-  ended : (file' : FileBytes) (ahead : SumsAhead) (step : Result (Option Step) TreeFault) (result : Result (Option Lending) TreeFault) → ((Is : UnreadBlock → Want → Type 0) (Bs : ℕ → Map) → NextWithSums (kind_in old.sup) file.source Is Bs file.progress new.store file.ahead ahead step → IsNextPiece (kind_in old.sup) Is Bs file file' result)
-      → file'.source ≡ file.source → file'.progress ≡ file.progress → file'.loan ≡ None → new.sup ≡ old.sup → SameLoans mid new.store → Serves now new.store → IsUnderway file.source file.progress → Told ahead mid.layout step → Streamed old new file file' before now result
-  ended file' ahead step result f source progress loan sup same serves underway told = record {
+  ended : (file' : FileBytes) (p' : Progress) (ahead : SumsAhead) (step : Result (Option Shown) TreeFault) (result : Result (Option Lending) TreeFault) → ((Is : UnreadBlock → Want → Type 0) (Bs : ℕ → Map) → NextWithSums (kind_in old.sup) file.source Is Bs file.progress p' new.store file.ahead ahead step → IsNextPiece (kind_in old.sup) Is Bs file file' result)
+      → file'.source ≡ file.source → file'.progress ≡ p' → file'.loan ≡ None → new.sup ≡ old.sup → SameLoans mid new.store → Serves now new.store → IsUnderway file.source p' → Told p' ahead mid.layout step → Streamed old new file file' before now result
+  ended file' p' ahead step result f source progress loan sup same serves underway told = record {
     sup = sup;
     others = subst (λ (s : Blocks). SameLoans s (base new.store file'.loan)) (back ∙ ap (base old.store) is_taken) (subst (λ l. SameLoans mid (base new.store l)) (sym loan) same);
     reading = record { serves = serves; held = subst (λ l. IfSome l (IsLiveIn new.store)) (sym loan) tt; underway = subst (λ (s : Source). IsUnderway s file'.progress) (sym source) (subst (IsUnderway file.source) (sym progress) underway) };
-    content = all_drawn old.store.layout (λ Bs. NextWithSums (kind_in old.sup) file.source (unread_by old.store.layout before now) Bs file.progress new.store file.ahead ahead step)
+    content = all_drawn old.store.layout (λ Bs. NextWithSums (kind_in old.sup) file.source (unread_by old.store.layout before now) Bs file.progress p' new.store file.ahead ahead step)
         (λ Bs. IsNextPiece (kind_in old.sup) (unread_by old.store.layout before now) Bs file file' result)
         (λ Bs h. f (unread_by old.store.layout before now) Bs h)
-        (subst (λ l. Told ahead l step) layout_is told);
+        (subst (λ l. Told p' ahead l step) layout_is told);
   }
 
-  pub streamed_none : (ahead : SumsAhead) (loan : Option Lent) → loan ≡ None → new.sup ≡ old.sup → SameLoans mid new.store → Serves now new.store → IsUnderway file.source file.progress → Told ahead mid.layout (Ok None) → Streamed old new file (file_at file file.progress ahead loan) before now (Ok None)
-  streamed_none ahead loan none = ended (file_at file file.progress ahead loan) ahead (Ok None) (Ok None) (λ Is Bs h seen on. (h on.1).0 seen on.0) refl refl none
+  pub streamed_none : (ahead : SumsAhead) (p' : Progress) (loan : Option Lent) → loan ≡ None → new.sup ≡ old.sup → SameLoans mid new.store → Serves now new.store → IsUnderway file.source p' → Told p' ahead mid.layout (Ok None) → Streamed old new file (file_at file p' ahead loan) before now (Ok None)
+  streamed_none ahead p' loan none = ended (file_at file p' ahead loan) p' ahead (Ok None) (Ok None) (λ Is Bs h seen on. (h on.1).0 seen on.0) refl refl none
 
-  pub streamed_err : (ahead later : SumsAhead) (loan : Option Lent) (fault : TreeFault) → loan ≡ None → new.sup ≡ old.sup → SameLoans mid new.store → Serves now new.store → IsUnderway file.source file.progress → Told ahead mid.layout (Err fault) → Streamed old new file (file_at file file.progress later loan) before now (Err fault)
-  streamed_err ahead later loan fault none = ended (file_at file file.progress later loan) ahead (Err fault) (Err fault) (λ Is Bs h seen on. (h on.1).0 seen on.0) refl refl none
+  pub streamed_err : (ahead later : SumsAhead) (p' : Progress) (loan : Option Lent) (fault : TreeFault) → loan ≡ None → new.sup ≡ old.sup → SameLoans mid new.store → Serves now new.store → IsUnderway file.source p' → Told p' ahead mid.layout (Err fault) → Streamed old new file (file_at file p' later loan) before now (Err fault)
+  streamed_err ahead later p' loan fault none = ended (file_at file p' later loan) p' ahead (Err fault) (Err fault) (λ Is Bs h seen on. (h on.1).0 seen on.0) refl refl none
 
 -- less is left of the file
-pub nearer : (file : FileBytes) (step : Step) → StepsOn file.source file.progress step → file.source.size - step.progress.at < file.source.size - file.progress.at
-nearer file step on = omega (arith, on.further, on.underway.within)
+pub nearer : (file : FileBytes) (p' : Progress) (given : Shown) → StepsOn file.source file.progress p' given → file.source.size - p'.at < file.source.size - file.progress.at
+nearer file p' given on = omega (arith, on.further, on.underway.within)
 
 -- what is known of a step, by its piece
-module _ (old new : Blocks) (step : Step) (o : Option Step) (is : o ≡ Some step) where
-  lent_is : LendsNext old new (Ok o) → LendsShown old new step.shown
+module _ (old new : Blocks) (given : Shown) (o : Option Shown) (is : o ≡ Some given) where
+  lent_is : LendsNext old new (Ok o) → LendsShown old new given
   lent_is h = subst (λ x. LendsNext old new (Ok x)) is h
 
-  pub gap_lent : (count : ℕ) → step.shown ≡ shown.Gap count → LendsNext old new (Ok o) → SameLoans old new
+  pub gap_lent : (count : ℕ) → given ≡ shown.Gap count → LendsNext old new (Ok o) → SameLoans old new
   gap_lent count e h = subst (LendsShown old new) e (lent_is h)
 
-  pub span_lent : (loan : Lent) (place : Span) → step.shown ≡ shown.Bytes loan place → LendsNext old new (Ok o) → IsSpanLent old new loan place
+  pub span_lent : (loan : Lent) (place : Span) → given ≡ shown.Bytes loan place → LendsNext old new (Ok o) → IsSpanLent old new loan place
   span_lent loan place e h = subst (LendsShown old new) e (lent_is h)
 
-  pub steps_on : (source : Source) (p : Progress) → NextStepsOn source p (Ok o) → StepsOn source p step
-  steps_on source p h = subst (λ x. NextStepsOn source p (Ok x)) is h
+  pub steps_on : (source : Source) (p p' : Progress) → NextStepsOn source p p' (Ok o) → StepsOn source p p' given
+  steps_on source p p' h = subst (λ x. NextStepsOn source p p' (Ok x)) is h
 
 -- the loan that is kept is none, or the piece's
 pub none_back : (mid new : Blocks) (loan : Option Lent) → loan ≡ None → SameLoans mid new → SameLoans mid (base new loan)

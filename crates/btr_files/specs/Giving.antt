@@ -24,7 +24,6 @@ use Rattle.btr_files.specs.declared.streaming.Shown.{Shown}
 use Rattle.btr_files.specs.declared.streaming.Shown.TheVariants as shown
 use Rattle.btr_files.specs.declared.streaming.Span.{Span}
 use Rattle.btr_files.specs.declared.streaming.Span.TheVariants as span
-use Rattle.btr_files.specs.declared.streaming.Step.{Step}
 use Rattle.btr_files.specs.Content.{Piece, Bytes, Gap}
 use Rattle.btr_files.specs.Streaming.{LeftBy, IsGoing, IsUnderway}
 
@@ -108,12 +107,12 @@ abbrev pub LendsShown : Blocks → Blocks → Shown → Type 0
 LendsShown old new (shown.Gap count) = SameLoans old new
 LendsShown old new (shown.Bytes loan place) = IsSpanLent old new loan place
 
-abbrev pub LendsStep : Blocks → Blocks → Result Step TreeFault → Type 0
-LendsStep old new (Ok step) = LendsShown old new step.shown
+abbrev pub LendsStep : Blocks → Blocks → Result Shown TreeFault → Type 0
+LendsStep old new (Ok given) = LendsShown old new given
 LendsStep old new (Err f) = SameLoans old new
 
-abbrev pub LendsNext : Blocks → Blocks → Result (Option Step) TreeFault → Type 0
-LendsNext old new (Ok (Some step)) = LendsShown old new step.shown
+abbrev pub LendsNext : Blocks → Blocks → Result (Option Shown) TreeFault → Type 0
+LendsNext old new (Ok (Some given)) = LendsShown old new given
 LendsNext old new (Ok None) = SameLoans old new
 LendsNext old new (Err f) = SameLoans old new
 
@@ -122,40 +121,41 @@ IsShown (shown.Gap count) = 0 < count
 IsShown (shown.Bytes loan place) = Unit {0}
 
 -- a step gives more of a file, which can go on then
-pub record StepsOn (source : Source) (p : Progress) (step : Step) : Type 0 where
-  pub underway : IsUnderway source step.progress
-  pub further : p.at < step.progress.at
-  pub shown : IsShown step.shown
+pub record StepsOn (source : Source) (p p' : Progress) (given : Shown) : Type 0 where
+  pub underway : IsUnderway source p'
+  pub further : p.at < p'.at
+  pub shown : IsShown given
 
-abbrev pub NextStepsOn : Source → Progress → Result (Option Step) TreeFault → Type 0
-NextStepsOn source p (Ok (Some step)) = StepsOn source p step
-NextStepsOn source p (Ok None) = p.at ≡ source.size
-NextStepsOn source p (Err f) = Unit {0}
+-- .. or it is given up to its size; after a fault it is given as far as it was
+abbrev pub NextStepsOn : Source → Progress → Progress → Result (Option Shown) TreeFault → Type 0
+NextStepsOn source p p' (Ok (Some given)) = StepsOn source p p' given
+NextStepsOn source p p' (Ok None) = IsUnderway source p' × (p'.at ≡ source.size)
+NextStepsOn source p p' (Err f) = p' ≡ p
 
 module _ (kind : SumKind) (source : Source) (Is : UnreadBlock → Want → Type 0) (Bs : ℕ → Map) where
   -- some wants, and then the piece; what is left comes behind
-  pub record GivesStep (seen : List Want) (p : Progress) (store : Blocks) (step : Step) : Type 0 where
+  pub record GivesStep (seen : List Want) (p p' : Progress) (store : Blocks) (given : Shown) : Type 0 where
     pub past : List Want
     pub goes : (q : Run Want Fault Piece (Unit {0}))
-        → LeftBy kind source Bs (Bs 0) step.progress q
-        → LeftBy kind source Bs (Bs 0) p (prepend (want_marks past) (first (Does (shown_piece store step.shown)) q))
-    pub on : IsGoing (Bs 0) (seen ++ past) step.progress
+        → LeftBy kind source Bs (Bs 0) p' q
+        → LeftBy kind source Bs (Bs 0) p (prepend (want_marks past) (first (Does (shown_piece store given)) q))
+    pub on : IsGoing (Bs 0) (seen ++ past) p'
 
   -- what was answered without a piece follows a run of what was still to come
   abbrev pub EndsIn : List Want → Progress → Result (Unit {0}) (Halt Fault UnreadBlock) → Type 0
   EndsIn seen p answer = (q : Run Want Fault Piece (Unit {0})) × LeftBy kind source Bs (Bs 0) p q × Follows Is no_part seen q [] answer
 
-  abbrev pub GivenBy : List Want → Progress → Blocks → Result Step TreeFault → Type 0
-  GivenBy seen p store (Ok step) = GivesStep seen p store step
-  GivenBy seen p store (Err f) = EndsIn seen p (Err (halt_of f))
+  abbrev pub GivenBy : List Want → Progress → Progress → Blocks → Result Shown TreeFault → Type 0
+  GivenBy seen p p' store (Ok given) = GivesStep seen p p' store given
+  GivenBy seen p p' store (Err f) = EndsIn seen p (Err (halt_of f))
 
-  abbrev pub IsGiven : Progress → Blocks → Result Step TreeFault → Type 0
-  IsGiven p store result = (seen : List Want) → IsGoing (Bs 0) seen p → GivenBy seen p store result
+  abbrev pub IsGiven : Progress → Progress → Blocks → Result Shown TreeFault → Type 0
+  IsGiven p p' store result = (seen : List Want) → IsGoing (Bs 0) seen p → GivenBy seen p p' store result
 
-  abbrev pub NextStepBy : List Want → Progress → Blocks → Result (Option Step) TreeFault → Type 0
-  NextStepBy seen p store (Ok (Some step)) = GivesStep seen p store step
-  NextStepBy seen p store (Ok None) = EndsIn seen p (Ok tt)
-  NextStepBy seen p store (Err f) = EndsIn seen p (Err (halt_of f))
+  abbrev pub NextStepBy : List Want → Progress → Progress → Blocks → Result (Option Shown) TreeFault → Type 0
+  NextStepBy seen p p' store (Ok (Some given)) = GivesStep seen p p' store given
+  NextStepBy seen p p' store (Ok None) = EndsIn seen p (Ok tt)
+  NextStepBy seen p p' store (Err f) = EndsIn seen p (Err (halt_of f))
 
-  abbrev pub IsNextStep : Progress → Blocks → Result (Option Step) TreeFault → Type 0
-  IsNextStep p store result = (seen : List Want) → IsGoing (Bs 0) seen p → NextStepBy seen p store result
+  abbrev pub IsNextStep : Progress → Progress → Blocks → Result (Option Shown) TreeFault → Type 0
+  IsNextStep p p' store result = (seen : List Want) → IsGoing (Bs 0) seen p → NextStepBy seen p p' store result

@@ -19,7 +19,7 @@ use Rattle.btr_files.specs.declared.extent.Ahead.{Ahead}
 use Rattle.btr_files.specs.declared.name.NameBuf.{NameBuf}
 use Rattle.btr_files.specs.declared.progress.Progress.{Progress}
 use Rattle.btr_files.specs.declared.progress.Source.{Source}
-use Rattle.btr_files.specs.declared.streaming.Step.{Step}
+use Rattle.btr_files.specs.declared.streaming.Shown.{Shown}
 use Rattle.btr_files.specs.declared.sums_ahead.SumsAhead.{SumsAhead}
 use Rattle.btr_files.specs.Ahead.{IsNextExtent, IsLooked}
 use Rattle.btr_files.specs.Aheads.{ComesOf, IsAheadIn, IsSummed}
@@ -87,19 +87,19 @@ TellsLooked source layout before now p result =
     Tells layout before now (λ B. IsLooked source (unread_by layout before now) B p result)
 
 -- a step of a file that needs no checksum
-abbrev pub TellsStep : Volume → Seen → Seen → Source → Progress → Blocks → Result Step TreeFault → Type 0
-TellsStep vol before now source p store result =
-    TellsAll vol.store.layout before now (λ Bs. IsGiven (kind_in vol.sup) source (unread_by vol.store.layout before now) Bs p store result)
+abbrev pub TellsStep : Volume → Seen → Seen → Source → Progress → Progress → Blocks → Result Shown TreeFault → Type 0
+TellsStep vol before now source p p' store result =
+    TellsAll vol.store.layout before now (λ Bs. IsGiven (kind_in vol.sup) source (unread_by vol.store.layout before now) Bs p p' store result)
 
 -- a step, and the next step: where the checksums that are kept were those of the tree, so are those that are kept then
-abbrev pub TellsSummed : Volume → Seen → Seen → Source → SumsAhead → SumsAhead → Progress → Blocks → Result Step TreeFault → Type 0
-TellsSummed vol before now source ahead ahead' p store result =
+abbrev pub TellsSummed : Volume → Seen → Seen → Source → SumsAhead → SumsAhead → Progress → Progress → Blocks → Result Shown TreeFault → Type 0
+TellsSummed vol before now source ahead ahead' p p' store result =
     TellsAll vol.store.layout before now (λ Bs. IsSummed (Bs 0) source.sums ahead
-    → IsGiven (kind_in vol.sup) source (unread_by vol.store.layout before now) Bs p store result × IsSummed (Bs 0) source.sums ahead')
+    → IsGiven (kind_in vol.sup) source (unread_by vol.store.layout before now) Bs p p' store result × IsSummed (Bs 0) source.sums ahead')
 
-abbrev pub TellsNextStep : Volume → Seen → Seen → Source → SumsAhead → SumsAhead → Progress → Blocks
-    → Result (Option Step) TreeFault → Type 0
-TellsNextStep vol before now source ahead ahead' p store result =
+abbrev pub TellsNextStep : Volume → Seen → Seen → Source → SumsAhead → SumsAhead → Progress → Progress → Blocks
+    → Result (Option Shown) TreeFault → Type 0
+TellsNextStep vol before now source ahead ahead' p p' store result =
     TellsAll vol.store.layout before now (λ Bs. IsSummed (Bs 0) source.sums ahead
-    → IsNextStep (kind_in vol.sup) source (unread_by vol.store.layout before now) Bs p store result
+    → IsNextStep (kind_in vol.sup) source (unread_by vol.store.layout before now) Bs p p' store result
     × IsSummed (Bs 0) source.sums ahead')

@@ -157,8 +157,8 @@ fn find_extent<R: Rack>(
     }
 }
 
-// Goes on to the next extent that has bytes before the size, behind the one that was met last.
-fn find_next<R: Rack>(
+// Goes on to the next extent that has bytes before the size, behind the one that was met last, of which nothing is left.
+pub(crate) fn find_next<R: Rack>(
     source: &Source,
     progress: &Progress,
     rack: &mut R,
@@ -199,28 +199,5 @@ fn find_next<R: Rack>(
                 todo: ahead.todo,
             })
         }
-    }
-}
-
-// .. where nothing is left of that one.
-pub(crate) fn look_ahead<R: Rack>(
-    source: &Source,
-    progress: &Progress,
-    rack: &mut R,
-    store: &mut Store,
-) -> Result<Progress, TreeFault>
-    requires serves { Serves (R.seen rack.old) store.old }
-    requires room { 4 ≤ free_count store.old }
-    requires underway { IsUnderway source.now progress.now }
-    ensures serves { Serves (R.seen rack.new) store.new }
-    ensures reads { OnlyReads (R.seen rack.old) (R.seen rack.new) }
-    ensures loans { SameLoans store.old store.new }
-    ensures ahead { IfOk result (LookedAhead source.now progress.now) }
-    ensures cause { HasCause store.old.layout (R.seen rack.old) (R.seen rack.new) result }
-    ensures content { TellsLooked source.now store.old.layout (R.seen rack.old) (R.seen rack.new) progress.now result }
-{
-    match progress.todo {
-        Todo::Next => find_next(source, progress, rack, store),
-        _ => Ok(*progress),
     }
 }

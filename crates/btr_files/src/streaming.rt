@@ -1,17 +1,17 @@
 // The next piece of a file.
-ghost use Rattle.std.specs.Prelude.{◌≡◌, ◌↔◌, ◌+◌, ◌<◌, ◌≤◌, ◌^◌, length, IsTrue, IfOk, IfSome};
+ghost use Rattle.std.specs.Prelude.{◌≡◌, ◌↔◌, ◌+◌, ◌<◌, ◌≤◌, ◌^◌, length, IsTrue, IfOk, IfSome, OnErr};
 ghost use Rattle.std.specs.Borrow.{sem};
 ghost use Rattle.btr_node.specs.Block.{items, is_leaf};
 ghost use Rattle.btr_rack.specs.Rack.{OnlyReads};
 ghost use Rattle.btr_read.specs.Serves.{Serves};
 ghost use Rattle.btr_read.specs.Store.{free_count};
 ghost use Rattle.btr_walk.specs.Reading.{HasCause};
-ghost use Rattle.btr_files.specs.Giving.{behind_end, behind_sector, behind_zeros, body_at, span_piece, zeros_at, IsSpan, LendsNext, LendsStep, StepsOn, NextStepsOn};
+ghost use Rattle.btr_files.specs.Giving.{behind_end, behind_sector, body_at, span_piece, zeros_at, IsSpan, LendsNext, LendsStep, StepsOn, NextStepsOn};
 ghost use Rattle.btr_files.specs.Ahead.{IsFound};
 ghost use Rattle.btr_files.specs.Streaming.{piece_of, without_file, FitsTodo, IsPiece, IsReading, IsUnderway, PieceNears, SameFile, StreamEnds};
 ghost use Rattle.btr_files.specs.Told.{TellsStep, TellsSummed, TellsNextStep};
 
-use crate::extent::look_ahead;
+use crate::extent::find_next;
 use crate::lookup::{give_back, keep};
 use crate::progress::{InlinePart, Progress, SectorPart, Source, Todo};
 use crate::sector::{is_tested, read_sector, want_of};
@@ -39,12 +39,6 @@ pub(crate) enum Shown {
     Bytes(Loan, Span),
 }
 
-/// A piece, and how far the file has been given then.
-pub(crate) struct Step {
-    pub(crate) progress: Progress,
-    pub(crate) shown: Shown,
-}
-
 // How many zeros come before anything else.
 fn zeros_at(size: u64, progress: &Progress) -> u64
     requires within { progress.now.at ≤ size }
@@ -59,59 +53,35 @@ fn zeros_at(size: u64, progress: &Progress) -> u64
     }
 }
 
-// How far a file has been given behind some zeros.
-fn behind_zeros(progress: &Progress, zeros: u64) -> Progress
-    requires { progress.now.at + zeros < 2 ^ 64 }
-    ensures { result ≡ behind_zeros progress.now zeros }
-{
-    Progress {
-        rest: progress.rest,
-        at: progress.at + zeros,
-        end: progress.end,
-        todo: progress.todo,
-    }
-}
-
-// .. and behind all bytes of the extent that was met last.
-fn behind_end(size: u64, progress: &Progress) -> Progress
-    ensures { result ≡ behind_end size progress.now }
+// Goes on behind all bytes of the extent that was met last.
+fn pass_extent(size: u64, progress: &mut Progress)
+    ensures { progress.new ≡ behind_end size progress.old }
 {
     if u128::from(size) <= progress.end {
-        return Progress {
-            rest: progress.rest,
-            at: size,
-            end: progress.end,
-            todo: Todo::Over,
-        };
+        progress.at = size;
+        progress.todo = Todo::Over;
+        return;
     }
-    Progress {
-        rest: progress.rest,
-        at: progress.end as u64,
-        end: progress.end,
-        todo: Todo::Next,
-    }
+    progress.at = progress.end as u64;
+    progress.todo = Todo::Next;
 }
 
 // .. and behind the first of some sectors.
-fn behind_sector(size: u64, progress: &Progress, part: &SectorPart) -> Progress
-    requires { FitsTodo size progress.now.at progress.now.end (Todo.Sectors part.now) }
-    ensures { result ≡ behind_sector size progress.now part.now }
+fn pass_sector(size: u64, progress: &mut Progress, part: &SectorPart)
+    requires { FitsTodo size progress.old.at progress.old.end (Todo.Sectors part.now) }
+    ensures { progress.new ≡ behind_sector size progress.old part.now }
 {
     if part.count <= 1 {
-        return behind_end(size, progress);
+        pass_extent(size, progress);
+        return;
     }
     let start = part.start + 4096;
-    let part = SectorPart {
+    progress.at = start;
+    progress.todo = Todo::Sectors(SectorPart {
         start,
         addr: part.addr + 4096,
         count: part.count - 1,
-    };
-    Progress {
-        rest: progress.rest,
-        at: start,
-        end: progress.end,
-        todo: Todo::Sectors(part),
-    }
+    });
 }
 
 // Whether an item of a leaf is an inline extent of so many bytes.
@@ -125,27 +95,28 @@ fn has_inline(block: &[u8], at: usize, len: u64) -> bool
     body.len() >= 21 && (body.len() - 21) as u64 == len
 }
 
-// Gives the bytes of an inline extent, which is read again.
+// Gives the bytes of an inline extent, which is read again, and goes on behind them.
 fn give_inline<R: Rack>(
     source: &Source,
-    progress: &Progress,
+    progress: &mut Progress,
     part: &InlinePart,
     rack: &mut R,
     vol: &mut Volume,
-) -> Result<Step, TreeFault>
+) -> Result<Shown, TreeFault>
     requires serves { Serves (R.seen rack.old) vol.old.store }
     requires room { 4 ≤ free_count vol.old.store }
-    requires underway { IsUnderway source.now progress.now }
-    requires todo { progress.now.todo ≡ Todo.Inline part.now }
-    requires begun { progress.now.at ≡ part.now.start }
+    requires underway { IsUnderway source.now progress.old }
+    requires todo { progress.old.todo ≡ Todo.Inline part.now }
+    requires begun { progress.old.at ≡ part.now.start }
     ensures serves { Serves (R.seen rack.new) vol.new.store }
     ensures reads { OnlyReads (R.seen rack.old) (R.seen rack.new) }
     ensures sup { vol.new.sup ≡ vol.old.sup }
     ensures lent { LendsStep vol.old.store vol.new.store result }
-    ensures on { IfOk result (StepsOn source.now progress.now) }
+    ensures on { IfOk result (StepsOn source.now progress.old progress.new) }
+    ensures stays { OnErr result (progress.new ≡ progress.old) }
     ensures cause { HasCause vol.old.store.layout (R.seen rack.old) (R.seen rack.new) result }
     ensures content { TellsStep vol.old (R.seen rack.old) (R.seen rack.new) source.now
-        progress.now vol.new.store result }
+        progress.old progress.new vol.new.store result }
 {
     let MetAgain { loan, at } = progress.rest.met_again(rack, &mut vol.store)?;
     if !has_inline(vol.store.bytes(&loan), at, part.len) {
@@ -153,111 +124,118 @@ fn give_inline<R: Rack>(
         return Err(TreeFault::Malformed(part.leaf));
     }
     let len = (source.size - part.start).min(part.len) as usize;
-    Ok(Step {
-        progress: behind_end(source.size, progress),
-        shown: Shown::Bytes(loan, Span::Inline { at, len }),
-    })
+    pass_extent(source.size, progress);
+    Ok(Shown::Bytes(loan, Span::Inline { at, len }))
 }
 
-// Gives the first of some sectors.
+// Gives the first of some sectors, and goes on behind it.
 fn give_sector<R: Rack>(
     source: &Source,
-    progress: &Progress,
+    progress: &mut Progress,
     part: &SectorPart,
     ahead: &mut SumsAhead,
     rack: &mut R,
     vol: &mut Volume,
-) -> Result<Step, TreeFault>
+) -> Result<Shown, TreeFault>
     requires serves { Serves (R.seen rack.old) vol.old.store }
     requires room { 4 ≤ free_count vol.old.store }
-    requires underway { IsUnderway source.now progress.now }
-    requires todo { progress.now.todo ≡ Todo.Sectors part.now }
-    requires begun { progress.now.at ≡ part.now.start }
+    requires underway { IsUnderway source.now progress.old }
+    requires todo { progress.old.todo ≡ Todo.Sectors part.now }
+    requires begun { progress.old.at ≡ part.now.start }
     ensures serves { Serves (R.seen rack.new) vol.new.store }
     ensures reads { OnlyReads (R.seen rack.old) (R.seen rack.new) }
     ensures sup { vol.new.sup ≡ vol.old.sup }
     ensures lent { LendsStep vol.old.store vol.new.store result }
-    ensures on { IfOk result (StepsOn source.now progress.now) }
+    ensures on { IfOk result (StepsOn source.now progress.old progress.new) }
+    ensures stays { OnErr result (progress.new ≡ progress.old) }
     ensures cause { HasCause vol.old.store.layout (R.seen rack.old) (R.seen rack.new) result }
     ensures content { TellsSummed vol.old (R.seen rack.old) (R.seen rack.new) source.now
-        ahead.old ahead.new progress.now vol.new.store result }
+        ahead.old ahead.new progress.old progress.new vol.new.store result }
 {
     let want = want_of(source, part.addr, ahead, rack, vol)?;
     let loan = read_sector(&want, rack, &mut vol.store)?;
     let left = source.size - part.start;
     let len = left.min(vol.store.bytes(&loan).len() as u64) as usize;
     let verified = is_tested(&want);
-    Ok(Step {
-        progress: behind_sector(source.size, progress, part),
-        shown: Shown::Bytes(loan, Span::Sector { len, verified }),
-    })
+    pass_sector(source.size, progress, part);
+    Ok(Shown::Bytes(loan, Span::Sector { len, verified }))
 }
 
-// Gives the next piece of what is at hand.
+// Gives the next piece of what is at hand, and goes on behind it.
 fn give<R: Rack>(
     source: &Source,
-    progress: &Progress,
+    progress: &mut Progress,
     ahead: &mut SumsAhead,
     rack: &mut R,
     vol: &mut Volume,
-) -> Result<Option<Step>, TreeFault>
+) -> Result<Option<Shown>, TreeFault>
     requires serves { Serves (R.seen rack.old) vol.old.store }
     requires room { 4 ≤ free_count vol.old.store }
-    requires underway { IsUnderway source.now progress.now }
-    requires found { IsFound progress.now.todo }
+    requires underway { IsUnderway source.now progress.old }
+    requires found { IsFound progress.old.todo }
     ensures serves { Serves (R.seen rack.new) vol.new.store }
     ensures reads { OnlyReads (R.seen rack.old) (R.seen rack.new) }
     ensures sup { vol.new.sup ≡ vol.old.sup }
     ensures lent { LendsNext vol.old.store vol.new.store result }
-    ensures on { NextStepsOn source.now progress.now result }
+    ensures on { NextStepsOn source.now progress.old progress.new result }
     ensures cause { HasCause vol.old.store.layout (R.seen rack.old) (R.seen rack.new) result }
     ensures content { TellsNextStep vol.old (R.seen rack.old) (R.seen rack.new) source.now
-        ahead.old ahead.new progress.now vol.new.store result }
+        ahead.old ahead.new progress.old progress.new vol.new.store result }
 {
     let zeros = zeros_at(source.size, progress);
     if zeros > 0 {
-        return Ok(Some(Step {
-            progress: behind_zeros(progress, zeros),
-            shown: Shown::Gap(zeros),
-        }));
+        progress.at += zeros;
+        return Ok(Some(Shown::Gap(zeros)));
     }
-    match &progress.todo {
+    match progress.todo {
         Todo::Next => unreachable!(),
         Todo::Over => Ok(None),
-        Todo::Inline(part) => match give_inline(source, progress, part, rack, vol) {
+        Todo::Inline(part) => match give_inline(source, progress, &part, rack, vol) {
             Err(fault) => Err(fault),
-            Ok(step) => Ok(Some(step)),
+            Ok(shown) => Ok(Some(shown)),
         },
-        Todo::Sectors(part) => match give_sector(source, progress, part, ahead, rack, vol) {
+        Todo::Sectors(part) => match give_sector(source, progress, &part, ahead, rack, vol) {
             Err(fault) => Err(fault),
-            Ok(step) => Ok(Some(step)),
+            Ok(shown) => Ok(Some(shown)),
         },
     }
 }
 
-// Gives the next piece.
+// Gives the next piece, and goes on behind it. After a fault the file is given as far as it was.
 fn next_step<R: Rack>(
     source: &Source,
-    progress: &Progress,
+    progress: &mut Progress,
     ahead: &mut SumsAhead,
     rack: &mut R,
     vol: &mut Volume,
-) -> Result<Option<Step>, TreeFault>
+) -> Result<Option<Shown>, TreeFault>
     requires serves { Serves (R.seen rack.old) vol.old.store }
     requires room { 4 ≤ free_count vol.old.store }
-    requires underway { IsUnderway source.now progress.now }
+    requires underway { IsUnderway source.now progress.old }
     ensures serves { Serves (R.seen rack.new) vol.new.store }
     ensures reads { OnlyReads (R.seen rack.old) (R.seen rack.new) }
     ensures sup { vol.new.sup ≡ vol.old.sup }
     ensures lent { LendsNext vol.old.store vol.new.store result }
-    ensures on { NextStepsOn source.now progress.now result }
+    ensures on { NextStepsOn source.now progress.old progress.new result }
     ensures cause { HasCause vol.old.store.layout (R.seen rack.old) (R.seen rack.new) result }
     ensures content { TellsNextStep vol.old (R.seen rack.old) (R.seen rack.new) source.now
-        ahead.old ahead.new progress.now vol.new.store result }
+        ahead.old ahead.new progress.old progress.new vol.new.store result }
 {
-    match look_ahead(source, progress, rack, &mut vol.store) {
-        Err(fault) => Err(fault),
-        Ok(next) => give(source, &next, ahead, rack, vol),
+    match progress.todo {
+        Todo::Next => match find_next(source, progress, rack, &mut vol.store) {
+            Err(fault) => Err(fault),
+            Ok(found) => {
+                let mut next = found;
+                match give(source, &mut next, ahead, rack, vol) {
+                    Err(fault) => Err(fault),
+                    Ok(shown) => {
+                        *progress = next;
+                        Ok(shown)
+                    }
+                }
+            }
+        },
+        _ => give(source, progress, ahead, rack, vol),
     }
 }
 
@@ -305,25 +283,21 @@ pub fn next_piece<'e, R: Rack>(
 {
     let loan = file.loan.take();
     give_back(&mut vol.store, loan);
-    match next_step(&file.source, &file.progress, &mut file.ahead, rack, vol) {
+    match next_step(&file.source, &mut file.progress, &mut file.ahead, rack, vol) {
         Err(fault) => {
             file.ahead = SumsAhead::new();
             Err(fault)
         }
         Ok(None) => Ok(None),
-        Ok(Some(given)) => {
-            let Step { progress, shown } = given;
-            file.progress = progress;
-            match shown {
-                Shown::Gap(count) => Ok(Some(Piece::Gap(count))),
-                Shown::Bytes(loan, span) => {
-                    keep(&mut file.loan, loan);
-                    let Some(held) = &file.loan else {
-                        unreachable!();
-                    };
-                    Ok(Some(piece_in(vol.store.bytes(held), span)))
-                }
+        Ok(Some(shown)) => match shown {
+            Shown::Gap(count) => Ok(Some(Piece::Gap(count))),
+            Shown::Bytes(loan, span) => {
+                keep(&mut file.loan, loan);
+                let Some(held) = &file.loan else {
+                    unreachable!();
+                };
+                Ok(Some(piece_in(vol.store.bytes(held), span)))
             }
-        }
+        },
     }
 }

@@ -1,10 +1,7 @@
-use Rattle.std.proofs.Common.{Ok, Some, None, subst, sym, ap, ◌∙◌, arith}
+use Rattle.std.proofs.Common.{Ok, Some, None, ap, ◌∙◌, arith}
 use Rattle.btr_walk.specs.Reading.{unread_by}
-use Rattle.btr_files.specs.declared.progress.Progress.{Progress}
 use Rattle.btr_files.specs.declared.streaming.Shown.TheVariants as shown
-use Rattle.btr_files.specs.declared.streaming.Step.{Step}
 use Rattle.btr_files.specs.Giving.{behind_zeros, zeros_at}
-use Rattle.btr_files.specs.Maps.{TellsAll}
 use Rattle.btr_files.specs.Sums.{kind_in}
 use Rattle.btr_files.proofs.AllMaps.{all_unread}
 use Rattle.btr_files.proofs.Stepping.{zeros_given, nothing_left}
@@ -20,10 +17,8 @@ returns-then-zeros-gt0-clause-content g c =
     let a = g.R.Rack.seen c.args.rack.now in
     let is = unread_by store.layout a a in
     let zeros = c.zeros_at-zeros.result in
-    let step : Progress → Step = λ x. record { progress = x; shown = shown.Gap zeros } in
-    subst (λ (x : Progress). TellsAll store.layout a a (λ Bs. NextWithSums kind source is Bs p store c.args.ahead.now c.args.ahead.now (Ok (Some (step x))))) (sym c.behind_zeros.ensures)
-    (all_unread store.layout (λ Bs. NextWithSums kind source is Bs p store c.args.ahead.now c.args.ahead.now (Ok (Some (step (behind_zeros p zeros)))))
-    (λ Bs summed. (zeros_given kind source Bs p zeros c.if-zeros-gt0.true is store c.zeros_at-zeros.ensures, summed)))
+    all_unread store.layout (λ Bs. NextWithSums kind source is Bs p (behind_zeros p zeros) store c.args.ahead.now c.args.ahead.now (Ok (Some (shown.Gap zeros))))
+    (λ Bs summed. (zeros_given kind source Bs p zeros c.if-zeros-gt0.true is store c.zeros_at-zeros.ensures, summed))
 
 pub returns-in-Over-clause-content : goal.returns-in-Over-clause-content
 returns-in-Over-clause-content g c =
@@ -34,5 +29,5 @@ returns-in-Over-clause-content g c =
     let a = g.R.Rack.seen c.args.rack.now in
     let is = unread_by store.layout a a in
     let none = c.zeros_at-zeros.ensures ∙ ap (zeros_at source.size p.at) c.in-Over.is in
-    all_unread store.layout (λ Bs. NextWithSums kind source is Bs p store c.args.ahead.now c.args.ahead.now (Ok None))
-    (λ Bs summed. (nothing_left kind source Bs p is store c.in-Over.is (omega (arith, none, c.if-zeros-gt0.false)), summed))
+    all_unread store.layout (λ Bs. NextWithSums kind source is Bs p p store c.args.ahead.now c.args.ahead.now (Ok None))
+    (λ Bs summed. (nothing_left kind source Bs p is p store c.in-Over.is (omega (arith, none, c.if-zeros-gt0.false)), summed))

@@ -7,9 +7,9 @@ use Rattle.btr_walk.specs.Rests.{IsMetAgain}
 use Rattle.btr_walk.proofs.Fetched.{passed_on}
 use Rattle.btr_walk.proofs.Lending.{served_back}
 use Rattle.btr_files.specs.declared.progress.Progress.{Progress}
+use Rattle.btr_files.specs.declared.streaming.Shown.{Shown}
 use Rattle.btr_files.specs.declared.streaming.Shown.TheVariants as shown
 use Rattle.btr_files.specs.declared.streaming.Span.TheVariants as span
-use Rattle.btr_files.specs.declared.streaming.Step.{Step}
 use Rattle.btr_files.specs.Giving.{behind_end, IsGiven}
 use Rattle.btr_files.specs.Maps.{TellsAll}
 use Rattle.btr_files.specs.Sums.{kind_in}
@@ -28,9 +28,9 @@ returns-in_err-loan-clause-content g c =
     let b = g.R.Rack.seen c.met_again.new.rack in
     let is = unread_by layout a b in
     let fault = c.in_err-loan.field-0.0 in
-    passed_on (λ r. TellsAll layout a b (λ Bs. IsGiven kind source is Bs p new r)) c.from_residual.result fault c.from_residual.ensures.1
-    (all_of_one layout (λ B. IsMetAgain is B p.rest new c.met_again.result) (λ Bs. IsGiven kind source is Bs p new (Err fault))
-    (λ Bs h. inline_err kind source Bs p is c.args.part.now c.requires.todo new new fault (subst (λ (r : Result MetAgain TreeFault). IsMetAgain is (Bs 0) p.rest new r) (c.in_err-loan.was {u = tt}) h))
+    passed_on (λ r. TellsAll layout a b (λ Bs. IsGiven kind source is Bs p p new r)) c.from_residual.result fault c.from_residual.ensures.1
+    (all_of_one layout (λ B. IsMetAgain is B p.rest new c.met_again.result) (λ Bs. IsGiven kind source is Bs p p new (Err fault))
+    (λ Bs h. inline_err kind source Bs p is c.args.part.now c.requires.todo p new new fault (subst (λ (r : Result MetAgain TreeFault). IsMetAgain is (Bs 0) p.rest new r) (c.in_err-loan.was {u = tt}) h))
     c.met_again.ensures.content)
 
 pub returns-then-not-has_inline-clause-serves : goal.returns-then-not-has_inline-clause-serves
@@ -47,10 +47,10 @@ returns-then-not-has_inline-clause-content g c =
     let b = g.R.Rack.seen c.met_again.new.rack in
     let is = unread_by layout a b in
     let m = c.in_ok-loan.field-0 in
-    all_of_one layout (λ B. IsMetAgain is B p.rest new c.met_again.result) (λ Bs. IsGiven kind source is Bs p c.give.new.self (Err (Malformed c.args.part.now.leaf)))
+    all_of_one layout (λ B. IsMetAgain is B p.rest new c.met_again.result) (λ Bs. IsGiven kind source is Bs p p c.give.new.self (Err (Malformed c.args.part.now.leaf)))
     (λ Bs h. inline_other kind source Bs p is c.args.part.now c.requires.todo new m.loan m.at c.bytes.result.now c.bytes.ensures.value
     (subst (λ (r : Result MetAgain TreeFault). IsMetAgain is (Bs 0) p.rest new r) (c.in_ok-loan.was {u = tt}) h)
-    c.give.new.self (Malformed c.args.part.now.leaf) (λ e. let no : false ≡ true = sym c.if-not-has_inline.true ∙ c.has_inline.ensures.1 e in cc))
+    p c.give.new.self (Malformed c.args.part.now.leaf) (λ e. let no : false ≡ true = sym c.if-not-has_inline.true ∙ c.has_inline.ensures.1 e in cc))
     c.met_again.ensures.content
 
 pub returns-clause-content : goal.returns-clause-content
@@ -65,9 +65,9 @@ returns-clause-content g c =
     let is = unread_by layout a b in
     let m = c.in_ok-loan.field-0 in
     let len = c.min-len.result in
-    let step : Progress → Step = λ x. record { progress = x; shown = shown.Bytes m.loan (span.Inline m.at len) } in
-    subst (λ (x : Progress). TellsAll layout a b (λ Bs. IsGiven kind source is Bs p new (Ok (step x)))) (sym c.behind_end.ensures)
-    (all_of_one layout (λ B. IsMetAgain is B p.rest new c.met_again.result) (λ Bs. IsGiven kind source is Bs p new (Ok (step (behind_end source.size p))))
+    let given : Shown = shown.Bytes m.loan (span.Inline m.at len) in
+    subst (λ (x : Progress). TellsAll layout a b (λ Bs. IsGiven kind source is Bs p x new (Ok given))) (sym c.pass_extent.ensures)
+    (all_of_one layout (λ B. IsMetAgain is B p.rest new c.met_again.result) (λ Bs. IsGiven kind source is Bs p (behind_end source.size p) new (Ok given))
     (λ Bs h. inline_given kind source Bs p is c.args.part.now c.requires.todo new m.loan m.at c.bytes.result.now c.bytes.ensures.value
     (subst (λ (r : Result MetAgain TreeFault). IsMetAgain is (Bs 0) p.rest new r) (c.in_ok-loan.was {u = tt}) h)
     c.requires.begun len c.min-len.ensures)
