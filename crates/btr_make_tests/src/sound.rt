@@ -56,8 +56,8 @@ fn blocks_of_small_volumes(rt: HostRuntime) -> Result<(), Fail> {
     Ok(())
 }
 
-// The superblock of one more image of a volume, which is opened.
-fn next_super(rack: &mut MemRack, name: &str) -> Result<Super, Fail> {
+/// The superblock of one more image of a volume, which is opened.
+pub(super) fn next_super(rack: &mut MemRack, name: &str) -> Result<Super, Fail> {
     let slot = rack.open(name, false)?;
     if slot >= rack.count() {
         return Err("no such slot")?;

@@ -16,17 +16,29 @@ fn failing(alloc: Global, number: u64) -> Result<MemRack, CallFault> {
 
 const UNREAD: &[u8] = b"error: unread block 1048576 on image 0\n";
 
-// The text that belongs to an exit status.
-fn text_for(code: u8) -> &'static [u8] {
-    if code == 0 { b"no findings\n" } else { UNREAD }
-}
-
-// A call on the image fails: the chunk tree's block, which has one copy, couldn't be read, or another copy is there.
-fn mends_or_names(rt: &impl Abort, alloc: Global, number: u64) -> Result<(), CallFault> {
+// What is told where a call fails that reads the chunk tree's block, of which there is no other copy.
+fn names(rt: &impl Abort, alloc: Global, number: u64) -> Result<(), CallFault> {
     let told = call(alloc, &mut failing(alloc, number)?, &["check", "a"])?;
-    assert_eq!(rt; told.text.as_slice(), text_for(told.code));
+    assert_eq!(rt; told.answer, Answer::Unread(1048576, 0));
+    assert_eq!(rt; told.code, 4);
+    assert_eq!(rt; told.text.as_slice(), UNREAD);
     Ok(())
 }
+
+// The same of another block, whose second copy is read then.
+fn mends(rt: &impl Abort, alloc: Global, number: u64) -> Result<(), CallFault> {
+    let told = call(alloc, &mut failing(alloc, number)?, &["check", "a"])?;
+    assert_eq!(rt; told.answer, Answer::Done { skipped: 0 });
+    assert_eq!(rt; told.code, 0);
+    assert_eq!(rt; told.text.as_slice(), b"no findings\n".as_slice());
+    Ok(())
+}
+
+// The calls that read the chunk tree's block, when the volume is opened and when its trees are walked. Between them the root tree's block is read, and
+// behind them those of the extents, the devices, the files and the checksums.
+const CHUNK_TREE: [u64; 2] = [3, 5];
+
+const LAST: u64 = 9;
 
 #[test]
 fn calls_that_fail(rt: HostRuntime) -> Result<(), CallFault> {
@@ -42,8 +54,29 @@ fn calls_that_fail(rt: HostRuntime) -> Result<(), CallFault> {
             4,
         )?;
     }
-    for number in 3..31 {
-        mends_or_names(&rt, alloc, number)?;
+    for number in 3..=LAST {
+        if CHUNK_TREE.contains(&number) {
+            names(&rt, alloc, number)?;
+        } else {
+            mends(&rt, alloc, number)?;
+        }
+    }
+    Ok(())
+}
+
+// A call, the one behind it, and what a check tells where both fail: behind the last call there is none, and with it the other copy's is lost.
+const PAIRS: &[(u64, &[u8], u8)] = &[
+    (LAST, b"error: unread block 2162688 on image 0\n", 4),
+    (LAST + 1, b"no findings\n", 0),
+];
+
+#[test]
+fn no_call_behind_the_last(rt: HostRuntime) -> Result<(), CallFault> {
+    let alloc = rt.alloc();
+    for (number, text, code) in PAIRS {
+        let mut rack = failing(alloc, *number)?;
+        rack.fail_call(number.wrapping_add(1))?;
+        answers(&rt, alloc, &mut rack, &["check", "a"], text, *code)?;
     }
     Ok(())
 }

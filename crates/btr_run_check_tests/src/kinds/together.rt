@@ -16,6 +16,6 @@ pub(super) const FOUND: &[Several] = &[
     },
     Several {
         cases: &[LOST_FILES, MORE_USED],
-        text: LOST_FILES.text,
+        text: b"lost 2146304\nfindings 1\n",
     },
 ];
