@@ -1,4 +1,4 @@
-// The worked rows of the commands that show trees, over small volumes.
+// Rows of the commands that show trees, worked out by hand, over small volumes.
 use crate::answers::answers;
 use btr_calls::{CallFault, Failing, call, call_where};
 use btr_make::{RowVolume, make, row, seal};

@@ -1,4 +1,4 @@
-// The worked rows of `super`, over images in memory.
+// Rows of `super`, worked out by hand, over images in memory.
 use crate::answers::answers;
 use btr_calls::{CallFault, Failing, call, call_where};
 use btr_make::{put_super, seal};
