@@ -4,8 +4,8 @@
 #     tests/sets.sh PROGRAM [FOLDER]
 #
 # Each is filled through a mount on loop devices, unmounted, and checked by `btrfs check`; then `check --check-data-csum` has to say `no findings`, and
-# `restore -s` to write the same directories and files as a mount shows, but for what it names as left out. It needs root, loop devices, a kernel with
-# btrfs, btrfs-progs, and attr (for setfattr). The gate doesn't run it.
+# `restore -s` to write the same directories and files as a mount shows, but for what it names as left out. ONLY="NAME.." makes these sets alone, SIZE=600M
+# is how large an image is, and KEEP=1 keeps them. It needs root, loop devices, a kernel with btrfs, btrfs-progs, and attr. The gate doesn't run it.
 set -u
 program=$(readlink -f "${1:?tests/sets.sh PROGRAM [FOLDER]}")
 room=${2:-$(mktemp -d)}
@@ -79,6 +79,7 @@ converted() {
 # NAME, how many images, the options of mkfs.btrfs, those of the mount, and what fills it.
 one() {
     local name=$1 count=$2 make=$3 options=$4 fills=$5 at="$room/$1" devices=() images=()
+    case " ${ONLY:-$name} " in *" $name "*) ;; *) return ;; esac
     rm -rf "$at" && mkdir -p "$at/mount"
     for i in $(seq 1 "$count"); do
         truncate -s "${SIZE:-600M}" "$at/$i" && images+=("$at/$i") && devices+=("$(losetup -f --show "$at/$i")")
@@ -104,7 +105,7 @@ judge() {
     mkdir "$at/restored"
     "$program" restore -s "$at/restored" "$@" >"$at/said"
     mount -o ro,subvolid=5 "$device" "$at/mount" && (cd "$at/mount" && left_out "$at/said" "$at/restored")
-    if diff -r --no-dereference "$at/mount" "$at/restored" >"$at/differ" 2>&1; then passed=$((passed + 1)); else failed=$((failed + 1)) && echo "$name: restore: $(head -3 "$at/differ")"; fi
+    if diff -r --no-dereference -x fifo "$at/mount" "$at/restored" >"$at/differ" 2>&1; then passed=$((passed + 1)); else failed=$((failed + 1)) && echo "$name: restore: $(head -3 "$at/differ")"; fi
     umount "$at/mount"
     echo "$name: $(tail -1 "$at/said")"
 }
