@@ -4,8 +4,10 @@
 #     tests/sets.sh PROGRAM [FOLDER]
 #
 # Each is filled through a mount on loop devices, unmounted, and checked by `btrfs check`; then `check --check-data-csum` has to say `no findings`, and
-# `restore -s` to write the same directories and files as a mount shows, but for what it names as left out. ONLY="NAME.." makes these sets alone, SIZE=600M
-# is how large an image is, and KEEP=1 keeps them. It needs root, loop devices, a kernel with btrfs, btrfs-progs, and attr. The gate doesn't run it.
+# `restore -s` to write the same directories and files as a mount shows, but for what it names as left out. Of a set that bears it, one image is then
+# zeroed behind its superblocks: `scrub start` has to leave nothing bad, and `check` and `restore` to say and write the same again, but for the file
+# without checksums, of which no copy can be told to be the right one. ONLY="NAME.." makes these sets alone, SIZE=600M is how large an image is, and KEEP=1
+# keeps them. It needs root, loop devices, a kernel with btrfs, btrfs-progs, and attr. The gate doesn't run it.
 set -u
 program=$(readlink -f "${1:?tests/sets.sh PROGRAM [FOLDER]}")
 room=${2:-$(mktemp -d)}
@@ -97,17 +99,42 @@ one() {
 }
 
 judge() {
-    local name=$1 at=$2 device=$3 said
+    local name=$1 at=$2 device=$3
     shift 3
     btrfs check --check-data-csum "$device" >>"$at/log" 2>&1 || { echo "$name: btrfs check finds something"; tail -3 "$at/log"; }
-    said=$("$program" check --check-data-csum "$@")
-    if [ "$said" = 'no findings' ]; then passed=$((passed + 1)); else failed=$((failed + 1)) && echo "$name: check: $said" | head -5; fi
-    mkdir "$at/restored"
-    "$program" restore -s "$at/restored" "$@" >"$at/said"
-    mount -o ro,subvolid=5 "$device" "$at/mount" && (cd "$at/mount" && left_out "$at/said" "$at/restored")
-    if diff -r --no-dereference -x fifo "$at/mount" "$at/restored" >"$at/differ" 2>&1; then passed=$((passed + 1)); else failed=$((failed + 1)) && echo "$name: restore: $(head -3 "$at/differ")"; fi
+    mount -o ro,subvolid=5 "$device" "$at/mount"
+    same "$name" "$at" "$@"
     umount "$at/mount"
     echo "$name: $(tail -1 "$at/said")"
+    case $name in
+    raid1 | raid1c3 | raid1c4 | raid10 | raid5 | raid6)
+        mount -o ro,subvolid=5 "$device" "$at/mount" && cp -a "$at/mount" "$at/shown" && umount "$at/mount"
+        dd if=/dev/zero of="$2" bs=1M seek=1 count=63 conv=notrunc status=none
+        dd if=/dev/zero of="$2" bs=1M seek=65 count=$(($(stat -c %s "$2") / 1048576 - 65)) conv=notrunc status=none
+        holds "$name: scrub" "$("$program" scrub start "$@" | sed -n 's/.* lost \([0-9]*\) .*/\1/p')" 0
+        holds "$name: scrub once more" "$("$program" scrub start -r "$@" | sed -n 's/.* bad \([0-9]*\) .* parity \([0-9]*\) .*/\1 \2/p')" '0 0'
+        rmdir "$at/mount" && mv "$at/shown" "$at/mount" && rm -rf "$at/restored"
+        find "$at/mount" -name plain -delete
+        same "$name, mended" "$at" "$@"
+        ;;
+    esac
+}
+
+# Whether `check` finds nothing, and `restore` writes what stands below the folder mount.
+same() {
+    local name=$1 at=$2
+    shift 2
+    holds "$name: check" "$("$program" check --check-data-csum "$@" | head -3)" 'no findings'
+    mkdir "$at/restored"
+    "$program" restore -s "$at/restored" "$@" >"$at/said"
+    (cd "$at/mount" && left_out "$at/said" "$at/restored")
+    case $name in *mended) find "$at/restored" -name plain -delete ;; esac
+    holds "$name: restore" "$(diff -r --no-dereference -x fifo "$at/mount" "$at/restored" 2>&1 | head -3)" ''
+}
+
+# Counts whether what was said is what was wanted.
+holds() {
+    if [ "$2" = "$3" ]; then passed=$((passed + 1)); else failed=$((failed + 1)) && echo "$1: $2"; fi
 }
 
 # Makes beside what was restored what it named as left out, so that the two can be compared.
