@@ -55,7 +55,7 @@ fn place_in(mut rack: MemRack) -> Result<Result<u64, SlotFault>, Fail> {
 }
 
 // Copies, and which counts: the first of the newest.
-const COUNTING: &[(Copies, Result<u64, SlotFault>)] = &[
+const COUNTING: [(Copies, Result<u64, SlotFault>); 11] = [
     ([(7, 0), (7, 0), (7, 0)], Ok(FIRST)),
     ([(7, 0), (8, 0), (8, 0)], Ok(SECOND)),
     ([(7, 0), (8, 1), (9, 2)], Ok(THIRD)),
@@ -71,7 +71,8 @@ const COUNTING: &[(Copies, Result<u64, SlotFault>)] = &[
 
 #[test]
 fn the_first_of_the_newest_copies_counts(rt: HostRuntime) -> Result<(), Fail> {
-    for (copies, place) in COUNTING {
+    let counting = COUNTING;
+    for (copies, place) in &counting {
         let rack = image(rt.alloc(), copies, THIRD + SIZE)?;
         assert_eq!(rt; place_in(rack)?, *place);
     }
