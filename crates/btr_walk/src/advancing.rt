@@ -165,7 +165,8 @@ pub(crate) fn advance<R: Rack>(
     ensures item { HasItem result.leaf result.met }
     ensures cause { HasCause store.old.layout (R.seen rack.old) (R.seen rack.new) result.met }
     ensures content { TellsOf store.old (R.seen rack.old) (R.seen rack.new)
-        (λ Is B. IsAdvanced lo hi Is B (record { leaf = kept.now; rest = place.old }) place.new leaf store.old store.new result) }
+        (λ Is B. IsAdvanced lo hi Is B (record { leaf = kept.now; rest = place.old })
+        place.new leaf store.old store.new result) }
 {
     match leaf {
         Some(hand) => from_hand(place, hand, lo, hi, rack, store),
