@@ -1,4 +1,4 @@
--- A multiple of the generator with few terms: x^79 + x^75 + x^71 + x^58 + x^18 + x^12 + x + 1, and its squares.
+-- A multiple of the generator with few terms: x^104 + x^57 + x^53 + x^49 + x^19 + x^14 + x^4 + 1, and its squares.
 use Rattle.std.proofs.Common.{◌≡◌, ℕ, zero, suc, ◌+◌, ◌*◌, ◌/◌, ◌%◌, ◌^◌, ◌<◌, Bool, true, false, cond, eqb, List, [], ◌∷◌, refl, sym, ap, ◌∙◌, arith}
 use Rattle.std.specs.Int.Bits.{bit_xor, xor_assoc, xor_self, xor_zero_l, xor_zero_r}
 use Rattle.std.proofs.lemmas.Nat.{xor_comm, xor_block}
@@ -55,11 +55,11 @@ squared k (e ∷ es) x =
 
 -- the exponents of the multiple, but for the highest
 abbrev pub lower : List ℕ
-lower = 0 ∷ 1 ∷ 12 ∷ 18 ∷ 58 ∷ 71 ∷ 75 ∷ []
+lower = 0 ∷ 4 ∷ 14 ∷ 19 ∷ 49 ∷ 53 ∷ 57 ∷ []
 
 -- all of them
 abbrev pub terms : List ℕ
-terms = 79 ∷ lower
+terms = 104 ∷ lower
 
 -- what vanishes at each bit below k
 abbrev vanishes : (ℕ → ℕ) → ℕ → Bool
@@ -118,6 +118,6 @@ once x lt = from_bits (combined 1 terms) (combined-xor 1 terms) 32 multiple_vani
 square_vanishes : (k : ℕ) → ((x : ℕ) → x < 2 ^ 32 → combined k terms x ≡ 0) → (x : ℕ) → x < 2 ^ 32 → combined (k + k) terms x ≡ 0
 square_vanishes k vanish x lt = sym (squared k terms x) ∙ ap (combined k terms) (vanish x lt) ∙ at_zero (combined k terms) (combined-xor k terms)
 
--- a word shifted by the places of 64 bits
-pub word_vanishes : (x : ℕ) → x < 2 ^ 32 → combined 64 terms x ≡ 0
-word_vanishes = square_vanishes 32 (square_vanishes 16 (square_vanishes 8 (square_vanishes 4 (square_vanishes 2 (square_vanishes 1 once)))))
+-- a word shifted by the places of 32 bits
+pub word_vanishes : (x : ℕ) → x < 2 ^ 32 → combined 32 terms x ≡ 0
+word_vanishes = square_vanishes 16 (square_vanishes 8 (square_vanishes 4 (square_vanishes 2 (square_vanishes 1 once))))

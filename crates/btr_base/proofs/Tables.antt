@@ -1,6 +1,6 @@
 -- Tables of registers after zeros.
 use Rattle.std.proofs.Common.{◌≡◌, ℕ, zero, suc, ◌+◌, ◌*◌, ◌/◌, ◌%◌, ◌^◌, ◌<◌, Bool, true, false, cond, eqb, List, [], ◌∷◌, length, get_or, refl, sym, ap, ◌∙◌, arith}
-use Rattle.std.specs.Int.Bits.{bit_xor, xor_zero_r}
+use Rattle.std.specs.Int.Bits.{bit_xor, xor_assoc, xor_zero_r}
 use Rattle.std.proofs.lemmas.Bool.Decides.{Decides-eqb}
 use Rattle.std.proofs.lemmas.Nat.{pow-add, xor_comm}
 use Rattle.std.proofs.Math.Nat.{div-div-eq-div-mul}
@@ -48,61 +48,61 @@ table_from n (t ∷ ts) (suc k) i fits lt small =
     behind false c e = absurd (cc (e))
 
 -- the low byte of a word goes through more zeros than the rest
-split_byte : (n x : ℕ) → shifted_by (8 * suc n) x ≡ bit_xor (shifted_by (8 * suc n) (x % 256)) (shifted_by (8 * n) (x / 256))
-split_byte n x =
-    let sum : 8 * suc n ≡ 8 + 8 * n = omega arith in
+split_byte : (n m x : ℕ) → n ≡ m + 1 → shifted_by (8 * n) x ≡ bit_xor (shifted_by (8 * n) (x % 256)) (shifted_by (8 * m) (x / 256))
+split_byte n m x next =
+    let sum : 8 * n ≡ 8 + 8 * m = omega (arith, next) in
     let low = shifted_by 8 (x % 256) in
-    ap (λ k. shifted_by k x) sum ∙ shifted_by-add 8 (8 * n) x ∙ ap (shifted_by (8 * n)) (shifted_byte_low x) ∙ shifted_by-xor (8 * n) low (x / 256)
-    ∙ ap (λ y. bit_xor y (shifted_by (8 * n) (x / 256))) (sym (shifted_by-add 8 (8 * n) (x % 256)) ∙ ap (λ k. shifted_by k (x % 256)) (sym sum))
-
--- the sum of the bytes from the last one on
-turned : (a b c d e f g h : ℕ) → bit_xor (bit_xor (bit_xor (bit_xor (bit_xor (bit_xor (bit_xor h g) f) e) d) c) b) a
-    ≡ bit_xor a (bit_xor b (bit_xor c (bit_xor d (bit_xor e (bit_xor f (bit_xor g h))))))
-turned a b c d e f g h =
-    xor_comm (bit_xor (bit_xor (bit_xor (bit_xor (bit_xor (bit_xor h g) f) e) d) c) b) a
-    ∙ ap (bit_xor a) (xor_comm (bit_xor (bit_xor (bit_xor (bit_xor (bit_xor h g) f) e) d) c) b
-    ∙ ap (bit_xor b) (xor_comm (bit_xor (bit_xor (bit_xor (bit_xor h g) f) e) d) c
-    ∙ ap (bit_xor c) (xor_comm (bit_xor (bit_xor (bit_xor h g) f) e) d
-    ∙ ap (bit_xor d) (xor_comm (bit_xor (bit_xor h g) f) e
-    ∙ ap (bit_xor e) (xor_comm (bit_xor h g) f
-    ∙ ap (bit_xor f) (xor_comm h g))))))
+    ap (λ k. shifted_by k x) sum ∙ shifted_by-add 8 (8 * m) x ∙ ap (shifted_by (8 * m)) (shifted_byte_low x) ∙ shifted_by-xor (8 * m) low (x / 256)
+    ∙ ap (λ y. bit_xor y (shifted_by (8 * m) (x / 256))) (sym (shifted_by-add 8 (8 * m) (x % 256)) ∙ ap (λ k. shifted_by k (x % 256)) (sym sum))
 
 -- the byte k places up, and what is behind it
-next_byte : (n k x : ℕ) → shifted_by (8 * suc n) (x / 2 ^ k) ≡ bit_xor (shifted_by (8 * suc n) (x / 2 ^ k % 256)) (shifted_by (8 * n) (x / 2 ^ (k + 8)))
-next_byte n k x = split_byte n (x / 2 ^ k) ∙ ap (λ y. bit_xor (shifted_by (8 * suc n) (x / 2 ^ k % 256)) (shifted_by (8 * n) y)) (halves k)
+next_byte : (n m k x : ℕ) → n ≡ m + 1 → shifted_by (8 * n) (x / 2 ^ k) ≡ bit_xor (shifted_by (8 * n) (x / 2 ^ k % 256)) (shifted_by (8 * m) (x / 2 ^ (k + 8)))
+next_byte n m k x next = split_byte n m (x / 2 ^ k) next ∙ ap (λ y. bit_xor (shifted_by (8 * n) (x / 2 ^ k % 256)) (shifted_by (8 * m) y)) (halves k)
   where
     halves : (k : ℕ) → x / 2 ^ k / 256 ≡ x / 2 ^ (k + 8)
     halves k = div-div-eq-div-mul x (2 ^ k) 256 ∙ ap (λ d. x / d) (sym (pow-add 2 k 8))
 
--- a word goes through byte by byte
-pub word_by_bytes : (x : ℕ) → x < 2 ^ 64 → bit_xor (bit_xor (bit_xor (bit_xor (bit_xor (bit_xor (bit_xor
-    (shifted_by 8 (x / 2 ^ 56 % 256)) (shifted_by 16 (x / 2 ^ 48 % 256))) (shifted_by 24 (x / 2 ^ 40 % 256))) (shifted_by 32 (x / 2 ^ 32 % 256)))
-    (shifted_by 40 (x / 2 ^ 24 % 256))) (shifted_by 48 (x / 2 ^ 16 % 256))) (shifted_by 56 (x / 2 ^ 8 % 256))) (shifted_by 64 (x % 256))
-    ≡ shifted_by 64 x
-word_by_bytes x lt =
-    let none : x / 2 ^ 64 ≡ 0 = omega arith in
-    let at : ℕ → ℕ → ℕ = λ n k. shifted_by (8 * n) (x / 2 ^ k % 256) in
-    turned (shifted_by 64 (x % 256)) (at 7 8) (at 6 16) (at 5 24) (at 4 32) (at 3 40) (at 2 48) (at 1 56)
-    ∙ sym (split_byte 7 x ∙ ap (bit_xor (shifted_by 64 (x % 256))) (next_byte 6 8 x ∙ ap (bit_xor (at 7 8)) (next_byte 5 16 x ∙ ap (bit_xor (at 6 16)) (next_byte 4 24 x
-    ∙ ap (bit_xor (at 5 24)) (next_byte 3 32 x ∙ ap (bit_xor (at 4 32)) (next_byte 2 40 x ∙ ap (bit_xor (at 3 40)) (next_byte 1 48 x
-    ∙ ap (bit_xor (at 2 48)) (next_byte 0 56 x ∙ ap (λ y. bit_xor (at 1 56) (shifted_by 0 y)) none ∙ ap (bit_xor (at 1 56)) (shifted_by-zero 0) ∙ xor_zero_r (at 1 56)))))))))
+-- the sum of the bytes from the last one on
+turned : (a b c d : ℕ) → bit_xor (bit_xor (bit_xor d c) b) a ≡ bit_xor a (bit_xor b (bit_xor c d))
+turned a b c d =
+    xor_comm (bit_xor (bit_xor d c) b) a ∙ ap (bit_xor a) (xor_comm (bit_xor d c) b ∙ ap (bit_xor b) (xor_comm d c))
 
--- and with 8 bytes of zeros behind it
-pub word_and_zeros : (x : ℕ) → x < 2 ^ 64 → bit_xor (bit_xor (bit_xor (bit_xor (bit_xor (bit_xor (bit_xor
-    (shifted_by 72 (x / 2 ^ 56 % 256)) (shifted_by 80 (x / 2 ^ 48 % 256))) (shifted_by 88 (x / 2 ^ 40 % 256))) (shifted_by 96 (x / 2 ^ 32 % 256)))
-    (shifted_by 104 (x / 2 ^ 24 % 256))) (shifted_by 112 (x / 2 ^ 16 % 256))) (shifted_by 120 (x / 2 ^ 8 % 256))) (shifted_by 128 (x % 256))
-    ≡ shifted_by 128 x
-word_and_zeros x lt =
-    let none : x / 2 ^ 64 ≡ 0 = omega arith in
-    let at : ℕ → ℕ → ℕ = λ n k. shifted_by (8 * n) (x / 2 ^ k % 256) in
-    turned (shifted_by 128 (x % 256)) (at 15 8) (at 14 16) (at 13 24) (at 12 32) (at 11 40) (at 10 48) (at 9 56)
-    ∙ sym (split_byte 15 x ∙ ap (bit_xor (shifted_by 128 (x % 256))) (next_byte 14 8 x ∙ ap (bit_xor (at 15 8)) (next_byte 13 16 x ∙ ap (bit_xor (at 14 16)) (next_byte 12 24 x
-    ∙ ap (bit_xor (at 13 24)) (next_byte 11 32 x ∙ ap (bit_xor (at 12 32)) (next_byte 10 40 x ∙ ap (bit_xor (at 11 40)) (next_byte 9 48 x
-    ∙ ap (bit_xor (at 10 48)) (next_byte 8 56 x ∙ ap (λ y. bit_xor (at 9 56) (shifted_by 64 y)) none ∙ ap (bit_xor (at 9 56)) (shifted_by-zero 64) ∙ xor_zero_r (at 9 56)))))))))
+-- a word goes through byte by byte, with n bytes of zeros behind it
+by_bytes : (n x : ℕ) → x < 2 ^ 32 → bit_xor (bit_xor (bit_xor
+    (shifted_by (8 * (n + 1)) (x / 2 ^ 24 % 256)) (shifted_by (8 * (n + 1 + 1)) (x / 2 ^ 16 % 256)))
+    (shifted_by (8 * (n + 2 + 1)) (x / 2 ^ 8 % 256))) (shifted_by (8 * (n + 3 + 1)) (x % 256))
+    ≡ shifted_by (8 * (n + 3 + 1)) x
+by_bytes n x lt =
+    let none : x / 2 ^ 32 ≡ 0 = omega arith in
+    let at : ℕ → ℕ → ℕ = λ m k. shifted_by (8 * m) (x / 2 ^ k % 256) in
+    let low = shifted_by (8 * (n + 3 + 1)) (x % 256) in
+    let first : n + 3 + 1 ≡ n + 2 + 1 + 1 = omega arith in
+    let second : n + 2 + 1 ≡ n + 1 + 1 + 1 = omega arith in
+    turned low (at (n + 2 + 1) 8) (at (n + 1 + 1) 16) (at (n + 1) 24)
+    ∙ sym (split_byte (n + 3 + 1) (n + 2 + 1) x first ∙ ap (bit_xor low) (next_byte (n + 2 + 1) (n + 1 + 1) 8 x second
+    ∙ ap (bit_xor (at (n + 2 + 1) 8)) (next_byte (n + 1 + 1) (n + 1) 16 x refl ∙ ap (bit_xor (at (n + 1 + 1) 16)) (next_byte (n + 1) n 24 x refl
+    ∙ ap (λ y. bit_xor (at (n + 1) 24) (shifted_by (8 * n) y)) none ∙ ap (bit_xor (at (n + 1) 24)) (shifted_by-zero (8 * n)) ∙ xor_zero_r (at (n + 1) 24)))))
 
--- two words, of which the second is taken in by itself
-pub pair_taken : (s word : ℕ) → bit_xor (shifted_by 64 word) (shifted_by 128 s) ≡ shifted_by 64 (bit_xor (shifted_by 64 s) word)
-pair_taken s word =
-    xor_comm (shifted_by 64 word) (shifted_by 128 s)
-    ∙ ap (λ r. bit_xor r (shifted_by 64 word)) (shifted_by-add 64 64 s)
-    ∙ sym (shifted_by-xor 64 (shifted_by 64 s) word)
+-- the same, by words of zeros
+pub word_by_bytes : (z x : ℕ) → x < 2 ^ 32 → bit_xor (bit_xor (bit_xor
+    (shifted_by (8 * (4 * z + 1)) (x / 2 ^ 24 % 256)) (shifted_by (8 * (4 * z + 1 + 1)) (x / 2 ^ 16 % 256)))
+    (shifted_by (8 * (4 * z + 2 + 1)) (x / 2 ^ 8 % 256))) (shifted_by (8 * (4 * z + 3 + 1)) (x % 256))
+    ≡ shifted_by (32 * (z + 1)) x
+word_by_bytes z x lt = let whole : 8 * (4 * z + 3 + 1) ≡ 32 * (z + 1) = omega arith in by_bytes (4 * z) x lt ∙ ap (λ k. shifted_by k x) whole
+
+-- a word behind a register, with m bits of zeros behind both
+taken : (m reg word : ℕ) → bit_xor (shifted_by (32 + m) reg) (shifted_by m word) ≡ shifted_by m (bit_xor (shifted_by 32 reg) word)
+taken m reg word = ap (λ r. bit_xor r (shifted_by m word)) (shifted_by-add 32 m reg) ∙ sym (shifted_by-xor m (shifted_by 32 reg) word)
+
+-- four words, of which each is taken in by itself
+pub four_taken : (a b c d : ℕ) → bit_xor (bit_xor (bit_xor (shifted_by 32 d) (shifted_by 64 c)) (shifted_by 96 b)) (shifted_by 128 a)
+    ≡ shifted_by 32 (bit_xor (shifted_by 32 (bit_xor (shifted_by 32 (bit_xor (shifted_by 32 a) b)) c)) d)
+four_taken a b c d =
+    let x = bit_xor (shifted_by 32 a) b in
+    let y = bit_xor (shifted_by 32 x) c in
+    turned (shifted_by 128 a) (shifted_by 96 b) (shifted_by 64 c) (shifted_by 32 d)
+    ∙ sym (xor_assoc (shifted_by 128 a) (shifted_by 96 b) (bit_xor (shifted_by 64 c) (shifted_by 32 d)))
+    ∙ sym (xor_assoc (bit_xor (shifted_by 128 a) (shifted_by 96 b)) (shifted_by 64 c) (shifted_by 32 d))
+    ∙ ap (λ r. bit_xor (bit_xor r (shifted_by 64 c)) (shifted_by 32 d)) (taken 96 a b)
+    ∙ ap (λ r. bit_xor r (shifted_by 32 d)) (taken 64 x c)
+    ∙ taken 32 y d

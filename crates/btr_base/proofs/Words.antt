@@ -1,4 +1,4 @@
--- The register, by words of 64 bits.
+-- The register, by words of 32 bits.
 use Rattle.std.proofs.Common.{◌≡◌, ℕ, zero, suc, ◌+◌, ◌*◌, ◌^◌, ◌<◌, ◌≤◌, List, [], ◌∷◌, length, get_or, drop, refl, sym, ap, ◌∙◌, subst, arith, length-drop}
 use Rattle.std.specs.Int.Bits.{bit_xor, xor_assoc, xor_zero_r}
 use Rattle.std.proofs.lemmas.Nat.{xor_lt}
@@ -9,7 +9,7 @@ use Rattle.btr_base.specs.Field.{number_at}
 use Rattle.btr_base.specs.Crc.{register, shifted_by}
 use Rattle.btr_base.specs.Fold.{after}
 use Rattle.btr_base.proofs.Shifts.{register-nil, register-cons, shifted_by_lt}
-use Rattle.btr_base.proofs.Linear.{shifted_by-xor, shifted_by-add, shifted_by-high, low_byte, word_lt}
+use Rattle.btr_base.proofs.Linear.{shifted_by-xor, shifted_by-add, shifted_by-high, low_byte}
 
 -- one byte of a list
 pub register_more : (reg i : ℕ) (bytes : List ℕ) → reg < 2 ^ 32 → i < length bytes → get_or bytes i 0 < 2 ^ 8
@@ -48,32 +48,29 @@ register_number (suc n) reg (b ∷ bytes) lt le fits =
     ∙ ap (λ x. register x (drop n bytes)) (sym (shifted_by-add 8 (8 * n) (bit_xor reg (little_number (suc n) (b ∷ bytes)))) ∙ ap (λ k. shifted_by k (bit_xor reg (little_number (suc n) (b ∷ bytes)))) more)
 
 -- a word and a register come down to a register
-pub word_taken_lt : (reg word : ℕ) → reg < 2 ^ 32 → word < 2 ^ 64 → shifted_by 64 (bit_xor reg word) < 2 ^ 32
-word_taken_lt reg word lt fits =
-    let wide : bit_xor reg word < 2 ^ (32 + 32) = xor_lt 64 reg word (omega arith) fits in
-    let P : ℕ → Type 0 = λ n. n < 2 ^ 32 in
-    subst P (sym (shifted_by-add 32 32 (bit_xor reg word))) (shifted_by_lt 32 (shifted_by 32 (bit_xor reg word)) (word_lt 32 (bit_xor reg word) wide))
+word_taken_lt : (reg word : ℕ) → reg < 2 ^ 32 → word < 2 ^ 32 → shifted_by 32 (bit_xor reg word) < 2 ^ 32
+word_taken_lt reg word lt fits = shifted_by_lt 32 (bit_xor reg word) (xor_lt 32 reg word lt fits)
 
-pub after_lt : (reg n : ℕ) (word : ℕ → ℕ) → reg < 2 ^ 32 → ((j : ℕ) → word j < 2 ^ 64) → after reg n word < 2 ^ 32
+pub after_lt : (reg n : ℕ) (word : ℕ → ℕ) → reg < 2 ^ 32 → ((j : ℕ) → word j < 2 ^ 32) → after reg n word < 2 ^ 32
 unfolding after
 after_lt reg zero word lt fits = lt
 after_lt reg (suc n) word lt fits = word_taken_lt (after reg n word) (word n) (after_lt reg n word lt fits) (fits n)
 
 -- a word of a list of bytes
-pub word_fits : (bytes : List ℕ) (off : ℕ) → ((i : ℕ) → get_or bytes i 0 < 2 ^ 8) → number_at 8 off bytes < 2 ^ 64
-word_fits bytes off fits = little_from-lt 0 8 (drop off bytes) (λ i. let P : ℕ → Type 0 = λ n. n < 256 in subst P (sym (get_or-drop off bytes i 0)) (fits (off + i)))
+pub word_fits : (bytes : List ℕ) (off : ℕ) → ((i : ℕ) → get_or bytes i 0 < 2 ^ 8) → number_at 4 off bytes < 2 ^ 32
+word_fits bytes off fits = little_from-lt 0 4 (drop off bytes) (λ i. let P : ℕ → Type 0 = λ n. n < 256 in subst P (sym (get_or-drop off bytes i 0)) (fits (off + i)))
 
 -- the first n words of a piece are taken in
-pub register_words : (reg n : ℕ) (bytes : List ℕ) → reg < 2 ^ 32 → 8 * n ≤ length bytes → ((i : ℕ) → get_or bytes i 0 < 2 ^ 8)
-    → register reg bytes ≡ register (after reg n (λ j. number_at 8 (8 * j) bytes)) (drop (8 * n) bytes)
+pub register_words : (reg n : ℕ) (bytes : List ℕ) → reg < 2 ^ 32 → 4 * n ≤ length bytes → ((i : ℕ) → get_or bytes i 0 < 2 ^ 8)
+    → register reg bytes ≡ register (after reg n (λ j. number_at 4 (4 * j) bytes)) (drop (4 * n) bytes)
 unfolding after
 register_words reg zero bytes lt le fits = refl
 register_words reg (suc n) bytes lt le fits =
-    let word : ℕ → ℕ = λ j. number_at 8 (8 * j) bytes in
+    let word : ℕ → ℕ = λ j. number_at 4 (4 * j) bytes in
     let so_far = after reg n word in
-    let left = drop (8 * n) bytes in
-    let next : 8 * n + 8 ≡ 8 * suc n = omega arith in
+    let left = drop (4 * n) bytes in
+    let next : 4 * n + 4 ≡ 4 * suc n = omega arith in
     register_words reg n bytes lt (omega arith) fits
-    ∙ register_number 8 so_far left (after_lt reg n word lt (λ j. word_fits bytes (8 * j) fits)) (omega (arith, length-drop (8 * n) bytes))
-    (λ i. let P : ℕ → Type 0 = λ x. x < 256 in subst P (sym (get_or-drop (8 * n) bytes i 0)) (fits (8 * n + i)))
-    ∙ ap (register (shifted_by 64 (bit_xor so_far (word n)))) (drop-drop 8 (8 * n) bytes ∙ ap (λ k. drop k bytes) next)
+    ∙ register_number 4 so_far left (after_lt reg n word lt (λ j. word_fits bytes (4 * j) fits)) (omega (arith, length-drop (4 * n) bytes))
+    (λ i. let P : ℕ → Type 0 = λ x. x < 256 in subst P (sym (get_or-drop (4 * n) bytes i 0)) (fits (4 * n + i)))
+    ∙ ap (register (shifted_by 32 (bit_xor so_far (word n)))) (drop-drop 4 (4 * n) bytes ∙ ap (λ k. drop k bytes) next)

@@ -11,7 +11,7 @@ loop-k-preserved c =
     let before = c.loop-k.invariant in
     record {
       sized = length-set dropped k 0 ∙ before.sized;
-      kept = take-set-le 79 dropped k 0 c.loop-k.auto.k ∙ before.kept;
+      kept = take-set-le 104 dropped k 0 c.loop-k.auto.k ∙ before.kept;
       zeros = λ i le lt. elim (cases_eq i k) [
         | inl same ↦ ap (λ n. get_or (set dropped k 0) n 0) same ∙ get_or-set_same dropped k 0 0 (omega (arith, before.sized))
         | inr other ↦ get_or-set_other dropped k i 0 0 other ∙ before.zeros i le (omega arith)

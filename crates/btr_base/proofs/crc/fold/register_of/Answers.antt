@@ -16,13 +16,13 @@ loop-rest-preserved c =
     let rest = c.loop-rest.rest.now in
     record {
       wide = omega (arith, ap length (take_rest rest 4096), length-drop 4096 rest);
-      same = c.loop-rest.invariant.same ∙ c.drop_words.ensures ∙ ap (register_behind (take 79 c.drop_words.new.dropped)) (sym (take_rest rest 4096));
+      same = c.loop-rest.invariant.same ∙ c.drop_words.ensures ∙ ap (register_behind (take 104 c.drop_words.new.dropped)) (sym (take_rest rest 4096));
     }
 
 pub returns : goal.returns
 returns c =
     let rest = c.loop-rest.rest.now in
-    let count = length rest / 8 - 79 in
-    let left = take (length rest - 8 * count) (drop (8 * count) rest) in
-    c.register_by_bytes.ensures ∙ ap (register c.finish-reg.result) (take_rest left 632) ∙ c.finish-reg.ensures
-    ∙ ap (register_behind (take 79 c.drop_words-2.new.dropped)) (take_rest rest (8 * count)) ∙ sym c.drop_words-2.ensures ∙ sym c.loop-rest.invariant.same
+    let count = 32 * ((length rest - 416) / 32) in
+    let left = take (length rest - count) (drop count rest) in
+    c.register_of.ensures ∙ ap (register c.finish-reg.result) (take_rest left 416) ∙ c.finish-reg.ensures
+    ∙ ap (register_behind (take 104 c.drop_words-2.new.dropped)) (take_rest rest count) ∙ sym c.drop_words-2.ensures ∙ sym c.loop-rest.invariant.same

@@ -6,8 +6,8 @@ use Rattle.btr_base.proofs.crc.fold.register_of.Given as goal
 -- the register behind the words that were dropped is that of all
 abbrev pub invariant-loop-rest : goal.invariant-loop-rest
 invariant-loop-rest l = record {
-  wide : 632 ≤ length l.rest;
-  same : register l.fn.start l.fn.bytes ≡ register_behind (take 79 l.dropped) l.rest;
+  wide : 416 ≤ length l.rest;
+  same : register l.fn.start l.fn.bytes ≡ register_behind (take 104 l.dropped) l.rest;
 }
 
 abbrev pub decreases-loop-rest : goal.decreases-loop-rest

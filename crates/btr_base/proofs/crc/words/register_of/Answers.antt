@@ -13,9 +13,9 @@ loop-rest-preserved c =
     let before = c.loop-rest.invariant in
     record {
       register_lt = c.take_word-reg.type_inv;
-      are_bytes = left_fits rest 8 before.are_bytes;
+      are_bytes = left_fits rest 4 before.are_bytes;
       same =
-          ap (register c.take_word-reg.result) (take_rest rest 8)
-          ∙ ap (λ reg. register reg (drop 8 rest)) (c.take_word-reg.ensures ∙ ap (λ word. shifted_by 64 (bit_xor c.loop-rest.reg word)) c.u64_at.ensures)
-          ∙ sym (register_number 8 c.loop-rest.reg rest before.register_lt c.loop-rest-test.true before.are_bytes) ∙ before.same;
+          ap (register c.take_word-reg.result) (take_rest rest 4)
+          ∙ ap (λ reg. register reg (drop 4 rest)) (c.take_word-reg.ensures ∙ ap (λ word. shifted_by 32 (bit_xor c.loop-rest.reg word)) c.u32_at.ensures)
+          ∙ sym (register_number 4 c.loop-rest.reg rest before.register_lt c.loop-rest-test.true before.are_bytes) ∙ before.same;
     }
