@@ -1,14 +1,16 @@
 #!/usr/bin/env python3
 """Times the built program beside btrfs-progs, and prints the table "All commands beside btrfs-progs" of docs/SPEED.md.
 
-    python3 tests/speed.py --program $PWD/crates/btr_tool/out/launcher/btr_tool [--times 5] [--only ROW] [--work DIR]
+    python3 tests/speed.py --program $PWD/crates/btr_tool/out/launcher/btr_tool [--times 5] [--only ROW] [--warm] [--work DIR]
 
 It wants btrfs-progs on the PATH, and room for some 4 GB in DIR, by default a folder `speed` among the temporary files. There
 it makes two images, where they aren't there yet, by `mkfs.btrfs --rootdir`: `a` of 8 files of 64 MiB of random bytes, and `b` of
 20,000 files of 100 to 20,000 bytes in 200 folders. Each row is run by the two programs in turn, and its figures are medians;
 `super` is called 200 times in a row. Processor time is that of the user and of the system. What is printed by the
-programs goes into a file. Each restore goes into a new folder; folders of small files are deleted only at the end, since for
-minutes an ext4 without a journal passes by the inodes of deleted files one by one. Ends with 1 where a goal is missed or a command fails.
+programs goes into a file. btrfs-progs drops the image's pages from memory as it ends, so that this program reads from the
+disk; with --warm the image is read before each run, and both find it in memory. Each restore goes into a new folder; folders of
+small files are deleted only at the end, since for minutes an ext4 without a journal passes by the inodes of deleted files one
+by one. Ends with 1 where a goal is missed or a command fails.
 """
 import argparse
 import os
@@ -95,8 +97,17 @@ def once(words, out):
     return Took(status, wall, after.ru_utime - before.ru_utime + after.ru_stime - before.ru_stime)
 
 
-def run(row, command, image, room):
+def read_through(path):
+    """Reads a file, so that its pages are in memory."""
+    with open(path, "rb", buffering=0) as file:
+        while file.read(1 << 20):
+            pass
+
+
+def run(row, command, image, room, warm):
     """Runs one command of a row, with a new folder in the place of the destination."""
+    if warm:
+        read_through(image)
     dest = tempfile.mkdtemp(dir=room)
     words = [word.format(image=image, dest=dest) for word in command]
     if row.name == "`super`":
@@ -135,6 +146,7 @@ def main():
     parser.add_argument("--program", required=True)
     parser.add_argument("--times", type=int, default=5)
     parser.add_argument("--only", help="rows whose name holds this")
+    parser.add_argument("--warm", action="store_true", help="read the image before each run")
     parser.add_argument("--work", default=os.path.join(tempfile.gettempdir(), "speed"))
     given = parser.parse_args()
     if not shutil.which("mkfs.btrfs") or not shutil.which("btrfs"):
@@ -152,9 +164,9 @@ def main():
                 make_image(row.image, image)
             ours, peer = [], []
             for _ in range(given.times):
-                ours.append(run(row, [given.program] + row.words, image, room))
+                ours.append(run(row, [given.program] + row.words, image, room, given.warm))
                 if row.peer:
-                    peer.append(run(row, row.peer, image, room))
+                    peer.append(run(row, row.peer, image, room, given.warm))
             kept = print_row(row, median(ours), median(peer) if peer else None) and kept
     sys.exit(0 if kept else 1)
 
