@@ -5,7 +5,7 @@
 #     tests/edits.sh edits.log
 #
 # The gate tries those in crates/*/must-fail: a few of each crate, since each proves its function anew. `tests/edits.sh --try [CRATE..]` tries them all,
-# those in tests/edits too, in a clone of what is committed, in which it proves the libraries from nothing.
+# those in tests/edits too, in a clone of what is committed, by `rt ci`, which goes on from what this machine keeps.
 #
 # clause, invariant   what a function promises, or the invariant of a type, isn't proved: the edit shows what the contract holds
 # loop, call, safety  an invariant of a loop, what a call requires, or a sum, index or cast isn't proved: it shows nearly as much
@@ -57,4 +57,5 @@ for folder in tests/edits/*; do
     mkdir -p "crates/${folder##*/}/must-fail"
     cp "$folder"/*.edit "crates/${folder##*/}/must-fail/"
 done
-rt must-fail "$@" 2>&1 | reasons
+git add -A && git -c user.name=edits -c user.email=edits commit -qm 'all edits'
+rt ci "$@" 2>&1 | reasons
