@@ -1,310 +1,284 @@
--- A piece whose first words are dropped, as lists.
-use Rattle.std.proofs.Common.{◌≡◌, ℕ, zero, suc, ◌+◌, ◌*◌, ◌-◌, ◌/◌, ◌^◌, ◌<◌, ◌≤◌, ◌≢◌, inl, inr, Bool, true, false, cond, ltb, List, length, get_or, take, drop, replicate, refl, sym, ap, subst, ◌∙◌, arith, length-drop}
-use Rattle.std.specs.Int.Bits.{bit_xor, xor_assoc, xor_zero_l, xor_zero_r}
-use Rattle.std.proofs.Math.ListN.{set}
-use Rattle.std.proofs.lemmas.Nat.{xor_comm}
-use Rattle.std.proofs.lemmas.Bool.{cases_lt, cases_eq}
-use Rattle.std.proofs.lemmas.Bool.Decides.{nat_tests}
-use Rattle.std.proofs.lemmas.List.{drop-drop, get_or-take, get_or-drop, get_or_past, get_or-set_same, get_or-set_other, length-set, length-take, take-set-le, ext_get_or}
-use Rattle.byteorder.specs.Endian.{little_number}
-use Rattle.btr_base.specs.Field.{number_at}
-use Rattle.btr_base.specs.Crc.{register, shifted_by}
-use Rattle.btr_base.specs.Fold.{after, sent, received, with_four, register_behind}
-use Rattle.btr_base.proofs.Multiple.{lower, terms}
-use Rattle.btr_base.proofs.Words.{register_words}
-use Rattle.btr_base.proofs.Ahead.{after-same, gathered, front, dropped}
+-- A piece whose first bytes are dropped, as lists.
+use Rattle.std.proofs.Common.{◌≡◌, ℕ, ◌+◌, ◌-◌, ◌/◌, ◌%◌, ◌^◌, ◌<◌, ◌≤◌, inl, inr, List, [], ◌∷◌, length, get_or, take, drop, replicate, sym, ap, subst, ◌∙◌, arith, length-drop}
+use Rattle.std.specs.Int.Bits.{bit_xor, xor_zero_l, xor_zero_r}
+use lib.Lanes.{put_chunk}
+use Rattle.std.proofs.lemmas.Bool.{cases_lt}
+use Rattle.std.proofs.lemmas.Nat.{xor_lt}
+use Rattle.std.proofs.lemmas.Simd.{length-put_chunk, get_or-put_chunk_below, get_or-put_chunk_at, get_or-put_chunk_above}
+use Rattle.std.proofs.lemmas.List.{get_or-take, get_or-drop, get_or_past, length-take, length-replicate, get_or-replicate, ext_get_or}
+use Rattle.btr_base.specs.Crc.{register}
+use Rattle.btr_base.specs.Fold.{after, far, near, gathered, sent, received, register_behind}
+use Rattle.btr_base.proofs.Multiple.{far_is_multiple, near_is_multiple}
+use Rattle.btr_base.proofs.Words.{register_bytes, after_start}
+use Rattle.btr_base.proofs.Ahead.{AreWithin, after-same, after-more, gathered-same, gathered-moved, gathered_none, front, front_in, front_past, front_fits, dropped}
 
 -- the number at a place of a list, and 0 past its end
 abbrev pub at : List ℕ → ℕ → ℕ
 at xs i = get_or xs i 0
 
-regrouped : (a b c d e f g : ℕ) → bit_xor (bit_xor (bit_xor (bit_xor (bit_xor (bit_xor a b) c) d) e) f) g
-    ≡ bit_xor a (bit_xor b (bit_xor c (bit_xor d (bit_xor e (bit_xor f (bit_xor g 0))))))
-regrouped a b c d e f g = simp (xor_assoc, xor_zero_r)
+pub far_within : AreWithin 300 far
+far_within = (omega arith, (omega arith, (omega arith, (omega arith, (omega arith, tt)))))
 
-sent_gathered : (xs : List ℕ) (j : ℕ) → sent xs j ≡ gathered lower (at xs) j
-unfolding sent gathered
-sent_gathered xs j =
-    let same : j ≡ j + 0 = omega arith in
-    regrouped (at xs j) (at xs (j + 4)) (at xs (j + 14)) (at xs (j + 19)) (at xs (j + 49)) (at xs (j + 53)) (at xs (j + 57))
-    ∙ ap (λ k. bit_xor (at xs k) (bit_xor (at xs (j + 4)) (bit_xor (at xs (j + 14)) (bit_xor (at xs (j + 19)) (bit_xor (at xs (j + 49)) (bit_xor (at xs (j + 53)) (bit_xor (at xs (j + 57)) 0))))))) same
+pub near_within : AreWithin 144 near
+near_within = (omega arith, (omega arith, (omega arith, (omega arith, (omega arith, (omega arith, (omega arith, tt)))))))
 
-past_take : (n i : ℕ) (xs : List ℕ) → n ≤ i → at (take n xs) i ≡ 0
-past_take n i xs le = get_or_past (take n xs) i 0 (omega (arith, length-take n xs))
+further : (d e : ℕ) (es : List ℕ) → d ≤ e → AreWithin d es → AreWithin e es
+further d e [] le within = tt
+further d e (x ∷ es) le within = (omega (arith, within.0), further d e es le within.1)
 
--- nothing stands 104 places on
-sent_front : (xs : List ℕ) (j : ℕ) → sent (take 104 xs) j ≡ gathered terms (at (take 104 xs)) j
-unfolding gathered
-sent_front xs j =
-    sent_gathered (take 104 xs) j ∙ sym (xor_zero_l (gathered lower (at (take 104 xs)) j))
-    ∙ ap (λ x. bit_xor x (gathered lower (at (take 104 xs)) j)) (sym (past_take 104 (j + 104) xs (omega arith)))
-
--- what was sent depends on the next 58 places
-pub sent-same : (xs ys : List ℕ) (j k : ℕ) → ((a : ℕ) → a < 58 → at xs (j + a) ≡ at ys (k + a)) → sent xs j ≡ sent ys k
-unfolding sent
-sent-same xs ys j k same =
-    let first : at xs j ≡ at ys k = ap (at xs) (omega arith) ∙ same 0 (omega arith) ∙ ap (at ys) (omega arith) in
-    λ i. bit_xor (bit_xor (bit_xor (bit_xor (bit_xor (bit_xor (first i)
-    (same 4 (omega arith) i)) (same 14 (omega arith) i)) (same 19 (omega arith) i))
-    (same 49 (omega arith) i)) (same 53 (omega arith) i)) (same 57 (omega arith) i)
-
--- writing further on changes nothing of what was sent
-pub sent-set : (xs : List ℕ) (i x j : ℕ) → j + 57 < i → sent (set xs i x) j ≡ sent xs j
-sent-set xs i x j lt = sent-same (set xs i x) xs j j (λ a small. get_or-set_other xs i (j + a) x 0 (other a small))
-  where
-    other : (a : ℕ) → a < 58 → j + a ≢ i
-    other a small = omega arith
-
--- one more word is dropped
-pub send_more : (xs bytes : List ℕ) (n x : ℕ) → n + 104 < length xs → x ≡ received xs bytes n → ((j : ℕ) → j < n → at xs (j + 104) ≡ received xs bytes j)
-    → (j : ℕ) → j < n + 1 → at (set xs (104 + n) x) (j + 104) ≡ received (set xs (104 + n) x) bytes j
-send_more xs bytes n x room e before j lt = elim (cases_lt j n) [
-  | inl earlier ↦
-      let other : j + 104 ≢ 104 + n = omega arith in
-      get_or-set_other xs (104 + n) (j + 104) x 0 other ∙ before j earlier ∙ ap (bit_xor (number_at 4 (4 * j) bytes)) (sym (sent-set xs (104 + n) x j (omega arith)))
-  | inr le ↦
-      let here : j ≡ n = omega arith in
-      let place : n + 104 ≡ 104 + n = omega arith in
-      ap (λ k. at (set xs (104 + n) x) (k + 104)) here ∙ ap (at (set xs (104 + n) x)) place ∙ get_or-set_same xs (104 + n) x 0 (omega arith) ∙ e
-      ∙ ap (bit_xor (number_at 4 (4 * n) bytes)) (sym (sent-set xs (104 + n) x n (omega arith)))
-      ∙ ap (received (set xs (104 + n) x) bytes) (sym here)
-]
-
--- one more number of a list
-pub set_fits : (xs : List ℕ) (i x : ℕ) → x < 2 ^ 32 → ((k : ℕ) → at xs k < 2 ^ 32) → (k : ℕ) → at (set xs i x) k < 2 ^ 32
-set_fits xs i x lt fits k = elim (cases_eq k i) [
-  | inl same ↦ elim (cases_lt i (length xs)) [
-    | inl in_range ↦ omega (arith, ap (at (set xs i x)) same ∙ get_or-set_same xs i x 0 in_range)
-    | inr past ↦ omega (arith, get_or_past (set xs i x) k 0 (omega (arith, length-set xs i x)))
-  ]
-  | inr other ↦ omega (arith, get_or-set_other xs i k x 0 other, fits k)
-]
-
--- the first n words of a piece are as they are when they are dropped, behind the words that were dropped before
-abbrev pub AreSent : List ℕ → List ℕ → List ℕ → ℕ → Type 0
-AreSent before xs bytes n = (length xs ≡ 1128) × (take 104 xs ≡ take 104 before) × ((j : ℕ) → j < n → at xs (j + 104) ≡ received xs bytes j)
-
--- and so is the next one
-pub one_more : (before xs bytes : List ℕ) (n x : ℕ) → n < 1024 → x ≡ received xs bytes n → AreSent before xs bytes n → AreSent before (set xs (104 + n) x) bytes (n + 1)
-one_more before xs bytes n x room e so_far =
-    let sized = so_far.0 in (
-      length-set xs (104 + n) x ∙ sized,
-      take-set-le 104 xs (104 + n) x (omega arith) ∙ so_far.1,
-      send_more xs bytes n x (omega (arith, sized)) e so_far.2,
-    )
-
--- the word that stands k places on, which none of the words from n on has sent to yet
-apart : (xs bytes : List ℕ) (n k i x : ℕ) → k < 4 → 104 + n ≤ i → received xs bytes (n + k) ≡ received (set xs i x) bytes (n + k)
-apart xs bytes n k i x near le = ap (bit_xor (number_at 4 (4 * (n + k)) bytes)) (sym (sent-set xs i x (n + k) (omega arith)))
-
--- one more of four words
-one_of_four : (before xs bytes : List ℕ) (n k i x : ℕ) → n + k < 1024 → i ≡ 104 + (n + k) → x ≡ received xs bytes (n + k)
-    → AreSent before xs bytes (n + k) → AreSent before (set xs i x) bytes (n + (k + 1))
-one_of_four before xs bytes n k i x room place e so_far =
-    let count : n + k + 1 ≡ n + (k + 1) = omega arith in
-    subst (λ (p : ℕ). AreSent before (set xs p x) bytes (n + (k + 1))) (sym place)
-    (subst (λ (m : ℕ). AreSent before (set xs (104 + (n + k)) x) bytes m) count (one_more before xs bytes (n + k) x room e so_far))
-
--- and so are the next four, as none of them sends to another
-pub four_more : (before xs bytes : List ℕ) (n : ℕ) → n + 3 < 1024 → AreSent before xs bytes n → AreSent before (with_four xs bytes n) bytes (n + 4)
-four_more before xs bytes n room so_far =
-    let w : ℕ → ℕ = λ k. received xs bytes (n + k) in
-    let first : n ≡ n + 0 = omega arith in
-    let a = set xs (104 + n) (received xs bytes n) in
-    let b = set a (104 + n + 1) (w 1) in
-    let c = set b (104 + n + 2) (w 2) in
-    let apart_2 : w 2 ≡ received b bytes (n + 2) =
-    apart xs bytes n 2 (104 + n) (received xs bytes n) (omega arith) (omega arith) ∙ apart a bytes n 2 (104 + n + 1) (w 1) (omega arith) (omega arith) in
-    let apart_3 : w 3 ≡ received c bytes (n + 3) =
-    apart xs bytes n 3 (104 + n) (received xs bytes n) (omega arith) (omega arith) ∙ apart a bytes n 3 (104 + n + 1) (w 1) (omega arith) (omega arith)
-    ∙ apart b bytes n 3 (104 + n + 2) (w 2) (omega arith) (omega arith) in
-    one_of_four before c bytes n 3 (104 + n + 3) (w 3) (omega arith) (omega arith) apart_3
-    (one_of_four before b bytes n 2 (104 + n + 2) (w 2) (omega arith) (omega arith) apart_2
-    (one_of_four before a bytes n 1 (104 + n + 1) (w 1) (omega arith) (omega arith)
-    (apart xs bytes n 1 (104 + n) (received xs bytes n) (omega arith) (omega arith))
-    (one_of_four before xs bytes n 0 (104 + n) (received xs bytes n) (omega arith) (omega arith) (ap (received xs bytes) first)
-    (subst (λ (m : ℕ). AreSent before xs bytes m) first so_far))))
-
--- four more numbers of a list
-pub four_fit : (xs : List ℕ) (i a b c d : ℕ) → a < 2 ^ 32 → b < 2 ^ 32 → c < 2 ^ 32 → d < 2 ^ 32 → ((k : ℕ) → at xs k < 2 ^ 32)
-    → (k : ℕ) → at (set (set (set (set xs i a) (i + 1) b) (i + 2) c) (i + 3) d) k < 2 ^ 32
-four_fit xs i a b c d la lb lc ld fits =
-    set_fits (set (set (set xs i a) (i + 1) b) (i + 2) c) (i + 3) d ld
-    (set_fits (set (set xs i a) (i + 1) b) (i + 2) c lc (set_fits (set xs i a) (i + 1) b lb (set_fits xs i a la fits)))
-
--- the first numbers of a list, which stand n places on in another one
-pub moved_front : (xs ys : List ℕ) (n : ℕ) → length xs ≡ 1128 → length ys ≡ 1128 → n ≤ 1024 → ((i : ℕ) → i < 104 → at xs i ≡ at ys (n + i)) → take 104 xs ≡ take 104 (drop n ys)
-moved_front xs ys n long_x long_y le same =
-    ext_get_or 0 (take 104 xs) (take 104 (drop n ys)) (omega (arith, length-take 104 xs, length-take 104 (drop n ys), length-drop n ys))
-    (λ i lt. let small : i < 104 = omega (arith, length-take 104 xs) in
-    get_or-take 104 xs i 0 small ∙ same i small ∙ sym (get_or-drop n ys i 0) ∙ sym (get_or-take 104 (drop n ys) i 0 small))
-
--- behind its first numbers a list has zeros, as far as what was sent depends on it
-pub sent_cleared : (xs ys : List ℕ) (j : ℕ) → j < 104 → take 104 xs ≡ take 104 ys → ((i : ℕ) → 104 ≤ i → i < 161 → at xs i ≡ 0) → sent xs j ≡ sent (take 104 ys) j
-sent_cleared xs ys j near kept zeros = sent-same xs (take 104 ys) j j (λ a small. here (j + a) (omega arith))
-  where
-    here : (i : ℕ) → i < 161 → at xs i ≡ at (take 104 ys) i
-    here i reached = elim (cases_lt i 104) [
-      | inl lt ↦ sym (get_or-take 104 xs i 0 lt) ∙ ap (λ (l : List ℕ). at l i) kept
-      | inr le ↦ zeros i le reached ∙ sym (past_take 104 i ys le)
+-- a block of n bytes more is dropped
+pub block_sent : (d r n m : ℕ) (es : List ℕ) (byte : ℕ → ℕ) (xs block : List ℕ) → AreWithin r es → r + n ≤ d → length block ≡ n → d + m + n ≤ length xs
+    → ((i : ℕ) → i < n → at block i ≡ bit_xor (byte (m + i)) (sent es xs (m + i)))
+    → ((j : ℕ) → j < m → at xs (j + d) ≡ bit_xor (byte j) (sent es xs j))
+    → (j : ℕ) → j < m + n → at (put_chunk (d + m) xs block) (j + d) ≡ bit_xor (byte j) (sent es (put_chunk (d + m) xs block) j)
+block_sent d r n m es byte xs block within apart long room e before j lt =
+    let ys = put_chunk (d + m) xs block in
+    let same : sent es xs j ≡ sent es ys j = gathered-same r es (at xs) (at ys) j j within (λ a le. sym (get_or-put_chunk_below (d + m) xs block (j + a) 0 (omega arith))) in
+    elim (cases_lt j m) [
+      | inl earlier ↦ get_or-put_chunk_below (d + m) xs block (j + d) 0 (omega arith) ∙ before j earlier ∙ ap (bit_xor (byte j)) same
+      | inr le ↦
+          let i = j - m in
+          let place : j + d ≡ d + m + i = omega arith in
+          let here : m + i ≡ j = omega arith in
+          ap (at ys) place ∙ get_or-put_chunk_at (d + m) xs block i 0 (omega (arith, long)) (omega (arith, long)) ∙ e i (omega arith)
+          ∙ ap (λ p. bit_xor (byte p) (sent es xs p)) here ∙ ap (bit_xor (byte j)) same
     ]
 
--- a list of zeros
-pub at-replicate : (n i : ℕ) → at (replicate n 0) i ≡ 0
-at-replicate zero i = refl
-at-replicate (suc n) zero = refl
-at-replicate (suc n) (suc i) = at-replicate n i
+-- zeros, and nothing behind them
+pub zeros_at : (n : ℕ) (xs : List ℕ) (i : ℕ) → xs ≡ replicate n 0 → at xs i ≡ 0
+zeros_at n xs i all = ap (λ (l : List ℕ). at l i) all ∙ elim (cases_lt i n) [
+  | inl lt ↦ get_or-replicate n i 0 0 lt
+  | inr past ↦ get_or_past (replicate n 0) i 0 (omega (arith, length-replicate {A = ℕ} n 0))
+]
 
-module _ (done bytes : List ℕ) (m : ℕ) (fits : (i : ℕ) → at done i < 2 ^ 32) (wide : 4 * (m + 104) ≤ length bytes)
-    (step : (j : ℕ) → j < m → at done (j + 104) ≡ received done bytes j) where
-  u : ℕ → ℕ
-  u i = at (take (m + 104) done) i
+-- what is gathered of bytes is a byte
+gathered_fits : (es : List ℕ) (u : ℕ → ℕ) (j : ℕ) → ((i : ℕ) → u i < 2 ^ 8) → gathered es u j < 2 ^ 8
+unfolding gathered
+gathered_fits [] u j fits = omega arith
+gathered_fits (e ∷ es) u j fits = xor_lt 8 (u (j + e)) (gathered es u j) (fits (j + e)) (gathered_fits es u j fits)
 
-  u_below : (i : ℕ) → i < m + 104 → u i ≡ at done i
-  unfolding u
-  u_below i lt = get_or-take (m + 104) done i 0 lt
+pub received_fits : (xs bytes : List ℕ) (j : ℕ) → ((i : ℕ) → at xs i < 2 ^ 8) → ((i : ℕ) → at bytes i < 2 ^ 8) → received xs bytes j < 2 ^ 8
+received_fits xs bytes j fits are_bytes = xor_lt 8 (at bytes j) (sent far xs j) (are_bytes j) (gathered_fits far (at xs) j fits)
 
-  u_end : (i : ℕ) → m + 104 ≤ i → u i ≡ 0
-  unfolding u
-  u_end i le = past_take (m + 104) i done le
+pub kept_fits : (xs ys bytes : List ℕ) (j k : ℕ) → ((i : ℕ) → at xs i < 2 ^ 8) → ((i : ℕ) → at ys i < 2 ^ 8) → ((i : ℕ) → at bytes i < 2 ^ 8)
+    → bit_xor (received xs bytes j) (sent near ys k) < 2 ^ 8
+kept_fits xs ys bytes j k fits nearer_fits are_bytes =
+    xor_lt 8 (received xs bytes j) (sent near ys k) (received_fits xs bytes j fits are_bytes) (gathered_fits near (at ys) k nearer_fits)
 
-  u_fits : (i : ℕ) → u i < 2 ^ 32
-  u_fits i = elim (cases_lt i (m + 104)) [ inl lt ↦ omega (arith, u_below i lt, fits i) | inr le ↦ omega (arith, u_end i le) ]
-
-  u_step : (j : ℕ) → j < m → u (j + 104) ≡ bit_xor (number_at 4 (4 * j) bytes) (gathered lower u j)
-  unfolding u
-  u_step j lt =
-      u_below (j + 104) (omega arith) ∙ step j lt
-      ∙ ap (bit_xor (number_at 4 (4 * j) bytes)) (
-      sent-same done (take (m + 104) done) j j (λ a small. sym (u_below (j + a) (omega arith))) ∙ sent_gathered (take (m + 104) done) j
-      )
-
-  before : (i : ℕ) → at (take 104 done) i ≡ front u i
-  before i = elim (cases_lt i 104) [
-    | inl lt ↦ get_or-take 104 done i 0 lt ∙ sym (u_below i (omega arith)) ∙ sym (front_of (ltb i 104) (near lt))
-    | inr le ↦ past_take 104 i done le ∙ sym (front_past (ltb i 104) (far le))
+-- a list of bytes with a block of bytes
+pub block_fits : (n m : ℕ) (lane : ℕ → ℕ) (xs block : List ℕ) → length block ≡ n → m + n ≤ length xs → ((i : ℕ) → i < n → at block i ≡ lane i) → ((i : ℕ) → lane i < 2 ^ 8)
+    → ((i : ℕ) → at xs i < 2 ^ 8) → (i : ℕ) → at (put_chunk m xs block) i < 2 ^ 8
+block_fits n m lane xs block long room is lanes fits i = elim (cases_lt i m) [
+  | inl below ↦ omega (arith, get_or-put_chunk_below m xs block i 0 below, fits i)
+  | inr from ↦ elim (cases_lt (i - m) n) [
+    | inl within ↦
+        let place : m + (i - m) ≡ i = omega arith in
+        omega (arith, ap (at (put_chunk m xs block)) (sym place) ∙ get_or-put_chunk_at m xs block (i - m) 0 (omega (arith, long)) (omega (arith, long)) ∙ is (i - m) within, lanes (i - m))
+    | inr past ↦ omega (arith, get_or-put_chunk_above m xs block i 0 (omega (arith, long)), fits i)
   ]
-    where
-      front_of : (b : Bool) → b ≡ true → cond b (u i) 0 ≡ u i
-      front_of b e = ap (λ c. cond c (u i) 0) e
+]
 
-      front_past : (b : Bool) → b ≡ false → cond b (u i) 0 ≡ 0
-      front_past b e = ap (λ c. cond c (u i) 0) e
+-- what stands before a block is as it was
+pub block_front : (d m : ℕ) (xs block : List ℕ) → take d (put_chunk (d + m) xs block) ≡ take d xs
+block_front d m xs block =
+    ext_get_or 0 (take d (put_chunk (d + m) xs block)) (take d xs)
+    (omega (arith, length-take d (put_chunk (d + m) xs block), length-take d xs, length-put_chunk (d + m) xs block))
+    (λ i lt. let small : i < d = omega (arith, length-take d (put_chunk (d + m) xs block)) in
+    get_or-take d (put_chunk (d + m) xs block) i 0 small ∙ get_or-put_chunk_below (d + m) xs block i 0 (omega arith) ∙ sym (get_or-take d xs i 0 small))
 
-      near : i < 104 → ltb i 104 ≡ true
-      near lt = grind (arith, nat_tests)
+-- the first numbers of a list, which stand n places on in another one
+pub moved_front : (xs ys : List ℕ) (n : ℕ) → length xs ≡ 4972 → length ys ≡ 4972 → n ≤ 4096 → ((i : ℕ) → i < 561 → at xs i ≡ at ys (n + i)) → take 561 xs ≡ take 561 (drop n ys)
+moved_front xs ys n long_x long_y le same =
+    ext_get_or 0 (take 561 xs) (take 561 (drop n ys)) (omega (arith, length-take 561 xs, length-take 561 (drop n ys), length-drop n ys))
+    (λ i lt. let small : i < 561 = omega (arith, length-take 561 xs) in
+    get_or-take 561 xs i 0 small ∙ same i small ∙ sym (get_or-drop n ys i 0) ∙ sym (get_or-take 561 (drop n ys) i 0 small))
 
-      far : 104 ≤ i → ltb i 104 ≡ false
-      far le = grind (arith, nat_tests)
+-- the first numbers of a list
+front_take : (n : ℕ) (xs : List ℕ) (i : ℕ) → at (take n xs) i ≡ front n (at xs) i
+front_take n xs i = elim (cases_lt i n) [
+  | inl lt ↦ get_or-take n xs i 0 lt ∙ sym (front_in n (at xs) i lt)
+  | inr le ↦ get_or_past (take n xs) i 0 (omega (arith, length-take n xs)) ∙ sym (front_past n (at xs) i le)
+]
 
-  behind : (i : ℕ) → u (i + m) ≡ at (take 104 (drop m done)) i
-  behind i = elim (cases_lt i 104) [
-    | inl lt ↦
-        let swap : i + m ≡ m + i = omega arith in
-        u_below (i + m) (omega arith) ∙ ap (at done) swap ∙ sym (get_or-drop m done i 0) ∙ sym (get_or-take 104 (drop m done) i 0 lt)
-    | inr le ↦ u_end (i + m) (omega arith) ∙ sym (past_take 104 i (drop m done) le)
-  ]
+-- the numbers that stand n places on in the front of a list
+abbrev behind : List ℕ → ℕ → ℕ → ℕ
+behind xs n i = front (n + 561) (at xs) (i + n)
 
-  later : (j : ℕ) → number_at 4 (4 * (j + m)) bytes ≡ number_at 4 (4 * j) (drop (4 * m) bytes)
-  later j =
-      let sum : 4 * (j + m) ≡ 4 * m + 4 * j = omega arith in
-      ap (λ off. number_at 4 off bytes) sum ∙ ap (little_number 4) (sym (drop-drop (4 * j) (4 * m) bytes))
+behind_in : (xs : List ℕ) (n i : ℕ) → i < 561 → behind xs n i ≡ at xs (n + i)
+behind_in xs n i lt = front_in (n + 561) (at xs) (i + n) (omega arith) ∙ ap (at xs) (omega arith)
 
-  pub folded : register_behind (take 104 done) bytes ≡ register_behind (take 104 (drop m done)) (drop (4 * m) bytes)
-  unfolding register_behind
-  folded =
-      let left = drop (4 * m) bytes in
-      let k = length left / 4 in
-      let count : length bytes / 4 ≡ m + k = omega (arith, length-drop (4 * m) bytes) in
-      let ends : 4 * (length bytes / 4) ≡ 4 * m + 4 * k = omega arith in
-      let word : ℕ → ℕ = λ j. number_at 4 (4 * j) bytes in
-      (λ i. register (after 0 (count i) (received (take 104 done) bytes)) (drop (ends i) bytes))
-      ∙ (λ i. register ((
-      after-same 0 (m + k) (received (take 104 done) bytes) (λ j. bit_xor (word j) (gathered terms (front u) j)) (λ j lt. ap (bit_xor (word j)) (sent_front done j ∙ (λ t. gathered terms (λ x. before x t) j)))
-      ∙ dropped word u m k (omega (arith, length-drop (4 * m) bytes)) u_fits u_end u_step
-      ∙ after-same 0 k (λ j. bit_xor (word (j + m)) (gathered terms (λ x. u (x + m)) j)) (received (take 104 (drop m done)) left)
-      (λ j lt t. bit_xor (later j t) ((ap (λ f. gathered terms f j) (λ t x. behind x t) ∙ sym (sent_front (drop m done) j)) t))
-      ) i) (sym (drop-drop (4 * k) (4 * m) bytes) i))
+behind_past : (xs : List ℕ) (n i : ℕ) → 561 ≤ i → behind xs n i ≡ 0
+behind_past xs n i le = front_past (n + 561) (at xs) (i + n) (omega arith)
 
--- a register that is taken in with the first word
-after_start : (start n : ℕ) (word v : ℕ → ℕ) → v 0 ≡ bit_xor (word 0) start → ((j : ℕ) → v (suc j) ≡ word (suc j)) → after start (suc n) word ≡ after 0 (suc n) v
-unfolding after
-after_start start zero word v first rest = ap (shifted_by 32) (xor_comm start (word 0) ∙ sym first ∙ sym (xor_zero_l (v 0)))
-after_start start (suc n) word v first rest = λ i. shifted_by 32 (bit_xor (after_start start n word v first rest i) (sym (rest n) i))
+fronts : (xs : List ℕ) (n i : ℕ) → at (take 561 xs) i ≡ front 561 (front (n + 561) (at xs)) i
+fronts xs n i = front_take 561 xs i ∙ elim (cases_lt i 561) [
+  | inl lt ↦ front_in 561 (at xs) i lt ∙ sym (front_in (n + 561) (at xs) i (omega arith)) ∙ sym (front_in 561 (front (n + 561) (at xs)) i lt)
+  | inr le ↦ front_past 561 (at xs) i le ∙ sym (front_past 561 (front (n + 561) (at xs)) i le)
+]
 
-sent_nothing : (xs : List ℕ) (j : ℕ) → ((i : ℕ) → j ≤ i → at xs i ≡ 0) → sent xs j ≡ 0
-unfolding sent
-sent_nothing xs j none =
-    λ i. bit_xor (bit_xor (bit_xor (bit_xor (bit_xor (bit_xor (none j (omega arith) i)
-    (none (j + 4) (omega arith) i)) (none (j + 14) (omega arith) i)) (none (j + 19) (omega arith) i))
-    (none (j + 49) (omega arith) i)) (none (j + 53) (omega arith) i)) (none (j + 57) (omega arith) i)
+-- a sum to which the first adds nothing
+added : (x y w : ℕ) → x ≡ 0 → bit_xor w (bit_xor x y) ≡ bit_xor w y
+added x y w none = ap (λ z. bit_xor w (bit_xor z y)) none ∙ ap (bit_xor w) (xor_zero_l y)
 
-sent_first : (xs : List ℕ) → ((i : ℕ) → 0 < i → at xs i ≡ 0) → sent xs 0 ≡ at xs 0
-unfolding sent
-sent_first xs none =
-    (λ i. bit_xor (bit_xor (bit_xor (bit_xor (bit_xor (bit_xor (at xs 0)
-    (none 4 (omega arith) i)) (none 14 (omega arith) i)) (none 19 (omega arith) i))
-    (none 49 (omega arith) i)) (none 53 (omega arith) i)) (none 57 (omega arith) i))
-    ∙ simp xor_zero_r
+-- what the first n bytes have sent is left, where they are dropped
+left : (xs bytes : List ℕ) (n : ℕ) → ((i : ℕ) → i < n + 561 → at xs i < 2 ^ 32) → n + 561 ≤ length bytes → ((j : ℕ) → j < n → at xs (j + 561) ≡ received xs bytes j)
+    → register_behind (take 561 xs) bytes ≡ after 8 0 (length bytes - n) (λ j. bit_xor (at bytes (j + n)) (gathered far (behind xs n) j))
+unfolding register_behind gathered
+left xs bytes n fits wide sent =
+    let u : ℕ → ℕ = front (n + 561) (at xs) in
+    let k = length bytes - n in
+    let count : length bytes ≡ n + k = omega arith in
+    let all : List ℕ = 561 ∷ far in
+    ap (λ m. after 8 0 m (received (take 561 xs) bytes)) count
+    ∙ after-same 0 (n + k) (received (take 561 xs) bytes) (λ j. bit_xor (at bytes j) (gathered all (front 561 u) j)) (λ j lt.
+    ap (bit_xor (at bytes j)) (gathered-same 300 far (at (take 561 xs)) (front 561 u) j j far_within (λ a le. fronts xs n (j + a)))
+    ∙ sym (added (front 561 u (j + 561)) (gathered far (front 561 u) j) (at bytes j) (front_past 561 u (j + 561) (omega arith))))
+    ∙ dropped 561 far (at bytes) u n k (further 300 561 far (omega arith) far_within) far_is_multiple (omega arith) (front_fits (n + 561) (at xs) fits)
+    (λ i le. front_past (n + 561) (at xs) i le)
+    (λ j lt. front_in (n + 561) (at xs) (j + 561) (omega arith) ∙ sent j lt
+    ∙ ap (bit_xor (at bytes j)) (gathered-same 300 far (at xs) u j j far_within (λ a le. sym (front_in (n + 561) (at xs) (j + a) (omega arith)))))
+    ∙ after-same 0 k (λ j. bit_xor (at bytes (j + n)) (gathered all (behind xs n) j)) (λ j. bit_xor (at bytes (j + n)) (gathered far (behind xs n) j))
+    (λ j lt. added (behind xs n (j + 561)) (gathered far (behind xs n) j) (at bytes (j + n)) (behind_past xs n (j + 561) (omega arith)))
 
--- nothing was dropped before a piece: only the register goes into its first word
-pub begun : (start : ℕ) (done bytes : List ℕ) → start < 2 ^ 32 → 4 ≤ length bytes → ((i : ℕ) → at bytes i < 2 ^ 8)
-    → at done 0 ≡ start → ((i : ℕ) → 0 < i → at done i ≡ 0) → register start bytes ≡ register_behind (take 104 done) bytes
+-- the last of the dropped bytes stand at the front
+pub folded : (xs bytes : List ℕ) (n : ℕ) → ((i : ℕ) → i < n + 561 → at xs i < 2 ^ 32) → n + 561 ≤ length bytes → ((j : ℕ) → j < n → at xs (j + 561) ≡ received xs bytes j)
+    → register_behind (take 561 xs) bytes ≡ register_behind (take 561 (drop n xs)) (drop n bytes)
 unfolding register_behind
-begun start done bytes lt wide fits first zeros =
-    let n = length bytes / 4 in
-    let p = length bytes / 4 - 1 in
-    let more : n ≡ suc p = omega arith in
-    let word : ℕ → ℕ = λ j. number_at 4 (4 * j) bytes in
-    let h = take 104 done in
-    register_words start n bytes lt (omega arith) fits
-    ∙ ap (λ r. register r (drop (4 * n) bytes)) (
-    ap (λ k. after start k word) more
-    ∙ after_start start p word (received h bytes)
-    (ap (bit_xor (word 0)) (sent_first h none ∙ get_or-take 104 done 0 0 (omega arith) ∙ first))
-    (λ j. ap (bit_xor (word (suc j))) (sent_nothing h (suc j) (λ i le. none i (omega arith))) ∙ xor_zero_r (word (suc j)))
-    ∙ ap (λ k. after 0 k (received h bytes)) (sym more)
+folded xs bytes n fits wide sent =
+    let rest = drop n bytes in
+    let kept = take 561 (drop n xs) in
+    left xs bytes n fits wide sent
+    ∙ after-same 0 (length bytes - n) (λ j. bit_xor (at bytes (j + n)) (gathered far (behind xs n) j)) (received kept rest) (λ j lt.
+    λ i. bit_xor ((ap (at bytes) (turn j) ∙ sym (get_or-drop n bytes j 0)) i) (gathered-same 300 far (behind xs n) (at kept) j j far_within (λ a le. moved (j + a)) i))
+    ∙ ap (λ m. after 8 0 m (received kept rest)) (sym (length-drop n bytes))
+  where
+    turn : (j : ℕ) → j + n ≡ n + j
+    turn j = omega arith
+
+    moved : (i : ℕ) → behind xs n i ≡ at (take 561 (drop n xs)) i
+    moved i = elim (cases_lt i 561) [
+      | inl lt ↦ behind_in xs n i lt ∙ sym (get_or-drop n xs i 0) ∙ sym (get_or-take 561 (drop n xs) i 0 lt)
+      | inr le ↦ behind_past xs n i le ∙ sym (get_or_past (take 561 (drop n xs)) i 0 (omega (arith, length-take 561 (drop n xs))))
+    ]
+
+-- behind the kept bytes nothing was sent to
+pub ended : (xs bytes : List ℕ) (n : ℕ) → ((i : ℕ) → i < n + 561 → at xs i < 2 ^ 32) → n + 576 ≤ length bytes → ((i : ℕ) → at bytes i < 2 ^ 8)
+    → ((j : ℕ) → j < n → at xs (j + 561) ≡ received xs bytes j) → ((i : ℕ) → n + 561 ≤ i → i < n + 561 + 315 → at xs i ≡ 0)
+    → after 8 0 576 (λ j. received xs bytes (n + j)) < 2 ^ 32
+    → register_behind (take 561 xs) bytes ≡ register (after 8 0 576 (λ j. received xs bytes (n + j))) (drop (n + 576) bytes)
+ended xs bytes n fits wide are_bytes sent zeros lt =
+    let w : ℕ → ℕ = λ j. bit_xor (at bytes (j + n)) (gathered far (behind xs n) j) in
+    let kept : ℕ → ℕ = λ j. received xs bytes (n + j) in
+    let rest = drop (n + 576) bytes in
+    let q = length bytes - n - 576 in
+    let count : length bytes - n ≡ q + 576 = omega arith in
+    let size : q ≡ length rest = omega (arith, length-drop (n + 576) bytes) in
+    left xs bytes n fits (omega arith) sent
+    ∙ ap (λ m. after 8 0 m w) count ∙ after-more 0 576 q w
+    ∙ ap (λ r. after 8 r q (λ j. w (j + 576))) (after-same 0 576 w kept (λ j small. same j small))
+    ∙ after-same (after 8 0 576 kept) q (λ j. w (j + 576)) (at rest) (λ j small. later j)
+    ∙ ap (λ m. after 8 (after 8 0 576 kept) m (at rest)) size
+    ∙ sym (register_bytes (after 8 0 576 kept) rest lt (λ i. let P : ℕ → Type 0 = λ x. x < 2 ^ 8 in subst P (sym (get_or-drop (n + 576) bytes i 0)) (are_bytes (n + 576 + i))))
+  where
+    there : (j a : ℕ) → j < 576 → a ≤ 300 → behind xs n (j + a) ≡ at xs (n + j + a)
+    there j a small le = elim (cases_lt (j + a) 561) [
+      | inl lt ↦ behind_in xs n (j + a) lt ∙ ap (at xs) (omega arith)
+      | inr past ↦ behind_past xs n (j + a) past ∙ sym (zeros (n + j + a) (omega arith) (omega arith))
+    ]
+
+    turn : (j : ℕ) → j + n ≡ n + j
+    turn j = omega arith
+
+    same : (j : ℕ) → j < 576 → bit_xor (at bytes (j + n)) (gathered far (behind xs n) j) ≡ received xs bytes (n + j)
+    same j small = λ i. bit_xor (at bytes (turn j i)) (gathered-same 300 far (behind xs n) (at xs) j (n + j) far_within (λ a le. there j a small le) i)
+
+    later : (j : ℕ) → bit_xor (at bytes (j + 576 + n)) (gathered far (behind xs n) (j + 576)) ≡ at (drop (n + 576) bytes) j
+    later j =
+        let place : j + 576 + n ≡ n + 576 + j = omega arith in
+        ap (bit_xor (at bytes (j + 576 + n))) (gathered_none far (behind xs n) (j + 576) (λ i le. behind_past xs n i (omega arith)))
+        ∙ xor_zero_r (at bytes (j + 576 + n)) ∙ ap (at bytes) place ∙ sym (get_or-drop (n + 576) bytes j 0)
+
+-- of the kept bytes the last ones are left, with what was sent to them
+pub kept_left : (byte : ℕ → ℕ) (ys last : List ℕ) → ((i : ℕ) → at ys i < 2 ^ 32) → ((i : ℕ) → i < 176 → at ys i ≡ 0)
+    → ((j : ℕ) → j + 176 < 576 → at ys (j + 176) ≡ bit_xor (byte j) (sent near ys j)) → ((i : ℕ) → 576 ≤ i → at ys i ≡ 0)
+    → length last ≡ 176 → ((i : ℕ) → at last i < 2 ^ 8) → ((j : ℕ) → j < 176 → at last j ≡ bit_xor (byte (400 + j)) (sent near ys (400 + j)))
+    → register 0 last ≡ after 8 0 576 byte
+unfolding gathered
+kept_left byte ys last fits none sent end long are_bytes lasts =
+    let all : List ℕ = 176 ∷ near in
+    let v : ℕ → ℕ = λ i. at ys (i + 400) in
+    register_bytes 0 last (omega arith) are_bytes ∙ ap (λ m. after 8 0 m (at last)) long
+    ∙ sym (
+    after-same 0 576 byte (λ j. bit_xor (byte j) (gathered all (front 176 (at ys)) j)) (λ j lt.
+    sym (ap (bit_xor (byte j)) (gathered_none all (front 176 (at ys)) j (λ i le. nothing i)) ∙ xor_zero_r (byte j)))
+    ∙ dropped 176 near byte (at ys) 400 176 (further 144 176 near (omega arith) near_within) near_is_multiple (omega arith) fits (λ i le. end i (omega arith))
+    (λ j lt. sent j (omega arith))
+    ∙ after-same 0 176 (λ j. bit_xor (byte (j + 400)) (gathered all v j)) (at last) (λ j lt.
+    added (v (j + 176)) (gathered near v j) (byte (j + 400)) (end (j + 176 + 400) (omega arith))
+    ∙ ap (bit_xor (byte (j + 400))) (sym (gathered-moved near (at ys) 400 j))
+    ∙ ap (λ p. bit_xor (byte p) (gathered near (at ys) p)) (turn j) ∙ sym (lasts j lt))
     )
   where
-    none : (i : ℕ) → 0 < i → at (take 104 done) i ≡ 0
-    none i pos = elim (cases_lt i 104) [ inl lt ↦ get_or-take 104 done i 0 lt ∙ zeros i pos | inr le ↦ past_take 104 i done le ]
+    turn : (j : ℕ) → j + 400 ≡ 400 + j
+    turn j = omega arith
 
--- the register after n words, and k more
-after-more : (reg n k : ℕ) (word : ℕ → ℕ) → after reg (k + n) word ≡ after (after reg n word) k (λ j. word (j + n))
-unfolding after
-after-more reg n zero word = let same : 0 + n ≡ n = omega arith in ap (λ m. after reg m word) same
-after-more reg n (suc k) word =
-    let same : suc k + n ≡ suc (k + n) = omega arith in
-    ap (λ m. after reg m word) same ∙ ap (λ r. shifted_by 32 (bit_xor r (word (k + n)))) (after-more reg n k word)
+    nothing : (i : ℕ) → front 176 (at ys) i ≡ 0
+    nothing i = elim (cases_lt i 176) [ inl lt ↦ front_in 176 (at ys) i lt ∙ none i lt | inr le ↦ front_past 176 (at ys) i le ]
 
--- to the words behind the first 104 nothing was sent
-pub ended : (done bytes : List ℕ) → 416 ≤ length bytes → ((i : ℕ) → at bytes i < 2 ^ 8) → after 0 104 (received (take 104 done) bytes) < 2 ^ 32
-    → register (after 0 104 (received (take 104 done) bytes)) (drop 416 bytes) ≡ register_behind (take 104 done) bytes
-unfolding register_behind
-ended done bytes wide fits lt =
-    let h = take 104 done in
-    let reg = after 0 104 (received h bytes) in
-    let left = drop 416 bytes in
-    let k = length bytes / 4 - 104 in
-    let count : k + 104 ≡ length bytes / 4 = omega arith in
-    let ends : 4 * k + 416 ≡ 4 * (length bytes / 4) = omega arith in
-    register_words reg k left lt (omega (arith, length-drop 416 bytes))
-    (λ i. let P : ℕ → Type 0 = λ n. n < 2 ^ 8 in subst P (sym (get_or-drop 416 bytes i 0)) (fits (416 + i)))
-    ∙ (λ i. register (same k i) (drop (4 * k) left))
-    ∙ ap (register (after 0 (k + 104) (received h bytes))) (drop-drop (4 * k) 416 bytes ∙ ap (λ n. drop n bytes) (further k ∙ ends))
-    ∙ ap (λ n. register (after 0 n (received h bytes)) (drop (4 * (length bytes / 4)) bytes)) count
+-- nothing was dropped before a piece: only the register goes into its first four bytes
+pub begun : (start : ℕ) (xs bytes : List ℕ) → start < 2 ^ 32 → 4 ≤ length bytes → ((i : ℕ) → at bytes i < 2 ^ 8)
+    → ((i : ℕ) → i < 4 → at xs i ≡ start / 256 ^ i % 256) → ((i : ℕ) → 4 ≤ i → at xs i ≡ 0)
+    → register start bytes ≡ register_behind (take 561 xs) bytes
+unfolding register_behind gathered
+begun start xs bytes lt wide are_bytes first zeros =
+    let k = length bytes - 4 in
+    let count : length bytes ≡ k + 4 = omega arith in
+    let all : ℕ → ℕ = received (take 561 xs) bytes in
+    let with_start : ℕ → ℕ = λ j. bit_xor (at bytes j) (start / 256 ^ j % 256) in
+    register_bytes start bytes lt are_bytes ∙ ap (λ m. after 8 start m (at bytes)) count ∙ after-more start 4 k (at bytes)
+    ∙ ap (λ r. after 8 r k (λ j. at bytes (j + 4))) (
+    ap (λ r. after 8 r 4 (at bytes)) (sym (xor_zero_l start)) ∙ after_start 4 0 start (at bytes) (omega (arith, lt))
+    ∙ after-same 0 4 with_start all (λ j small. ap (bit_xor (at bytes j)) (sym (first_sent j small)))
+    )
+    ∙ after-same (after 8 0 4 all) k (λ j. at bytes (j + 4)) (λ j. all (j + 4)) (λ j small. sym (
+    ap (bit_xor (at bytes (j + 4))) (gathered_none far (at (take 561 xs)) (j + 4) (λ i le. none i (omega arith))) ∙ xor_zero_r (at bytes (j + 4))))
+    ∙ sym (after-more 0 4 k all) ∙ ap (λ m. after 8 0 m all) (sym count)
   where
-    further : (k : ℕ) → 416 + 4 * k ≡ 4 * k + 416
-    further k = omega arith
+    none : (i : ℕ) → 4 ≤ i → at (take 561 xs) i ≡ 0
+    none i le = elim (cases_lt i 561) [
+      | inl small ↦ get_or-take 561 xs i 0 small ∙ zeros i le
+      | inr past ↦ get_or_past (take 561 xs) i 0 (omega (arith, length-take 561 xs))
+    ]
 
-    later : (j : ℕ) → number_at 4 (4 * j) (drop 416 bytes) ≡ received (take 104 done) bytes (j + 104)
-    later j =
-        let place : 416 + 4 * j ≡ 4 * (j + 104) = omega arith in
-        ap (little_number 4) (drop-drop (4 * j) 416 bytes) ∙ ap (λ off. number_at 4 off bytes) place
-        ∙ sym (xor_zero_r (number_at 4 (4 * (j + 104)) bytes))
-        ∙ ap (bit_xor (number_at 4 (4 * (j + 104)) bytes)) (sym (sent_nothing (take 104 done) (j + 104) (λ i le. past_take 104 i done (omega arith))))
+    here : (j : ℕ) → j + 0 ≡ j
+    here j = omega arith
 
-    same : (k : ℕ) → after (after 0 104 (received (take 104 done) bytes)) k (λ j. number_at 4 (4 * j) (drop 416 bytes)) ≡ after 0 (k + 104) (received (take 104 done) bytes)
-    same k =
-        after-same (after 0 104 (received (take 104 done) bytes)) k (λ j. number_at 4 (4 * j) (drop 416 bytes)) (λ j. received (take 104 done) bytes (j + 104)) (λ j lt. later j)
-        ∙ sym (after-more 0 104 k (received (take 104 done) bytes))
+    first_sent : (j : ℕ) → j < 4 → sent far (take 561 xs) j ≡ start / 256 ^ j % 256
+    first_sent j small =
+        (λ i. bit_xor (at (take 561 xs) (here j i)) (bit_xor (none (j + 154) (omega arith) i) (bit_xor (none (j + 198) (omega arith) i)
+        (bit_xor (none (j + 214) (omega arith) i) (bit_xor (none (j + 300) (omega arith) i) 0)))))
+        ∙ xor_zero_r (at (take 561 xs) j) ∙ get_or-take 561 xs j 0 (omega arith) ∙ first j small
+
+-- the first numbers are the same
+pub front_same : (xs ys : List ℕ) (n i : ℕ) → take n ys ≡ take n xs → i < n → at ys i ≡ at xs i
+front_same xs ys n i kept small = sym (get_or-take n ys i 0 small) ∙ ap (λ (l : List ℕ). at l i) kept ∙ get_or-take n xs i 0 small
+
+-- where the first numbers of two lists are the same, so is what was sent from them
+pub kept_sent : (xs ys bytes : List ℕ) (n : ℕ) → take (n + 561) ys ≡ take (n + 561) xs → ((j : ℕ) → j < n → at xs (j + 561) ≡ received xs bytes j)
+    → (j : ℕ) → j < n → at ys (j + 561) ≡ received ys bytes j
+kept_sent xs ys bytes n kept sent j lt =
+    same (j + 561) (omega arith) ∙ sent j lt
+    ∙ ap (bit_xor (at bytes j)) (gathered-same 300 far (at xs) (at ys) j j far_within (λ a le. sym (same (j + a) (omega arith))))
+  where
+    same : (i : ℕ) → i < n + 561 → at ys i ≡ at xs i
+    same i small = front_same xs ys (n + 561) i kept small
+
+-- fewer of the first numbers are the same too
+pub fewer : (xs ys : List ℕ) (m n : ℕ) → take (m + n) ys ≡ take (m + n) xs → take n ys ≡ take n xs
+fewer xs ys m n kept = sym (shorter ys) ∙ ap (take n) kept ∙ shorter xs
+  where
+    shorter : (l : List ℕ) → take n (take (m + n) l) ≡ take n l
+    shorter l =
+        ext_get_or 0 (take n (take (m + n) l)) (take n l) (omega (arith, length-take n (take (m + n) l), length-take (m + n) l, length-take n l))
+        (λ i lt. let small : i < n = omega (arith, length-take n (take (m + n) l)) in
+        get_or-take n (take (m + n) l) i 0 small ∙ get_or-take (m + n) l i 0 (omega arith) ∙ sym (get_or-take n l i 0 small))

@@ -3,6 +3,7 @@ pub mod Behind
 pub mod Division
 pub mod Hashing
 pub mod Keys
+pub mod Lanes
 pub mod Linear
 pub mod Multiple
 pub mod Shifts

@@ -1,7 +1,7 @@
 -- Shifting a register is linear.
-use Rattle.std.proofs.Common.{◌≡◌, ℕ, zero, suc, ◌+◌, ◌*◌, ◌/◌, ◌%◌, ◌^◌, ◌<◌, ◌≤◌, Bool, true, false, cond, eqb, refl, sym, ap, ◌∙◌, arith}
+use Rattle.std.proofs.Common.{◌≡◌, ℕ, zero, suc, ◌+◌, ◌*◌, ◌/◌, ◌%◌, ◌^◌, ◌<◌, Bool, true, false, cond, eqb, refl, sym, ap, ◌∙◌, arith}
 use Rattle.std.specs.Int.Bits.{bit_xor, xor_assoc, xor_self, xor_zero_l, xor_zero_r}
-use Rattle.std.proofs.lemmas.Nat.{xor_comm, xor_shr, xor_block, xor_lt}
+use Rattle.std.proofs.lemmas.Nat.{xor_comm, xor_shr, xor_block}
 use Rattle.std.proofs.Math.Nat.{pow-suc, mul_comm, mul_assoc}
 use mathlib.Core.Bool.{xor}
 use Rattle.btr_base.specs.Crc.{shifted, shifted_by}
@@ -44,23 +44,6 @@ pub shifted_by-add : (m n reg : ℕ) → shifted_by (m + n) reg ≡ shifted_by n
 unfolding shifted_by
 shifted_by-add zero n reg = let same : 0 + n ≡ n = omega arith in ap (λ k. shifted_by k reg) same
 shifted_by-add (suc m) n reg = let same : suc m + n ≡ suc (m + n) = omega arith in ap (λ k. shifted_by k reg) same ∙ shifted_by-add m n (shifted reg)
-
-half_lt : (n x : ℕ) → x < 2 ^ (32 + suc n) → x / 2 < 2 ^ (32 + n)
-half_lt n x lt = let same : 32 + suc n ≡ suc (32 + n) = omega arith in let at : 2 ^ (32 + suc n) ≡ 2 ^ suc (32 + n) = ap (λ k. 2 ^ k) same in omega (arith, pow-suc 2 (32 + n))
-
-wide : (n : ℕ) → 2 ^ 32 ≤ 2 ^ (32 + n)
-wide zero = omega arith
-wide (suc n) = let same : 32 + suc n ≡ suc (32 + n) = omega arith in let at : 2 ^ (32 + suc n) ≡ 2 ^ suc (32 + n) = ap (λ k. 2 ^ k) same in omega (arith, pow-suc 2 (32 + n), wide n)
-
-shifted_half : (n x : ℕ) → x < 2 ^ (32 + suc n) → (b : Bool) → cond b (bit_xor 0x82F63B78 (x / 2)) (x / 2) < 2 ^ (32 + n)
-shifted_half n x lt true = xor_lt (32 + n) 0x82F63B78 (x / 2) (omega (arith, wide n)) (half_lt n x lt)
-shifted_half n x lt false = half_lt n x lt
-
--- a word of 32 + n bits comes down to a register
-pub word_lt : (n x : ℕ) → x < 2 ^ (32 + n) → shifted_by n x < 2 ^ 32
-unfolding shifted_by
-word_lt zero x lt = lt
-word_lt (suc n) x lt = word_lt n (shifted x) (shifted_half n x lt (eqb (x % 2) 1))
 
 even : (y : ℕ) → shifted (2 * y) ≡ y
 even y =

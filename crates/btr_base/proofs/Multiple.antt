@@ -1,4 +1,4 @@
--- A multiple of the generator with few terms: x^104 + x^57 + x^53 + x^49 + x^19 + x^14 + x^4 + 1, and its squares.
+-- Multiples of the generator with few terms, and their squares.
 use Rattle.std.proofs.Common.{◌≡◌, ℕ, zero, suc, ◌+◌, ◌*◌, ◌/◌, ◌%◌, ◌^◌, ◌<◌, Bool, true, false, cond, eqb, List, [], ◌∷◌, refl, sym, ap, ◌∙◌, arith}
 use Rattle.std.specs.Int.Bits.{bit_xor, xor_assoc, xor_self, xor_zero_l, xor_zero_r}
 use Rattle.std.proofs.lemmas.Nat.{xor_comm, xor_block}
@@ -6,6 +6,7 @@ use Rattle.std.proofs.lemmas.Bool.Decides.{Decides-eqb}
 use Rattle.std.proofs.Math.Nat.{pow-suc, add-mul}
 use Rattle.std.specs.Bool.{Decides}
 use Rattle.btr_base.specs.Crc.{shifted_by}
+use Rattle.btr_base.specs.Fold.{far, near}
 use Rattle.btr_base.proofs.Linear.{shifted_by-xor, shifted_by-zero, shifted_by-add}
 
 -- the sum of a register shifted by k times each of some numbers
@@ -53,13 +54,9 @@ squared k (e ∷ es) x =
     cancel : (a b c : ℕ) → bit_xor (bit_xor a b) (bit_xor b c) ≡ bit_xor a c
     cancel a b c = xor_assoc a b (bit_xor b c) ∙ ap (bit_xor a) (sym (xor_assoc b b c) ∙ ap (λ x. bit_xor x c) (xor_self b) ∙ xor_zero_l c)
 
--- the exponents of the multiple, but for the highest
-abbrev pub lower : List ℕ
-lower = 0 ∷ 4 ∷ 14 ∷ 19 ∷ 49 ∷ 53 ∷ 57 ∷ []
-
--- all of them
-abbrev pub terms : List ℕ
-terms = 104 ∷ lower
+-- k times these exponents are those of a multiple of the generator
+abbrev pub IsMultiple : ℕ → List ℕ → Type 0
+IsMultiple k es = (x : ℕ) → x < 2 ^ 32 → combined k es x ≡ 0
 
 -- what vanishes at each bit below k
 abbrev vanishes : (ℕ → ℕ) → ℕ → Bool
@@ -107,17 +104,24 @@ from_bits f add (suc k) e x lt =
     let high : f (2 * (x / 2)) ≡ 0 = from_bits half (λ a b. ap f (doubled a b) ∙ add (2 * a) (2 * b)) k low.1 (x / 2) (omega (arith, pow-suc 2 k)) in
     ap f (sym (two_parts x)) ∙ add (2 * (x / 2)) (x % 2) ∙ (λ i. bit_xor (high i) (at_bit f add low.0 (x % 2) (omega arith) i))
 
-multiple_vanishes : vanishes (combined 1 terms) 32 ≡ true
+far_vanishes : vanishes (combined 1 (561 ∷ far)) 32 ≡ true
 unfolding combined shifted_by
-multiple_vanishes = refl
+far_vanishes = refl
 
--- the multiple vanishes at each register, and so do its squares
-once : (x : ℕ) → x < 2 ^ 32 → combined 1 terms x ≡ 0
-once x lt = from_bits (combined 1 terms) (combined-xor 1 terms) 32 multiple_vanishes x lt
+near_vanishes : vanishes (combined 1 (176 ∷ near)) 32 ≡ true
+unfolding combined shifted_by
+near_vanishes = refl
 
-square_vanishes : (k : ℕ) → ((x : ℕ) → x < 2 ^ 32 → combined k terms x ≡ 0) → (x : ℕ) → x < 2 ^ 32 → combined (k + k) terms x ≡ 0
-square_vanishes k vanish x lt = sym (squared k terms x) ∙ ap (combined k terms) (vanish x lt) ∙ at_zero (combined k terms) (combined-xor k terms)
+square_vanishes : (es : List ℕ) (k : ℕ) → IsMultiple k es → IsMultiple (k + k) es
+square_vanishes es k vanish x lt = sym (squared k es x) ∙ ap (combined k es) (vanish x lt) ∙ at_zero (combined k es) (combined-xor k es)
 
--- a word shifted by the places of 32 bits
-pub word_vanishes : (x : ℕ) → x < 2 ^ 32 → combined 32 terms x ≡ 0
-word_vanishes = square_vanishes 16 (square_vanishes 8 (square_vanishes 4 (square_vanishes 2 (square_vanishes 1 once))))
+-- what vanishes at each bit is a multiple, and so is what has eight times its exponents
+by_bytes : (es : List ℕ) → vanishes (combined 1 es) 32 ≡ true → IsMultiple 8 es
+by_bytes es test =
+    square_vanishes es 4 (square_vanishes es 2 (square_vanishes es 1 (from_bits (combined 1 es) (combined-xor 1 es) 32 test)))
+
+pub far_is_multiple : IsMultiple 8 (561 ∷ far)
+far_is_multiple = by_bytes (561 ∷ far) far_vanishes
+
+pub near_is_multiple : IsMultiple 8 (176 ∷ near)
+near_is_multiple = by_bytes (176 ∷ near) near_vanishes

@@ -1,36 +1,37 @@
--- How the register of a long piece is computed: by words of 4 bytes, most of which are dropped and sent ahead.
+-- How the register of a long piece is computed: most of its bytes are dropped, and sent ahead.
 --
--- x^104 + x^57 + x^53 + x^49 + x^19 + x^14 + x^4 + 1 is a multiple of the generator, and so is the same polynomial in x^32. So a
--- word may be dropped where it is added to the words that stand 47, 51, 55, 85, 90, 100 and 104 places behind it.
-use Rattle.std.specs.Prelude.{ℕ, zero, suc, ◌+◌, ◌*◌, ◌/◌, List, length, drop, slice_index, slice_set, bit_xor}
-use Rattle.btr_base.specs.Field.{number_at}
-use Rattle.btr_base.specs.Crc.{register, shifted_by}
+-- Where x^561 + x^300 + x^214 + x^198 + x^154 + 1 is a multiple of the generator, so is the same polynomial in x^8. So a byte may
+-- be dropped where it is added to the bytes that stand 261, 347, 363, 407 and 561 places behind it.
+use Rattle.std.specs.Prelude.{ℕ, zero, suc, ◌+◌, List, [], ◌∷◌, length, slice_index, bit_xor}
+use Rattle.btr_base.specs.Crc.{shifted_by}
 
--- the register after n words, from a register
-unfoldable pub after : ℕ → ℕ → (ℕ → ℕ) → ℕ
-after reg zero word = reg
-after reg (suc n) word = shifted_by 32 (bit_xor (after reg n word) (word n))
+-- the register after n numbers of some bits each, from a register
+unfoldable pub after : ℕ → ℕ → ℕ → (ℕ → ℕ) → ℕ
+after size reg zero number = reg
+after size reg (suc n) number = shifted_by size (bit_xor (after size reg n number) (number n))
 
--- what was sent to a place, where the list has the words dropped from 104 places before the place 0 on
-unfoldable pub sent : List ℕ → ℕ → ℕ
-sent dropped j =
-    bit_xor (bit_xor (bit_xor (bit_xor (bit_xor (bit_xor (slice_index dropped j)
-    (slice_index dropped (j + 4))) (slice_index dropped (j + 14))) (slice_index dropped (j + 19)))
-    (slice_index dropped (j + 49))) (slice_index dropped (j + 53))) (slice_index dropped (j + 57))
+-- the exponents of that multiple, but for the highest
+abbrev pub far : List ℕ
+far = 0 ∷ 154 ∷ 198 ∷ 214 ∷ 300 ∷ []
 
--- the words of a piece, with what was sent to them
+-- and those of another one, x^176 + x^144 + x^46 + x^26 + x^18 + x^13 + x^4 + 1
+abbrev pub near : List ℕ
+near = 0 ∷ 4 ∷ 13 ∷ 18 ∷ 26 ∷ 46 ∷ 144 ∷ []
+
+-- the sum of the numbers that stand some places behind a place
+unfoldable pub gathered : List ℕ → (ℕ → ℕ) → ℕ → ℕ
+gathered [] number j = 0
+gathered (e ∷ es) number j = bit_xor (number (j + e)) (gathered es number j)
+
+-- what was sent to a place by the multiple with these exponents, where the list has the dropped bytes, from as many places before
+-- the place 0 on as its highest exponent says
+abbrev pub sent : List ℕ → List ℕ → ℕ → ℕ
+sent es dropped j = gathered es (slice_index dropped) j
+
+-- the bytes of a piece, with what was sent to them from afar
 abbrev pub received : List ℕ → List ℕ → ℕ → ℕ
-received dropped bytes j = bit_xor (number_at 4 (4 * j) bytes) (sent dropped j)
+received dropped bytes j = bit_xor (slice_index bytes j) (sent far dropped j)
 
--- the words that were dropped, with four words of a piece from the word n on, where those before it were dropped: none of the four sends to another
-abbrev pub with_four : List ℕ → List ℕ → ℕ → List ℕ
-with_four dropped bytes n =
-    slice_set (slice_set (slice_set (slice_set dropped
-    (104 + n) (received dropped bytes n))
-    (104 + n + 1) (received dropped bytes (n + 1)))
-    (104 + n + 2) (received dropped bytes (n + 2)))
-    (104 + n + 3) (received dropped bytes (n + 3))
-
--- the register after a piece, where these words were dropped before it
+-- the register after a piece, where these bytes were dropped before it
 unfoldable pub register_behind : List ℕ → List ℕ → ℕ
-register_behind dropped bytes = register (after 0 (length bytes / 4) (received dropped bytes)) (drop (4 * (length bytes / 4)) bytes)
+register_behind dropped bytes = after 8 0 (length bytes) (received dropped bytes)

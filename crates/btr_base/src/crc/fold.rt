@@ -1,169 +1,244 @@
 // The register of a long piece.
 //
-// x^104 + x^57 + x^53 + x^49 + x^19 + x^14 + x^4 + 1 is a multiple of CRC-32C's generator, and so is the
-// same polynomial in x^32. So a word of 4 bytes may be dropped, where it is added to seven later words.
-// The nearest of these is 47 places away: four words are dropped by one vector, and none is read back at once.
-// All words but the last 104 go that way, with no look-up in a table.
-ghost use Rattle.std.specs.Prelude.{◌≡◌, ℕ, ◌+◌, ◌*◌, ◌^◌, ◌≤◌, ◌<◌};
-ghost use Rattle.std.specs.Prelude.{length, take, drop, replicate, slice_index, [], ◌∷◌};
+// x^561 + x^300 + x^214 + x^198 + x^154 + 1 is a multiple of CRC-32C's generator, and so is the same polynomial in
+// x^8. So a byte may be dropped, where it is added to five later bytes. The nearest of these is 261 places away: 64
+// bytes are dropped at once, and none of them is read back soon. All bytes go that way but 576, and fewer than 64
+// behind these. Of the 576 the first 400 are dropped by another multiple, x^176 + x^144 + x^46 + x^26 + x^18 + x^13 +
+// x^4 + 1, which has more terms and reaches less far. The 176 that are left, and those behind the 576, are looked up
+// in tables.
+ghost use Rattle.std.specs.Prelude.{◌≡◌, ℕ, ◌+◌, ◌*◌, ◌/◌, ◌%◌, ◌^◌, ◌≤◌, ◌<◌};
+ghost use Rattle.std.specs.Prelude.{length, take, drop, replicate, slice_index, bit_xor};
+ghost use Rattle.std.specs.Simd.Lanes.{chunk, put_chunk};
 ghost use Rattle.btr_base.specs.Crc.{register};
-ghost use Rattle.btr_base.specs.Fold.{sent, received, with_four, register_behind};
+ghost use Rattle.btr_base.specs.Fold.{after, far, near, sent, received, register_behind};
 
-use super::words::{self, four_at, take_four};
+use super::words;
 use std::simd::prelude::*;
 
-// How many places on a word is sent at most.
-const AHEAD: usize = 104;
+// How many places on a byte is sent from afar at most.
+const AHEAD: usize = 561;
 
-// How many words are dropped before the last ones move to the front.
-const WINDOW: usize = 1024;
+// How many bytes are kept till the end, at least.
+pub(super) const KEPT: usize = 576;
 
-// The words that are dropped till then, and the last ones before them.
-const ROOM: usize = WINDOW + AHEAD;
+// How many bytes are dropped before the last ones move to the front.
+const WINDOW: usize = 4096;
 
-// The farthest place behind `j` that `sent_to` looks at.
-const REACH: usize = 57;
+// How many bytes are dropped at once.
+const BLOCK: usize = 64;
 
-// Four words one behind another.
-fn four_from(dropped: &[u32; ROOM], j: usize) -> u32x4
-    requires { j + 4 ≤ ROOM }
-    ensures { result ≡ slice_index dropped.now j ∷ slice_index dropped.now (j + 1)
-        ∷ slice_index dropped.now (j + 2) ∷ slice_index dropped.now (j + 3) ∷ [] }
+// How far behind the last of the dropped bytes `sent_far` looks.
+const REACH: usize = 315;
+
+// The bytes that are dropped till then, the last ones before them, and zeros.
+const ROOM: usize = WINDOW + AHEAD + REACH;
+
+// How many places on a byte is sent by the nearer multiple at most, and how many bytes are looked up.
+const NEAR: usize = 176;
+
+// The kept bytes behind zeros, and as many zeros as `sent_near` looks at.
+const NEAR_ROOM: usize = KEPT + 144;
+
+// The bytes from a place on.
+#[inline(always)]
+fn load<const N: usize>(bytes: &[u8], at: usize) -> Simd<u8, N>
+    requires { at + N ≤ length bytes.now }
+    ensures { result ≡ chunk at N bytes.now }
 {
-    u32x4::from_array([dropped[j], dropped[j + 1], dropped[j + 2], dropped[j + 3]])
+    Simd::from_slice(&bytes[at..])
 }
 
-// What the dropped words have sent to the place `j` and the three behind it.
-#[tactic(auto, unfolding(crate::specs::Fold::sent))]
-fn sent_to(dropped: &[u32; ROOM], j: usize) -> u32x4
-    requires { j + 4 ≤ WINDOW }
-    ensures { result ≡ sent dropped.now j ∷ sent dropped.now (j + 1)
-        ∷ sent dropped.now (j + 2) ∷ sent dropped.now (j + 3) ∷ [] }
+// Writes bytes from a place on.
+#[inline(always)]
+fn store<const N: usize>(bytes: &mut [u8], at: usize, block: Simd<u8, N>)
+    requires { (at + N ≤ length bytes.old) × (length block ≡ N) }
+    ensures { bytes.new ≡ put_chunk at bytes.old block.entry }
 {
-    four_from(dropped, j)
-        ^ four_from(dropped, j + 4)
-        ^ four_from(dropped, j + 14)
-        ^ four_from(dropped, j + 19)
-        ^ four_from(dropped, j + 49)
-        ^ four_from(dropped, j + 53)
-        ^ four_from(dropped, j + 57)
+    block.copy_to_slice(&mut bytes[at..]);
 }
 
-// The word `j` of the piece and the three behind it, with what was sent to them.
-fn received_at(dropped: &[u32; ROOM], bytes: &[u8], j: usize) -> [u32; 4]
-    requires room { j + 4 ≤ WINDOW }
-    requires words { 4 * (j + 4) ≤ length bytes.now }
-    ensures { result ≡ received dropped.now bytes.now j ∷ received dropped.now bytes.now (j + 1)
-        ∷ received dropped.now bytes.now (j + 2) ∷ received dropped.now bytes.now (j + 3) ∷ [] }
+// What the dropped bytes have sent to the place `j` and those behind it.
+#[inline(always)]
+fn sent_far<const N: usize>(dropped: &[u8; ROOM], j: usize) -> Simd<u8, N>
+    requires { j + 300 + N ≤ ROOM }
+    ensures long { length result ≡ N }
+    ensures sums { (i : ℕ) → i < N → slice_index result i ≡ sent far dropped.now (j + i) }
 {
-    (u32x4::from_array(four_at(bytes, 4 * j)) ^ sent_to(dropped, j)).to_array()
+    load(dropped, j)
+        ^ load(dropped, j + 154)
+        ^ load(dropped, j + 198)
+        ^ load(dropped, j + 214)
+        ^ load(dropped, j + 300)
 }
 
-fn no_words() -> [u32; ROOM]
-    ensures { result ≡ replicate ROOM 0 }
+// The byte `j` of the piece and those behind it, with what was sent to them.
+#[inline(always)]
+fn received_at<const N: usize>(dropped: &[u8; ROOM], bytes: &[u8], j: usize) -> Simd<u8, N>
+    requires room { j + 300 + N ≤ ROOM }
+    requires bytes { j + N ≤ length bytes.now }
+    ensures long { length result ≡ N }
+    ensures sums { (i : ℕ) → i < N → slice_index result i ≡ received dropped.now bytes.now (j + i) }
 {
-    [0; ROOM]
+    load(bytes, j) ^ sent_far(dropped, j)
 }
 
-// What was dropped before a piece whose register begins with `start`: that goes into the first word.
-fn begin(start: u32) -> [u32; ROOM]
-    ensures first { slice_index result 0 ≡ start }
-    ensures zeros { (i : ℕ) → 0 < i → slice_index result i ≡ 0 }
+// A byte of a register, by its number from the lowest on.
+fn byte_of(reg: u32, number: u32) -> u8
+    requires { number < 4 }
+    ensures { result ≡ reg / 256 ^ number % 256 }
 {
-    let mut dropped = no_words();
-    dropped[0] = start;
+    ((reg >> (8 * number)) & 255) as u8
+}
+
+// Nothing but zeros.
+fn no_bytes<const N: usize>() -> [u8; N]
+    ensures { result ≡ replicate N 0 }
+{
+    [0; N]
+}
+
+// Nothing was dropped before a piece: only its register, `start`, goes into the first four bytes.
+fn begin(start: u32) -> [u8; ROOM]
+    ensures start { (i : ℕ) → i < 4 → slice_index result i ≡ start / 256 ^ i % 256 }
+    ensures zeros { (i : ℕ) → 4 ≤ i → slice_index result i ≡ 0 }
+{
+    let mut dropped = no_bytes::<ROOM>();
+    for k in 0..4 {
+        dropped[k as usize] = byte_of(start, k);
+    }
     dropped
 }
 
-// Computes the word `j` of the piece and the three behind it as they are when they are dropped.
-fn send_four(dropped: &mut [u32; ROOM], bytes: &[u8], j: usize)
-    requires room { j + 4 ≤ WINDOW }
-    requires words { 4 * (j + 4) ≤ length bytes.now }
-    ensures words { dropped.new ≡ with_four dropped.old bytes.now j }
-    ensures fits { (i : ℕ) → slice_index dropped.new i < 2 ^ 32 }
-{
-    let [first, second, third, fourth] = received_at(dropped, bytes, j);
-    dropped[AHEAD + j] = first;
-    dropped[AHEAD + j + 1] = second;
-    dropped[AHEAD + j + 2] = third;
-    dropped[AHEAD + j + 3] = fourth;
-}
-
-// Computes the first words of the piece as they are when they are dropped, eight times `eights` of them, behind
-// the 104 that were dropped before them.
-fn send(dropped: &mut [u32; ROOM], bytes: &[u8], eights: usize)
-    requires room { 8 * eights ≤ WINDOW }
-    requires words { 32 * eights ≤ length bytes.now }
+// Computes the first bytes of the piece as they are when they are dropped, behind those that were dropped before them.
+fn send(dropped: &mut [u8; ROOM], bytes: &[u8], blocks: usize)
+    requires room { BLOCK * blocks ≤ WINDOW }
+    requires bytes { BLOCK * blocks ≤ length bytes.now }
     ensures kept { take AHEAD dropped.new ≡ take AHEAD dropped.old }
-    ensures sent { (j : ℕ) → j < 8 * eights
+    ensures sent { (j : ℕ) → j < BLOCK * blocks
         → slice_index dropped.new (j + AHEAD) ≡ received dropped.new bytes.now j }
-    ensures fits { (i : ℕ) → slice_index dropped.new i < 2 ^ 32 }
+    ensures fits { (i : ℕ) → slice_index dropped.new i < 2 ^ 8 }
 {
-    for k in 0..eights {
-        send_four(dropped, bytes, 8 * k);
-        send_four(dropped, bytes, 8 * k + 4);
+    for k in 0..blocks {
+        let block = received_at::<BLOCK>(dropped, bytes, BLOCK * k);
+        store(dropped, AHEAD + BLOCK * k, block);
     }
 }
 
-// Keeps the last words that were dropped.
-fn carry(dropped: &mut [u32; ROOM], count: usize)
-    requires { count ≤ WINDOW }
-    ensures { take AHEAD dropped.new ≡ take AHEAD (drop count dropped.old) }
+// Keeps the last bytes that were dropped.
+fn carry(dropped: &mut [u8; ROOM])
+    ensures { take AHEAD dropped.new ≡ take AHEAD (drop WINDOW dropped.old) }
 {
     for k in 0..AHEAD {
-        dropped[k] = dropped[count + k];
+        dropped[k] = dropped[WINDOW + k];
     }
 }
 
-// Drops the first words of the piece, eight times `eights` of them.
-fn drop_words(dropped: &mut [u32; ROOM], bytes: &[u8], eights: usize)
-    requires room { 8 * eights ≤ WINDOW }
-    requires words { 32 * eights + 4 * AHEAD ≤ length bytes.now }
+// Drops the first bytes of the piece.
+fn drop_window(dropped: &mut [u8; ROOM], bytes: &[u8])
+    requires { WINDOW + KEPT ≤ length bytes.now }
     ensures { register_behind (take AHEAD dropped.old) bytes.now
-        ≡ register_behind (take AHEAD dropped.new) (drop (32 * eights) bytes.now) }
+        ≡ register_behind (take AHEAD dropped.new) (drop WINDOW bytes.now) }
 {
-    send(dropped, bytes, eights);
-    carry(dropped, 8 * eights);
+    send(dropped, bytes, WINDOW / BLOCK);
+    carry(dropped);
 }
 
-// Forgets the words behind the first 104, as far as what was sent to the first 104 places depends on them.
-fn clear(dropped: &mut [u32; ROOM])
-    ensures kept { take AHEAD dropped.new ≡ take AHEAD dropped.old }
-    ensures zeros { (i : ℕ) → AHEAD ≤ i → i < AHEAD + REACH → slice_index dropped.new i ≡ 0 }
+// Forgets what stands behind the first `count` bytes that were dropped, as far as `sent_far` looks at it.
+fn clear(dropped: &mut [u8; ROOM], count: usize)
+    requires { count ≤ WINDOW }
+    ensures kept { take (count + AHEAD) dropped.new ≡ take (count + AHEAD) dropped.old }
+    ensures zeros { (i : ℕ) → count + AHEAD ≤ i → i < count + AHEAD + REACH
+        → slice_index dropped.new i ≡ 0 }
 {
-    for k in AHEAD..AHEAD + REACH {
-        dropped[k] = 0;
+    for k in 0..REACH {
+        dropped[count + AHEAD + k] = 0;
     }
 }
 
-// The register after the first 104 words, to which all is sent that was dropped.
-fn finish(dropped: &mut [u32; ROOM], bytes: &[u8]) -> u32
-    requires { 4 * AHEAD ≤ length bytes.now }
-    ensures { register result (drop (4 * AHEAD) bytes.now)
-        ≡ register_behind (take AHEAD dropped.old) bytes.now }
+// What the dropped bytes have sent by the nearer multiple to the place `j` and the 15 behind it.
+#[inline(always)]
+fn sent_near(dropped: &[u8; NEAR_ROOM], j: usize) -> u8x16
+    requires { j + 160 ≤ NEAR_ROOM }
+    ensures long { length result ≡ 16 }
+    ensures sums { (i : ℕ) → i < 16 → slice_index result i ≡ sent near dropped.now (j + i) }
 {
-    clear(dropped);
-    let mut reg = 0;
-    for k in 0..AHEAD / 4 {
-        reg = take_four(reg, received_at(dropped, bytes, 4 * k));
+    load(dropped, j)
+        ^ load(dropped, j + 4)
+        ^ load(dropped, j + 13)
+        ^ load(dropped, j + 18)
+        ^ load(dropped, j + 26)
+        ^ load(dropped, j + 46)
+        ^ load(dropped, j + 144)
+}
+
+// The byte `j` of the kept ones, which begin at the place `from`, and the 15 behind it, with what both multiples have
+// sent to them.
+#[inline(always)]
+fn kept_at(
+    dropped: &[u8; ROOM],
+    nearer: &[u8; NEAR_ROOM],
+    bytes: &[u8],
+    from: usize,
+    j: usize,
+) -> u8x16
+    requires window { from ≤ WINDOW }
+    requires bytes { from + KEPT ≤ length bytes.now }
+    requires place { j + 16 ≤ KEPT }
+    ensures long { length result ≡ 16 }
+    ensures sums { (i : ℕ) → i < 16 → slice_index result i
+        ≡ bit_xor (received dropped.now bytes.now (from + (j + i))) (sent near nearer.now (j + i)) }
+{
+    received_at(dropped, bytes, from + j) ^ sent_near(nearer, j)
+}
+
+// The kept bytes but for the last ones, as they are when they are dropped, behind zeros.
+fn drop_kept(dropped: &[u8; ROOM], bytes: &[u8], from: usize) -> [u8; NEAR_ROOM]
+    requires window { from ≤ WINDOW }
+    requires bytes { from + KEPT ≤ length bytes.now }
+    ensures none { (i : ℕ) → i < NEAR → slice_index result i ≡ 0 }
+    ensures sent { (j : ℕ) → j + NEAR < KEPT
+        → slice_index result (j + NEAR) ≡ bit_xor (received dropped.now bytes.now (from + j)) (sent near result j) }
+    ensures end { (i : ℕ) → KEPT ≤ i → slice_index result i ≡ 0 }
+    ensures fits { (i : ℕ) → slice_index result i < 2 ^ 8 }
+{
+    let mut nearer = no_bytes::<NEAR_ROOM>();
+    for k in 0..(KEPT - NEAR) / 16 {
+        let block = kept_at(dropped, &nearer, bytes, from, 16 * k);
+        store(&mut nearer, NEAR + 16 * k, block);
     }
-    reg
+    nearer
+}
+
+// What is left of the kept bytes, which begin at the place `from`.
+fn left_of(dropped: &[u8; ROOM], bytes: &[u8], from: usize) -> [u8; NEAR]
+    requires window { from ≤ WINDOW }
+    requires bytes { from + KEPT ≤ length bytes.now }
+    ensures { register 0 result ≡ after 8 0 KEPT (λ j. received dropped.now bytes.now (from + j)) }
+{
+    let nearer = drop_kept(dropped, bytes, from);
+    let mut left = no_bytes::<NEAR>();
+    for k in 0..NEAR / 16 {
+        let block = kept_at(dropped, &nearer, bytes, from, KEPT - NEAR + 16 * k);
+        store(&mut left, 16 * k, block);
+    }
+    left
 }
 
 // The register after the bytes.
 pub(super) fn register_of(start: u32, bytes: &[u8]) -> u32
-    requires { 4 * AHEAD ≤ length bytes.now }
+    requires { KEPT ≤ length bytes.now }
     ensures { result ≡ register start bytes.now }
 {
     let mut dropped = begin(start);
     let mut rest = bytes;
-    while rest.len() >= 4 * ROOM {
-        drop_words(&mut dropped, rest, WINDOW / 8);
-        rest = &rest[4 * WINDOW..];
+    while rest.len() >= WINDOW + KEPT {
+        drop_window(&mut dropped, rest);
+        rest = &rest[WINDOW..];
     }
-    let eights = (rest.len() - 4 * AHEAD) / 32;
-    drop_words(&mut dropped, rest, eights);
-    let rest = &rest[32 * eights..];
-    let reg = finish(&mut dropped, rest);
-    words::register_of(reg, &rest[4 * AHEAD..])
+    let blocks = (rest.len() - KEPT) / BLOCK;
+    send(&mut dropped, rest, blocks);
+    clear(&mut dropped, BLOCK * blocks);
+    let left = left_of(&dropped, rest, BLOCK * blocks);
+    let reg = words::register_of(0, &left);
+    words::register_of(reg, &rest[BLOCK * blocks + KEPT..])
 }

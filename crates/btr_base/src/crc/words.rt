@@ -42,8 +42,8 @@ fn take_word(reg: u32, word: u32) -> u32
 }
 
 // The register after four more words. Only the look-ups of the first wait for the register: they come last.
-pub(super) fn take_four(reg: u32, words: [u32; 4]) -> u32
-    ensures { result ≡ after reg 4 (slice_index words) }
+fn take_four(reg: u32, words: [u32; 4]) -> u32
+    ensures { result ≡ after 32 reg 4 (slice_index words) }
 {
     let [first, second, third, fourth] = words;
     after_word(0, fourth)
@@ -53,7 +53,7 @@ pub(super) fn take_four(reg: u32, words: [u32; 4]) -> u32
 }
 
 // The four words from an offset in bytes on.
-pub(super) fn four_at(bytes: &[u8], off: usize) -> [u32; 4]
+fn four_at(bytes: &[u8], off: usize) -> [u32; 4]
     requires { off + 16 ≤ length bytes.now }
     ensures { result ≡ number_at 4 off bytes.now ∷ number_at 4 (off + 4) bytes.now
         ∷ number_at 4 (off + 8) bytes.now ∷ number_at 4 (off + 12) bytes.now ∷ [] }
@@ -77,8 +77,8 @@ fn register_by_bytes(start: u32, bytes: &[u8]) -> u32
     reg
 }
 
-// The register after the bytes.
-pub(super) fn register_of(start: u32, bytes: &[u8]) -> u32
+// The register after the bytes, word by word.
+fn register_by_words(start: u32, bytes: &[u8]) -> u32
     ensures { result ≡ register start bytes.now }
 {
     let mut reg = start;
@@ -88,4 +88,17 @@ pub(super) fn register_of(start: u32, bytes: &[u8]) -> u32
         rest = &rest[4..];
     }
     register_by_bytes(reg, rest)
+}
+
+// The register after the bytes, four words at a time.
+pub(super) fn register_of(start: u32, bytes: &[u8]) -> u32
+    ensures { result ≡ register start bytes.now }
+{
+    let mut reg = start;
+    let mut rest = bytes;
+    while rest.len() >= 16 {
+        reg = take_four(reg, four_at(rest, 0));
+        rest = &rest[16..];
+    }
+    register_by_words(reg, rest)
 }

@@ -1,9 +1,13 @@
-use Rattle.std.proofs.Common.{◌≢◌, ◌∙◌, ap, List, ℕ, get_or, arith}
-use Rattle.std.proofs.lemmas.List.{get_or-set_other}
-use Rattle.btr_base.proofs.Behind.{at-replicate}
+use Rattle.std.proofs.Common.{ap, length, ◌∙◌, ℕ, arith}
+use Rattle.std.proofs.lemmas.List.{length-replicate}
+use Rattle.btr_base.proofs.Behind.{zeros_at}
 use Rattle.btr_base.proofs.crc.fold.begin.Goals as goal
 
-pub returns-clause-zeros : goal.returns-clause-zeros
-returns-clause-zeros c = λ i pos.
-    let other : i ≢ 0 = omega arith in
-    get_or-set_other c.no_words-dropped.result 0 i c.args.start 0 other ∙ ap (λ (l : List ℕ). get_or l i 0) c.no_words-dropped.ensures ∙ at-replicate 1128 i
+pub loop-k-init : goal.loop-k-init
+loop-k-init c =
+    let all = c.no_bytes-dropped.ensures in
+    record {
+      sized = ap length all ∙ length-replicate {A = ℕ} 4972 0;
+      first = λ i lt. absurd (omega arith);
+      zeros = λ i le. zeros_at 4972 c.no_bytes-dropped.result i all;
+    }
