@@ -4,8 +4,9 @@
 #     rt must-fail >edits.log 2>&1
 #     tests/edits.sh edits.log
 #
-# The gate tries those in crates/*/must-fail: a few of each crate, since each proves its function anew. `tests/edits.sh --try [CRATE..]` tries them all,
-# those in tests/edits too, in a clone of what is committed, by `rt ci`, which goes on from what this machine keeps.
+# The gate tries those in crates/*/must-fail: a few of each crate, since each proves its function anew. `tests/edits.sh --try` tries them all, those in
+# tests/edits too, in a clone of what is committed, by `rt ci`, which goes on from what this machine keeps, where the kit keeps something.
+# `tests/edits.sh --try CRATE..` tries those of some crates, by `rt must-fail`, which proves the libraries below them first.
 #
 # clause, invariant   what a function promises, or the invariant of a type, isn't proved: the edit shows what the contract holds
 # loop, call, safety  an invariant of a loop, what a call requires, or a sum, index or cast isn't proved: it shows nearly as much
@@ -58,4 +59,8 @@ for folder in tests/edits/*; do
     cp "$folder"/*.edit "crates/${folder##*/}/must-fail/"
 done
 git add -A && git -c user.name=edits -c user.email=edits commit -qm 'all edits'
-rt ci "$@" 2>&1 | reasons
+if [ $# -eq 0 ]; then
+    rt ci 2>&1 | reasons
+else
+    rt must-fail "$@" 2>&1 | reasons
+fi
