@@ -12,6 +12,7 @@ use Rattle.btr_read.specs.Want.{passes}
 use Rattle.btr_read.specs.declared.want.Want.{Want}
 use Rattle.btr_read.specs.declared.want.Want.TheVariants.{Tree, Block, Sector, Plain}
 use Rattle.btr_ahead.specs.declared.data_ahead.DataAhead.{DataAhead}
+use Rattle.btr_ahead.specs.declared.kept_bytes.KeptBytes.{KeptBytes}
 
 -- where the part stands that is read first of what is sought: the first copy, or the slice itself
 abbrev pub first_range : Result Target Fault → Option Place
@@ -35,12 +36,16 @@ pub record IsInSlot (slots : List Slot) (place : Place) : Type 0 where
   pub inside : place.off + place.len ≤ len_of slots place.slot
 
 -- the bytes that are kept are those of their place, where the images are told
+abbrev pub AreRead : Option (List (List ℕ)) → KeptBytes → Type 0
+AreRead held kept = AreBytesOf held kept.place.slot kept.place.off kept.place.len (take kept.place.len kept.bytes)
+
+-- .. and so are those that were read ahead
 abbrev pub IsAhead : Option (List (List ℕ)) → DataAhead → Type 0
-IsAhead held ahead = AreBytesOf held ahead.place.slot ahead.place.off ahead.place.len (take ahead.place.len ahead.bytes)
+IsAhead held ahead = AreRead held ahead.kept
 
 -- the bytes of a place in them
-abbrev pub piece_of : DataAhead → Place → List ℕ
-piece_of ahead place = let from = place.off - ahead.place.off in slice_range ahead.bytes from (from + place.len)
+abbrev pub piece_of : KeptBytes → Place → List ℕ
+piece_of kept place = let from = place.off - kept.place.off in slice_range kept.bytes from (from + place.len)
 
 -- a want comes to bytes, where the images are told
 abbrev pub Comes : Option (List (List ℕ)) → Layout → Want → Type 0
@@ -67,6 +72,6 @@ abbrev pub AreSteady : Seen → Seen → Type 0
 AreSteady old new = Steady old.account.faults new.account.faults
 
 -- a place is kept: it lies in that of the bytes that are kept, and these are there
-pub record IsKept (ahead : DataAhead) (place : Place) : Type 0 where
-  pub lies : LiesIn place ahead.place
-  pub room : place.off - ahead.place.off + place.len ≤ length ahead.bytes
+pub record IsKept (kept : KeptBytes) (place : Place) : Type 0 where
+  pub lies : LiesIn place kept.place
+  pub room : place.off - kept.place.off + place.len ≤ length kept.bytes

@@ -1,17 +1,28 @@
 // Where the bytes of a sector are sought first.
-ghost use Rattle.std.specs.Prelude.{◌≡◌, IfSome};
+ghost use Rattle.std.specs.Prelude.{◌≡◌, ◌≤◌, ◌-◌, if◌then◌else◌, IfSome};
 ghost use Rattle.btr_read.specs.Layout.{AreOpen};
-ghost use Rattle.btr_chunk.specs.Chunk.{IsChunk};
+ghost use Rattle.btr_chunk.specs.Chunk.{IsChunk, is_striped};
 ghost use Rattle.btr_chunk.specs.Mapping.{data_part};
 ghost use Rattle.btr_ahead.specs.Ahead.{IsFirstPlace, IsInSlot, first_place};
 ghost use Rattle.btr_rack.specs.Rack.{Slot};
 ghost use Rattle.std.specs.Prelude.{List};
+ghost use Rattle.std.specs.Option.{option_map};
 
-use btr_chunk::{Chunk, Elements, Part, elements, place_of};
+use btr_chunk::{Chunk, Elements, Part, Profile, elements, place_of};
 use btr_rack::Place;
 use btr_read::Store;
 
 const SECTOR: u64 = 4096;
+
+const ELEMENT: u64 = 65536;
+
+/// Where the bytes of a sector are sought first.
+#[derive(Clone, Copy)]
+pub(crate) struct FirstPlace {
+    pub(crate) place: Place,
+    /// How many bytes of the chunk stand behind one another in the image from there on.
+    pub(crate) reach: u64,
+}
 
 // The part that is sought first: the first copy, or the slice itself.
 fn first_part(chunk: &Chunk, at: &Elements) -> Part
@@ -24,11 +35,24 @@ fn first_part(chunk: &Chunk, at: &Elements) -> Part
     }
 }
 
+// How many bytes from a position on lie in one piece: up to the end of an element where the profile has rows, else of the chunk.
+fn reach(chunk: &Chunk, at: &Elements) -> u64
+    ensures { result ≡ (if is_striped chunk.now.profile then ELEMENT else chunk.now.length) - at.now.rest }
+{
+    let end = match chunk.profile {
+        Profile::Raid0 | Profile::Raid10 | Profile::Raid5 | Profile::Raid6 => ELEMENT,
+        Profile::Single | Profile::Dup | Profile::Raid1 | Profile::Raid1c3 | Profile::Raid1c4 =>
+            chunk.length,
+    };
+    end.saturating_sub(at.rest)
+}
+
 /// The place of the candidate that is sought first for the sector at an address, if it has a position, and stands.
-pub(crate) fn first_place(addr: u64, store: &Store) -> Option<Place>
-    ensures place { result ≡ first_place store.now.layout addr }
-    ensures first { IfSome result (IsFirstPlace store.now.layout addr) }
-    ensures slot { (slots : List Slot) → AreOpen slots store.now.layout.devices → IfSome result (IsInSlot slots) }
+pub(crate) fn first_place(addr: u64, store: &Store) -> Option<FirstPlace>
+    ensures place { option_map (λ first. first.place) result ≡ first_place store.now.layout addr }
+    ensures first { IfSome result (λ first. IsFirstPlace store.now.layout addr first.place) }
+    ensures slot { (slots : List Slot) → AreOpen slots store.now.layout.devices → IfSome result (λ first. IsInSlot slots first.place) }
+    ensures reach { IfSome result (λ first. 4096 ≤ first.reach) }
 {
     let Some(chunk) = store.chunks().find(addr) else {
         return None;
@@ -43,9 +67,12 @@ pub(crate) fn first_place(addr: u64, store: &Store) -> Option<Place>
     if place.offset > device.len || SECTOR > device.len - place.offset {
         return None;
     }
-    Some(Place {
-        slot: device.slot,
-        off: place.offset,
-        len: SECTOR,
+    Some(FirstPlace {
+        place: Place {
+            slot: device.slot,
+            off: place.offset,
+            len: SECTOR,
+        },
+        reach: reach(chunk, &at),
     })
 }

@@ -8,6 +8,7 @@
 
 mod data_ahead;
 mod first_place;
+mod kept_bytes;
 #[cfg(test)]
 mod tests;
 

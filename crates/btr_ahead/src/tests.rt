@@ -19,6 +19,8 @@ const SINGLE: u64 = 1;
 
 const DUP: u64 = 0x21;
 
+const RAID0: u64 = 9;
+
 // The item of a chunk of 1 MiB, whose stripes begin at 1 MiB, 2 MiB and so on of device 1.
 fn item(alloc: Global, kind: u64, stripes: u16) -> Result<Vec<u8>, AllocError> {
     let mut bytes = Vec::new(alloc);
@@ -46,7 +48,7 @@ fn sector(k: u64) -> [u8; 4096] {
 fn image(alloc: Global) -> Result<MemRack, Fail> {
     let mut rack = MemRack::new(alloc);
     rack.add("disk", 3 * MIB)?;
-    for k in 0..32u64 {
+    for k in 0..128u64 {
         rack.poke("disk", MIB + 4096 * k, &sector(k))?;
     }
     rack.open("disk", false)?;
@@ -80,15 +82,15 @@ fn want(k: u64, other: u64) -> Want {
     }
 }
 
-// Whether each sector of 16 is had.
+// Whether each sector of 64 is had.
 fn has_all(copies: &mut DataAhead, rack: &mut MemRack, store: &Store) -> bool
     requires serves { Serves (seen_of rack.old) store.now }
     requires ahead { IsAhead (seen_of rack.old).held copies.old }
     ensures serves { Serves (seen_of rack.new) store.now }
     ensures ahead { IsAhead (seen_of rack.new).held copies.new }
 {
-    for k in 0..16u64 {
-        if !copies.has(&want(k, k), 16 - k, rack, store) {
+    for k in 0..64u64 {
+        if !copies.has(&want(k, k), 96 - k, rack, store) {
             return false;
         }
     }
@@ -96,7 +98,7 @@ fn has_all(copies: &mut DataAhead, rack: &mut MemRack, store: &Store) -> bool
 }
 
 #[test]
-fn one_read_for_sixteen_sectors(rt: HostRuntime) -> Result<(), Fail> {
+fn one_read_for_many_sectors(rt: HostRuntime) -> Result<(), Fail> {
     let mut rack = image(rt.alloc())?;
     rack.fail_call(3)?;
     let store = store(&rt, rt.alloc(), SINGLE, 1, &rack)?;
@@ -105,9 +107,9 @@ fn one_read_for_sixteen_sectors(rt: HostRuntime) -> Result<(), Fail> {
     // The opening is the first call, and the second read fails.
     assert!(rt; has_all(&mut copies, &mut rack, &store));
     assert!(rt; !copies.has(&want(3, 4), 1, &mut rack, &store));
-    assert!(rt; !copies.has(&want(16, 16), 16, &mut rack, &store));
-    assert!(rt; copies.has(&want(16, 16), 16, &mut rack, &store));
-    assert!(rt; copies.has(&want(31, 31), 1, &mut rack, &store));
+    assert!(rt; !copies.has(&want(64, 64), 32, &mut rack, &store));
+    assert!(rt; copies.has(&want(64, 64), 32, &mut rack, &store));
+    assert!(rt; copies.has(&want(95, 95), 1, &mut rack, &store));
     Ok(())
 }
 
@@ -125,5 +127,20 @@ fn no_more_than_is_wanted(rt: HostRuntime) -> Result<(), Fail> {
     assert!(rt; !copies.has(&want(256, 256), 1, &mut rack, &store));
     let plain = Want::Plain { addr: 16 * MIB };
     assert!(rt; !copies.has(&plain, 1, &mut rack, &store));
+    Ok(())
+}
+
+#[test]
+fn no_further_than_an_element(rt: HostRuntime) -> Result<(), Fail> {
+    let mut rack = image(rt.alloc())?;
+    rack.fail_call(3)?;
+    let store = store(&rt, rt.alloc(), RAID0, 2, &rack)?;
+    let mut copies = DataAhead::new();
+    assert!(rt; copies.has(&want(0, 0), 64, &mut rack, &store));
+    assert!(rt; copies.has(&want(15, 15), 49, &mut rack, &store));
+
+    // The element behind it in the image is that of the next row.
+    assert!(rt; !copies.has(&want(32, 16), 32, &mut rack, &store));
+    assert!(rt; copies.has(&want(32, 16), 32, &mut rack, &store));
     Ok(())
 }

@@ -227,7 +227,7 @@ kept_left byte ys last fits none sent end long are_bytes lasts =
 
 -- nothing was dropped before a piece: only the register goes into its first four bytes
 pub begun : (start : ℕ) (xs bytes : List ℕ) → start < 2 ^ 32 → 4 ≤ length bytes → ((i : ℕ) → at bytes i < 2 ^ 8)
-    → ((i : ℕ) → i < 4 → at xs i ≡ start / 256 ^ i % 256) → ((i : ℕ) → 4 ≤ i → at xs i ≡ 0)
+    → ((i : ℕ) → i < 4 → at xs i ≡ start / 256 ^ i % 256) → ((i : ℕ) → 4 ≤ i → i < 561 → at xs i ≡ 0)
     → register start bytes ≡ register_behind (take 561 xs) bytes
 unfolding register_behind gathered
 begun start xs bytes lt wide are_bytes first zeros =
@@ -246,7 +246,7 @@ begun start xs bytes lt wide are_bytes first zeros =
   where
     none : (i : ℕ) → 4 ≤ i → at (take 561 xs) i ≡ 0
     none i le = elim (cases_lt i 561) [
-      | inl small ↦ get_or-take 561 xs i 0 small ∙ zeros i le
+      | inl small ↦ get_or-take 561 xs i 0 small ∙ zeros i le small
       | inr past ↦ get_or_past (take 561 xs) i 0 (omega (arith, length-take 561 xs))
     ]
 

@@ -6,10 +6,13 @@ ghost use Rattle.btr_base.specs.Crc.{register, crc32c, hash_of, dividend, genera
 mod fold;
 #[cfg(test)]
 mod plain;
+mod room;
 mod tables;
 #[cfg(test)]
 mod tests;
 mod words;
+
+pub(crate) use room::FoldRoom;
 
 // How many bytes are worth folding.
 const LONG: usize = 2048;

@@ -17,6 +17,7 @@ mod kind;
 mod memory;
 mod shown;
 mod stored;
+mod sum_room;
 mod summed;
 #[cfg(test)]
 mod tests;
@@ -31,5 +32,6 @@ pub use kind::SumKind;
 pub use memory::Memory;
 pub use shown::{Shown, show_byte};
 pub use stored::Sum;
+pub use sum_room::SumRoom;
 pub use summed::is_summed;
 pub use xxhash::xxh64;

@@ -3,8 +3,8 @@
 ghost use Rattle.std.specs.Prelude.{◌≤◌, length};
 
 use crate::{
-    Header, Key, Memory, Sum, SumKind, array_at, crc_register, name_hash, show_byte, sum, u16_at,
-    u32_at, u64_at, xxh64,
+    Header, Key, Memory, Sum, SumKind, SumRoom, array_at, crc_register, name_hash, show_byte, sum,
+    u16_at, u32_at, u64_at, xxh64,
 };
 
 // What `xxhsum -H1` prints for the first 0 to 100 of the bytes 3, 10, 17 and so on, each 7 more modulo
@@ -203,6 +203,23 @@ fn xxh64_vectors(rt: HostRuntime) {
     assert_eq!(rt; xxh64(b"a"), 0xD24EC4F1A98C6E5B);
     let stored = sum_of(b"\x99\xe9\xd8\x51\x37\xdb\x46\xef");
     assert_eq!(rt; sum(SumKind::Xxh64, b""), stored);
+}
+
+#[test]
+fn sums_in_room(rt: HostRuntime) {
+    let bytes = steps::<4096>(3, 7);
+    let mut room = SumRoom::new();
+    for kind in [SumKind::Crc32c, SumKind::Sha256, SumKind::Xxh64] {
+        for n in [4096, 100, 2048, 4096] {
+            if n <= 4096 {
+                assert_eq!(rt;
+                    room.sum(kind, &bytes[..n]),
+                    sum(kind, &bytes[..n]),
+                    "{n} bytes"
+                );
+            }
+        }
+    }
 }
 
 #[test]

@@ -233,7 +233,7 @@ fn put_run<R: Rack>(
 }
 
 /// Puts the sectors that have a checksum and aren't readable into a set, kind 31, where these are the runs of the checksum tree, and this is its root. Each
-/// sector is read, up to 16 by one read, and a look-up of its checksum serves the sectors behind it in the same item. Four slots are free.
+/// sector is read, up to 64 by one read, and a look-up of its checksum serves the sectors behind it in the same item. Four slots are free.
 ///
 /// `Tree`: a block could not be read, which is `Unread`. `Memory`: there is no memory for the findings.
 pub(crate) fn put_data_findings<R: Rack>(

@@ -39,7 +39,7 @@ pub use fetching::fetch;
 pub use laws::{value_by_ranges, value_is_the_one};
 pub use loan::Loan;
 pub use mirror::{Tried, TryFault, try_mirror};
-pub use passing::passes;
+pub use passing::{passes, passes_in};
 pub use setting::Setting;
 pub use store::Store;
 pub use want::Want;

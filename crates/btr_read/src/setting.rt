@@ -1,5 +1,15 @@
+ghost use Rattle.std.specs.Prelude.{◌≡◌};
+ghost use Rattle.btr_read.specs.Want.{same_sum};
+
 use crate::Want;
-use btr_base::{Header, Sum, SumKind, is_summed, sum};
+use btr_base::{Header, Sum, SumKind, SumRoom, is_summed, sum};
+
+// Whether two checksums are the same.
+fn is_same(found: &Sum, wanted: &Sum) -> bool
+    ensures { result ≡ same_sum found.now wanted.now }
+{
+    found.bytes == wanted.bytes && found.size == wanted.size
+}
 
 /// What all blocks of a filesystem have in common.
 #[derive(Clone, Copy, Debug, PartialEq, Eq)]
@@ -14,8 +24,7 @@ pub struct Setting {
 
 impl Setting {
     ghost use Rattle.std.specs.Prelude.{◌≡◌, ◌≤◌, length};
-    ghost use Rattle.btr_read.specs.Want.{len_of, passes, is_block, same_sum};
-    ghost use Rattle.btr_base.specs.Sum.{sum_of};
+    ghost use Rattle.btr_read.specs.Want.{len_of, passes, is_block};
 
     // How many bytes a want has.
     pub(crate) fn len(&self, want: &Want) -> usize
@@ -51,8 +60,23 @@ impl Setting {
             Want::Sector {
                 addr: _,
                 sum: wanted,
-            } => self.is_sector(wanted, bytes),
+            } => is_same(&sum(self.kind, bytes), wanted),
             Want::Plain { .. } => true,
+        }
+    }
+
+    // The same, where the checksum of a sector is computed in room that is kept.
+    pub(crate) fn passes_in(&self, room: &mut SumRoom, want: &Want, bytes: &[u8]) -> bool
+        requires long { length bytes.now ≡ len_of self.now want.now }
+        requires node { 101 ≤ self.now.nodesize }
+        ensures { result ≡ passes self.now want.now bytes.now }
+    {
+        match want {
+            Want::Sector {
+                addr: _,
+                sum: wanted,
+            } => is_same(&room.sum(self.kind, bytes), wanted),
+            Want::Tree { .. } | Want::Block { .. } | Want::Plain { .. } => self.passes(want, bytes),
         }
     }
 
@@ -62,13 +86,5 @@ impl Setting {
         ensures { result ≡ is_block self.now addr header.now bytes.now }
     {
         header.addr == addr && header.fsid == self.fsid && is_summed(self.kind, bytes)
-    }
-
-    // Whether bytes have a checksum.
-    fn is_sector(&self, wanted: &Sum, bytes: &[u8]) -> bool
-        ensures { result ≡ same_sum (sum_of self.now.kind bytes.now) wanted.now }
-    {
-        let found = sum(self.kind, bytes);
-        found.bytes == wanted.bytes && found.size == wanted.size
     }
 }

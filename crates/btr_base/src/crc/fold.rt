@@ -19,7 +19,7 @@ use std::simd::prelude::*;
 const AHEAD: usize = 561;
 
 // How many bytes are kept till the end, at least.
-pub(super) const KEPT: usize = 576;
+const KEPT: usize = 576;
 
 // How many bytes are dropped before the last ones move to the front.
 const WINDOW: usize = 4096;
@@ -31,7 +31,7 @@ const BLOCK: usize = 64;
 const REACH: usize = 315;
 
 // The bytes that are dropped till then, the last ones before them, and zeros.
-const ROOM: usize = WINDOW + AHEAD + REACH;
+pub(super) const ROOM: usize = WINDOW + AHEAD + REACH;
 
 // How many places on a byte is sent by the nearer multiple at most, and how many bytes are looked up.
 const NEAR: usize = 176;
@@ -91,22 +91,30 @@ fn byte_of(reg: u32, number: u32) -> u8
 }
 
 // Nothing but zeros.
-fn no_bytes<const N: usize>() -> [u8; N]
+pub(super) fn no_bytes<const N: usize>() -> [u8; N]
     ensures { result ≡ replicate N 0 }
 {
     [0; N]
 }
 
-// Nothing was dropped before a piece: only its register, `start`, goes into the first four bytes.
-fn begin(start: u32) -> [u8; ROOM]
-    ensures start { (i : ℕ) → i < 4 → slice_index result i ≡ start / 256 ^ i % 256 }
-    ensures zeros { (i : ℕ) → 4 ≤ i → slice_index result i ≡ 0 }
+// Forgets what was dropped last.
+fn forget(dropped: &mut [u8; ROOM])
+    ensures { (i : ℕ) → i < AHEAD → slice_index dropped.new i ≡ 0 }
 {
-    let mut dropped = no_bytes::<ROOM>();
+    for k in 0..AHEAD {
+        dropped[k] = 0;
+    }
+}
+
+// Nothing was dropped before a piece: only its register, `start`, goes into the first four bytes.
+fn begin(dropped: &mut [u8; ROOM], start: u32)
+    requires { (i : ℕ) → i < AHEAD → slice_index dropped.old i ≡ 0 }
+    ensures start { (i : ℕ) → i < 4 → slice_index dropped.new i ≡ start / 256 ^ i % 256 }
+    ensures zeros { (i : ℕ) → 4 ≤ i → i < AHEAD → slice_index dropped.new i ≡ 0 }
+{
     for k in 0..4 {
         dropped[k as usize] = byte_of(start, k);
     }
-    dropped
 }
 
 // Computes the first bytes of the piece as they are when they are dropped, behind those that were dropped before them.
@@ -224,21 +232,40 @@ fn left_of(dropped: &[u8; ROOM], bytes: &[u8], from: usize) -> [u8; NEAR]
     left
 }
 
+// The register after the bytes, where nothing was dropped before.
+fn register_by(dropped: &mut [u8; ROOM], start: u32, bytes: &[u8]) -> u32
+    requires zeros { (i : ℕ) → i < AHEAD → slice_index dropped.old i ≡ 0 }
+    requires bytes { KEPT ≤ length bytes.now }
+    ensures { result ≡ register start bytes.now }
+{
+    begin(dropped, start);
+    let mut rest = bytes;
+    while rest.len() >= WINDOW + KEPT {
+        drop_window(dropped, rest);
+        rest = &rest[WINDOW..];
+    }
+    let blocks = (rest.len() - KEPT) / BLOCK;
+    send(dropped, rest, blocks);
+    clear(dropped, BLOCK * blocks);
+    let left = left_of(dropped, rest, BLOCK * blocks);
+    let reg = words::register_of(0, &left);
+    words::register_of(reg, &rest[BLOCK * blocks + KEPT..])
+}
+
 // The register after the bytes.
 pub(super) fn register_of(start: u32, bytes: &[u8]) -> u32
     requires { KEPT ≤ length bytes.now }
     ensures { result ≡ register start bytes.now }
 {
-    let mut dropped = begin(start);
-    let mut rest = bytes;
-    while rest.len() >= WINDOW + KEPT {
-        drop_window(&mut dropped, rest);
-        rest = &rest[WINDOW..];
-    }
-    let blocks = (rest.len() - KEPT) / BLOCK;
-    send(&mut dropped, rest, blocks);
-    clear(&mut dropped, BLOCK * blocks);
-    let left = left_of(&dropped, rest, BLOCK * blocks);
-    let reg = words::register_of(0, &left);
-    words::register_of(reg, &rest[BLOCK * blocks + KEPT..])
+    let mut dropped = no_bytes::<ROOM>();
+    register_by(&mut dropped, start, bytes)
+}
+
+// The register after the bytes, by room that may have served other pieces before.
+pub(super) fn register_in(dropped: &mut [u8; ROOM], start: u32, bytes: &[u8]) -> u32
+    requires { KEPT ≤ length bytes.now }
+    ensures { result ≡ register start bytes.now }
+{
+    forget(dropped);
+    register_by(dropped, start, bytes)
 }

@@ -1,5 +1,5 @@
 // The forms of CRC-32C against the plain one, bit by bit.
-use super::{crc_register, plain};
+use super::{FoldRoom, crc_register, plain};
 use std::test::Fail;
 
 #[test]
@@ -13,6 +13,7 @@ fn forms_agree(rt: HostRuntime) -> Result<(), Fail> {
             .wrapping_add(1442695040888963407);
         *byte = (state >> 56) as u8;
     }
+    let mut folds = FoldRoom::new();
     for (from, to) in [
         (0, 0),
         (1, 2),
@@ -40,10 +41,12 @@ fn forms_agree(rt: HostRuntime) -> Result<(), Fail> {
     ] {
         for start in [0, 1, 0xFFFF_FFFE, 0xFFFF_FFFF, 0x89AB_CDEF] {
             let piece = bytes.get(from..to).ok_or("range")?;
+            let want = plain::register_of(start, piece);
+            assert_eq!(rt; crc_register(start, piece), want, "{from} to {to}");
             assert_eq!(rt;
-                crc_register(start, piece),
-                plain::register_of(start, piece),
-                "{from} to {to}"
+                folds.register(start, piece),
+                want,
+                "{from} to {to}, in room"
             );
         }
     }

@@ -9,8 +9,8 @@ use Rattle.btr_ahead.proofs.data_ahead.DataAhead.has.Goals as goal
 pub look-requires-clause-slot : goal.look-requires-clause-slot
 look-requires-clause-slot g c = c.in-Some.ensures.slot (g.R.Rack.seen c.args.rack.now).slots (serving (g.R.Rack.seen c.args.rack.now) c.args.store.now c.requires.serves).are_open
 
-pub passes-requires : goal.passes-requires
-passes-requires g c =
+pub passes_in-requires : goal.passes_in-requires
+passes_in-requires g c =
     let slot = c.in-Some.ensures.slot (g.R.Rack.seen c.args.rack.now).slots (serving (g.R.Rack.seen c.args.rack.now) c.args.store.now c.requires.serves).are_open in
     c.in-Some-piece.ensures.long ∙ slot.sector ∙ ap (len_of c.args.store.now.layout.setting) (sym c.in-Sector.is)
 
@@ -23,8 +23,8 @@ pub returns-in-Some-piece-clause-comes : goal.returns-in-Some-piece-clause-comes
 returns-in-Some-piece-clause-comes g c = λ passed.
     let layout = c.args.store.now.layout in
     let want = c.args.want.now in
-    let pass : passes layout.setting want c.in-Some-piece.piece.now ≡ true = sym c.passes.ensures ∙ passed in
-    let comes = piece_comes (g.R.Rack.seen c.look.new.rack).held layout c.look.new.self c.in-Some.first c.in-Sector.addr c.in-Sector.sum want c.in-Sector.is c.look.ensures.ahead c.in-Some.ensures.first c.in-Some-piece.ensures.inside.lies
+    let pass : passes layout.setting want c.in-Some-piece.piece.now ≡ true = sym c.passes_in.ensures ∙ passed in
+    let comes = piece_comes (g.R.Rack.seen c.look.new.rack).held layout c.look.new.self c.in-Some.first.place c.in-Sector.addr c.in-Sector.sum want c.in-Sector.is c.look.ensures.ahead c.in-Some.ensures.first c.in-Some-piece.ensures.inside.lies
     (ap (passes layout.setting want) (sym c.in-Some-piece.ensures.piece) ∙ pass) in
     subst (λ (held : Option (List (List ℕ))). Comes held layout want) (same_held c.look.ensures.reads) comes
 
@@ -32,9 +32,9 @@ pub returns-in-Some-piece-clause-first : goal.returns-in-Some-piece-clause-first
 returns-in-Some-piece-clause-first g c = λ some steady.
     let layout = c.args.store.now.layout in
     let want = c.args.want.now in
-    let says = piece_says (g.R.Rack.seen c.look.new.rack).held layout c.look.new.self c.in-Some.first c.in-Sector.addr c.in-Sector.sum want c.passes.result c.in-Sector.is c.look.ensures.ahead c.in-Some.ensures.place c.in-Some-piece.ensures.inside.lies
-    (c.passes.ensures ∙ ap (passes layout.setting want) c.in-Some-piece.ensures.piece) in
-    subst (λ (held : Option (List (List ℕ))). SaysFirst held layout want c.passes.result) (same_held c.look.ensures.reads) says
+    let says = piece_says (g.R.Rack.seen c.look.new.rack).held layout c.look.new.self c.in-Some.first.place c.in-Sector.addr c.in-Sector.sum want c.passes_in.result c.in-Sector.is c.look.ensures.ahead c.in-Some.ensures.place c.in-Some-piece.ensures.inside.lies
+    (c.passes_in.ensures ∙ ap (passes layout.setting want) c.in-Some-piece.ensures.piece) in
+    subst (λ (held : Option (List (List ℕ))). SaysFirst held layout want c.passes_in.result) (same_held c.look.ensures.reads) says
 
 pub returns-in-None-clause-serves : goal.returns-in-None-clause-serves
 returns-in-None-clause-serves g c =

@@ -28,7 +28,6 @@ loop-k-preserved c =
     let is = c.store.ensures in
     let long = c.kept_at-block.ensures.long in
     let room : n + 16 ≤ length xs = omega (arith, before.sized, c.loop-k-test.true) in
-    let first : 400 + n ≡ 400 + 16 * c.loop-k.k = omega arith in
     record {
       sized = ap length is ∙ length-put_chunk n xs block ∙ before.sized;
       lasts = λ j lt. ap (λ (l : List ℕ). get_or l j 0) is ∙ elim (cases_lt j n) [

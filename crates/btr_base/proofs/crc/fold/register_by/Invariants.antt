@@ -1,7 +1,7 @@
 use Rattle.std.proofs.Common.{◌≡◌, ℕ, ◌^◌, ◌<◌, ◌≤◌, take, length, get_or}
 use Rattle.btr_base.specs.Crc.{register}
 use Rattle.btr_base.specs.Fold.{register_behind}
-use Rattle.btr_base.proofs.crc.fold.register_of.Given as goal
+use Rattle.btr_base.proofs.crc.fold.register_by.Given as goal
 
 -- the register behind the bytes that were dropped is that of all
 abbrev pub invariant-loop-rest : goal.invariant-loop-rest

@@ -1,0 +1,98 @@
+// Bytes of an image that were read by one read.
+ghost use Rattle.std.specs.Prelude.{◌≡◌, ◌+◌, ◌<◌, ◌≤◌, length, IfSome, IfNone};
+ghost use Rattle.btr_rack.specs.Rack.{OnlyReads};
+ghost use Rattle.btr_ahead.specs.Ahead.{AreRead, AreSteady, IsInSlot, IsKept, piece_of};
+
+use crate::first_place::FirstPlace;
+use btr_rack::{Place, Rack};
+
+// How many bytes are read at once.
+const ROOM: usize = 262144;
+
+/// Bytes of an image, up to 262144, and their place in it.
+#[derive(Drop)]
+pub(crate) struct KeptBytes {
+    pub(crate) place: Place,
+    pub(crate) bytes: [u8; ROOM],
+}
+
+// How many bytes to read for so many sectors, the first of which has this place, in an image of this length.
+fn span(first: &FirstPlace, wanted: u64, image_len: u64) -> u64
+    requires { first.now.place.off ≤ image_len }
+    ensures room { result ≤ ROOM }
+    ensures inside { first.now.place.off + result ≤ image_len }
+    ensures first { 0 < wanted → 4096 ≤ first.now.reach → first.now.place.off + 4096 ≤ image_len → 4096 ≤ result }
+{
+    let all = wanted.saturating_mul(4096);
+    all.min(first.reach)
+        .min(ROOM as u64)
+        .min(image_len - first.place.off)
+}
+
+impl KeptBytes {
+    ghost use Rattle.std.specs.Prelude.{Option, List, ℕ};
+
+    /// Nothing is kept.
+    pub(crate) fn new() -> KeptBytes
+        ensures { (held : Option (List (List ℕ))) → AreRead held result }
+    {
+        let place = Place {
+            slot: 0,
+            off: 0,
+            len: 0,
+        };
+        KeptBytes {
+            place,
+            bytes: [0; ROOM],
+        }
+    }
+
+    // Reads at most so many sectors from a place on. Where it can't, nothing is kept.
+    fn read_from<R: Rack>(&mut self, first: &FirstPlace, wanted: u64, rack: &mut R)
+        requires slot { IsInSlot (R.seen rack.old).slots first.now.place }
+        requires reach { 4096 ≤ first.now.reach }
+        ensures reads { OnlyReads (R.seen rack.old) (R.seen rack.new) }
+        ensures ahead { AreRead (R.seen rack.new).held self.new }
+        ensures kept { 0 < wanted → AreSteady (R.seen rack.old) (R.seen rack.new) → IsKept self.new first.now.place }
+    {
+        let Place { slot, off, len: _ } = first.place;
+        let len = span(first, wanted, rack.len(slot));
+        let read = rack.read_at(slot, off, &mut self.bytes[..len as usize]);
+        self.place = Place { slot, off, len };
+        if read.is_err() {
+            self.place.len = 0;
+            rack.forget();
+        }
+    }
+
+    /// The bytes of a place that lies in what is kept.
+    pub(crate) fn piece(&self, place: Place) -> Option<&[u8]>
+        ensures inside { IfSome result (λ piece. IsKept self.now place) }
+        ensures none { IfNone result (IsKept self.now place → ⊥) }
+        ensures piece { IfSome result (λ piece. piece.now ≡ piece_of self.now place) }
+        ensures long { IfSome result (λ piece. length piece.now ≡ place.len) }
+    {
+        if place.slot != self.place.slot || place.off < self.place.off {
+            return None;
+        }
+        let start = place.off - self.place.off;
+        if start > self.place.len || place.len > self.place.len - start {
+            return None;
+        }
+        self.bytes.get(start as usize..(start + place.len) as usize)
+    }
+
+    /// Reads at most so many sectors from a place on, unless it is kept. Where it can't, nothing is kept.
+    pub(crate) fn look<R: Rack>(&mut self, first: &FirstPlace, wanted: u64, rack: &mut R)
+        requires slot { IsInSlot (R.seen rack.old).slots first.now.place }
+        requires reach { 4096 ≤ first.now.reach }
+        requires ahead { AreRead (R.seen rack.old).held self.old }
+        ensures reads { OnlyReads (R.seen rack.old) (R.seen rack.new) }
+        ensures ahead { AreRead (R.seen rack.new).held self.new }
+        ensures kept { 0 < wanted → AreSteady (R.seen rack.old) (R.seen rack.new) → IsKept self.new first.now.place }
+    {
+        if self.piece(first.place).is_none() {
+            self.read_from(first, wanted, rack);
+        }
+    }
+}
