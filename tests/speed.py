@@ -1,7 +1,8 @@
 #!/usr/bin/env python3
 """Times the built program beside btrfs-progs, and prints the table "All commands beside btrfs-progs" of docs/SPEED.md.
 
-    python3 tests/speed.py --program $PWD/crates/btr_tool/out/launcher/btr_tool [--times 5] [--only ROW] [--warm] [--work DIR]
+    python3 tests/speed.py --program $PWD/crates/btr_tool/out/launcher/btr_tool [--times 5] [--only ROW] [--warm] [--keep]
+        [--work DIR]
 
 It wants btrfs-progs on the PATH, and room for some 4 GB in DIR, by default a folder `speed` among the temporary files. There
 it makes two images, where they aren't there yet, by `mkfs.btrfs --rootdir`: `a` of 8 files of 64 MiB of random bytes, and `b` of
@@ -10,7 +11,8 @@ it makes two images, where they aren't there yet, by `mkfs.btrfs --rootdir`: `a`
 programs goes into a file. btrfs-progs drops the image's pages from memory as it ends, so that this program reads from the
 disk; with --warm the image is read before each run, and both find it in memory. Each restore goes into a new folder; folders of
 small files are deleted only at the end, since for minutes an ext4 without a journal passes by the inodes of deleted files one
-by one. Ends with 1 where a goal is missed or a command fails.
+by one; with --keep they are left in DIR, so that a run soon after isn't slowed by that. Ends with 1 where a goal is missed or a
+command fails.
 """
 import argparse
 import os
@@ -147,6 +149,7 @@ def main():
     parser.add_argument("--times", type=int, default=5)
     parser.add_argument("--only", help="rows whose name holds this")
     parser.add_argument("--warm", action="store_true", help="read the image before each run")
+    parser.add_argument("--keep", action="store_true", help="leave the folders of small files")
     parser.add_argument("--work", default=os.path.join(tempfile.gettempdir(), "speed"))
     given = parser.parse_args()
     if not shutil.which("mkfs.btrfs") or not shutil.which("btrfs"):
@@ -155,7 +158,8 @@ def main():
     kept = True
     print("| Command | This program, wall and processor time | btrfs-progs | Ratio | Goal |")
     print("|---|---|---|---|---|", flush=True)
-    with tempfile.TemporaryDirectory(dir=given.work) as room:
+    room = tempfile.mkdtemp(dir=given.work)
+    try:
         for row in ROWS:
             if given.only and given.only not in row.name:
                 continue
@@ -168,6 +172,9 @@ def main():
                 if row.peer:
                     peer.append(run(row, row.peer, image, room, given.warm))
             kept = print_row(row, median(ours), median(peer) if peer else None) and kept
+    finally:
+        if not given.keep:
+            shutil.rmtree(room)
     sys.exit(0 if kept else 1)
 
 

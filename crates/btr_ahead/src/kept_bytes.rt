@@ -1,5 +1,5 @@
 // Bytes of an image that were read by one read.
-ghost use Rattle.std.specs.Prelude.{◌≡◌, ◌+◌, ◌<◌, ◌≤◌, length, IfSome, IfNone};
+ghost use Rattle.std.specs.Prelude.{◌≡◌, ◌+◌, ◌<◌, ◌≤◌, ◌&&◌, nat_eq, nat_le, nat_lt, length, IfSome, IfNone};
 ghost use Rattle.btr_rack.specs.Rack.{OnlyReads};
 ghost use Rattle.btr_ahead.specs.Ahead.{AreRead, AreSteady, IsInSlot, IsKept, piece_of};
 
@@ -14,6 +14,22 @@ const ROOM: usize = 262144;
 pub(crate) struct KeptBytes {
     pub(crate) place: Place,
     pub(crate) bytes: [u8; ROOM],
+    // Where the last read that failed was to read: there sectors are read one by one.
+    failed: Place,
+}
+
+// No place at all.
+const NOWHERE: Place = Place {
+    slot: 0,
+    off: 0,
+    len: 0,
+};
+
+// Whether a place begins in another one.
+fn begins_in(place: Place, other: Place) -> bool
+    ensures { result ≡ (nat_eq place.slot other.slot && nat_le other.off place.off && nat_lt place.off (other.off + other.len)) }
+{
+    place.slot == other.slot && other.off <= place.off && place.off - other.off < other.len
 }
 
 // How many bytes to read for so many sectors, the first of which has this place, in an image of this length.
@@ -36,14 +52,10 @@ impl KeptBytes {
     pub(crate) fn new() -> KeptBytes
         ensures { (held : Option (List (List ℕ))) → AreRead held result }
     {
-        let place = Place {
-            slot: 0,
-            off: 0,
-            len: 0,
-        };
         KeptBytes {
-            place,
+            place: NOWHERE,
             bytes: [0; ROOM],
+            failed: NOWHERE,
         }
     }
 
@@ -60,6 +72,7 @@ impl KeptBytes {
         let read = rack.read_at(slot, off, &mut self.bytes[..len as usize]);
         self.place = Place { slot, off, len };
         if read.is_err() {
+            self.failed = self.place;
             self.place.len = 0;
             rack.forget();
         }
@@ -82,7 +95,7 @@ impl KeptBytes {
         self.bytes.get(start as usize..(start + place.len) as usize)
     }
 
-    /// Reads at most so many sectors from a place on, unless it is kept. Where it can't, nothing is kept.
+    /// Reads at most so many sectors from a place on, unless it is kept: one where a read of more failed. Where it can't, nothing is kept.
     pub(crate) fn look<R: Rack>(&mut self, first: &FirstPlace, wanted: u64, rack: &mut R)
         requires slot { IsInSlot (R.seen rack.old).slots first.now.place }
         requires reach { 4096 ≤ first.now.reach }
@@ -91,8 +104,14 @@ impl KeptBytes {
         ensures ahead { AreRead (R.seen rack.new).held self.new }
         ensures kept { 0 < wanted → AreSteady (R.seen rack.old) (R.seen rack.new) → IsKept self.new first.now.place }
     {
-        if self.piece(first.place).is_none() {
-            self.read_from(first, wanted, rack);
+        if self.piece(first.place).is_some() {
+            return;
         }
+        let most = if begins_in(first.place, self.failed) {
+            wanted.min(1)
+        } else {
+            wanted
+        };
+        self.read_from(first, most, rack);
     }
 }

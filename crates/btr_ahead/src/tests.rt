@@ -144,3 +144,24 @@ fn no_further_than_an_element(rt: HostRuntime) -> Result<(), Fail> {
     assert!(rt; copies.has(&want(32, 16), 32, &mut rack, &store));
     Ok(())
 }
+
+#[test]
+fn one_by_one_around_a_bad_sector(rt: HostRuntime) -> Result<(), Fail> {
+    let mut rack = image(rt.alloc())?;
+    rack.fail_range("disk", MIB + 4096 * 3, 1)?;
+    rack.fail_call(9)?;
+    let store = store(&rt, rt.alloc(), SINGLE, 1, &rack)?;
+    let mut copies = DataAhead::new();
+
+    // The opening is the first call. Sector 3 is read by the second, and by the sixth alone.
+    assert!(rt; !copies.has(&want(0, 0), 64, &mut rack, &store));
+    assert!(rt; copies.has(&want(0, 0), 64, &mut rack, &store));
+    assert!(rt; copies.has(&want(1, 1), 63, &mut rack, &store));
+    assert!(rt; copies.has(&want(2, 2), 62, &mut rack, &store));
+    assert!(rt; !copies.has(&want(3, 3), 61, &mut rack, &store));
+    assert!(rt; copies.has(&want(4, 4), 60, &mut rack, &store));
+    assert!(rt; copies.has(&want(63, 63), 1, &mut rack, &store));
+    assert!(rt; copies.has(&want(64, 64), 1, &mut rack, &store));
+    assert!(rt; !copies.has(&want(65, 65), 1, &mut rack, &store));
+    Ok(())
+}
