@@ -6,17 +6,8 @@ ghost use Rattle.btr_ahead.specs.Ahead.{AreRead, AreSteady, IsInSlot, IsKept, pi
 use crate::first_place::FirstPlace;
 use btr_rack::{Place, Rack};
 
-// How many bytes are read at once.
+// How many bytes are read at once, at most.
 const ROOM: usize = 262144;
-
-/// Bytes of an image, up to 262144, and their place in it.
-#[derive(Drop)]
-pub(crate) struct KeptBytes {
-    pub(crate) place: Place,
-    pub(crate) bytes: [u8; ROOM],
-    // Where the last read that failed was to read: there sectors are read one by one.
-    failed: Place,
-}
 
 // No place at all.
 const NOWHERE: Place = Place {
@@ -24,6 +15,15 @@ const NOWHERE: Place = Place {
     off: 0,
     len: 0,
 };
+
+/// Bytes of an image, up to 262144, and their place in it.
+#[derive(Drop)]
+pub(crate) struct KeptBytes {
+    pub(crate) place: Place,
+    pub(crate) bytes: [u8; ROOM],
+    // What the last read that failed was to read: there sectors are read one by one.
+    failed: Place,
+}
 
 // Whether a place begins in another one.
 fn begins_in(place: Place, other: Place) -> bool
