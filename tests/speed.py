@@ -8,11 +8,11 @@ It wants btrfs-progs on the PATH, and room for some 4 GB in DIR, by default a fo
 it makes two images, where they aren't there yet, by `mkfs.btrfs --rootdir`: `a` of 8 files of 64 MiB of random bytes, and `b` of
 20,000 files of 100 to 20,000 bytes in 200 folders. Each row is run by the two programs in turn, and its figures are medians;
 `super` is called 200 times in a row. Processor time is that of the user and of the system. What is printed by the
-programs goes into a file. btrfs-progs drops the image's pages from memory as it ends, so that this program reads from the
-disk; with --warm the image is read before each run, and both find it in memory. Each restore goes into a new folder; folders of
-small files are deleted only at the end, since for minutes an ext4 without a journal passes by the inodes of deleted files one
-by one; with --keep they are left in DIR, so that a run soon after isn't slowed by that. Ends with 1 where a goal is missed or a
-command fails.
+programs goes into a file. btrfs-progs drops the image's pages from memory as it opens it and as it ends, so both read from the
+disk; with --warm the image is read before each run, and only this program finds it in memory. Each restore goes into a new
+folder; folders of small files are deleted only at the end, since for minutes an ext4 without a journal passes by the inodes of
+deleted files one by one; with --keep they are left in DIR, so that a run soon after isn't slowed by that. Ends with 1 where a
+goal is missed or a command fails.
 """
 import argparse
 import os
