@@ -11,8 +11,8 @@ it makes two images, where they aren't there yet, by `mkfs.btrfs --rootdir`: `a`
 programs goes into a file. btrfs-progs drops the image's pages from memory as it opens it and as it ends, so both read from the
 disk; with --warm the image is read before each run, and only this program finds it in memory. Each restore goes into a new
 folder; folders of small files are deleted only at the end, since for minutes an ext4 without a journal passes by the inodes of
-deleted files one by one; with --keep they are left in DIR, so that a run soon after isn't slowed by that. Ends with 1 where a
-goal is missed or a command fails.
+deleted files one by one; with --keep they are left in DIR, some 250 MB for each of the --times, so that a run soon after isn't
+slowed by that. Ends with 1 where a goal is missed or a command fails.
 """
 import argparse
 import os
