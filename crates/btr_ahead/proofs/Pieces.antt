@@ -1,7 +1,7 @@
 -- Pieces of what is kept.
 use Rattle.std.proofs.Common.{◌≡◌, ℕ, ◌+◌, ◌-◌, ◌≤◌, Bool, true, List, take, drop, slice_range, Option, Some, None, is_ok, ap, ◌∙◌, sym, arith}
 use Rattle.btr_base.specs.declared.stored.Sum.{Sum}
-use Rattle.btr_rack.specs.Rack.{bytes_of, image_of}
+use Rattle.btr_rack.specs.Rack.{AreBytesOf, bytes_of, image_of}
 use Rattle.btr_rack.specs.declared.place.Place.{Place}
 use Rattle.btr_read.specs.Fate.{fate}
 use Rattle.btr_read.specs.Layout.{Layout}
@@ -33,6 +33,11 @@ piece_bytes images kept place is lies =
     ∙ sym (range-range image kept.place.off kept.place.len from (from + place.len) (omega arith) inner)
     ∙ ap (λ (xs : List ℕ). slice_range xs from (from + place.len)) (sym is)
     ∙ range-front kept.bytes kept.place.len from (from + place.len) (omega arith) inner
+
+-- .. and so are read, where the images are told
+pub piece_read : (held : Option (List (List ℕ))) (kept : KeptBytes) (place : Place) → AreRead held kept → LiesIn place kept.place → AreBytesOf held place.slot place.off place.len (piece_of kept place)
+piece_read None kept place read lies = tt
+piece_read (Some images) kept place read lies = sym (piece_bytes images kept place read lies)
 
 -- a sector whose piece passes comes to bytes
 pub piece_comes : (held : Option (List (List ℕ))) (layout : Layout) (kept : KeptBytes) (place : Place) (addr : ℕ) (sum : Sum) (want : Want) → want ≡ Sector addr sum

@@ -1,20 +1,17 @@
 // Where the bytes of a sector are sought first.
-ghost use Rattle.std.specs.Prelude.{◌≡◌, ◌≤◌, ◌-◌, if◌then◌else◌, IfSome};
+ghost use Rattle.std.specs.Prelude.{◌≡◌, ◌≤◌, ◌-◌, if◌then◌else◌, IfSome, List};
 ghost use Rattle.btr_read.specs.Layout.{AreOpen};
 ghost use Rattle.btr_chunk.specs.Chunk.{IsChunk, is_striped};
 ghost use Rattle.btr_chunk.specs.Mapping.{data_part};
 ghost use Rattle.btr_ahead.specs.Ahead.{IsFirstPlace, IsInSlot, first_place};
 ghost use Rattle.btr_rack.specs.Rack.{Slot};
-ghost use Rattle.std.specs.Prelude.{List};
 ghost use Rattle.std.specs.Option.{option_map};
 
-use btr_chunk::{Chunk, Elements, Part, Profile, elements, place_of};
+use btr_chunk::{Chunk, ELEMENT, Elements, Part, elements, place_of};
 use btr_rack::Place;
 use btr_read::Store;
 
 const SECTOR: u64 = 4096;
-
-const ELEMENT: u64 = 65536;
 
 /// Where the bytes of a sector are sought first.
 #[derive(Clone, Copy)]
@@ -39,10 +36,10 @@ fn first_part(chunk: &Chunk, at: &Elements) -> Part
 fn reach(chunk: &Chunk, at: &Elements) -> u64
     ensures { result ≡ (if is_striped chunk.now.profile then ELEMENT else chunk.now.length) - at.now.rest }
 {
-    let end = match chunk.profile {
-        Profile::Raid0 | Profile::Raid10 | Profile::Raid5 | Profile::Raid6 => ELEMENT,
-        Profile::Single | Profile::Dup | Profile::Raid1 | Profile::Raid1c3 | Profile::Raid1c4 =>
-            chunk.length,
+    let end = if chunk.profile.is_striped() {
+        ELEMENT
+    } else {
+        chunk.length
     };
     end.saturating_sub(at.rest)
 }

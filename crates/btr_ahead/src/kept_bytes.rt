@@ -9,8 +9,8 @@ use btr_rack::{Place, Rack};
 // How many bytes are read at once, at most.
 const ROOM: usize = 262144;
 
-// No place at all.
-const NOWHERE: Place = Place {
+/// No place at all.
+pub(crate) const NOWHERE: Place = Place {
     slot: 0,
     off: 0,
     len: 0,
@@ -25,8 +25,8 @@ pub(crate) struct KeptBytes {
     failed: Place,
 }
 
-// Whether a place begins in another one.
-fn begins_in(place: Place, other: Place) -> bool
+/// Whether a place begins in another one.
+pub(crate) fn begins_in(place: Place, other: Place) -> bool
     ensures { result ≡ (nat_eq place.slot other.slot && nat_le other.off place.off && nat_lt place.off (other.off + other.len)) }
 {
     place.slot == other.slot && other.off <= place.off && place.off - other.off < other.len
@@ -93,6 +93,18 @@ impl KeptBytes {
             return None;
         }
         self.bytes.get(start as usize..(start + place.len) as usize)
+    }
+
+    /// Whether a place begins in what the last read that failed was to read.
+    pub(crate) fn has_failed_at(&self, place: Place) -> bool {
+        begins_in(place, self.failed)
+    }
+
+    /// Keeps nothing any more.
+    pub(crate) fn clear(&mut self)
+        ensures { (held : Option (List (List ℕ))) → AreRead held self.new }
+    {
+        self.place = NOWHERE;
     }
 
     /// Reads at most so many sectors from a place on, unless it is kept: one where a read of more failed. Where it can't, nothing is kept.

@@ -1,13 +1,13 @@
 // Sectors of an image in memory.
-ghost use Rattle.std.specs.Prelude.{◌<◌, IfOk};
-ghost use Rattle.btr_rack.specs.Memory.{seen_of};
+ghost use Rattle.std.specs.Prelude.{◌≡◌, ◌<◌, IfOk};
+ghost use Rattle.btr_rack.specs.Memory.{seen_of, slots_of};
 ghost use Rattle.btr_read.specs.Serves.{Serves};
 ghost use Rattle.btr_ahead.specs.Ahead.{IsAhead};
 
-use crate::DataAhead;
+use crate::{AheadRack, DataAhead};
 use btr_base::{SumKind, sum};
 use btr_chunk::{Chunk, ChunkTable};
-use btr_rack::{MemRack, Rack};
+use btr_rack::{MemRack, Rack, RackError};
 use btr_read::{Store, Want};
 use std::alloc::{AllocError, Global};
 use std::process::Abort;
@@ -163,5 +163,63 @@ fn one_by_one_around_a_bad_sector(rt: HostRuntime) -> Result<(), Fail> {
     assert!(rt; copies.has(&want(63, 63), 1, &mut rack, &store));
     assert!(rt; copies.has(&want(64, 64), 1, &mut rack, &store));
     assert!(rt; !copies.has(&want(65, 65), 1, &mut rack, &store));
+    Ok(())
+}
+
+// Whether a sector, by its number, is read as it stands in the image that is open.
+fn reads(rt: &impl Abort, rack: &mut AheadRack<MemRack>, k: u64) -> Result<bool, RackError>
+    ensures { slots_of rack.new.rack ≡ slots_of rack.old.rack }
+{
+    let mut bytes = [255; 4096];
+    assert!(rt; k < 128 && rack.count() == 1 && rack.len(0) == 3 * MIB);
+    rack.read_at(0, MIB + 4096 * k, &mut bytes)?;
+    Ok(bytes == sector(k))
+}
+
+#[test]
+fn a_run_is_read_by_few_reads(rt: HostRuntime) -> Result<(), Fail> {
+    let mut below = image(rt.alloc())?;
+
+    // The opening is the first call. Then 1, 2, 4, 8, 16, 32 and 64 sectors are read at once, and one more.
+    below.fail_call(10)?;
+    let mut rack = AheadRack::new(below, rt.alloc());
+    for k in 0..128u64 {
+        assert!(rt; reads(&rt, &mut rack, k)?);
+    }
+    assert_eq!(rt; reads(&rt, &mut rack, 0), Err(RackError::Failed));
+    assert_eq!(rt; reads(&rt, &mut rack, 0), Ok(true));
+    Ok(())
+}
+
+#[test]
+fn a_bad_sector_fails_alone(rt: HostRuntime) -> Result<(), Fail> {
+    let mut below = image(rt.alloc())?;
+    below.fail_range("disk", MIB + 4096 * 20, 1)?;
+    let mut rack = AheadRack::new(below, rt.alloc());
+    for k in 0..128u64 {
+        assert_eq!(rt; reads(&rt, &mut rack, k).is_err(), k == 20);
+    }
+    Ok(())
+}
+
+#[test]
+fn what_was_written_is_read(rt: HostRuntime) -> Result<(), Fail> {
+    let mut below = MemRack::new(rt.alloc());
+    below.add("disk", 3 * MIB)?;
+    let mut rack = AheadRack::new(below, rt.alloc());
+    assert_eq!(rt; rack.open("other", true), Err(RackError::Failed));
+    rack.open("disk", true)?;
+    assert!(rt; rack.len(0) == 3 * MIB);
+    rack.write_at(0, MIB + 8192, &sector(2))?;
+    assert!(rt; !reads(&rt, &mut rack, 1)?);
+    assert!(rt; reads(&rt, &mut rack, 2)?);
+
+    // With sector 2 the third was read, which is kept.
+    assert!(rt; rack.count() == 1 && rack.len(0) == 3 * MIB);
+    rack.write_at(0, MIB + 12288, &sector(3))?;
+    assert!(rt; rack.count() == 1);
+    rack.sync(0)?;
+    rack.forget();
+    assert!(rt; reads(&rt, &mut rack, 3)?);
     Ok(())
 }

@@ -8,7 +8,8 @@ use std::alloc::Global;
 
 pub(crate) const SECTOR: u64 = 4096;
 
-pub(crate) const ELEMENT: u64 = 65536;
+/// The bytes of an element: where the data of a chunk lies on its stripes element by element, so many stand behind one another.
+pub const ELEMENT: u64 = 65536;
 
 const MAX_STRIPES: u16 = 64;
 

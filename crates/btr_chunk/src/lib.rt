@@ -27,7 +27,7 @@ mod table;
 
 pub use add::AddFault;
 pub use array::{ArrayFault, read_array};
-pub use chunk::Chunk;
+pub use chunk::{Chunk, ELEMENT};
 pub use fault::ChunkFault;
 pub use laws::{
     copies_apart, parts_apart, parts_cover, parts_differ, place_inside, places_differ,

@@ -41,8 +41,8 @@ impl Profile {
         }
     }
 
-    // Whether its data lies on the stripes element by element.
-    pub(crate) fn is_striped(self) -> bool
+    /// Whether its data lies on the stripes element by element.
+    pub fn is_striped(self) -> bool
         ensures { result ≡ is_striped self }
     {
         matches!(

@@ -7,9 +7,9 @@ use crate::place::Place;
 use crate::place_list::PlaceList;
 use std::marker::Model;
 
-/// The failed calls of a rack. Clauses see it as an `Account`.
+/// The failed calls of a rack, which it counts and has the places of. Clauses see it as an `Account`.
 #[derive(Drop)]
-pub(crate) struct Ledger {
+pub struct Ledger {
     faults: u64,
     fresh: u64,
     shut: u64,
@@ -27,7 +27,8 @@ impl Model for Ledger {
 }
 
 impl Ledger {
-    pub(crate) fn new() -> Ledger
+    /// No call failed yet.
+    pub fn new() -> Ledger
         ensures { result ≡ no_failure }
     {
         Ledger {
@@ -44,8 +45,8 @@ impl Ledger {
         }
     }
 
-    /// A call that is no opening failed.
-    pub(crate) fn fail(&mut self, place: Place)
+    /// A call at this place failed, which was no opening.
+    pub fn fail(&mut self, place: Place)
         ensures failed { OneFailed place self.old self.new }
         ensures opening { self.new.opening ≡ None }
         ensures shut { self.new.shut ≡ self.old.shut }
@@ -57,8 +58,8 @@ impl Ledger {
         self.opening = None;
     }
 
-    /// An opening failed.
-    pub(crate) fn fail_open(&mut self, opening: Opening, place: Place)
+    /// An opening at this place failed.
+    pub fn fail_open(&mut self, opening: Opening, place: Place)
         ensures failed { OneFailed place self.old self.new }
         ensures opening { self.new.opening ≡ Some opening }
         ensures shut { self.new.shut ≡ next_count self.old.shut }
@@ -68,7 +69,8 @@ impl Ledger {
         self.shut = self.shut.saturating_add(1);
     }
 
-    pub(crate) fn forget(&mut self)
+    /// Starts the number and the places of the failed calls anew.
+    pub fn forget(&mut self)
         ensures { self.new ≡ forgotten self.old }
     {
         self.fresh = 0;

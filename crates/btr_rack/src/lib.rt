@@ -46,6 +46,7 @@ mod trail;
 mod transfer;
 mod tree_sink;
 
+pub use account::Ledger;
 pub use bytes::Bytes;
 pub use error::{AddError, PokeError, RackError, SinkError};
 pub use file::FileRack;
@@ -53,6 +54,7 @@ pub use folder_tree::FolderTree;
 pub use mem_out::MemOut;
 pub use mem_rack::MemRack;
 pub use mem_tree::MemTree;
+pub use opening::Opening;
 pub use out::Out;
 pub use part::Part;
 pub use place::Place;

@@ -6,8 +6,9 @@ use btr_base::Memory;
 use std::alloc::Global;
 use std::marker::Model;
 
+/// What an opening asked for: a name, and whether to write.
 #[derive(Drop)]
-pub(crate) struct Opening {
+pub struct Opening {
     name: String,
     write: bool,
 }
@@ -22,7 +23,8 @@ impl Model for Opening {
 }
 
 impl Opening {
-    pub(crate) fn new(alloc: Global, name: &str, write: bool) -> Result<Opening, Memory>
+    /// An opening by this name. `Memory`: the name couldn't be kept.
+    pub fn new(alloc: Global, name: &str, write: bool) -> Result<Opening, Memory>
         ensures { IfOk result (λ opening. opening ≡ opening_of name.now write) }
     {
         match String::from_str(alloc, name) {

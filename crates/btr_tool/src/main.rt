@@ -6,6 +6,7 @@
 mod standard;
 mod words;
 
+use btr_ahead::AheadRack;
 use btr_rack::{FileRack, FolderTree, Out, StdOut};
 use btr_run::{Answer, NO_MEMORY, run};
 use std::process::ExitCode;
@@ -18,7 +19,7 @@ fn main(rt: HostRuntime) -> ExitCode {
     let mut out = StdOut::new(&rt);
     let answer = match words::words(&rt, alloc) {
         Ok(words) => {
-            let mut rack = FileRack::new(&rt, alloc);
+            let mut rack = AheadRack::new(FileRack::new(&rt, alloc), alloc);
             let mut tree = FolderTree::new(&rt, alloc);
             run(alloc, &words, &mut rack, &mut tree, &mut out)
         }

@@ -1,0 +1,209 @@
+// A rack that reads sectors ahead.
+ghost use Rattle.std.specs.Prelude.{◌≡◌, List, ℕ, Option, length, IsTrue};
+ghost use Rattle.btr_rack.specs.Rack.{AreBytesOf, Accounts, OnlyReads, no_failure};
+ghost use Rattle.btr_ahead.specs.Ahead.{AreRead, IsInSlot};
+ghost use Rattle.btr_ahead.specs.Reader.{reader, KeepsRead};
+
+use crate::first_place::FirstPlace;
+use crate::kept_bytes::{KeptBytes, NOWHERE, begins_in};
+use crate::sector_run::SectorRun;
+use btr_rack::{Ledger, Opening, Place, Rack, RackError};
+use std::alloc::Global;
+use std::marker::Model;
+
+const SECTOR: u64 = 4096;
+
+/// A rack that asks another one for sectors less often: where they are asked for one behind another, as many are read by one read as came
+/// before, up to 64, and kept for the calls that follow. All else is asked for as it comes.
+///
+/// A read of more sectors than were asked for isn't counted where it fails: then those that it was to read are read one by one, so that no good one is
+/// missed, and a bad one isn't tried again for each before it. The 262144 bytes that it keeps are had with the second sector of a run; where they can't
+/// be had, no more is read than is asked for.
+#[derive(Drop)]
+pub struct AheadRack<R: Rack> {
+    rack: R,
+    alloc: Global,
+    kept: Option<Box<KeptBytes>>,
+    run: SectorRun,
+    // Where the last read that was asked for failed: there no more is read than is asked for.
+    failed: Place,
+    ledger: Ledger,
+}
+
+impl<R: Rack> Model for AheadRack<R> {
+    ghost use Rattle.btr_ahead.specs.Reader.{Reader, reader, KeepsRead};
+
+    ghost Value = { Reader R };
+
+    ghost view = { λ a. reader a.rack a.ledger };
+
+    ghost invariant = { λ a. KeepsRead (R.seen a.rack).held a.kept };
+}
+
+// Counts a call at a place, if it failed.
+fn counted(
+    ledger: &mut Ledger,
+    place: Place,
+    answer: Result<(), RackError>,
+) -> Result<(), RackError>
+    ensures same { result ≡ answer }
+    ensures account { Accounts place ledger.old ledger.new result }
+{
+    if let Err(RackError::Failed) = answer {
+        ledger.fail(place);
+    }
+    answer
+}
+
+// Makes room for what is kept, if there is none and it can be had.
+fn make_room(kept: &mut Option<Box<KeptBytes>>, alloc: Global)
+    ensures { (held : Option (List (List ℕ))) → KeepsRead held kept.old → KeepsRead held kept.new }
+{
+    if kept.is_none() {
+        *kept = Box::new(alloc, KeptBytes::new()).ok();
+    }
+}
+
+// Keeps nothing any more.
+fn clear(kept: &mut Option<Box<KeptBytes>>)
+    ensures { (held : Option (List (List ℕ))) → KeepsRead held kept.new }
+{
+    if let Some(kept) = kept {
+        kept.clear();
+    }
+}
+
+// Reads the sector of a place with those behind it, so many in all, unless it is kept, or a read of more failed there.
+fn look<R: Rack>(kept: &mut KeptBytes, place: Place, count: u64, rack: &mut R)
+    requires slot { IsInSlot (R.seen rack.old).slots place }
+    requires ahead { AreRead (R.seen rack.old).held kept.old }
+    ensures reads { OnlyReads (R.seen rack.old) (R.seen rack.new) }
+    ensures ahead { AreRead (R.seen rack.new).held kept.new }
+{
+    if count > 1 && !kept.has_failed_at(place) {
+        let reach = u64::MAX;
+        kept.look(&FirstPlace { place, reach }, count, rack);
+    }
+}
+
+// Fills `buf` with the sector of a place, if it is kept.
+fn copy_kept(kept: &KeptBytes, place: Place, buf: &mut [u8]) -> bool
+    requires sector { place.len ≡ 4096 }
+    requires size { length buf.old ≡ 4096 }
+    ensures { (held : Option (List (List ℕ))) → AreRead held kept.now → IsTrue result → AreBytesOf held place.slot place.off 4096 buf.new }
+{
+    match kept.piece(place) {
+        Some(piece) => {
+            buf.copy_from_slice(piece);
+            true
+        }
+        None => false,
+    }
+}
+
+impl<R: Rack> AheadRack<R> {
+    /// A rack over another one, of which no call failed yet.
+    pub fn new(rack: R, alloc: Global) -> AheadRack<R>
+        ensures { result ≡ reader rack no_failure }
+    {
+        AheadRack {
+            rack,
+            alloc,
+            kept: None,
+            run: SectorRun::new(),
+            failed: NOWHERE,
+            ledger: Ledger::new(),
+        }
+    }
+
+    // Fills `buf` with a sector that is kept, or that follows the one before and was read with those behind it.
+    fn fills(&mut self, place: Place, buf: &mut [u8]) -> bool
+        requires slot { IsInSlot (R.seen self.old.rack).slots place }
+        requires size { length buf.old ≡ 4096 }
+        ensures reads { OnlyReads (R.seen self.old.rack) (R.seen self.new.rack) }
+        ensures account { self.new.account ≡ self.old.account }
+        ensures bytes { IsTrue result → AreBytesOf (R.seen self.old.rack).held place.slot place.off 4096 buf.new }
+    {
+        let mut count = self.run.add(place);
+        if begins_in(place, self.failed) {
+            count = 1;
+        }
+        if count > 1 {
+            make_room(&mut self.kept, self.alloc);
+        }
+        match &mut self.kept {
+            Some(kept) => {
+                look(kept, place, count, &mut self.rack);
+                copy_kept(kept, place, buf)
+            }
+            None => false,
+        }
+    }
+}
+
+impl<R: Rack> Rack for AheadRack<R> {
+    ghost use Rattle.btr_ahead.specs.Reader.{seen_ahead, sound_ahead};
+
+    ghost seen = { λ a. seen_ahead (R.seen a.rack) a.account };
+
+    ghost sound = { λ a. sound_ahead (R.seen a.rack) (R.sound a.rack) a.account };
+
+    fn open(&mut self, name: &str, write: bool) -> Result<usize, RackError> {
+        let Ok(opening) = Opening::new(self.alloc, name, write) else {
+            return Err(RackError::Memory);
+        };
+        clear(&mut self.kept);
+        let place = Place {
+            slot: self.rack.count(),
+            off: 0,
+            len: 0,
+        };
+        let answer = self.rack.open(name, write);
+        if let Err(RackError::Failed) = answer {
+            self.ledger.fail_open(opening, place);
+        }
+        answer
+    }
+
+    fn count(&self) -> usize {
+        self.rack.count()
+    }
+
+    fn len(&self, slot: usize) -> u64 {
+        self.rack.len(slot)
+    }
+
+    fn read_at(&mut self, slot: usize, off: u64, buf: &mut [u8]) -> Result<(), RackError> {
+        let len = buf.len() as u64;
+        let place = Place { slot, off, len };
+        if len == SECTOR && self.fills(place, buf) {
+            return Ok(());
+        }
+        let answer = self.rack.read_at(slot, off, buf);
+        if answer.is_err() {
+            self.failed = place;
+        }
+        counted(&mut self.ledger, place, answer)
+    }
+
+    fn write_at(&mut self, slot: usize, off: u64, bytes: &[u8]) -> Result<(), RackError> {
+        let len = bytes.len() as u64;
+        clear(&mut self.kept);
+        let answer = self.rack.write_at(slot, off, bytes);
+        counted(&mut self.ledger, Place { slot, off, len }, answer)
+    }
+
+    fn sync(&mut self, slot: usize) -> Result<(), RackError> {
+        let place = Place {
+            slot,
+            off: 0,
+            len: 0,
+        };
+        let answer = self.rack.sync(slot);
+        counted(&mut self.ledger, place, answer)
+    }
+
+    fn forget(&mut self) {
+        self.ledger.forget();
+    }
+}
