@@ -4,14 +4,12 @@ ghost use Rattle.btr_rack.specs.Rack.{AreBytesOf, Accounts, OnlyReads, no_failur
 ghost use Rattle.btr_ahead.specs.Ahead.{AreRead, IsInSlot};
 ghost use Rattle.btr_ahead.specs.Reader.{reader, KeepsRead};
 
-use crate::first_place::FirstPlace;
+use crate::first_place::{FirstPlace, SECTOR};
 use crate::kept_bytes::{KeptBytes, NOWHERE, begins_in};
 use crate::sector_run::SectorRun;
 use btr_rack::{Ledger, Opening, Place, Rack, RackError};
 use std::alloc::Global;
 use std::marker::Model;
-
-const SECTOR: u64 = 4096;
 
 /// A rack that asks another one for sectors less often: where they are asked for one behind another, as many are read by one read as came
 /// before, up to 64, and kept for the calls that follow. All else is asked for as it comes.
@@ -153,11 +151,7 @@ impl<R: Rack> Rack for AheadRack<R> {
             return Err(RackError::Memory);
         };
         clear(&mut self.kept);
-        let place = Place {
-            slot: self.rack.count(),
-            off: 0,
-            len: 0,
-        };
+        let place = Place::of_slot(self.rack.count());
         let answer = self.rack.open(name, write);
         if let Err(RackError::Failed) = answer {
             self.ledger.fail_open(opening, place);
@@ -194,13 +188,8 @@ impl<R: Rack> Rack for AheadRack<R> {
     }
 
     fn sync(&mut self, slot: usize) -> Result<(), RackError> {
-        let place = Place {
-            slot,
-            off: 0,
-            len: 0,
-        };
         let answer = self.rack.sync(slot);
-        counted(&mut self.ledger, place, answer)
+        counted(&mut self.ledger, Place::of_slot(slot), answer)
     }
 
     fn forget(&mut self) {

@@ -11,7 +11,8 @@ use btr_chunk::{Chunk, ELEMENT, Elements, Part, elements, place_of};
 use btr_rack::Place;
 use btr_read::Store;
 
-const SECTOR: u64 = 4096;
+/// How many bytes a sector has.
+pub(crate) const SECTOR: u64 = 4096;
 
 /// Where the bytes of a sector are sought first.
 #[derive(Clone, Copy)]

@@ -1,6 +1,4 @@
 // Sectors that are asked for one behind another.
-ghost use Rattle.std.specs.Prelude.{◌≡◌};
-
 use btr_rack::Place;
 
 /// How many sectors were asked for one behind another, and where the last one ends.

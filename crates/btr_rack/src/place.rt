@@ -11,8 +11,8 @@ impl Place {
     ghost use Rattle.std.specs.Prelude.{◌≡◌};
     ghost use Rattle.btr_rack.specs.Rack.{range_in};
 
-    /// The place of an opening or a sync.
-    pub(crate) fn of_slot(slot: usize) -> Place
+    /// The place of an opening or a sync in this slot.
+    pub fn of_slot(slot: usize) -> Place
         ensures { result ≡ range_in slot 0 0 }
     {
         Place {

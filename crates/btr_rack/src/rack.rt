@@ -29,7 +29,8 @@ pub trait Rack {
         ensures len { result ≡ len_of (seen self.now).slots slot }
         ensures bound { result < 2 ^ 63 };
 
-    /// Fills `buf` with the image's bytes from `off` on. After `Failed` it holds any bytes. It takes no memory.
+    /// Fills `buf` with the image's bytes from `off` on. After `Failed` it holds any bytes. For want of memory it
+    /// refuses nothing.
     fn read_at(&mut self, slot: usize, off: u64, buf: &mut [u8]) -> Result<(), RackError>
         requires open { slot < length (seen self.old).slots }
         requires range { off + length buf.old ≤ len_of (seen self.old).slots slot }

@@ -102,8 +102,9 @@ impl Kept {
         ensures kept { IfSome result (λ slot. slice_index_or self.now.wants slot None ≡ Some want.now) }
         ensures missing { IfNone result (NoneKeeps pool.now self.now.wants want.now) }
     {
+        let wanted = Some(*want);
         for slot in 0..SLOTS {
-            if pool.is_free(slot) && self.wants[slot] == Some(*want) {
+            if pool.is_free(slot) && self.wants[slot] == wanted {
                 return Some(slot);
             }
         }
