@@ -3,8 +3,8 @@ use btr_base::{Key, SumKind, sum};
 use btr_blocks::{Body, bodies};
 use btr_chunk::{Chunk, Stripe};
 use btr_items::{
-    BlockGroup, DevExtent, DevItem, Entry, ExtRef, ExtentItem, FileExtent, InlineRef, Inode,
-    InodeRef, Link, LooseRef, RootItem, RootRef, Shape, SumRun, item,
+    BlockGroup, DevExtent, DevItem, Entry, ExtRef, ExtentFlags, ExtentItem, FileExtent, InlineRef,
+    Inode, InodeRef, Link, LooseRef, RootItem, RootRef, Shape, SumRun, item,
 };
 use std::test::Fail;
 
@@ -144,7 +144,7 @@ fn extents(rt: HostRuntime) -> Result<(), Fail> {
     let extent = ExtentItem {
         refs: 8,
         generation: 7,
-        flags: ExtentItem::TREE_BLOCK,
+        flags: ExtentFlags::TREE_BLOCK.0,
         level: Some(3),
         first: 42,
     };

@@ -7,6 +7,7 @@ pub mod Entry
 pub mod ExtRef
 pub mod ExtentItem
 pub mod FileExtent
+pub mod Flags
 pub mod Form
 pub mod InlineRef
 pub mod Inode

@@ -1,6 +1,6 @@
 -- The types of items, the second part of their keys, as the format has them.
 -- The format is described at https://btrfs.readthedocs.io/en/latest/dev/On-disk-format.html
-use Rattle.std.specs.Prelude.{ℕ}
+use Rattle.std.specs.Prelude.{ℕ, ◌==◌, if◌then◌else◌, List, codes, Option, Some, None}
 
 -- an inode
 abbrev pub inode_item : ℕ
@@ -89,3 +89,30 @@ dev_item = 216
 -- a chunk
 abbrev pub chunk_item : ℕ
 chunk_item = 228
+
+-- what a type is called; another type has no name
+abbrev pub type_name : ℕ → Option (List ℕ)
+type_name kind =
+    if kind == inode_item then Some (codes "INODE_ITEM")
+    else if kind == inode_ref then Some (codes "INODE_REF")
+    else if kind == inode_extref then Some (codes "INODE_EXTREF")
+    else if kind == xattr_item then Some (codes "XATTR_ITEM")
+    else if kind == orphan_item then Some (codes "ORPHAN_ITEM")
+    else if kind == dir_item then Some (codes "DIR_ITEM")
+    else if kind == dir_index then Some (codes "DIR_INDEX")
+    else if kind == extent_data then Some (codes "EXTENT_DATA")
+    else if kind == extent_csum then Some (codes "EXTENT_CSUM")
+    else if kind == root_item then Some (codes "ROOT_ITEM")
+    else if kind == root_backref then Some (codes "ROOT_BACKREF")
+    else if kind == root_ref then Some (codes "ROOT_REF")
+    else if kind == extent_item then Some (codes "EXTENT_ITEM")
+    else if kind == metadata_item then Some (codes "METADATA_ITEM")
+    else if kind == tree_block_ref then Some (codes "TREE_BLOCK_REF")
+    else if kind == extent_data_ref then Some (codes "EXTENT_DATA_REF")
+    else if kind == shared_block_ref then Some (codes "SHARED_BLOCK_REF")
+    else if kind == shared_data_ref then Some (codes "SHARED_DATA_REF")
+    else if kind == block_group_item then Some (codes "BLOCK_GROUP_ITEM")
+    else if kind == dev_extent then Some (codes "DEV_EXTENT")
+    else if kind == dev_item then Some (codes "DEV_ITEM")
+    else if kind == chunk_item then Some (codes "CHUNK_ITEM")
+    else None

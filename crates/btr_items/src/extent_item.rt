@@ -2,7 +2,8 @@ ghost use Rattle.std.specs.Prelude.{◌≡◌, ◌≤◌, length};
 ghost use Rattle.btr_items.specs.ExtentItem as spec;
 
 use crate::field::key_at;
-use crate::{ItemFault, item};
+use crate::{ExtentFlags, ItemFault, item};
+use bitflags::Flags;
 use btr_base::{Key, u64_at};
 
 /// An extent: the front of the body of an EXTENT_ITEM or a METADATA_ITEM, whose key has its logical address.
@@ -13,7 +14,7 @@ pub struct ExtentItem {
     pub refs: u64,
     /// The transaction that made the extent.
     pub generation: u64,
-    /// `DATA` or `TREE_BLOCK`, and maybe `FULL_BACKREF`.
+    /// The [`ExtentFlags`], `DATA` or `TREE_BLOCK` among them.
     pub flags: u64,
     /// The level of the tree block of an EXTENT_ITEM; a METADATA_ITEM has it in its key.
     pub level: Option<u8>,
@@ -25,13 +26,6 @@ impl ExtentItem {
     ghost use Rattle.std.specs.Prelude.{◌≡◌, ◌≤◌, length, IfOk};
     ghost use Rattle.btr_items.specs.ExtentItem.{extent_item_of, block_key};
 
-    /// The flag of an extent of file data.
-    pub const DATA: u64 = 1;
-    /// The flag of an extent that is a tree block.
-    pub const TREE_BLOCK: u64 = 2;
-    /// The flag of a tree block whose pointers refer by its address, and not by its owner.
-    pub const FULL_BACKREF: u64 = 0x100;
-
     /// Reads the front of the body of an EXTENT_ITEM or a METADATA_ITEM, up to the place `first` in the body. `ItemFault`
     /// exactly where the type is another, the flags don't fit it, or the front doesn't all stand in the body.
     pub fn read(kind: u8, body: &[u8]) -> Result<ExtentItem, ItemFault>
@@ -41,7 +35,7 @@ impl ExtentItem {
         if body.len() < 24 {
             return Err(ItemFault);
         }
-        let flags = u64_at(body, 16);
+        let flags = ExtentFlags(u64_at(body, 16));
         let first = first_place(kind, flags);
         if !flags_fit(kind, flags) || body.len() < first {
             return Err(ItemFault);
@@ -49,10 +43,17 @@ impl ExtentItem {
         Ok(ExtentItem {
             refs: u64_at(body, 0),
             generation: u64_at(body, 8),
-            flags,
+            flags: flags.0,
             level: level_of(first, body),
             first,
         })
+    }
+
+    /// The extent's flags.
+    pub fn flags(&self) -> ExtentFlags
+        ensures { result.0 ≡ self.now.flags }
+    {
+        ExtentFlags(self.flags)
     }
 
     /// The first key of the tree block of an EXTENT_ITEM, in the body that it was read from; a METADATA_ITEM has none.
@@ -69,11 +70,11 @@ impl ExtentItem {
 }
 
 // Whether it is either data or a tree block, the latter where the type says so.
-fn flags_fit(kind: u8, flags: u64) -> bool
-    ensures { result ≡ spec.flags_fit kind flags }
+fn flags_fit(kind: u8, flags: ExtentFlags) -> bool
+    ensures { result ≡ spec.flags_fit kind flags.0 }
 {
-    let is_data = flags & ExtentItem::DATA != 0;
-    if flags & ExtentItem::TREE_BLOCK != 0 {
+    let is_data = flags.intersects(ExtentFlags::DATA);
+    if flags.intersects(ExtentFlags::TREE_BLOCK) {
         !is_data && (kind == item::EXTENT_ITEM || kind == item::METADATA_ITEM)
     } else {
         is_data && kind == item::EXTENT_ITEM
@@ -82,10 +83,10 @@ fn flags_fit(kind: u8, flags: u64) -> bool
 
 // Where the inline references begin: an EXTENT_ITEM of a tree block has the block's first key, of 17 bytes,
 // and its level in front of them.
-fn first_place(kind: u8, flags: u64) -> usize
-    ensures { result ≡ spec.first_place kind flags }
+fn first_place(kind: u8, flags: ExtentFlags) -> usize
+    ensures { result ≡ spec.first_place kind flags.0 }
 {
-    if kind == item::EXTENT_ITEM && flags & ExtentItem::TREE_BLOCK != 0 {
+    if kind == item::EXTENT_ITEM && flags.intersects(ExtentFlags::TREE_BLOCK) {
         42
     } else {
         24

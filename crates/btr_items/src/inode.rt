@@ -1,4 +1,4 @@
-use crate::ItemFault;
+use crate::{InodeFlags, ItemFault};
 use btr_base::{u32_at, u64_at};
 
 /// An inode: what an INODE_ITEM says of a file or directory.
@@ -10,7 +10,7 @@ pub struct Inode {
     pub nlink: u32,
     /// The kind of file and its permissions, as `st_mode` has them.
     pub mode: u32,
-    /// The inode's flags, among them "no checksums" (1).
+    /// The [`InodeFlags`].
     pub flags: u64,
 }
 
@@ -31,5 +31,12 @@ impl Inode {
             mode: u32_at(body, 52),
             flags: u64_at(body, 64),
         })
+    }
+
+    /// The inode's flags.
+    pub fn flags(&self) -> InodeFlags
+        ensures { result.0 ≡ self.now.flags }
+    {
+        InodeFlags(self.flags)
     }
 }

@@ -1,4 +1,6 @@
 //! The types of items, the second part of their keys.
+ghost use Rattle.std.specs.Prelude.{◌≡◌, option_map};
+ghost use Rattle.btr_items.specs.Types.{type_name};
 
 /// An inode.
 pub const INODE_ITEM: u8 = 1;
@@ -44,3 +46,35 @@ pub const DEV_EXTENT: u8 = 204;
 pub const DEV_ITEM: u8 = 216;
 /// A chunk.
 pub const CHUNK_ITEM: u8 = 228;
+
+/// What a type is called, if it has a name.
+pub fn name_of(kind: u8) -> Option<&'static [u8]>
+    ensures { option_map (λ name. name.now) result ≡ type_name kind }
+{
+    let name: &'static [u8] = match kind {
+        INODE_ITEM => b"INODE_ITEM",
+        INODE_REF => b"INODE_REF",
+        INODE_EXTREF => b"INODE_EXTREF",
+        XATTR_ITEM => b"XATTR_ITEM",
+        ORPHAN_ITEM => b"ORPHAN_ITEM",
+        DIR_ITEM => b"DIR_ITEM",
+        DIR_INDEX => b"DIR_INDEX",
+        EXTENT_DATA => b"EXTENT_DATA",
+        EXTENT_CSUM => b"EXTENT_CSUM",
+        ROOT_ITEM => b"ROOT_ITEM",
+        ROOT_BACKREF => b"ROOT_BACKREF",
+        ROOT_REF => b"ROOT_REF",
+        EXTENT_ITEM => b"EXTENT_ITEM",
+        METADATA_ITEM => b"METADATA_ITEM",
+        TREE_BLOCK_REF => b"TREE_BLOCK_REF",
+        EXTENT_DATA_REF => b"EXTENT_DATA_REF",
+        SHARED_BLOCK_REF => b"SHARED_BLOCK_REF",
+        SHARED_DATA_REF => b"SHARED_DATA_REF",
+        BLOCK_GROUP_ITEM => b"BLOCK_GROUP_ITEM",
+        DEV_EXTENT => b"DEV_EXTENT",
+        DEV_ITEM => b"DEV_ITEM",
+        CHUNK_ITEM => b"CHUNK_ITEM",
+        _ => return None,
+    };
+    Some(name)
+}

@@ -3,8 +3,8 @@
 //! Each reader is proved to answer what its definition in `specs/` says, at all bytes: the fields where the
 //! body has the form of its type, and `ItemFault` exactly where it doesn't. None takes memory or copies a
 //! body; a name is given by its place and length. `specs/` has one module a type, named after it, whose
-//! definition goes from bytes to fields: `Inode` has `inode_of`, and so on. `Types` has the numbers of the
-//! types, `Key` the rules on keys, `Parts` the list of what stands in a body one after another, which the iterators `entries`,
+//! definition goes from bytes to fields: `Inode` has `inode_of`, and so on. `Types` has the numbers and names of the
+//! types, `Flags` those of the flags, `Key` the rules on keys, `Parts` the list of what stands in a body one after another, which the iterators `entries`,
 //! `inode_refs`, `ext_refs` and `inline_refs` go over, and `Item` says when a whole item has its form.
 #![tactic(auto)]
 
@@ -18,6 +18,7 @@ mod fault;
 mod field;
 mod file_extent;
 mod fits;
+mod flags;
 mod form;
 mod inline_ref;
 mod inode;
@@ -43,6 +44,7 @@ pub use extent_item::ExtentItem;
 pub use fault::ItemFault;
 pub use file_extent::FileExtent;
 pub use fits::item_fits;
+pub use flags::{ExtentFlags, InodeFlags, RootFlags};
 pub use form::Form;
 pub use inline_ref::{InlineRef, inline_refs};
 pub use inode::Inode;

@@ -1,7 +1,7 @@
 ghost use Rattle.std.specs.Prelude.{◌≡◌};
 ghost use Rattle.btr_items.specs.RootItem as spec;
 
-use crate::ItemFault;
+use crate::{ItemFault, RootFlags};
 use btr_base::{u32_at, u64_at};
 
 /// The root of a tree: the body of a ROOT_ITEM.
@@ -13,7 +13,7 @@ pub struct RootItem {
     pub dirid: u64,
     /// The logical address of the tree's root block.
     pub bytenr: u64,
-    /// The tree's flags, among them "read only" (1).
+    /// The [`RootFlags`].
     pub flags: u64,
     /// 0 where the tree is about to be deleted, or isn't a subvolume.
     pub refs: u32,
@@ -40,6 +40,13 @@ impl RootItem {
             refs: u32_at(body, 216),
             level: u64::from(body[238]),
         })
+    }
+
+    /// The tree's flags.
+    pub fn flags(&self) -> RootFlags
+        ensures { result.0 ≡ self.now.flags }
+    {
+        RootFlags(self.flags)
     }
 }
 

@@ -2,13 +2,13 @@
 use super::bodies;
 use super::reading::{Answer, Reader, read};
 use btr_base::Key;
-use btr_items::{ExtentItem, InlineRef, Link, LooseRef, inline_refs, item};
+use btr_items::{ExtentFlags, ExtentItem, InlineRef, Link, LooseRef, inline_refs, item};
 
 // The front of a tree block's item, whose level is in its key.
 const SKINNY: ExtentItem = ExtentItem {
     refs: 1,
     generation: 7,
-    flags: ExtentItem::TREE_BLOCK,
+    flags: ExtentFlags::TREE_BLOCK.0,
     level: None,
     first: 24,
 };
@@ -20,7 +20,7 @@ const EXTENTS: [(u8, &[u8], ExtentItem); 4] = [
         ExtentItem {
             refs: 4,
             generation: 10,
-            flags: ExtentItem::DATA,
+            flags: ExtentFlags::DATA.0,
             ..SKINNY
         },
     ),
@@ -40,7 +40,7 @@ const EXTENTS: [(u8, &[u8], ExtentItem); 4] = [
         bodies::SHARED_BLOCK,
         ExtentItem {
             refs: 5,
-            flags: ExtentItem::TREE_BLOCK | ExtentItem::FULL_BACKREF,
+            flags: ExtentFlags::TREE_BLOCK.0 | ExtentFlags::FULL_BACKREF.0,
             level: Some(1),
             first: 42,
             ..SKINNY

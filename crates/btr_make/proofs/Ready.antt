@@ -38,6 +38,7 @@ ready_stays old new r e =
       writes = ap (λ f. f.failing_writes) failing ∙ r.writes;
       ranges = ap (λ f. f.failing_ranges) failing ∙ r.ranges;
       unsynced = ap (λ (s : Standing). s.unsynced) e ∙ r.unsynced;
+      never_synced = ap (λ (s : Standing). s.never_synced) e ∙ r.never_synced;
       faults = rw account r.faults;
     }
 
@@ -55,5 +56,6 @@ ready_zeros len none one two three e a b c =
       writes = refl;
       ranges = refl;
       unsynced = refl;
+      never_synced = refl;
       faults = omega arith;
     })

@@ -49,6 +49,7 @@ rewrites_after name off bytes old mid new u r = record {
   slots = r.slots ∙ ap (λ (s : Standing). s.slots) u.standing;
   failing = r.failing ∙ ap (λ (s : Standing). s.failing) u.standing;
   unsynced = r.unsynced ∙ ap (λ (s : Standing). s.unsynced) u.standing;
+  never_synced = r.never_synced ∙ ap (λ (s : Standing). s.never_synced) u.standing;
   account = r.account ∙ ap (λ (s : Standing). s.account) u.standing;
 }
 

@@ -18,19 +18,20 @@ named_rewrites name other off bytes old new r false e =
     ap is_some (r.others other differ)
 
 -- what stands, from its parts
-standing_parts : (old new : MemoryRack) → slots_of new ≡ slots_of old → new.failing ≡ old.failing → new.unsynced ≡ old.unsynced → new.account ≡ old.account → ((name : List ℕ) → is_some (named new name) ≡ is_some (named old name)) → standing new ≡ standing old
+standing_parts : (old new : MemoryRack) → slots_of new ≡ slots_of old → new.failing ≡ old.failing → new.unsynced ≡ old.unsynced → new.never_synced ≡ old.never_synced → new.account ≡ old.account → ((name : List ℕ) → is_some (named new name) ≡ is_some (named old name)) → standing new ≡ standing old
 unfolding standing
-standing_parts old new slots failing unsynced account names = λ i. record {
+standing_parts old new slots failing unsynced never account names = λ i. record {
   slots = slots i;
   failing = failing i;
   unsynced = unsynced i;
+  never_synced = never i;
   account = account i;
   names = λ name. names name i;
 }
 
 pub standing_rewrites : (name : List ℕ) (off : ℕ) (bytes : List ℕ) (old new : MemoryRack) → Rewrites name off bytes old new → standing new ≡ standing old
 standing_rewrites name off bytes old new r =
-    standing_parts old new r.slots r.failing r.unsynced r.account (λ other. named_rewrites name other off bytes old new r (bytes_eq other name) refl)
+    standing_parts old new r.slots r.failing r.unsynced r.never_synced r.account (λ other. named_rewrites name other off bytes old new r (bytes_eq other name) refl)
 
 -- `poke` leaves what stands
 pub standing_pokes : {T : Type 0} (name : List ℕ) (off : ℕ) (bytes : List ℕ) (old new : MemoryRack) (result : Result T PokeError) → Pokes name off bytes old new result → standing new ≡ standing old

@@ -48,13 +48,13 @@ features s =
 unfoldable pub device : Super → List ℕ
 device s = number_u64 s.devid ++ zeros 58 ++ s.dev_uuid ++ zeros 16
 
--- from 12bh: the label and the id in the headers of tree blocks
+-- from 12bh: the label, and the id in the headers of tree blocks
 unfoldable pub names : Super → List ℕ
-names s = s.label ++ zeros 16 ++ s.metadata_uuid ++ zeros 224
+names s = s.label ++ number_u64 s.cache_generation ++ number_u64 s.uuid_tree_generation ++ s.metadata_uuid ++ s.reserved
 
--- from 32bh: the system array, to the copy's end
+-- from 32bh: the system array and the backup roots, to the copy's end
 unfoldable pub chunks : Super → List ℕ
-chunks s = s.array ++ zeros 1237
+chunks s = s.array ++ s.backups
 
 -- what the checksum covers
 unfoldable pub super_body : Super → ℕ → List ℕ

@@ -11,6 +11,7 @@ pub record Standing : Type 0 where
   pub slots : List Slot
   pub failing : Failures
   pub unsynced : List Place
+  pub never_synced : List Place
   pub account : Account
   pub names : List ℕ → Bool
 
@@ -19,6 +20,7 @@ standing rack = record {
   slots = slots_of rack;
   failing = rack.failing;
   unsynced = rack.unsynced;
+  never_synced = rack.never_synced;
   account = rack.account;
   names = λ name. is_some (named rack name);
 }
@@ -34,6 +36,7 @@ pub record IsReady (rack : MemoryRack) : Type 0 where
   pub writes : rack.failing.failing_writes ≡ []
   pub ranges : rack.failing.failing_ranges ≡ []
   pub unsynced : rack.unsynced ≡ []
+  pub never_synced : rack.never_synced ≡ []
   pub faults : rack.account.faults < 2 ^ 64 - 1
 
 -- the bytes of the image of a name on the shelf

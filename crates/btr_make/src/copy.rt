@@ -145,9 +145,10 @@ fn push_names(bytes: &mut Bytes, sup: &Super)
     ensures len { array_vec_len bytes.new ≡ array_vec_len bytes.old + 512 }
 {
     push(bytes, &sup.label);
-    push_zeros(bytes, 16);
+    push_u64(bytes, sup.cache_generation);
+    push_u64(bytes, sup.uuid_tree_generation);
     push(bytes, &sup.metadata_uuid);
-    push_zeros(bytes, 224);
+    push(bytes, &sup.reserved);
 }
 
 #[tactic(auto, unfolding(crate::specs::Copy::chunks))]
@@ -157,7 +158,7 @@ fn push_chunks(bytes: &mut Bytes, sup: &Super)
     ensures len { array_vec_len bytes.new ≡ array_vec_len bytes.old + 3285 }
 {
     push(bytes, &sup.array);
-    push_zeros(bytes, 1237);
+    push(bytes, &sup.backups);
 }
 
 // What the checksum of a copy covers.

@@ -53,8 +53,12 @@ impl Draft {
             devid,
             dev_uuid: device_uuid(devid),
             label: padded(b"rows"),
+            cache_generation: 0,
+            uuid_tree_generation: 0,
             metadata_uuid: [0; 16],
+            reserved: [0; 224],
             array: padded(array.as_slice()),
+            backups: [0; 1237],
         })
     }
 

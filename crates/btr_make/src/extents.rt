@@ -4,7 +4,7 @@ use crate::draft::{BlockPlace, DataExtent, Draft};
 use crate::plan::{ChunkPlan, GENERATION, NODE};
 use btr_blocks::{Body, Items, bodies};
 use btr_items::item::{BLOCK_GROUP_ITEM, EXTENT_DATA_REF, EXTENT_ITEM, METADATA_ITEM};
-use btr_items::{BlockGroup, ExtentItem, Link};
+use btr_items::{BlockGroup, ExtentFlags, ExtentItem, Link};
 use std::alloc::{AllocError, Global};
 
 impl Draft {
@@ -73,7 +73,7 @@ impl DataExtent {
         let extent = ExtentItem {
             refs: self.refs,
             generation: GENERATION,
-            flags: ExtentItem::DATA,
+            flags: ExtentFlags::DATA.0,
             level: None,
             first: 24,
         };
@@ -87,7 +87,7 @@ impl BlockPlace {
         let extent = ExtentItem {
             refs: 1,
             generation: GENERATION,
-            flags: ExtentItem::TREE_BLOCK,
+            flags: ExtentFlags::TREE_BLOCK.0,
             level: None,
             first: 24,
         };

@@ -15,5 +15,6 @@ pub mod Successive
 pub mod SoFars
 pub mod Cursors
 pub mod Blinds
+pub mod Tries
 pub mod Twins
 pub mod PartTwins

@@ -7,6 +7,9 @@ use Rattle.btr_prog.specs.Maps.{Each, IsWithin, IsWhole, cut, Loses}
 use Rattle.btr_prog.specs.Answers.{Halt, Fault, Unread, Broke, Names, Leaves, no_part, Breaks, Follows}
 use Rattle.btr_prog.specs.Goes.{goes_given, GoesTo, ThreadsTo, Goes}
 use Rattle.btr_prog.specs.Blind.{IsBlind, IsAlike, Drops}
+use Rattle.btr_prog.specs.Outcomes.{Outcome}
+use Rattle.btr_prog.specs.Trying.{Trying, Done, Try, tried, attempt, gathered}
+use Rattle.btr_prog.specs.TryingLaws.{attempted, gathered_by}
 
 abbrev pub Map : Type 0
 Map = ℕ → Result (List ℕ) ℕ
@@ -367,3 +370,35 @@ part_twin : ((B C : Map) (p : P) (done : List ℕ) → Follows Is no_part [] (ex
 part_twin h =
     let b = h one nil (Need 0 shows) (3 ∷ []) (record { before = Wants 0 ∷ (Does 3 ∷ []); behind = []; left = None; place = refl; steps = refl; leaves = tt; holds = tt }) in
     none_left (steps_of b.before) b.left b.behind (no_steps b.before b.behind b.place) b.steps b.leaves
+
+-- ---- programs that go on behind faults
+
+abbrev Q : Type 0
+Q = Trying ℕ ℕ ℕ ℕ
+
+-- a trying program that ends with the fault of block 0, or with 0
+abbrev by_fault : Result (List ℕ) ℕ → Q
+by_fault (Ok bytes) = Done 0
+by_fault (Err f) = Done f
+
+-- maps that differ in what is wanted
+only_tried_twin : ((B C : Map) (p : Q) → tried B p ≡ tried C p) → ⊥
+only_tried_twin h = values 9 0 (λ e. absurd (omega (arith, e))) (ap value (h none one (Try 0 by_fault)))
+
+-- answers of no run
+try_came_twin : ((w : ℕ) (k : Result (List ℕ) ℕ → Q) (done : List ℕ) (ans : Ans) → Follows Is no_part [] (tried one (Try w k)) done ans) → ⊥
+try_came_twin h = values 0 5 (λ e. absurd (omega (arith, e))) (h 0 by_fault [] (Ok 5)).1
+
+abbrev inner : Result (Result ℕ ℕ) ℕ → Result ℕ ℕ
+inner (Ok e) = e
+inner (Err f) = Err f
+
+follows_attempt_twin : ((p : P) (done : List ℕ) (ans : Ans) → Follows Is no_part [] (tried one (attempt p)) done (attempted ans)) → ⊥
+follows_attempt_twin h = values 0 5 (λ e. absurd (omega (arith, e))) (ap inner (h (Return 0) [] (Ok 5)).1)
+
+abbrev inner_ending : Result (Outcome ℕ ℕ ℕ) ℕ → Result ℕ ℕ
+inner_ending (Ok o) = o.ending
+inner_ending (Err f) = Err f
+
+follows_gathered_twin : ((p : P) (done : List ℕ) (ans : Ans) → Follows {S = ℕ} Is no_part [] (tried one (gathered p)) [] (gathered_by done ans)) → ⊥
+follows_gathered_twin h = values 0 5 (λ e. absurd (omega (arith, e))) (ap inner_ending (h (Return 0) [] (Ok 5)).1)

@@ -12,3 +12,5 @@ pub mod Quiet
 pub mod Calls
 pub mod Blind
 pub mod Shows
+pub mod Trying
+pub mod TryingLaws

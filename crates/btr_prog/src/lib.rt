@@ -11,6 +11,7 @@ mod going;
 mod mapping;
 mod running;
 mod staging;
+mod trying;
 
 pub use answering::{
     broke_here, follows_halt, follows_quiet, follows_seen, follows_then, held_law, place_law,
@@ -24,3 +25,4 @@ pub use going::{
 pub use mapping::{cut_law, lost_law, only_needs, well_law, whole_law};
 pub use running::{exec_bind, exec_thread, needs_bind, outcome_of_thread};
 pub use staging::{exec_renamed, exec_staged, goes_staged, staged_cut, staged_lost, staged_then};
+pub use trying::{attempt_law, gathered_law, only_tried, tried_ends, tried_then, try_came};

@@ -5,5 +5,6 @@ pub mod Reading
 pub mod Slots
 pub mod Stores
 pub mod Transfers
+pub mod Outputs
 pub mod Shelves
 pub mod Sures

@@ -56,6 +56,7 @@ rewrites name off at bytes old ys image found read fits o = record {
   slots = ap (λ zs. map (λ (i : MemoryImage). i.slot) (take old.opened zs)) o.now ∙ slots-set old.images old.opened at o.after o.before (o.slot ∙ ap (λ (i : MemoryImage). i.slot) o.stood);
   failing = refl;
   unsynced = refl;
+  never_synced = refl;
   account = refl;
 }
   where
@@ -106,6 +107,7 @@ cuts name len at old ys true found c = record {
   opened = front;
   failing = refl;
   unsynced = refl;
+  never_synced = refl;
   account = refl;
 }
   where

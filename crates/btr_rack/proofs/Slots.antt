@@ -23,8 +23,9 @@ slots_push opening name write images images' image is short asked all =
     (image.slot.len, short, ap slots_of all ∙ map_push (λ (im : OpenImage). im.slot) images image ∙ ap (λ (s : Slot). slots_of images ++ s ∷ []) slot)
 
 -- what is seen of a rack of files
-abbrev pub seen_files : List Slot → List Place → Account → Seen
-seen_files slots unsynced account = record { slots = slots; held = None; shelf = None; unsynced = unsynced; sure = false; account = account }
+abbrev pub seen_files : List Slot → List Place → List Place → Account → Seen
+seen_files slots unsynced never_synced account = record { slots = slots; held = None; shelf = None; unsynced = unsynced; never_synced = never_synced; sure = false; account = account }
 
-pub same_seen : (slots slots' : List Slot) (unsynced unsynced' : List Place) (account : Account) → slots' ≡ slots → unsynced' ≡ unsynced → seen_files slots' unsynced' account ≡ seen_files slots unsynced account
-same_seen slots slots' unsynced unsynced' account e u = ap (λ (s : List Slot). seen_files s unsynced' account) e ∙ ap (λ (p : List Place). seen_files slots p account) u
+pub same_seen : (slots slots' : List Slot) (unsynced unsynced' never never' : List Place) (account : Account) → slots' ≡ slots → unsynced' ≡ unsynced → never' ≡ never
+    → seen_files slots' unsynced' never' account ≡ seen_files slots unsynced never account
+same_seen slots slots' unsynced unsynced' never never' account e u n = λ i. seen_files (e i) (u i) (n i) account

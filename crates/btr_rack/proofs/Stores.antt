@@ -1,8 +1,10 @@
 -- What storing bytes, one piece after the other, makes of a file.
-use Rattle.std.proofs.Common.{◌≡◌, ℕ, ◌+◌, ◌-◌, ◌<◌, ◌≤◌, ◌⊎◌, List, [], ◌++◌, length, take, replicate, refl, ap, ◌∙◌, inl, inr, arith, append_assoc, length-append, sym}
+use Rattle.std.proofs.Common.{◌≡◌, ℕ, ◌+◌, ◌-◌, ◌<◌, ◌≤◌, ◌⊎◌, List, [], ◌∷◌, ◌++◌, length, take, replicate, refl, ap, ◌∙◌, inl, inr, arith, append_assoc, length-append, sym, subst}
 use Rattle.std.proofs.lemmas.List.{length-take-le, take_all, append-nil, replicate-append-replicate}
+use Rattle.std.proofs.lemmas.Bool.{cases_lt}
 use Rattle.std.proofs.lemmas.Grind.{common_steps}
-use Rattle.btr_rack.specs.History.{Event, Stores, nothing_stored, stored_more, store_failed, resized, overwritten, replay}
+use Rattle.btr_rack.specs.declared.raw_call.RawCall.TheVariants.{Stored}
+use Rattle.btr_rack.specs.History.{Event, refused, interrupted, Moves, nothing_moved, piece_moved, none_moved, Moved, Stops, resized, overwritten, replay}
 
 pub length_resized : (len : ℕ) (file : List ℕ) → length (resized len file) ≡ len
 length_resized len file = grind (arith, common_steps)
@@ -46,10 +48,27 @@ made_more : (off : ℕ) (bytes file file' piece : List ℕ) → length file ≤ 
 made_more off bytes file file' piece h some (inl m) = inr (grind (arith, common_steps), grown_first off bytes file file' piece h m.0 m.1)
 made_more off bytes file file' piece h some (inr m) = inr (grind (arith, common_steps), grown_next off bytes file file' piece m.1)
 
-pub stores_made : (off : ℕ) (old now : List Event) (bytes : List ℕ) → length (replay old) ≤ off → Stores off old now bytes → Made off (replay old) bytes (replay now)
-stores_made off old _ _ h nothing_stored = inl (refl, refl)
-stores_made off old _ _ h (stored_more now bytes piece before some) = made_more off bytes (replay old) (replay now) piece h some (stores_made off old now bytes h before)
-stores_made off old _ _ h (store_failed now bytes before) = stores_made off old now bytes h before
+moves_made : (off : ℕ) (old : List Event) (again : ℕ) (now : List Event) (bytes : List ℕ) → length (replay old) ≤ off → Moves Stored off old again now bytes → Made off (replay old) bytes (replay now)
+moves_made off old _ _ _ h nothing_moved = inl (refl, refl)
+moves_made off old _ _ _ h (piece_moved again now bytes piece before some) = made_more off bytes (replay old) (replay now) piece h some (moves_made off old again now bytes h before)
+moves_made off old _ _ _ h (none_moved again now bytes before) = moves_made off old again now bytes h before
+
+stops_made : (off : ℕ) (old before new : List Event) (bytes : List ℕ) → Made off (replay old) bytes (replay before) → (new ≡ refused ∷ before) ⊎ (new ≡ interrupted ∷ before) → Made off (replay old) bytes (replay new)
+stops_made off old before new bytes made (inl e) = subst (λ n. Made off (replay old) bytes (replay n)) (sym e) made
+stops_made off old before new bytes made (inr e) = subst (λ n. Made off (replay old) bytes (replay n)) (sym e) made
+
+-- all of them were stored, or a first part
+pub stores_made : (off : ℕ) (old new : List Event) (bytes : List ℕ) (stored : ℕ) → length (replay old) ≤ off → stored ≤ length bytes
+    → (stored ≡ length bytes → Moved Stored off old new bytes) → (stored < length bytes → Stops Stored off old new (take stored bytes)) → Made off (replay old) (take stored bytes) (replay new)
+stores_made off old new bytes stored h within all some = elim (cases_lt stored (length bytes)) [
+  | inl short ↦
+      let s = some short in
+      stops_made off old s.before new (take stored bytes) (moves_made off old s.moved.again s.before (take stored bytes) h s.moved.moves) (elim s.stop [ inl e ↦ inl e | inr e ↦ inr e.1 ])
+  | inr past ↦
+      let whole : stored ≡ length bytes = omega (arith, within, past) in
+      let m = all whole in
+      subst (λ bs. Made off (replay old) bs (replay new)) (sym (take_all stored bytes (omega (arith, whole)))) (moves_made off old m.again new bytes h m.moves)
+]
 
 made_none : (bytes : List ℕ) (stored : ℕ) → take stored bytes ≡ [] → 0 < stored → stored ≤ length bytes → ⊥
 made_none bytes stored e some h = grind (arith, common_steps, ap length e, length-take-le stored bytes h)

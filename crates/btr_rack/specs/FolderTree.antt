@@ -1,9 +1,11 @@
 -- A sink that is a real folder. What it tells is what the calls of the system were given.
-use Rattle.std.specs.Prelude.{◌≡◌, Bool, true, false, List, [], ℕ, Option, Some, None, is_some, refl}
+use Rattle.std.specs.Prelude.{◌≡◌, Bool, true, false, not, List, [], length, ℕ, Option, Some, None, is_some, refl}
 use Rattle.std.specs.Option.{option_map}
+use Rattle.std.specs.Str.{bytes_eq}
 use Rattle.btr_rack.specs.declared.destination.Destination.{Destination}
 use Rattle.btr_rack.specs.declared.part.Part.{Part}
 use Rattle.btr_rack.specs.declared.row.Row.{Row}
+use Rattle.btr_rack.specs.History.{replay}
 use Rattle.btr_rack.specs.Growing.{Growing, contents}
 use Rattle.btr_rack.specs.Sink.{Sink, Stage, NotStarted, BetweenFiles, InFile, is_in_file, IsSound}
 
@@ -22,7 +24,7 @@ unstarted = record { stage = NotStarted; depth = 0; tree = Some (record { rows =
 unfoldable pub at_sink : Destination → Sink
 at_sink at = record {
   stage = started_stage (is_some at.file);
-  depth = at.depth;
+  depth = length at.folders;
   tree = Some (record { rows = at.trail.told.rows; part = option_map (part_of at.trail.told.name at.buffer) at.file });
 }
 
@@ -30,9 +32,21 @@ abbrev pub folder_sink : Option Destination → Sink
 folder_sink None = unstarted
 folder_sink (Some at) = at_sink at
 
-started_depth : (at : Destination) (b : Bool) → started_stage b ≡ NotStarted → at.depth ≡ 0
-started_depth at true e = cc
-started_depth at false e = cc
+-- Of the unfinished file something waits to be stored: what its calls made isn't what was put.
+abbrev pub file_waits : List ℕ → Option Growing → Bool
+file_waits buffer None = false
+file_waits buffer (Some file) = not (bytes_eq (replay file.history) (contents file buffer))
+
+unfoldable pub at_waits : Destination → Bool
+at_waits at = file_waits at.buffer at.file
+
+abbrev pub folder_waits : Option Destination → Bool
+folder_waits None = false
+folder_waits (Some at) = at_waits at
+
+started_depth : (depth : ℕ) (b : Bool) → started_stage b ≡ NotStarted → depth ≡ 0
+started_depth depth true e = cc
+started_depth depth false e = cc
 
 started_rows : (rows : List Row) (b : Bool) → started_stage b ≡ NotStarted → rows ≡ []
 started_rows rows true e = cc
@@ -49,5 +63,14 @@ folder_sound None = record { part = refl; rows = λ e. refl; depth = λ e. refl 
 folder_sound (Some at) = record {
   part = told_part at.trail.told.name at.buffer at.file;
   rows = started_rows at.trail.told.rows (is_some at.file);
-  depth = started_depth at (is_some at.file);
+  depth = started_depth (length at.folders) (is_some at.file);
 }
+
+settled_file : (buffer : List ℕ) (file : Option Growing) → is_in_file (started_stage (is_some file)) ≡ false → file_waits buffer file ≡ false
+settled_file buffer None e = refl
+settled_file buffer (Some file) e = cc
+
+pub folder_settled : (at : Option Destination) → is_in_file (folder_sink at).stage ≡ false → folder_waits at ≡ false
+unfolding at_sink at_waits
+folder_settled None e = refl
+folder_settled (Some at) e = settled_file at.buffer at.file e

@@ -4,6 +4,7 @@ pub mod Image
 pub mod Images
 pub mod Memory
 pub mod MemoryLaws
+pub mod Name
 pub mod Sink
 pub mod Calls
 pub mod CallsLaws
@@ -15,6 +16,8 @@ pub mod FilesSeen
 pub mod History
 pub mod Opened
 pub mod Growing
+pub mod Folders
 pub mod Entry
+pub mod StdOut
 pub mod Told
 pub mod FolderTree

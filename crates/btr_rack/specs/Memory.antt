@@ -63,17 +63,18 @@ abbrev pub touches : List ℕ → ℕ → ℕ → NamedRange → Bool
 touches name off len range = bytes_eq range.name name && nat_lt (max range.off off) (min (range.off + range.len) (off + len))
 
 -- A rack in memory: its images, of which the first `opened` are open, in the order of their opening, and
--- the others are on the shelf; what is to fail; the ranges that wait for a sync; and the account of the failed calls.
+-- the others are on the shelf; what is to fail; the ranges that wait for a sync, and those that wait for good; and the account of the failed calls.
 pub record MemoryRack : Type 0 where
   pub images : List MemoryImage
   pub opened : ℕ
   pub failing : Failures
   pub unsynced : List Place
+  pub never_synced : List Place
   pub account : Account
 
 -- a rack with no images
 abbrev pub empty_rack : MemoryRack
-empty_rack = record { images = []; opened = 0; failing = nothing_fails; unsynced = []; account = no_failure }
+empty_rack = record { images = []; opened = 0; failing = nothing_fails; unsynced = []; never_synced = []; account = no_failure }
 
 -- the rack with one more image on the shelf, and with this to fail
 abbrev pub with_image : MemoryImage → MemoryRack → MemoryRack
@@ -127,6 +128,7 @@ seen_of rack = record {
   held = Some (held_of rack);
   shelf = Some (shelf_of rack);
   unsynced = rack.unsynced;
+  never_synced = rack.never_synced;
   sure = is_sure rack;
   account = rack.account;
 }
@@ -149,6 +151,7 @@ pub record Rewrites (name : List ℕ) (off : ℕ) (bytes : List ℕ) (old new : 
   pub slots : slots_of new ≡ slots_of old
   pub failing : new.failing ≡ old.failing
   pub unsynced : new.unsynced ≡ old.unsynced
+  pub never_synced : new.never_synced ≡ old.never_synced
   pub account : new.account ≡ old.account
 
 -- what `poke` does: where memory runs out, some bytes of the range were written
@@ -169,6 +172,7 @@ pub record Shortens (name : List ℕ) (len : ℕ) (old new : MemoryRack) : Type 
   pub opened : open_images new ≡ open_images old
   pub failing : new.failing ≡ old.failing
   pub unsynced : new.unsynced ≡ old.unsynced
+  pub never_synced : new.never_synced ≡ old.never_synced
   pub account : new.account ≡ old.account
 
 -- what `cut` does: it refuses a name that is not on the shelf, and an image that is shorter
@@ -193,4 +197,4 @@ LeavesTear slot off len old new result = Tears old.failing.tear slot off len (he
 
 -- one more call was counted, and only the account and what waits for a sync may have changed
 abbrev pub OnlySyncs : MemoryRack → MemoryRack → Type 0
-OnlySyncs old new = record new { unsynced = old.unsynced } ≡ with_counts (after_call old.failing) new.account old
+OnlySyncs old new = record new { unsynced = old.unsynced; never_synced = old.never_synced } ≡ with_counts (after_call old.failing) new.account old

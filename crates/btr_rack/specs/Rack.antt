@@ -145,12 +145,14 @@ Writes slot off bytes (Some images) new (Err _) =
     (some : List ℕ) × (length some ≡ length bytes) × (new ≡ Some (written images slot off some))
 
 -- What is seen of a rack: the opened images, in the order of their opening; their bytes, and the images that may be opened, where it tells
--- them; the ranges that were written since the last sync of their image; whether it is sure, so that no call is to fail; and the calls that failed.
+-- them; the ranges that were written since the last sync of their image, and those that waited when a sync of their image failed, which wait for good; whether
+-- it is sure, so that no call is to fail; and the calls that failed.
 pub record Seen : Type 0 where
   pub slots : List Slot
   pub held : Option (List (List ℕ))
   pub shelf : Option Shelf
   pub unsynced : List Place
+  pub never_synced : List Place
   pub sure : Bool
   pub account : Account
 
@@ -197,14 +199,24 @@ FailsUnsure sure (Err Memory) = ⊤
 abbrev pub Unsyncs : Place → Seen → Seen → Type 0
 Unsyncs range old new = new ≡ record old { held = new.held; unsynced = old.unsynced ++ range ∷ []; account = new.account }
 
--- the ranges of the other slots
+-- the ranges of a slot, and those of the others
+abbrev pub in_slot : ℕ → List Place → List Place
+in_slot slot ranges = filter (λ range. range.slot == slot) ranges
+
 abbrev pub in_others : ℕ → List Place → List Place
 in_others slot ranges = filter (λ range. not (range.slot == slot)) ranges
 
--- what a sync does: at Ok nothing of the slot waits any more
+-- What a sync does: at Ok nothing of the slot waits any more, but what waits for good. Where it failed, the system may have forgotten what waited: it
+-- waits for good.
 abbrev pub Syncs : {T : Type 0} → ℕ → Seen → Seen → Result T RackError → Type 0
 Syncs slot old new (Ok _) = new ≡ record old { unsynced = in_others slot old.unsynced; account = new.account }
-Syncs slot old new (Err _) = OnlyCounts old new
+Syncs slot old new (Err Failed) =
+    new ≡ record old {
+      unsynced = in_others slot old.unsynced;
+      never_synced = old.never_synced ++ in_slot slot old.unsynced;
+      account = new.account;
+    }
+Syncs slot old new (Err Memory) = OnlyCounts old new
 
 -- What holds of every rack that can be seen: the opened images have the lengths of their slots, what is told are bytes, and the count of faults
 -- of a sure rack is below its type's last value.

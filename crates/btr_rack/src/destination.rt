@@ -1,8 +1,9 @@
 // Where a folder that is a sink stands.
-ghost use Rattle.std.specs.Prelude.{◌≡◌, ◌+◌, ◌<◌, ◌^◌, ℕ, take, replicate, true, false, IsTrue};
+ghost use Rattle.std.specs.Prelude.{◌≡◌, ◌<◌, ℕ, take, replicate, true, false, IsTrue};
 ghost use Rattle.btr_rack.specs.Sink.{InFile, started, entered, left, begun, grown, finished};
 ghost use Rattle.btr_rack.specs.Told.{path_of};
-ghost use Rattle.btr_rack.specs.FolderTree.{at_sink, unstarted};
+ghost use Rattle.btr_rack.specs.Folders.{IsAbove};
+ghost use Rattle.btr_rack.specs.FolderTree.{at_sink, at_waits, unstarted};
 
 use crate::buffer::Buffer;
 use crate::file_id::FileId;
@@ -13,11 +14,11 @@ use crate::room::Room;
 use crate::step::Step;
 use crate::trail::Trail;
 
-/// Where a folder that is a sink stands, once it is started. A file that isn't finished is written out when the value
-/// is dropped, too.
+/// Where a folder that is a sink stands, once it is started.
+#[derive(Drop)]
 pub(crate) struct Destination {
-    // How many folders were entered below the destination.
-    depth: u64,
+    top: FileId,
+    // The folders that were entered below it.
     folders: Folders,
     file: Option<NewFile>,
     // The bytes of the file that wait to be stored.
@@ -32,13 +33,9 @@ impl Destination {
     pub(crate) fn new(folder: FileId, calls: &History, room: Room) -> Destination
         ensures { at_sink result ≡ started (path_of calls.now.events) unstarted }
     {
-        let Room {
-            buffer,
-            mut folders,
-        } = room;
-        folders.enter(folder);
+        let Room { buffer, folders } = room;
         Destination {
-            depth: 0,
+            top: folder,
             folders,
             file: None,
             buffer,
@@ -46,38 +43,33 @@ impl Destination {
         }
     }
 
-    /// Whether no further folder can be entered.
-    #[tactic(auto, unfolding(crate::specs::FolderTree::at_sink))]
-    pub(crate) fn is_full(&self) -> bool
-        ensures { result ≡ false → (at_sink self.now).depth + 1 < 2 ^ 64 }
-    {
-        self.folders.is_full() || self.depth == u64::MAX
-    }
-
     /// The folder above the one that is entered.
-    pub(crate) fn above(&self) -> Option<FileId> {
-        self.folders.above()
+    #[tactic(auto, unfolding(crate::specs::FolderTree::at_sink))]
+    pub(crate) fn above(&self) -> FileId
+        requires { 0 < (at_sink self.now).depth }
+        ensures { IsAbove self.now.top self.now.folders result }
+    {
+        self.folders.above(self.top)
     }
 
     /// A folder was entered by these calls.
     #[tactic(auto, unfolding(crate::specs::FolderTree::at_sink))]
     pub(crate) fn enter(&mut self, folder: FileId, calls: &History)
-        requires { (at_sink self.old).depth + 1 < 2 ^ 64 }
+        requires { (at_sink self.old).depth < 512 }
         ensures { at_sink self.new ≡ entered (path_of calls.now.events) (at_sink self.old) }
     {
         self.folders.enter(folder);
-        self.depth += 1;
         self.trail = Trail::with(&self.trail, &Step::Entered, calls);
     }
 
-    /// A folder was left by these calls.
+    /// A folder was left to this one by these calls.
     #[tactic(auto, unfolding(crate::specs::FolderTree::at_sink))]
-    pub(crate) fn leave(&mut self, calls: &History)
-        requires { 0 < (at_sink self.old).depth }
+    pub(crate) fn leave(&mut self, _folder: FileId, calls: &History)
+        requires below { 0 < (at_sink self.old).depth }
+        requires above { IsAbove self.old.top self.old.folders _folder }
         ensures { at_sink self.new ≡ left (at_sink self.old) }
     {
         self.folders.leave();
-        self.depth -= 1;
         self.trail = Trail::with(&self.trail, &Step::Left, calls);
     }
 
@@ -135,19 +127,16 @@ impl Destination {
         self.file = None;
         true
     }
-}
 
-impl Drop for Destination {
-    fn drop(mut self) {
-        if let Some(file) = &mut self.file {
-            let _ = file.finish(&mut self.buffer);
+    /// Stores what waits of the unfinished file, or says that it could not: then it can be tried again.
+    #[tactic(auto, unfolding(crate::specs::FolderTree::at_sink, crate::specs::FolderTree::at_waits))]
+    pub(crate) fn flush(&mut self) -> bool
+        ensures same { at_sink self.new ≡ at_sink self.old }
+        ensures stored { IsTrue result → at_waits self.new ≡ false }
+    {
+        match &mut self.file {
+            Some(file) => file.finish(&mut self.buffer),
+            None => true,
         }
-        let Destination {
-            depth: _,
-            folders: _,
-            file: _,
-            buffer: _,
-            trail: _,
-        } = self;
     }
 }

@@ -1,14 +1,20 @@
 // Entering and leaving folders.
-ghost use Rattle.std.specs.Prelude.{◌≡◌, [], ◌∷◌, IfSome};
+ghost use Rattle.std.specs.Prelude.{◌≡◌, [], ◌∷◌, codes, IfSome};
 ghost use Rattle.btr_rack.specs.declared.raw_call.RawCall.TheVariants.{Entered as ChangedTo};
 ghost use Rattle.btr_rack.specs.History.{event};
-ghost use Rattle.btr_rack.specs.Entry.{IsEntry};
+ghost use Rattle.btr_rack.specs.Entry.{IsEntry, IsOf};
+ghost use Rattle.btr_rack.specs.Name.{IsGoodName};
 
 use crate::file_id::FileId;
 use crate::history::History;
 use crate::raw_call::RawCall;
+use std::fs::DirBuilder;
+use std::os::unix::fs::DirBuilderExt;
 use std::rt::{Env, Files};
 use std::{env, fs};
+
+// The owner enters, reads and changes the folder, and nobody else.
+const PRIVATE_FOLDER: u32 = 0o700;
 
 /// How an entering or a leaving of a folder went.
 #[derive(Drop)]
@@ -21,11 +27,21 @@ pub(crate) enum Entry {
     Entered(FileId, History),
 }
 
-/// Makes a folder, or finds one that is there and is no symbolic link, and enters it.
-pub(crate) fn enter(rt: &(impl Files + Env), path: &str) -> Entry
+/// Makes a folder of the folder that is entered, or finds one that is there and is no symbolic link, and enters it.
+pub(crate) fn enter(rt: &(impl Files + Env), name: &str) -> Entry
+    requires { IsGoodName name.now }
+    ensures { IsEntry name.now result }
+{
+    enter_path(rt, name)
+}
+
+/// Makes the folder of a path, or finds one that is there and is no symbolic link, and enters it. One that is made is private.
+pub(crate) fn enter_path(rt: &(impl Files + Env), path: &str) -> Entry
     ensures { IsEntry path.now result }
 {
-    let _ = fs::create_dir(rt, path);
+    let mut how = DirBuilder::new();
+    how.mode(PRIVATE_FOLDER);
+    let _ = how.create(rt, path);
     match fs::symlink_metadata(rt, without_slashes(path)) {
         Ok(found) if found.is_dir() => move_to(rt, path, FileId::of(&found)),
         _ => Entry::Refused,
@@ -33,13 +49,17 @@ pub(crate) fn enter(rt: &(impl Files + Env), path: &str) -> Entry
 }
 
 /// Leaves a folder to the one above it.
-pub(crate) fn leave(rt: &(impl Files + Env), above: FileId) -> Entry {
+pub(crate) fn leave(rt: &(impl Files + Env), above: FileId) -> Entry
+    ensures path { IsEntry (codes "..") result }
+    ensures folder { IsOf above result }
+{
     move_to(rt, "..", above)
 }
 
 // Makes the folder of the path the working directory, if it is this one.
 fn move_to(rt: &(impl Files + Env), path: &str, folder: FileId) -> Entry
-    ensures { IsEntry path.now result }
+    ensures path { IsEntry path.now result }
+    ensures folder { IsOf folder result }
 {
     let Some(calls) = change(rt, path) else {
         return Entry::Refused;

@@ -1,8 +1,8 @@
 // A rack of files. It tells no content.
-ghost use Rattle.std.specs.Prelude.{◌≡◌, ◌+◌, ◌<◌, ◌≤◌, [], ◌∷◌, length, OnOk, IsErrOf, IsTrue};
-ghost use Rattle.btr_rack.specs.declared.raw_call.RawCall.TheVariants.{Synced};
+ghost use Rattle.std.specs.Prelude.{◌≡◌, ◌+◌, ◌<◌, ◌≤◌, [], ◌∷◌, length, OnOk, OnErr, IsErrOf, IsTrue};
+ghost use Rattle.btr_rack.specs.declared.raw_call.RawCall.TheVariants.{Read, Stored, Synced};
 ghost use Rattle.btr_rack.specs.Rack.{OnlyCounts, Accounts, Unsyncs, Syncs, range_in, len_of, opened_to_write};
-ghost use Rattle.btr_rack.specs.History.{event, Reads, Stores};
+ghost use Rattle.btr_rack.specs.History.{event, refused, Moved, FallsShort};
 ghost use Rattle.btr_rack.specs.Opened.{slots_of, seen_files};
 ghost use Rattle.btr_rack.specs.FilesSeen.{seen_of, history_of};
 
@@ -23,6 +23,7 @@ pub struct FileRack<R: Files<File = File> + Drop> {
     alloc: Global,
     files: Vec<OpenedFile>,
     unsynced: PlaceList,
+    never_synced: PlaceList,
     ledger: Ledger,
 }
 
@@ -36,6 +37,7 @@ impl<R: Files<File = File> + Drop> FileRack<R> {
             alloc,
             files: Vec::new(alloc),
             unsynced: PlaceList::new(),
+            never_synced: PlaceList::new(),
             ledger: Ledger::new(),
         }
     }
@@ -44,9 +46,9 @@ impl<R: Files<File = File> + Drop> FileRack<R> {
 impl<R: Files<File = File> + Drop> Rack for FileRack<R> {
     ghost use Rattle.btr_rack.specs.FileRack.{sound_files};
 
-    ghost seen = { λ rack. seen_files rack.files.items rack.unsynced.places rack.ledger };
+    ghost seen = { λ rack. seen_files rack.files.items rack.unsynced.places rack.never_synced.places rack.ledger };
 
-    ghost sound = { λ rack. sound_files (slots_of rack.files.items) rack.unsynced.places rack.ledger };
+    ghost sound = { λ rack. sound_files (slots_of rack.files.items) rack.unsynced.places rack.never_synced.places rack.ledger };
 
     fn open(&mut self, name: &str, write: bool) -> Result<usize, RackError> {
         let slot = self.files.len();
@@ -81,7 +83,8 @@ impl<R: Files<File = File> + Drop> Rack for FileRack<R> {
         ensures same { OnlyCounts (seen_of self.old) (seen_of self.new) }
         ensures account { Accounts (range_in slot off (length buf.old)) self.old.ledger self.new.ledger result }
         ensures memory { IsErrOf result RackError.Memory → ⊥ }
-        ensures read { OnOk result (Reads off (history_of self.old slot) (history_of self.new slot) buf.new) }
+        ensures read { OnOk result (Moved Read off (history_of self.old slot) (history_of self.new slot) buf.new) }
+        ensures cause { OnErr result (FallsShort Read off (history_of self.old slot) (history_of self.new slot) buf.new) }
     {
         let len = buf.len() as u64;
         let file = &mut self.files[slot];
@@ -99,7 +102,8 @@ impl<R: Files<File = File> + Drop> Rack for FileRack<R> {
         requires range { off + length bytes.now ≤ len_of (slots_of self.old.files.items) slot }
         ensures rest { Unsyncs (range_in slot off (length bytes.now)) (seen_of self.old) (seen_of self.new) }
         ensures account { Accounts (range_in slot off (length bytes.now)) self.old.ledger self.new.ledger result }
-        ensures stored { OnOk result (Stores off (history_of self.old slot) (history_of self.new slot) bytes.now) }
+        ensures stored { OnOk result (Moved Stored off (history_of self.old slot) (history_of self.new slot) bytes.now) }
+        ensures cause { OnErr result (FallsShort Stored off (history_of self.old slot) (history_of self.new slot) bytes.now) }
     {
         let len = bytes.len() as u64;
         let place = Place { slot, off, len };
@@ -119,12 +123,15 @@ impl<R: Files<File = File> + Drop> Rack for FileRack<R> {
         ensures account { Accounts (range_in slot 0 0) self.old.ledger self.new.ledger result }
         ensures memory { IsErrOf result RackError.Memory → ⊥ }
         ensures asked { OnOk result (history_of self.new slot ≡ event Synced [] ∷ history_of self.old slot) }
+        ensures cause { OnErr result (history_of self.new slot ≡ refused ∷ history_of self.old slot) }
     {
         let place = Place::of_slot(slot);
         if self.files[slot].sync() {
             self.unsynced = PlaceList::without(&self.unsynced, &place);
             return Ok(());
         }
+        self.never_synced = PlaceList::with_slot(&self.never_synced, &self.unsynced, &place);
+        self.unsynced = PlaceList::without(&self.unsynced, &place);
         self.ledger.fail(place);
         Err(RackError::Failed)
     }

@@ -2,10 +2,10 @@
 ghost use Rattle.std.specs.Prelude.{◌≡◌, None, Err, false, is_some, ◌||◌};
 ghost use Rattle.btr_rack.specs.CallsLaws.{unsure_calm};
 ghost use Rattle.btr_rack.specs.Rack.{Rose};
-ghost use Rattle.btr_rack.specs.FolderTree.{folder_sink, folder_sound};
+ghost use Rattle.btr_rack.specs.FolderTree.{folder_sink, folder_sound, folder_waits, folder_settled};
 
 use crate::destination::Destination;
-use crate::entry::{Entry, enter, leave};
+use crate::entry::{Entry, enter, enter_path, leave};
 use crate::new_file::NewFile;
 use crate::room::Room;
 use crate::{SinkError, TreeSink};
@@ -56,12 +56,6 @@ fn fault(faults: &mut u64) -> Result<(), SinkError>
     Err(SinkError::Failed)
 }
 
-// Whether the name is one of an entry of a folder.
-fn is_plain(name: &str) -> bool {
-    let special = name.is_empty() || name == "." || name == "..";
-    !special && name.as_bytes().iter().all(|b| *b != b'/' && *b != 0)
-}
-
 impl<R: Files<File = File> + Env + Drop> TreeSink for FolderTree<R> {
     ghost sink = { λ t. folder_sink t.at };
 
@@ -71,6 +65,10 @@ impl<R: Files<File = File> + Env + Drop> TreeSink for FolderTree<R> {
 
     ghost sound = { λ t. folder_sound t.at };
 
+    ghost waits = { λ t. folder_waits t.at };
+
+    ghost settled = { λ t. folder_settled t.at };
+
     fn start(&mut self, name: &str) -> Result<(), SinkError> {
         if self.astray {
             return fault(&mut self.faults);
@@ -78,7 +76,7 @@ impl<R: Files<File = File> + Env + Drop> TreeSink for FolderTree<R> {
         let Some(room) = self.room.take() else {
             return Err(SinkError::Memory);
         };
-        match enter(&self.rt, name) {
+        match enter_path(&self.rt, name) {
             Entry::Entered(folder, calls) => {
                 self.at = Some(Destination::new(folder, &calls, room));
                 Ok(())
@@ -99,7 +97,7 @@ impl<R: Files<File = File> + Env + Drop> TreeSink for FolderTree<R> {
         let Some(at) = &mut self.at else {
             unreachable!()
         };
-        if self.astray || at.is_full() || !is_plain(name) {
+        if self.astray {
             return fault(&mut self.faults);
         }
         match enter(&self.rt, name) {
@@ -119,15 +117,12 @@ impl<R: Files<File = File> + Env + Drop> TreeSink for FolderTree<R> {
         let Some(at) = &mut self.at else {
             unreachable!()
         };
-        let Some(above) = at.above() else {
-            return fault(&mut self.faults);
-        };
         if self.astray {
             return fault(&mut self.faults);
         }
-        match leave(&self.rt, above) {
-            Entry::Entered(_, calls) => {
-                at.leave(&calls);
+        match leave(&self.rt, at.above()) {
+            Entry::Entered(above, calls) => {
+                at.leave(above, &calls);
                 Ok(())
             }
             Entry::Astray => {
@@ -142,7 +137,7 @@ impl<R: Files<File = File> + Env + Drop> TreeSink for FolderTree<R> {
         let Some(at) = &mut self.at else {
             unreachable!()
         };
-        if self.astray || !is_plain(name) {
+        if self.astray {
             return fault(&mut self.faults);
         }
         let Some(file) = NewFile::make(&self.rt, name) else {
@@ -178,6 +173,16 @@ impl<R: Files<File = File> + Env + Drop> TreeSink for FolderTree<R> {
             unreachable!()
         };
         if !at.finish() {
+            return fault(&mut self.faults);
+        }
+        Ok(())
+    }
+
+    fn flush(&mut self) -> Result<(), SinkError> {
+        let Some(at) = &mut self.at else {
+            return Ok(());
+        };
+        if !at.flush() {
             return fault(&mut self.faults);
         }
         Ok(())

@@ -36,6 +36,7 @@ mod place_list;
 mod rack;
 mod raw_call;
 mod raw_file;
+mod raw_out;
 mod room;
 mod row;
 mod std_out;
@@ -45,6 +46,7 @@ mod text;
 mod trail;
 mod transfer;
 mod tree_sink;
+mod tried;
 
 pub use account::Ledger;
 pub use bytes::Bytes;

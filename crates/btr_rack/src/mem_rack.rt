@@ -28,6 +28,7 @@ pub struct MemRack {
     opened: usize,
     failing: Failing,
     unsynced: PlaceList,
+    never_synced: PlaceList,
     ledger: Ledger,
 }
 
@@ -37,7 +38,7 @@ impl Model for MemRack {
 
     ghost Value = { MemoryRack };
 
-    ghost view = { λ r. record { images = r.images.items; opened = r.opened; failing = r.failing; unsynced = r.unsynced.places; account = r.ledger } };
+    ghost view = { λ r. record { images = r.images.items; opened = r.opened; failing = r.failing; unsynced = r.unsynced.places; never_synced = r.never_synced.places; account = r.ledger } };
 
     ghost invariant = { λ r. r.opened ≤ length r.images.items };
 }
@@ -53,6 +54,7 @@ impl MemRack {
             opened: 0,
             failing: Failing::new(alloc),
             unsynced: PlaceList::new(),
+            never_synced: PlaceList::new(),
             ledger: Ledger::new(),
         }
     }
@@ -129,10 +131,11 @@ impl MemRack {
     /// Puts every image back on the shelf. Nothing is to fail any more, and calls and writes are counted anew;
     /// nothing waits for a sync; the account of the failed calls stays.
     pub fn close_all(&mut self)
-        ensures { self.new ≡ record self.old { opened = 0; failing = nothing_fails; unsynced = [] } }
+        ensures { self.new ≡ record self.old { opened = 0; failing = nothing_fails; unsynced = []; never_synced = [] } }
     {
         self.opened = 0;
         self.unsynced = PlaceList::new();
+        self.never_synced = PlaceList::new();
         self.failing.clear();
     }
 
@@ -182,6 +185,7 @@ impl Rack for MemRack {
         ensures slots { Opens name.now write (slots_of self.old) (slots_of self.new) result }
         ensures images { TakesFromShelf name.now (seen_of self.old) (seen_of self.new) result }
         ensures unsynced { self.new.unsynced ≡ self.old.unsynced }
+        ensures never_synced { self.new.never_synced ≡ self.old.never_synced }
         ensures account { AccountsNextOpening name.now write (seen_of self.old) (seen_of self.new) result }
         ensures sure { OpensSurely name.now (seen_of self.old) (seen_of self.new) result }
         ensures calls { self.new.failing ≡ after_call self.old.failing }
@@ -281,11 +285,15 @@ impl Rack for MemRack {
         ensures memory { IsErrOf result RackError.Memory → ⊥ }
     {
         let place = Place::of_slot(slot);
-        if self.failing.call() {
+        let struck = self.failing.call();
+        if struck {
+            self.never_synced = PlaceList::with_slot(&self.never_synced, &self.unsynced, &place);
             self.ledger.fail(place);
-            return Err(RackError::Failed);
         }
         self.unsynced = PlaceList::without(&self.unsynced, &place);
+        if struck {
+            return Err(RackError::Failed);
+        }
         Ok(())
     }
 

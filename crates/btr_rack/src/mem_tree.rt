@@ -1,10 +1,11 @@
 // A sink in memory.
-ghost use Rattle.std.specs.Prelude.{◌≡◌, ◌<◌, ◌++◌, [], ◌∷◌, OnOk, OnErr, IsErrOf, IsOk, vec_len, replicate};
+ghost use Rattle.std.specs.Prelude.{◌≡◌, ◌<◌, ◌++◌, [], ◌∷◌, false, refl, OnOk, OnErr, IfErr, IsErrOf, IsOk, vec_len, replicate};
 ghost use Rattle.std.specs.Option.{option_copied};
 ghost use Rattle.std.specs.Vec.{vec_capacity};
 ghost use Rattle.btr_rack.specs.Out.{Counts};
 ghost use Rattle.btr_rack.specs.Calls.{account_of, failing_call, CallsOnce};
 ghost use Rattle.btr_rack.specs.CallsLaws.{calm_calls};
+ghost use Rattle.btr_rack.specs.Name.{IsGoodName};
 ghost use Rattle.btr_rack.specs.Sink.{NotStarted, BetweenFiles, InFile, Steps, Grows, started, entered, left, begun, finished, longer};
 ghost use Rattle.btr_rack.specs.MemTree.{empty_tree, stage_of, depth_of, sink_of};
 ghost use Rattle.btr_rack.specs.MemTreeLaws.{sound_tree};
@@ -116,6 +117,10 @@ impl TreeSink for MemTree {
 
     ghost sound = { λ t. sound_tree t.tree };
 
+    ghost waits = { λ t. false };
+
+    ghost settled = { λ t e. refl };
+
     fn start(&mut self, name: &str) -> Result<(), SinkError>
         requires { stage_of self.old.tree.rows self.old.tree.part ≡ NotStarted }
         ensures step { Steps (started name.now) (sink_of self.old.tree) (sink_of self.new.tree) result }
@@ -132,7 +137,9 @@ impl TreeSink for MemTree {
     }
 
     fn dir(&mut self, name: &str) -> Result<(), SinkError>
-        requires { stage_of self.old.tree.rows self.old.tree.part ≡ BetweenFiles }
+        requires between { stage_of self.old.tree.rows self.old.tree.part ≡ BetweenFiles }
+        requires good { IsGoodName name.now }
+        requires above { depth_of self.old.tree.rows < 512 }
         ensures step { Steps (entered name.now) (sink_of self.old.tree) (sink_of self.new.tree) result }
         ensures account { Counts (account_of self.old.calls) (account_of self.new.calls) result }
         ensures calls { CallsOnce self.old.calls self.new.calls result }
@@ -160,7 +167,8 @@ impl TreeSink for MemTree {
     }
 
     fn file(&mut self, name: &str) -> Result<(), SinkError>
-        requires { stage_of self.old.tree.rows self.old.tree.part ≡ BetweenFiles }
+        requires between { stage_of self.old.tree.rows self.old.tree.part ≡ BetweenFiles }
+        requires good { IsGoodName name.now }
         ensures step { Steps (begun name.now) (sink_of self.old.tree) (sink_of self.new.tree) result }
         ensures account { Counts (account_of self.old.calls) (account_of self.new.calls) result }
         ensures calls { CallsOnce self.old.calls self.new.calls result }
@@ -226,5 +234,19 @@ impl TreeSink for MemTree {
             Some(part) => add_row(&mut self.rows, Row::File(part.name, part.bytes)),
             None => unreachable!(),
         }
+    }
+
+    // Nothing waits.
+    fn flush(&mut self) -> Result<(), SinkError>
+        ensures same { sink_of self.new.tree ≡ sink_of self.old.tree }
+        ensures stored { OnOk result (false ≡ false) }
+        ensures refused { IfErr result (λ error. error ≡ SinkError.Failed) }
+        ensures account { Counts (account_of self.old.calls) (account_of self.new.calls) result }
+        ensures calls { CallsOnce self.old.calls self.new.calls result }
+    {
+        if self.calls.next_fails() {
+            return Err(SinkError::Failed);
+        }
+        Ok(())
     }
 }

@@ -2,6 +2,7 @@
 ghost use Rattle.std.specs.Prelude.{◌≡◌, ◌≤◌, ◌++◌, [], ◌∷◌, length, take, replicate, false, true, IfSome, IsTrue};
 ghost use Rattle.btr_rack.specs.History.{opened, replay};
 ghost use Rattle.btr_rack.specs.Growing.{written, contents, PutsPart};
+ghost use Rattle.btr_rack.specs.Name.{IsGoodName};
 
 use crate::buffer::Buffer;
 use crate::history::History;
@@ -9,7 +10,11 @@ use crate::raw_file::RawFile;
 use crate::transfer;
 use std::fs::File;
 use std::marker::Model;
+use std::os::unix::fs::OpenOptionsExt;
 use std::rt::Files;
+
+// The owner reads and writes the file, and nobody else.
+const PRIVATE_FILE: u32 = 0o600;
 
 /// A file that is being written from its beginning on. Clauses see what was asked of it, and where the next byte
 /// is to be stored: the bytes of the buffer that goes with it stand there.
@@ -34,11 +39,13 @@ impl Model for NewFile {
 }
 
 impl NewFile {
-    /// Makes an empty file, where none of the name is there.
+    /// Makes an empty file, where none of the name is there. It is private.
     pub(crate) fn make<R: Files<File = File>>(rt: &R, name: &str) -> Option<NewFile>
+        requires { IsGoodName name.now }
         ensures { IfSome result (λ f. f ≡ record { history = opened name.now true true ∷ []; position = 0 }) }
     {
         let mut how = File::options();
+        how.mode(PRIVATE_FILE);
         how.write(true).create_new(true);
         let raw = RawFile::open(rt, name, &how)?;
         Some(NewFile {

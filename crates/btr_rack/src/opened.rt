@@ -1,14 +1,12 @@
 // An opened file.
 ghost use Rattle.std.specs.Prelude.{◌≡◌, ◌+◌, ◌<◌, ◌^◌, [], ◌∷◌, length, false, IfSome, IfOk, IfErr, IsTrue};
-ghost use Rattle.btr_rack.specs.declared.raw_call.RawCall.TheVariants.{Synced};
-ghost use Rattle.btr_rack.specs.History.{event, OnlyOpened, Reads, Stores, LastRefused};
+ghost use Rattle.btr_rack.specs.declared.raw_call.RawCall.TheVariants.{Read, Stored, Synced};
+ghost use Rattle.btr_rack.specs.History.{event, refused, OnlyOpenedSame, Moved, FallsShort};
 ghost use Rattle.btr_rack.specs.Opened.{IsOpenedAs};
 
-use crate::file_id::FileId;
 use crate::opening::Opening;
-use crate::raw_file::RawFile;
+use crate::raw_file::{RawFile, look_at};
 use crate::transfer;
-use std::fs;
 use std::fs::File;
 use std::marker::Model;
 use std::rt::Files;
@@ -58,8 +56,8 @@ impl OpenedFile {
     pub(crate) fn fill(&mut self, off: u64, buf: &mut [u8]) -> bool
         requires { off + length buf.old < 2 ^ 63 }
         ensures slot { self.new.slot ≡ self.old.slot }
-        ensures read { IsTrue result → Reads off self.old.history self.new.history buf.new }
-        ensures cause { result ≡ false → LastRefused self.new.history }
+        ensures read { IsTrue result → Moved Read off self.old.history self.new.history buf.new }
+        ensures cause { result ≡ false → FallsShort Read off self.old.history self.new.history buf.new }
     {
         transfer::fill(&mut self.raw, off, buf)
     }
@@ -68,8 +66,8 @@ impl OpenedFile {
     pub(crate) fn store(&mut self, off: u64, bytes: &[u8]) -> bool
         requires { off + length bytes.now < 2 ^ 63 }
         ensures slot { self.new.slot ≡ self.old.slot }
-        ensures stored { IsTrue result → Stores off self.old.history self.new.history bytes.now }
-        ensures cause { result ≡ false → LastRefused self.new.history }
+        ensures stored { IsTrue result → Moved Stored off self.old.history self.new.history bytes.now }
+        ensures cause { result ≡ false → FallsShort Stored off self.old.history self.new.history bytes.now }
     {
         transfer::store(&mut self.raw, off, bytes) == bytes.len()
     }
@@ -78,7 +76,7 @@ impl OpenedFile {
     pub(crate) fn sync(&mut self) -> bool
         ensures slot { self.new.slot ≡ self.old.slot }
         ensures synced { IsTrue result → self.new.history ≡ event Synced [] ∷ self.old.history }
-        ensures cause { result ≡ false → LastRefused self.new.history }
+        ensures cause { result ≡ false → self.new.history ≡ refused ∷ self.old.history }
     {
         self.raw.sync()
     }
@@ -87,13 +85,13 @@ impl OpenedFile {
 // The file or block device of a path, and its length. It is looked at first, so that a pipe isn't waited for, and has to be
 // the same when it is open.
 fn open_image<R: Files<File = File>>(rt: &R, path: &str, write: bool) -> Option<(RawFile, u64)>
-    ensures { IfSome result (λ image. (image.1 < 2 ^ 63) × OnlyOpened path.now write false image.0.history.events) }
+    ensures { IfSome result (λ image. (image.1 < 2 ^ 63) × OnlyOpenedSame path.now write image.0.history.events) }
 {
-    let seen = FileId::of_image(&fs::metadata(rt, path).ok()?)?;
+    let (seen, look) = look_at(rt, path)?;
     let mut how = File::options();
     how.read(true).write(write);
-    let mut raw = RawFile::open(rt, path, &how)?;
-    if FileId::of_image(&raw.metadata().ok()?)? != seen {
+    let mut raw = RawFile::open_behind(rt, path, &how, &look)?;
+    if raw.look()? != seen {
         return None;
     }
     match raw.end() {

@@ -2,7 +2,7 @@
 ghost use Rattle.std.specs.Prelude.{◌≡◌, List, [], ◌∷◌, ◌++◌};
 ghost use Rattle.std.specs.Borrow.{ftrue};
 ghost use Rattle.btr_rack.specs.declared.place.Place.{Place};
-ghost use Rattle.btr_rack.specs.Rack.{in_others};
+ghost use Rattle.btr_rack.specs.Rack.{in_others, in_slot};
 
 use crate::place::Place;
 use std::marker::Model;
@@ -28,6 +28,13 @@ impl PlaceList {
     /// With one more place.
     pub(crate) fn with(_before: &PlaceList, _place: &Place) -> PlaceList
         ensures { result.places ≡ _before.now.places ++ _place.now ∷ [] }
+    {
+        PlaceList {}
+    }
+
+    /// With those of another list in the slot of a place.
+    pub(crate) fn with_slot(_before: &PlaceList, _other: &PlaceList, _place: &Place) -> PlaceList
+        ensures { result.places ≡ _before.now.places ++ in_slot _place.now.slot _other.now.places }
     {
         PlaceList {}
     }

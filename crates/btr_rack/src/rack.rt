@@ -16,6 +16,7 @@ pub trait Rack {
         ensures slots { Opens name.now write (seen self.old).slots (seen self.new).slots result }
         ensures images { TakesFromShelf name.now (seen self.old) (seen self.new) result }
         ensures unsynced { (seen self.new).unsynced ≡ (seen self.old).unsynced }
+        ensures never_synced { (seen self.new).never_synced ≡ (seen self.old).never_synced }
         ensures account { AccountsNextOpening name.now write (seen self.old) (seen self.new) result }
         ensures sure { OpensSurely name.now (seen self.old) (seen self.new) result };
 
@@ -51,7 +52,8 @@ pub trait Rack {
         ensures account { AccountsCall (range_in slot off (length bytes.now)) (seen self.old) (seen self.new) result }
         ensures sure { FailsUnsure (seen self.old).sure result };
 
-    /// Waits until what was written to the image is stored. It changes no byte, and takes no memory.
+    /// Waits until what was written to the image is stored. It changes no byte, and takes no memory. `Failed`: that can't
+    /// be known any more of what was written, by no later sync either.
     fn sync(&mut self, slot: usize) -> Result<(), RackError>
         requires { slot < length (seen self.old).slots }
         ensures synced { Syncs slot (seen self.old) (seen self.new) result }

@@ -1,22 +1,51 @@
 // A file of the system.
-ghost use Rattle.std.specs.Prelude.{◌≡◌, ◌<◌, ◌≤◌, [], ◌∷◌, length, if◌then◌else◌, IfSome};
+ghost use Rattle.std.specs.Prelude.{◌≡◌, [], ◌∷◌, if◌then◌else◌, IfSome};
 ghost use Rattle.btr_rack.specs.declared.raw_call.RawCall.TheVariants.{Read, Stored, Cut, Synced};
-ghost use Rattle.btr_rack.specs.History.{event, refused, IsOpenedBy, Notes};
+ghost use Rattle.btr_rack.specs.History.{event, looked, refused, IsInVain, IsOpenedBy, Notes, NotesLook};
 
+use crate::file_id::FileId;
 use crate::history::History;
 use crate::raw_call::RawCall;
-use std::fs::{File, Metadata, OpenOptions};
-use std::io;
-use std::io::{Seek, SeekFrom};
+use crate::tried::Tried;
+use std::fs::{File, OpenOptions};
+use std::io::{ErrorKind, Seek, SeekFrom};
 use std::os::unix::fs::FileExt;
 use std::rt::Files;
+use std::{fs, io};
 
-/// A file of the system, and what was asked of it. Each method makes one call of the system and notes it: that it
-/// does so is read here, and proved nowhere. All that is proved of real files stands on these notes.
+/// A file of the system, and what was asked of it. `open_behind`, `look`, `read`, `store`, `cut` and `sync` each ask
+/// std for one thing and note it, and so does the function `look_at`: that they ask for just what they note, and that
+/// a refusal is one of the system, is read here, and proved nowhere. All that is proved of real files stands on these
+/// notes.
+///
+/// Where the system interrupts an opening, a change of the length or a sync, std asks it again. An interrupted read
+/// or write is noted as such.
 #[derive(Drop)]
 pub(crate) struct RawFile {
     file: File,
     pub(crate) history: History,
+}
+
+/// Looks which file or block device stands at a path, and notes it. `None`: none, or another kind of file.
+pub(crate) fn look_at(rt: &impl Files, path: &str) -> Option<(FileId, History)>
+    ensures { IfSome result (λ seen. seen.1.events ≡ looked path.now seen.0 ∷ []) }
+{
+    let id = FileId::of_image(&fs::metadata(rt, path).ok()?)?;
+    let history = History::with(&History::new(), &RawCall::Looked(id), path.as_bytes());
+    Some((id, history))
+}
+
+// Why a read or a write did nothing, and how that is noted.
+fn in_vain(answer: io::Result<usize>) -> (Tried, RawCall)
+    ensures { IsInVain result }
+{
+    match answer {
+        Err(error) if error.kind() == ErrorKind::Interrupted => (
+            Tried::Interrupted,
+            RawCall::Interrupted,
+        ),
+        _ => (Tried::Refused, RawCall::Refused),
+    }
 }
 
 impl RawFile {
@@ -26,50 +55,73 @@ impl RawFile {
         path: &str,
         how: &OpenOptions,
     ) -> Option<RawFile>
-        ensures { IfSome result (λ f. IsOpenedBy how.now path.now f.history.events) }
+        ensures { IfSome result (λ f. IsOpenedBy how.now path.now [] f.history.events) }
+    {
+        RawFile::open_behind(rt, path, how, &History::new())
+    }
+
+    /// The same, behind other calls.
+    pub(crate) fn open_behind<R: Files<File = File>>(
+        rt: &R,
+        path: &str,
+        how: &OpenOptions,
+        before: &History,
+    ) -> Option<RawFile>
+        ensures { IfSome result (λ f. IsOpenedBy how.now path.now before.now.events f.history.events) }
     {
         let file = how.open(rt, path).ok()?;
         let call = RawCall::Opened {
             write: how.asks_write(),
             made: how.asks_create_new(),
         };
-        let history = History::with(&History::new(), &call, path.as_bytes());
+        let history = History::with(before, &call, path.as_bytes());
         Some(RawFile { file, history })
     }
 
-    /// Reads into the beginning of `buf` from `off` on, and answers how many bytes. `None`: it failed, or there
-    /// are none.
-    pub(crate) fn read(&mut self, off: u64, buf: &mut [u8]) -> Option<usize>
-        ensures count { IfSome result (λ n. (0 < n) × (n ≤ length buf.old)) }
-        ensures noted { Notes (Read off) buf.new self.old.history.events self.new.history.events result }
+    /// Looks which file or block device it is. `None`: that can't be known, or it is another kind of file.
+    pub(crate) fn look(&mut self) -> Option<FileId>
+        ensures { NotesLook self.old.history.events self.new.history.events result }
     {
-        match self.file.read_at(buf, off) {
-            Ok(count) if count > 0 => {
-                self.history = History::with(&self.history, &RawCall::Read(off), &buf[..count]);
-                Some(count)
-            }
-            _ => {
-                self.history = History::with(&self.history, &RawCall::Refused, &[]);
-                None
-            }
-        }
+        let seen = match self.file.metadata() {
+            Ok(found) => FileId::of_image(&found),
+            Err(_) => None,
+        };
+        let call = match seen {
+            Some(id) => RawCall::Looked(id),
+            None => RawCall::Refused,
+        };
+        self.history = History::with(&self.history, &call, &[]);
+        seen
     }
 
-    /// Writes a first part of the bytes from `off` on, and answers how many. `None`: it failed, or wrote none.
-    pub(crate) fn store(&mut self, off: u64, bytes: &[u8]) -> Option<usize>
-        ensures count { IfSome result (λ n. (0 < n) × (n ≤ length bytes.now)) }
-        ensures noted { Notes (Stored off) bytes.now self.old.history.events self.new.history.events result }
+    /// Reads into the beginning of `buf` from `off` on.
+    pub(crate) fn read(&mut self, off: u64, buf: &mut [u8]) -> Tried
+        ensures { Notes (Read off) buf.new self.old.history.events self.new.history.events result }
     {
-        match self.file.write_at(bytes, off) {
+        let (tried, call) = match self.file.read_at(buf, off) {
+            Ok(count) if count > 0 => {
+                self.history = History::with(&self.history, &RawCall::Read(off), &buf[..count]);
+                return Tried::Done(count);
+            }
+            other => in_vain(other),
+        };
+        self.history = History::with(&self.history, &call, &[]);
+        tried
+    }
+
+    /// Writes a first part of the bytes from `off` on.
+    pub(crate) fn store(&mut self, off: u64, bytes: &[u8]) -> Tried
+        ensures { Notes (Stored off) bytes.now self.old.history.events self.new.history.events result }
+    {
+        let (tried, call) = match self.file.write_at(bytes, off) {
             Ok(count) if count > 0 => {
                 self.history = History::with(&self.history, &RawCall::Stored(off), &bytes[..count]);
-                Some(count)
+                return Tried::Done(count);
             }
-            _ => {
-                self.history = History::with(&self.history, &RawCall::Refused, &[]);
-                None
-            }
-        }
+            other => in_vain(other),
+        };
+        self.history = History::with(&self.history, &call, &[]);
+        tried
     }
 
     /// Sets the length, or says that it could not.
@@ -98,11 +150,6 @@ impl RawFile {
         };
         self.history = History::with(&self.history, &call, &[]);
         done
-    }
-
-    /// What the system knows of the file.
-    pub(crate) fn metadata(&self) -> io::Result<Metadata> {
-        self.file.metadata()
     }
 
     /// Where a seek to the end stands: the length of a file or of a block device.

@@ -1,3 +1,5 @@
+ghost use Rattle.std.specs.Prelude.{◌≡◌, length};
+
 use crate::buffer::Buffer;
 use crate::folders::Folders;
 use btr_base::Memory;
@@ -8,6 +10,7 @@ use std::alloc::Global;
 pub(crate) struct Room {
     pub(crate) buffer: Buffer,
     pub(crate) folders: Folders,
+    ghost unused: { length folders ≡ 0 },
 }
 
 impl Room {

@@ -1,7 +1,8 @@
 // A sink of folders and files, as the engine sees it.
-ghost use Rattle.std.specs.Prelude.{◌≡◌, ◌≢◌, ◌<◌, [], replicate};
+ghost use Rattle.std.specs.Prelude.{◌≡◌, ◌≢◌, ◌<◌, Bool, false, [], replicate, OnOk, IfErr};
 ghost use Rattle.btr_rack.specs.Out.{CallAccount, IsCalm, Counts};
-ghost use Rattle.btr_rack.specs.Sink.{Sink, NotStarted, BetweenFiles, InFile, Steps, Grows, IsSound, started, entered, left, begun, finished};
+ghost use Rattle.btr_rack.specs.Name.{IsGoodName};
+ghost use Rattle.btr_rack.specs.Sink.{Sink, NotStarted, BetweenFiles, InFile, is_in_file, Steps, Grows, IsSound, started, entered, left, begun, finished};
 
 use crate::SinkError;
 
@@ -14,15 +15,20 @@ pub trait TreeSink {
     /// How often a call failed, and whether one is to fail or to want memory.
     ghost account: { Self → CallAccount };
 
+    /// Some of what was written isn't stored yet.
+    ghost waits: { Self → Bool };
+
     /// Begins in the destination folder.
     fn start(&mut self, name: &str) -> Result<(), SinkError>
         requires { (sink self.old).stage ≡ NotStarted }
         ensures step { Steps (started name.now) (sink self.old) (sink self.new) result }
         ensures account { Counts (account self.old) (account self.new) result };
 
-    /// Makes a folder and enters it.
+    /// Makes a folder and enters it, at most 512 below the destination.
     fn dir(&mut self, name: &str) -> Result<(), SinkError>
-        requires { (sink self.old).stage ≡ BetweenFiles }
+        requires between { (sink self.old).stage ≡ BetweenFiles }
+        requires good { IsGoodName name.now }
+        requires above { (sink self.old).depth < 512 }
         ensures step { Steps (entered name.now) (sink self.old) (sink self.new) result }
         ensures account { Counts (account self.old) (account self.new) result };
 
@@ -35,7 +41,8 @@ pub trait TreeSink {
 
     /// Begins an empty file.
     fn file(&mut self, name: &str) -> Result<(), SinkError>
-        requires { (sink self.old).stage ≡ BetweenFiles }
+        requires between { (sink self.old).stage ≡ BetweenFiles }
+        requires good { IsGoodName name.now }
         ensures step { Steps (begun name.now) (sink self.old) (sink self.new) result }
         ensures account { Counts (account self.old) (account self.new) result };
 
@@ -58,6 +65,16 @@ pub trait TreeSink {
         requires { (sink self.old).stage ≡ InFile }
         ensures step { Steps finished (sink self.old) (sink self.new) result }
         ensures account { Counts (account self.old) (account self.new) result };
+
+    /// Stores what waits. Whatever it answers, what was written stays as it was, and the file unfinished.
+    fn flush(&mut self) -> Result<(), SinkError>
+        ensures same { sink self.new ≡ sink self.old }
+        ensures stored { OnOk result (waits self.new ≡ false) }
+        ensures refused { IfErr result (λ error. error ≡ SinkError.Failed) }
+        ensures account { Counts (account self.old) (account self.new) result };
+
+    /// Only of an unfinished file something waits.
+    ghost settled: { (s : Self) → is_in_file (sink s).stage ≡ false → waits s ≡ false };
 
     /// A file is unfinished exactly in a file, and nothing was written before the start.
     ghost sound: { (s : Self) → IsSound (sink s) };

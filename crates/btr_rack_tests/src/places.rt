@@ -1,11 +1,12 @@
 // The sink that is a real folder.
-ghost use Rattle.std.specs.Prelude.{◌≡◌, OnOk};
+ghost use Rattle.std.specs.Prelude.{◌≡◌, ◌+◌, ◌<◌, ◌≤◌, OnOk};
+ghost use Rattle.btr_rack.specs.Name.{IsGoodName};
 ghost use Rattle.btr_rack.specs.Sink.{BetweenFiles};
 
 use crate::folder::temporary;
 use btr_rack::{FolderTree, SinkError, TreeSink};
 use std::alloc::{AllocError, Global};
-use std::os::unix::fs::symlink;
+use std::os::unix::fs::{PermissionsExt, symlink};
 use std::test::Fail;
 use std::{env, fs, io};
 
@@ -104,8 +105,10 @@ fn a_link_is_no_destination(rt: HostRuntime) -> Result<(), Fail> {
 
 // Makes and leaves a folder whose name has a line's end.
 fn make_lines<T: TreeSink>(tree: &mut T) -> Result<(), SinkError>
-    requires { (T.sink tree.old).stage ≡ BetweenFiles }
-    ensures { OnOk result ((T.sink tree.new).stage ≡ BetweenFiles) }
+    requires between { (T.sink tree.old).stage ≡ BetweenFiles }
+    requires above { (T.sink tree.old).depth < 512 }
+    ensures between { OnOk result ((T.sink tree.new).stage ≡ BetweenFiles) }
+    ensures depth { OnOk result ((T.sink tree.new).depth ≡ (T.sink tree.old).depth) }
 {
     tree.dir("lines\nand spaces")?;
     tree.up()
@@ -116,7 +119,7 @@ fn is_folder(rt: &HostRuntime, name: &str) -> io::Result<bool> {
 }
 
 #[test]
-fn names_that_are_not_plain_are_faults(rt: HostRuntime) -> Result<(), Fail> {
+fn links_are_faults(rt: HostRuntime) -> Result<(), Fail> {
     let out = temporary(&rt, "names")?;
     let mut tree = FolderTree::new(&rt, rt.alloc());
     tree.start(out.as_str())?;
@@ -129,43 +132,22 @@ fn names_that_are_not_plain_are_faults(rt: HostRuntime) -> Result<(), Fail> {
     Ok(())
 }
 
-// What a new sink answers for a folder and for a file of a name.
-fn made(
-    rt: &HostRuntime,
-    out: &str,
-    name: &str,
-) -> Result<(Result<(), SinkError>, Result<(), SinkError>), SinkError> {
-    let mut tree = FolderTree::new(rt, rt.alloc());
-    tree.start(out)?;
-    Ok((tree.dir(name), tree.file(name)))
-}
-
-#[test]
-fn names_do_not_leave_the_folder(rt: HostRuntime) -> Result<(), Fail> {
-    let out = temporary(&rt, "plain")?;
-    for name in ["", ".", "..", "a/b", "/", "a\0b"] {
-        let (dir, file) = made(&rt, out.as_str(), name)?;
-        assert_eq!(rt; dir, Err(SinkError::Failed), "dir {name:?}");
-        assert_eq!(rt; file, Err(SinkError::Failed), "file {name:?}");
-        env::set_current_dir(&rt, "..")?;
-    }
-    fs::remove_dir(&rt, out.as_str())?;
-    Ok(())
-}
-
 // Makes folders in one another.
 fn go_down<T: TreeSink>(tree: &mut T, name: &str, levels: u64) -> Result<(), SinkError>
-    requires { (T.sink tree.old).stage ≡ BetweenFiles }
+    requires between { (T.sink tree.old).stage ≡ BetweenFiles }
+    requires good { IsGoodName name.now }
+    requires room { (T.sink tree.old).depth + levels ≤ 512 }
     ensures { OnOk result ((T.sink tree.new).stage ≡ BetweenFiles) }
 {
-    for _ in 0..levels {
+    for _level in 0..levels {
         tree.dir(name)?;
     }
     Ok(())
 }
 
 fn make_deep<T: TreeSink>(tree: &mut T) -> Result<(), SinkError>
-    requires { (T.sink tree.old).stage ≡ BetweenFiles }
+    requires between { (T.sink tree.old).stage ≡ BetweenFiles }
+    requires top { (T.sink tree.old).depth ≡ 0 }
 {
     go_down(tree, LONGEST_NAME, 512)?;
     tree.file(LONGEST_NAME)?;
@@ -193,5 +175,105 @@ fn folders_of_depth_512_are_entered(rt: HostRuntime) -> Result<(), Fail> {
     fs::remove_file(&rt, LONGEST_NAME)?;
     go_up(&rt, LONGEST_NAME, 512)?;
     go_up(&rt, out.as_str(), 1)?;
+    Ok(())
+}
+
+// Makes a file of one byte.
+fn make_small<T: TreeSink>(tree: &mut T, name: &str) -> Result<(), SinkError>
+    requires between { (T.sink tree.old).stage ≡ BetweenFiles }
+    requires good { IsGoodName name.now }
+    ensures between { OnOk result ((T.sink tree.new).stage ≡ BetweenFiles) }
+    ensures depth { OnOk result ((T.sink tree.new).depth ≡ (T.sink tree.old).depth) }
+{
+    tree.file(name)?;
+    tree.put(b"x")?;
+    tree.done()
+}
+
+// Makes a folder with a file in it, and stays there.
+fn make_level<T: TreeSink>(tree: &mut T, name: &str, file: &str) -> Result<(), SinkError>
+    requires between { (T.sink tree.old).stage ≡ BetweenFiles }
+    requires above { (T.sink tree.old).depth < 512 }
+    requires good { IsGoodName name.now }
+    requires good_file { IsGoodName file.now }
+    ensures between { OnOk result ((T.sink tree.new).stage ≡ BetweenFiles) }
+    ensures depth { OnOk result ((T.sink tree.new).depth ≡ (T.sink tree.old).depth + 1) }
+{
+    tree.dir(name)?;
+    make_small(tree, file)
+}
+
+// Leaves a folder, and makes a file in the one above it.
+fn leave_level<T: TreeSink>(tree: &mut T, file: &str) -> Result<(), SinkError>
+    requires between { (T.sink tree.old).stage ≡ BetweenFiles }
+    requires below { 0 < (T.sink tree.old).depth }
+    requires good_file { IsGoodName file.now }
+    ensures between { OnOk result ((T.sink tree.new).stage ≡ BetweenFiles) }
+    ensures depth { OnOk result ((T.sink tree.new).depth + 1 ≡ (T.sink tree.old).depth) }
+{
+    tree.up()?;
+    make_small(tree, file)
+}
+
+fn make_levels<T: TreeSink>(tree: &mut T) -> Result<(), SinkError>
+    requires between { (T.sink tree.old).stage ≡ BetweenFiles }
+    requires top { (T.sink tree.old).depth ≡ 0 }
+{
+    make_level(tree, "a", "1")?;
+    make_level(tree, "b", "2")?;
+    make_level(tree, "c", "3")?;
+    leave_level(tree, "4")?;
+    leave_level(tree, "5")?;
+    leave_level(tree, "6")
+}
+
+#[test]
+fn folders_are_left_to_those_above(rt: HostRuntime) -> Result<(), Fail> {
+    let out = temporary(&rt, "levels")?;
+    let mut tree = FolderTree::new(&rt, rt.alloc());
+    tree.start(out.as_str())?;
+    make_levels(&mut tree)?;
+    for file in ["a/1", "a/b/2", "a/b/c/3", "a/b/4", "a/5", "6"] {
+        assert_eq!(rt; len_of(&rt, file)?, 1, "{file}");
+    }
+    remove(&rt, out.as_str())?;
+    Ok(())
+}
+
+fn mode_of(rt: &HostRuntime, name: &str) -> io::Result<u32> {
+    Ok(fs::metadata(rt, name)?.permissions().mode() & 0o777)
+}
+
+#[test]
+fn what_is_made_is_private(rt: HostRuntime) -> Result<(), Fail> {
+    let out = temporary(&rt, "private")?;
+    let mut tree = FolderTree::new(&rt, rt.alloc());
+    tree.start(out.as_str())?;
+    make_levels(&mut tree)?;
+    for (name, mode) in [(".", 0o700), ("a", 0o700), ("a/b/c", 0o700), ("6", 0o600)] {
+        assert_eq!(rt; mode_of(&rt, name)?, mode, "{name}");
+    }
+    remove(&rt, out.as_str())?;
+    Ok(())
+}
+
+// Begins a file, and stores what waits of it.
+fn make_unfinished<T: TreeSink>(tree: &mut T) -> Result<(), SinkError>
+    requires { (T.sink tree.old).stage ≡ BetweenFiles }
+{
+    tree.file("f")?;
+    tree.put(b"abc")?;
+    tree.gap(5)?;
+    tree.flush()
+}
+
+#[test]
+fn what_waits_is_stored(rt: HostRuntime) -> Result<(), Fail> {
+    let out = temporary(&rt, "unfinished")?;
+    let mut tree = FolderTree::new(&rt, rt.alloc());
+    tree.start(out.as_str())?;
+    make_unfinished(&mut tree)?;
+    assert!(rt; fs::read(&rt, "f")?.as_slice() == b"abc\0\0\0\0\0".as_slice());
+    remove(&rt, out.as_str())?;
     Ok(())
 }

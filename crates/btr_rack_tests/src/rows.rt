@@ -82,6 +82,16 @@ fn a_sink_fails_where_it_is_made_to(rt: HostRuntime) -> Result<(), Fail> {
 }
 
 #[test]
+fn storing_what_waits_fails_where_it_is_made_to(rt: HostRuntime) -> Result<(), Fail> {
+    let mut tree = MemTree::new(rt.alloc());
+    tree.fail_call(2)?;
+    tree.start("out")?;
+    assert_eq!(rt; tree.flush(), Err(SinkError::Failed));
+    assert_eq!(rt; tree.flush(), Ok(()));
+    Ok(())
+}
+
+#[test]
 fn text_is_put(rt: HostRuntime) -> Result<(), Fail> {
     let mut out = MemOut::new(rt.alloc());
     out.fail_call(2)?;

@@ -38,8 +38,12 @@ super_of bytes = record {
   devid = number_at 8 0xc9 bytes;
   dev_uuid = bytes_at 16 0x10b bytes;
   label = bytes_at 256 0x12b bytes;
+  cache_generation = number_at 8 0x22b bytes;
+  uuid_tree_generation = number_at 8 0x233 bytes;
   metadata_uuid = bytes_at 16 0x23b bytes;
+  reserved = bytes_at 224 0x24b bytes;
   array = bytes_at 2048 0x32b bytes;
+  backups = bytes_at 1237 0xb2b bytes;
 }
 
 -- `_BHRfS_M`

@@ -1,4 +1,4 @@
-use crate::SuperFault;
+use crate::{CompatRo, Incompat, SuperFault};
 use btr_base::{SumKind, array_at, is_summed, u16_at, u32_at, u64_at};
 
 /// The fields of a superblock. Addresses and sizes are in bytes.
@@ -38,11 +38,11 @@ pub struct Super {
     pub sys_chunk_array_size: u32,
     /// The transaction that wrote the chunk tree's root block.
     pub chunk_root_generation: u64,
-    /// Feature bits, of which none refuses a reader.
+    /// Features that nobody has to know; no bit has a name.
     pub compat: u64,
-    /// Feature bits, of which none refuses a reader.
+    /// The features [`CompatRo`], of which none refuses a reader.
     pub compat_ro: u64,
-    /// Feature bits that a reader has to know.
+    /// The features [`Incompat`].
     pub incompat: u64,
     /// 0 is CRC-32C, 1 xxhash64, 2 SHA-256.
     pub csum_type: u16,
@@ -58,10 +58,18 @@ pub struct Super {
     pub dev_uuid: [u8; 16],
     /// A text that ends before its first zero byte.
     pub label: [u8; 256],
-    /// The id in the headers of tree blocks, where the incompat bit 400h is set.
+    /// The transaction of the free space cache.
+    pub cache_generation: u64,
+    /// The transaction of the tree of subvolumes' ids.
+    pub uuid_tree_generation: u64,
+    /// The id in the headers of tree blocks, where [`Incompat::METADATA_UUID`] is set.
     pub metadata_uuid: [u8; 16],
+    /// Bytes that nothing is read from.
+    pub reserved: [u8; 224],
     /// The chunks that hold the chunk tree itself, as keys and items back to back.
     pub array: [u8; 2048],
+    /// The roots of the last four transactions, to the copy's end.
+    pub backups: [u8; 1237],
 }
 
 const MAGIC: [u8; 8] = *b"_BHRfS_M";
@@ -88,6 +96,20 @@ impl Super {
             Some(kind) if is_summed(kind, bytes) => Ok(Super::fields(bytes)),
             Some(_) => Err(SuperFault::Sum),
         }
+    }
+
+    /// The features that only a writer has to know.
+    pub fn compat_ro(&self) -> CompatRo
+        ensures { result.0 ≡ self.now.compat_ro }
+    {
+        CompatRo(self.compat_ro)
+    }
+
+    /// The features that a reader has to know.
+    pub fn incompat(&self) -> Incompat
+        ensures { result.0 ≡ self.now.incompat }
+    {
+        Incompat(self.incompat)
     }
 
     fn fields(bytes: &[u8]) -> Super
@@ -122,8 +144,12 @@ impl Super {
             devid: u64_at(bytes, 0xc9),
             dev_uuid: array_at(bytes, 0x10b),
             label: array_at(bytes, 0x12b),
+            cache_generation: u64_at(bytes, 0x22b),
+            uuid_tree_generation: u64_at(bytes, 0x233),
             metadata_uuid: array_at(bytes, 0x23b),
+            reserved: array_at(bytes, 0x24b),
             array: array_at(bytes, 0x32b),
+            backups: array_at(bytes, 0xb2b),
         }
     }
 }

@@ -43,8 +43,12 @@ pub(super) fn sample(csum_type: u16) -> Super {
         devid: 13,
         dev_uuid: [0x22; 16],
         label,
+        cache_generation: 14,
+        uuid_tree_generation: 15,
         metadata_uuid: [0x33; 16],
+        reserved: [0x55; 224],
         array: [0x44; 2048],
+        backups: [0x66; 1237],
     }
 }
 

@@ -1,5 +1,5 @@
 -- The text of pieces.
-use Rattle.std.specs.Prelude.{ℕ, false, ◌==◌, if◌then◌else◌, List, [], ◌∷◌, ◌++◌, codes}
+use Rattle.std.specs.Prelude.{ℕ, false, List, [], ◌∷◌, ◌++◌, codes, unwrap_or}
 use Rattle.std.specs.List.{flat_map}
 use Rattle.std.specs.Fmt.{decimal, digits}
 use Rattle.std.specs.Int.{w64, to_be_bytes}
@@ -7,6 +7,7 @@ use Rattle.hex.specs.Hex.{encode_lower}
 use Rattle.uuid.specs.Text.{hyphenated_text, lower}
 use Rattle.btr_base.specs.Shown.{shown}
 use Rattle.btr_base.specs.declared.key.Key.{Key}
+use Rattle.btr_items.specs.Types.{type_name}
 use Rattle.btr_text.specs.declared.piece.Piece.{Piece}
 use Rattle.btr_text.specs.declared.piece.Piece.TheVariants.{Plain, Decimal, Hexadecimal, Octal, Name, Key as key_piece, HexadecimalBytes, Id}
 
@@ -30,32 +31,9 @@ id_text id = hyphenated_text lower id
 abbrev pub name_text : List ℕ → List ℕ
 name_text name = flat_map shown name
 
--- the names of the item types; another type has its number
+-- the name of an item type, or its number
 abbrev pub kind_text : ℕ → List ℕ
-kind_text kind =
-    if kind == 1 then codes "INODE_ITEM"
-    else if kind == 12 then codes "INODE_REF"
-    else if kind == 13 then codes "INODE_EXTREF"
-    else if kind == 24 then codes "XATTR_ITEM"
-    else if kind == 48 then codes "ORPHAN_ITEM"
-    else if kind == 84 then codes "DIR_ITEM"
-    else if kind == 96 then codes "DIR_INDEX"
-    else if kind == 108 then codes "EXTENT_DATA"
-    else if kind == 128 then codes "EXTENT_CSUM"
-    else if kind == 132 then codes "ROOT_ITEM"
-    else if kind == 144 then codes "ROOT_BACKREF"
-    else if kind == 156 then codes "ROOT_REF"
-    else if kind == 168 then codes "EXTENT_ITEM"
-    else if kind == 169 then codes "METADATA_ITEM"
-    else if kind == 176 then codes "TREE_BLOCK_REF"
-    else if kind == 178 then codes "EXTENT_DATA_REF"
-    else if kind == 182 then codes "SHARED_BLOCK_REF"
-    else if kind == 184 then codes "SHARED_DATA_REF"
-    else if kind == 192 then codes "BLOCK_GROUP_ITEM"
-    else if kind == 204 then codes "DEV_EXTENT"
-    else if kind == 216 then codes "DEV_ITEM"
-    else if kind == 228 then codes "CHUNK_ITEM"
-    else codes "UNKNOWN." ++ decimal kind
+kind_text kind = unwrap_or (type_name kind) (codes "UNKNOWN." ++ decimal kind)
 
 -- a key, with the name of its item type
 abbrev pub key_text : Key → List ℕ

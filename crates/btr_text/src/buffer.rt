@@ -7,10 +7,10 @@ ghost use Rattle.btr_text.specs.Pieces.{name_text, bytes_text, kind_text, key_te
 ghost use Rattle.btr_text.specs.Text.{Writes};
 
 use crate::digits::{byte_digits, hexadecimal, octal};
-use crate::kind::kind_name;
 use crate::piece::Piece;
 use arrayvec::ArrayVec;
 use btr_base::{Key, show_byte};
+use btr_items::item;
 use btr_rack::{Out, SinkError};
 use std::marker::Model;
 use uuid::Uuid;
@@ -147,7 +147,7 @@ impl TextBuffer {
         ensures text { Writes (O.text out.old) (O.text out.new) self.old self.new (kind_text kind) result }
         ensures account { Counts (O.account out.old) (O.account out.new) result }
     {
-        match kind_name(kind) {
+        match item::name_of(kind) {
             Some(name) => self.add(name, out),
             None => {
                 self.add(b"UNKNOWN.", out)?;

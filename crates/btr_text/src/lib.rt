@@ -8,7 +8,6 @@
 
 mod buffer;
 mod digits;
-mod kind;
 mod piece;
 mod put;
 #[cfg(test)]

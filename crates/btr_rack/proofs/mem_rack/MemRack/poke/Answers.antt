@@ -26,7 +26,7 @@ returns-then-off-len c =
 pub returns-in_default-write_image : goal.returns-in_default-write_image
 returns-in_default-write_image c =
     let at : Some c.in-Some.at ≡ position (is_named c.args.name.now) c.self.inside.images.items = rw (← c.deref.ensures.value) c.in-Some.ensures in
-    let old : MemoryRack = record { images = c.self.inside.images.items; opened = c.self.inside.opened; failing = c.self.inside.failing; unsynced = c.self.inside.unsynced.places; account = c.self.inside.ledger } in
+    let old : MemoryRack = record { images = c.self.inside.images.items; opened = c.self.inside.opened; failing = c.self.inside.failing; unsynced = c.self.inside.unsynced.places; never_synced = c.self.inside.never_synced.places; account = c.self.inside.ledger } in
     let some = c.in_default-write_image.ensures in
     let sized : length some.0 ≡ length c.args.bytes.now = some.1 in
     rw (← c.self.view_is)
@@ -35,6 +35,6 @@ returns-in_default-write_image c =
 pub returns : goal.returns
 returns c =
     let at : Some c.in-Some.at ≡ position (is_named c.args.name.now) c.self.inside.images.items = rw (← c.deref.ensures.value) c.in-Some.ensures in
-    let old : MemoryRack = record { images = c.self.inside.images.items; opened = c.self.inside.opened; failing = c.self.inside.failing; unsynced = c.self.inside.unsynced.places; account = c.self.inside.ledger } in
+    let old : MemoryRack = record { images = c.self.inside.images.items; opened = c.self.inside.opened; failing = c.self.inside.failing; unsynced = c.self.inside.unsynced.places; never_synced = c.self.inside.never_synced.places; account = c.self.inside.ledger } in
     rw (← c.self.view_is)
     (rewrites c.args.name.now c.args.off c.in-Some.at c.args.bytes.now old c.write_image.new.images.items c.index.result.now at c.index.ensures (omega arith) c.in-Ok.ensures)

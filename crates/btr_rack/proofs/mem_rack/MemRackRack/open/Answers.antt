@@ -33,7 +33,7 @@ returns-in-Some-clause-fails c =
     let shelved = shelf_at c.args.name.now c.self.inside.images.items c.self.inside.opened c.in-Some.at (zeros [] 0) answer in
     let spared : call_strikes c.self.inside.failing ≡ false = cc c.call-struck.ensures.strikes in
     rw (← c.self.view_is)
-    (ap (λ b. b || is_none (shelf_of (record { images = c.self.inside.images.items; opened = c.self.inside.opened; failing = c.self.inside.failing; unsynced = c.self.inside.unsynced.places; account = c.self.inside.ledger }) c.args.name.now)) spared ∙ ap is_none shelved)
+    (ap (λ b. b || is_none (shelf_of (record { images = c.self.inside.images.items; opened = c.self.inside.opened; failing = c.self.inside.failing; unsynced = c.self.inside.unsynced.places; never_synced = c.self.inside.never_synced.places; account = c.self.inside.ledger }) c.args.name.now)) spared ∙ ap is_none shelved)
 
 pub returns-in_default-place_on_shelf-clause-fails : goal.returns-in_default-place_on_shelf-clause-fails
 returns-in_default-place_on_shelf-clause-fails c =
@@ -50,7 +50,7 @@ returns-in_default-place_on_shelf-clause-fails c =
 
 pub returns-in_default-place_on_shelf-clause-sure : goal.returns-in_default-place_on_shelf-clause-sure
 returns-in_default-place_on_shelf-clause-sure c =
-    let old : MemoryRack = record { images = c.self.inside.images.items; opened = c.self.inside.opened; failing = c.self.inside.failing; unsynced = c.self.inside.unsynced.places; account = c.self.inside.ledger } in
+    let old : MemoryRack = record { images = c.self.inside.images.items; opened = c.self.inside.opened; failing = c.self.inside.failing; unsynced = c.self.inside.unsynced.places; never_synced = c.self.inside.never_synced.places; account = c.self.inside.ledger } in
     elim c.in_default-place_on_shelf.branch [
       | in_default-place_on_shelf-via-in-Some+else-not-struck w ↦
           let struck : call_strikes c.self.inside.failing ≡ true = cc c.call-struck.ensures.strikes in

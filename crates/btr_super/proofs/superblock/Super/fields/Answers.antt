@@ -32,6 +32,10 @@ returns c = λ i. record {
   devid = c.u64_at-15.ensures i;
   dev_uuid = c.array_at-2.ensures i;
   label = c.array_at-3.ensures i;
+  cache_generation = c.u64_at-16.ensures i;
+  uuid_tree_generation = c.u64_at-17.ensures i;
   metadata_uuid = c.array_at-4.ensures i;
-  array = c.array_at-5.ensures i;
+  reserved = c.array_at-5.ensures i;
+  array = c.array_at-6.ensures i;
+  backups = c.array_at-7.ensures i;
 }

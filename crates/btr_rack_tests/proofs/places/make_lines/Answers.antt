@@ -1,0 +1,8 @@
+use Rattle.std.proofs.Common.{refl}
+use Rattle.std.specs.Str.{is_utf8, chars}
+use Rattle.std.specs.Char.{encode_utf8}
+use Rattle.btr_rack_tests.proofs.places.make_lines.Goals as goal
+
+pub dir-requires-clause-good : goal.dir-requires-clause-good
+unfolding is_utf8 chars encode_utf8
+dir-requires-clause-good g c = refl
