@@ -1,10 +1,12 @@
 -- Bytes of an image that are kept, and the sectors that lie in them.
-use Rattle.std.specs.Prelude.{◌≡◌, ℕ, ◌+◌, ◌-◌, ◌≤◌, ◌<◌, Bool, true, false, List, length, take, slice_range, Option, Some, None, IfSome, Result, Ok, Err, is_ok}
+use Rattle.std.specs.Prelude.{◌≡◌, ℕ, ◌+◌, ◌-◌, ◌≤◌, ◌<◌, Bool, true, false, List, length, take, slice_get, slice_range, Option, Some, None, IfSome, Result, Ok, Err, is_ok}
 use Rattle.btr_base.specs.declared.stored.Sum.{Sum}
-use Rattle.btr_chunk.specs.Mapping.{data_part}
+use Rattle.btr_chunk.specs.declared.place.Part.{Part}
 use Rattle.btr_rack.specs.Rack.{Seen, Slot, Steady, len_of, bytes_of, AreBytesOf}
 use Rattle.btr_rack.specs.declared.place.Place.{Place}
-use Rattle.btr_read.specs.Candidates.{Target, range_of}
+use Rattle.btr_read.specs.Candidates.{Target, candidates, range_of}
+use Rattle.btr_read.specs.declared.candidate.Candidate.{Candidate}
+use Rattle.btr_read.specs.declared.candidate.Candidate.TheVariants.{Read}
 use Rattle.btr_read.specs.Cause.{LiesIn}
 use Rattle.btr_read.specs.Fate.{Fault, fate, sought}
 use Rattle.btr_read.specs.Layout.{Layout}
@@ -14,10 +16,24 @@ use Rattle.btr_read.specs.declared.want.Want.TheVariants.{Tree, Block, Sector, P
 use Rattle.btr_ahead.specs.declared.data_ahead.DataAhead.{DataAhead}
 use Rattle.btr_ahead.specs.declared.kept_bytes.KeptBytes.{KeptBytes}
 
--- where the part stands that is read first of what is sought: the first copy, or the slice itself
+-- the part that a candidate reads as it stands
+abbrev pub part_read : Option Candidate → Option Part
+part_read None = None
+part_read (Some (Read part)) = Some part
+part_read (Some candidate) = None
+
+-- the part that is read first of what is sought, if the first candidate reads one as it stands
+abbrev pub first_part : Target → Option Part
+first_part t = part_read (slice_get (candidates t) 0)
+
+abbrev pub range_of_part : Target → Option Part → Option Place
+range_of_part t None = None
+range_of_part t (Some part) = range_of t part
+
+-- .. and where it stands
 abbrev pub first_range : Result Target Fault → Option Place
 first_range (Err fault) = None
-first_range (Ok t) = range_of t (data_part t.chunk.profile 0 t.at)
+first_range (Ok t) = range_of_part t (first_part t)
 
 -- the place of the bytes that are sought first for the sector at an address, if it has a position, and they stand
 abbrev pub first_place : Layout → ℕ → Option Place

@@ -1,6 +1,9 @@
 -- A rack that reads ahead, and what is seen of it.
-use Rattle.std.specs.Prelude.{false, ℕ, List, Option, IfSome, Box}
-use Rattle.btr_rack.specs.Rack.{Account, IsRack, Seen}
+use Rattle.std.specs.Prelude.{◌≡◌, ◌⊎◌, ◌<◌, false, ℕ, List, Option, IfSome, Box, Result, Err}
+use Rattle.btr_rack.specs.Rack.{Account, Accounts, IsRack, NoneFailed, Seen, range_in}
+use Rattle.btr_rack.specs.declared.error.RackError.{RackError}
+use Rattle.btr_rack.specs.declared.error.RackError.TheVariants.{Failed}
+use Rattle.btr_rack.specs.declared.place.Place.{Place}
 use Rattle.btr_ahead.specs.Ahead.{AreRead}
 use Rattle.btr_ahead.specs.declared.kept_bytes.KeptBytes.{KeptBytes}
 
@@ -23,3 +26,17 @@ seen_ahead below account = record below { sure = false; account = account }
 -- .. which is that of a rack
 pub sound_ahead : (below : Seen) → IsRack below → (account : Account) → IsRack (seen_ahead below account)
 sound_ahead below is account = record { sized = is.sized; bytes = is.bytes; calm = λ e. cc }
+
+-- one call failed: a read of so many bytes from a place on
+abbrev pub FailsFrom : Place → ℕ → Account → Account → Type 0
+FailsFrom place len old new = Accounts {T = Unit {0}} (range_in place.slot place.off len) old new (Err Failed)
+
+-- no call failed, or, where a sector is read, one that was to read more than this sector from its beginning on
+abbrev pub MayFailAhead : Place → Account → Account → Type 0
+MayFailAhead place old new = NoneFailed old new ⊎ ((place.len ≡ 4096) × ((len : ℕ) × (4096 < len) × FailsFrom place len old new))
+
+-- What a read does to the account of the rack below: a read ahead may have failed, and then it is as the answer says. So what failed wasn't tried again.
+pub record AccountsAhead {T : Type 0} (place : Place) (old new : Account) (result : Result T RackError) : Type 0 where
+  pub between : Account
+  pub ahead : MayFailAhead place old between
+  pub read : Accounts place between new result

@@ -1,8 +1,8 @@
 // A rack that reads sectors ahead.
-ghost use Rattle.std.specs.Prelude.{◌≡◌, List, ℕ, Option, length, IsTrue};
-ghost use Rattle.btr_rack.specs.Rack.{AreBytesOf, Accounts, OnlyReads, no_failure};
+ghost use Rattle.std.specs.Prelude.{◌≡◌, ◌+◌, ◌<◌, ◌≤◌, List, ℕ, Option, length, false, IsTrue, OnOk, IsErrOf};
+ghost use Rattle.btr_rack.specs.Rack.{AreBytesOf, Accounts, AccountsCall, AccountsNextOpening, FailsUnsure, OnlyCounts, OnlyReads, Opens, OpensSurely, Syncs, TakesFromShelf, Unsyncs, Writes, len_of, no_failure, opened_to_write, range_in};
 ghost use Rattle.btr_ahead.specs.Ahead.{AreRead, IsInSlot};
-ghost use Rattle.btr_ahead.specs.Reader.{reader, KeepsRead};
+ghost use Rattle.btr_ahead.specs.Reader.{AccountsAhead, KeepsRead, MayFailAhead, reader, seen_ahead};
 
 use crate::first_place::{FirstPlace, SECTOR};
 use crate::kept_bytes::{KeptBytes, NOWHERE, begins_in};
@@ -71,16 +71,20 @@ fn clear(kept: &mut Option<Box<KeptBytes>>)
     }
 }
 
-// Reads the sector of a place with those behind it, so many in all, unless it is kept, or a read of more failed there.
+// Reads the sector of a place with those behind it, so many in all, unless it is kept, none stands behind it, or a read of more failed there.
 fn look<R: Rack>(kept: &mut KeptBytes, place: Place, count: u64, rack: &mut R)
     requires slot { IsInSlot (R.seen rack.old).slots place }
     requires ahead { AreRead (R.seen rack.old).held kept.old }
     ensures reads { OnlyReads (R.seen rack.old) (R.seen rack.new) }
     ensures ahead { AreRead (R.seen rack.new).held kept.new }
+    ensures below { MayFailAhead place (R.seen rack.old).account (R.seen rack.new).account }
 {
-    if count > 1 && !kept.has_failed_at(place) {
+    if count < 2 || rack.len(place.slot) - place.off <= SECTOR || kept.has_failed_at(place) {
+        return;
+    }
+    if kept.piece(place).is_none() {
         let reach = u64::MAX;
-        kept.look(&FirstPlace { place, reach }, count, rack);
+        kept.read_from(&FirstPlace { place, reach }, count, rack);
     }
 }
 
@@ -114,14 +118,19 @@ impl<R: Rack> AheadRack<R> {
         }
     }
 
-    // Fills `buf` with a sector that is kept, or that follows the one before and was read with those behind it.
+    // Fills `buf`, if it is for a sector that is kept, or that follows the one before and was read with those behind it.
     fn fills(&mut self, place: Place, buf: &mut [u8]) -> bool
-        requires slot { IsInSlot (R.seen self.old.rack).slots place }
-        requires size { length buf.old ≡ 4096 }
+        requires slot { place.slot < length (R.seen self.old.rack).slots }
+        requires inside { place.off + place.len ≤ len_of (R.seen self.old.rack).slots place.slot }
+        requires size { length buf.old ≡ place.len }
         ensures reads { OnlyReads (R.seen self.old.rack) (R.seen self.new.rack) }
         ensures account { self.new.account ≡ self.old.account }
-        ensures bytes { IsTrue result → AreBytesOf (R.seen self.old.rack).held place.slot place.off 4096 buf.new }
+        ensures below { MayFailAhead place (R.seen self.old.rack).account (R.seen self.new.rack).account }
+        ensures bytes { IsTrue result → AreBytesOf (R.seen self.old.rack).held place.slot place.off place.len buf.new }
     {
+        if place.len != SECTOR {
+            return false;
+        }
         let mut count = self.run.add(place);
         if begins_in(place, self.failed) {
             count = 1;
@@ -140,13 +149,23 @@ impl<R: Rack> AheadRack<R> {
 }
 
 impl<R: Rack> Rack for AheadRack<R> {
-    ghost use Rattle.btr_ahead.specs.Reader.{seen_ahead, sound_ahead};
+    ghost use Rattle.btr_ahead.specs.Reader.{sound_ahead};
 
     ghost seen = { λ a. seen_ahead (R.seen a.rack) a.account };
 
     ghost sound = { λ a. sound_ahead (R.seen a.rack) (R.sound a.rack) a.account };
 
-    fn open(&mut self, name: &str, write: bool) -> Result<usize, RackError> {
+    fn open(&mut self, name: &str, write: bool) -> Result<usize, RackError>
+        ensures slots { Opens name.now write (R.seen self.old.rack).slots (R.seen self.new.rack).slots result }
+        ensures images { TakesFromShelf name.now (R.seen self.old.rack) (R.seen self.new.rack) result }
+        ensures unsynced { (R.seen self.new.rack).unsynced ≡ (R.seen self.old.rack).unsynced }
+        ensures never_synced { (R.seen self.new.rack).never_synced ≡ (R.seen self.old.rack).never_synced }
+        ensures account { AccountsNextOpening name.now write (seen_ahead (R.seen self.old.rack) self.old.account) (seen_ahead (R.seen self.new.rack) self.new.account) result }
+        ensures sure { OpensSurely name.now (seen_ahead (R.seen self.old.rack) self.old.account) (seen_ahead (R.seen self.new.rack) self.new.account) result }
+
+        // No opening that failed was tried again.
+        ensures below { AccountsNextOpening name.now write (R.seen self.old.rack) (R.seen self.new.rack) result }
+    {
         let Ok(opening) = Opening::new(self.alloc, name, write) else {
             return Err(RackError::Memory);
         };
@@ -167,10 +186,21 @@ impl<R: Rack> Rack for AheadRack<R> {
         self.rack.len(slot)
     }
 
-    fn read_at(&mut self, slot: usize, off: u64, buf: &mut [u8]) -> Result<(), RackError> {
+    fn read_at(&mut self, slot: usize, off: u64, buf: &mut [u8]) -> Result<(), RackError>
+        requires open { slot < length (R.seen self.old.rack).slots }
+        requires range { off + length buf.old ≤ len_of (R.seen self.old.rack).slots slot }
+        ensures bytes { OnOk result (AreBytesOf (R.seen self.old.rack).held slot off (length buf.old) buf.new) }
+        ensures same { OnlyCounts (seen_ahead (R.seen self.old.rack) self.old.account) (seen_ahead (R.seen self.new.rack) self.new.account) }
+        ensures account { Accounts (range_in slot off (length buf.old)) self.old.account self.new.account result }
+        ensures sure { FailsUnsure false result }
+        ensures memory { IsErrOf result RackError.Memory → ⊥ }
+
+        // No read that failed was tried again, but one of more than a sector as one of this sector.
+        ensures below { AccountsAhead (range_in slot off (length buf.old)) (R.seen self.old.rack).account (R.seen self.new.rack).account result }
+    {
         let len = buf.len() as u64;
         let place = Place { slot, off, len };
-        if len == SECTOR && self.fills(place, buf) {
+        if self.fills(place, buf) {
             return Ok(());
         }
         let answer = self.rack.read_at(slot, off, buf);
@@ -180,14 +210,34 @@ impl<R: Rack> Rack for AheadRack<R> {
         counted(&mut self.ledger, place, answer)
     }
 
-    fn write_at(&mut self, slot: usize, off: u64, bytes: &[u8]) -> Result<(), RackError> {
+    fn write_at(&mut self, slot: usize, off: u64, bytes: &[u8]) -> Result<(), RackError>
+        requires open { slot < length (R.seen self.old.rack).slots }
+        requires write { IsTrue (opened_to_write (R.seen self.old.rack).slots slot) }
+        requires range { off + length bytes.now ≤ len_of (R.seen self.old.rack).slots slot }
+        ensures held { Writes slot off bytes.now (R.seen self.old.rack).held (R.seen self.new.rack).held result }
+        ensures rest { Unsyncs (range_in slot off (length bytes.now)) (seen_ahead (R.seen self.old.rack) self.old.account) (seen_ahead (R.seen self.new.rack) self.new.account) }
+        ensures account { Accounts (range_in slot off (length bytes.now)) self.old.account self.new.account result }
+        ensures sure { FailsUnsure false result }
+
+        // No write that failed was tried again.
+        ensures below { AccountsCall (range_in slot off (length bytes.now)) (R.seen self.old.rack) (R.seen self.new.rack) result }
+    {
         let len = bytes.len() as u64;
         clear(&mut self.kept);
         let answer = self.rack.write_at(slot, off, bytes);
         counted(&mut self.ledger, Place { slot, off, len }, answer)
     }
 
-    fn sync(&mut self, slot: usize) -> Result<(), RackError> {
+    fn sync(&mut self, slot: usize) -> Result<(), RackError>
+        requires { slot < length (R.seen self.old.rack).slots }
+        ensures synced { Syncs slot (seen_ahead (R.seen self.old.rack) self.old.account) (seen_ahead (R.seen self.new.rack) self.new.account) result }
+        ensures account { Accounts (range_in slot 0 0) self.old.account self.new.account result }
+        ensures sure { FailsUnsure false result }
+        ensures memory { IsErrOf result RackError.Memory → ⊥ }
+
+        // No sync that failed was tried again.
+        ensures below { AccountsCall (range_in slot 0 0) (R.seen self.old.rack) (R.seen self.new.rack) result }
+    {
         let answer = self.rack.sync(slot);
         counted(&mut self.ledger, Place::of_slot(slot), answer)
     }

@@ -1,15 +1,18 @@
 // Where the bytes of a sector are sought first.
-ghost use Rattle.std.specs.Prelude.{◌≡◌, ◌≤◌, ◌-◌, if◌then◌else◌, IfSome, List};
+ghost use Rattle.std.specs.Prelude.{◌≡◌, ◌≤◌, ◌-◌, if◌then◌else◌, IfSome, List, Ok, Some, length};
 ghost use Rattle.btr_read.specs.Layout.{AreOpen};
 ghost use Rattle.btr_chunk.specs.Chunk.{IsChunk, is_striped};
-ghost use Rattle.btr_chunk.specs.Mapping.{data_part};
-ghost use Rattle.btr_ahead.specs.Ahead.{IsFirstPlace, IsInSlot, first_place};
+ghost use Rattle.btr_chunk.specs.Mapping.{HasPart, elements_of};
+ghost use Rattle.btr_chunk.specs.Table.{chunk_at};
+ghost use Rattle.btr_read.specs.Fate.{target};
+ghost use Rattle.btr_read.specs.declared.want.Want.TheVariants.{Plain};
+ghost use Rattle.btr_ahead.specs.Ahead.{IsFirstPlace, IsInSlot, first_part, first_place};
 ghost use Rattle.btr_rack.specs.Rack.{Slot};
 ghost use Rattle.std.specs.Option.{option_map};
 
 use btr_chunk::{Chunk, ELEMENT, Elements, Part, elements, place_of};
 use btr_rack::Place;
-use btr_read::Store;
+use btr_read::{Store, Want, way_at};
 
 /// How many bytes a sector has.
 pub(crate) const SECTOR: u64 = 4096;
@@ -22,14 +25,25 @@ pub(crate) struct FirstPlace {
     pub(crate) reach: u64,
 }
 
-// The part that is sought first: the first copy, or the slice itself.
-fn first_part(chunk: &Chunk, at: &Elements) -> Part
-    requires { IsChunk chunk.now }
-    ensures { result ≡ data_part chunk.now.profile 0 at.now }
+// The part that is sought first for the sector at an address, if the first candidate reads one as it stands: a copy, or
+// the slice itself.
+fn first_part(addr: u64, chunk: &Chunk, at: &Elements, store: &Store) -> Option<Part>
+    requires rule { IsChunk chunk.now }
+    requires chunk { chunk_at store.now.layout.chunks addr ≡ Some chunk.now }
+    requires placed { elements_of chunk.now addr 4096 ≡ Ok at.now }
+    ensures part { result ≡ first_part (target store.now.layout (Plain addr) chunk.now at.now) }
+    ensures there { IfSome result (HasPart chunk.now.profile (length chunk.now.stripes)) }
 {
+    let way = way_at(&Want::Plain { addr }, 0, store);
     match chunk.mirrors() {
-        Some(_) => Part::Mirror(0),
-        None => Part::Slice(at.index),
+        Some(_) => Some(Part::Mirror(way)),
+        None => {
+            if way == 0 {
+                Some(Part::Slice(at.index))
+            } else {
+                None
+            }
+        }
     }
 }
 
@@ -58,7 +72,10 @@ pub(crate) fn first_place(addr: u64, store: &Store) -> Option<FirstPlace>
     let Ok(at) = elements(chunk, addr, SECTOR) else {
         return None;
     };
-    let place = place_of(chunk, first_part(chunk, &at), &at);
+    let Some(part) = first_part(addr, chunk, &at, store) else {
+        return None;
+    };
+    let place = place_of(chunk, part, &at);
     let Some(device) = store.device(place.devid) else {
         return None;
     };

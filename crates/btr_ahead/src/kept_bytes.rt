@@ -1,7 +1,8 @@
 // Bytes of an image that were read by one read.
-ghost use Rattle.std.specs.Prelude.{◌≡◌, ◌+◌, ◌<◌, ◌≤◌, ◌&&◌, nat_eq, nat_le, nat_lt, length, IfSome, IfNone};
-ghost use Rattle.btr_rack.specs.Rack.{OnlyReads};
+ghost use Rattle.std.specs.Prelude.{◌≡◌, ◌+◌, ◌<◌, ◌≤◌, ◌&&◌, nat_eq, nat_le, nat_lt, false, length, IfSome, IfNone, IsTrue};
+ghost use Rattle.btr_rack.specs.Rack.{NoneFailed, OnlyReads, len_of};
 ghost use Rattle.btr_ahead.specs.Ahead.{AreRead, AreSteady, IsInSlot, IsKept, piece_of};
+ghost use Rattle.btr_ahead.specs.Reader.{FailsFrom};
 
 use crate::first_place::FirstPlace;
 use btr_rack::{Place, Rack};
@@ -38,6 +39,7 @@ fn span(first: &FirstPlace, wanted: u64, image_len: u64) -> u64
     ensures room { result ≤ ROOM }
     ensures inside { first.now.place.off + result ≤ image_len }
     ensures first { 0 < wanted → 4096 ≤ first.now.reach → first.now.place.off + 4096 ≤ image_len → 4096 ≤ result }
+    ensures more { 1 < wanted → 4096 < first.now.reach → first.now.place.off + 4096 < image_len → 4096 < result }
 {
     let all = wanted.saturating_mul(4096);
     all.min(first.reach)
@@ -59,22 +61,34 @@ impl KeptBytes {
         }
     }
 
-    // Reads at most so many sectors from a place on. Where it can't, nothing is kept.
-    fn read_from<R: Rack>(&mut self, first: &FirstPlace, wanted: u64, rack: &mut R)
+    /// Reads at most so many sectors from a place on, by one call. `false`: it failed, and nothing is kept.
+    pub(crate) fn read_from<R: Rack>(
+        &mut self,
+        first: &FirstPlace,
+        wanted: u64,
+        rack: &mut R,
+    ) -> bool
         requires slot { IsInSlot (R.seen rack.old).slots first.now.place }
         requires reach { 4096 ≤ first.now.reach }
         ensures reads { OnlyReads (R.seen rack.old) (R.seen rack.new) }
         ensures ahead { AreRead (R.seen rack.new).held self.new }
         ensures kept { 0 < wanted → AreSteady (R.seen rack.old) (R.seen rack.new) → IsKept self.new first.now.place }
+        ensures none { IsTrue result → NoneFailed (R.seen rack.old).account (R.seen rack.new).account }
+        ensures failed { result ≡ false → (len : ℕ)
+            × (1 < wanted → 4096 < first.now.reach → first.now.place.off + 4096 < len_of (R.seen rack.old).slots first.now.place.slot → 4096 < len)
+            × FailsFrom first.now.place len (R.seen rack.old).account (R.seen rack.new).account }
     {
         let Place { slot, off, len: _ } = first.place;
         let len = span(first, wanted, rack.len(slot));
         let read = rack.read_at(slot, off, &mut self.bytes[..len as usize]);
         self.place = Place { slot, off, len };
-        if read.is_err() {
-            self.failed = self.place;
-            self.place.len = 0;
-            rack.forget();
+        match read {
+            Ok(()) => true,
+            Err(_) => {
+                self.failed = self.place;
+                self.place.len = 0;
+                false
+            }
         }
     }
 
@@ -107,7 +121,8 @@ impl KeptBytes {
         self.place = NOWHERE;
     }
 
-    /// Reads at most so many sectors from a place on, unless it is kept: one where a read of more failed. Where it can't, nothing is kept.
+    /// Reads at most so many sectors from a place on, unless it is kept: one where a read of more failed. Where it can't, nothing is kept, and the rack is
+    /// told to forget it.
     pub(crate) fn look<R: Rack>(&mut self, first: &FirstPlace, wanted: u64, rack: &mut R)
         requires slot { IsInSlot (R.seen rack.old).slots first.now.place }
         requires reach { 4096 ≤ first.now.reach }
@@ -124,6 +139,8 @@ impl KeptBytes {
         } else {
             wanted
         };
-        self.read_from(first, most, rack);
+        if !self.read_from(first, most, rack) {
+            rack.forget();
+        }
     }
 }

@@ -1,6 +1,7 @@
 // Sectors of an image in memory.
-ghost use Rattle.std.specs.Prelude.{◌≡◌, ◌<◌, IfOk};
+ghost use Rattle.std.specs.Prelude.{◌≡◌, ◌<◌, IfOk, IsTrue};
 ghost use Rattle.btr_rack.specs.Memory.{seen_of, slots_of};
+ghost use Rattle.btr_rack.specs.Rack.{opened_to_write};
 ghost use Rattle.btr_read.specs.Serves.{Serves};
 ghost use Rattle.btr_ahead.specs.Ahead.{IsAhead};
 
@@ -44,14 +45,20 @@ fn sector(k: u64) -> [u8; 4096] {
     [(k % 251) as u8; 4096]
 }
 
-// An open image of 3 MiB whose sectors from 1 MiB on are numbered.
+// Opens a new image of 3 MiB whose sectors from 1 MiB on are numbered.
+fn add_image(rack: &mut MemRack, name: &str) -> Result<(), Fail> {
+    rack.add(name, 3 * MIB)?;
+    for k in 0..128u64 {
+        rack.poke(name, MIB + 4096 * k, &sector(k))?;
+    }
+    rack.open(name, false)?;
+    Ok(())
+}
+
+// A rack of one such image.
 fn image(alloc: Global) -> Result<MemRack, Fail> {
     let mut rack = MemRack::new(alloc);
-    rack.add("disk", 3 * MIB)?;
-    for k in 0..128u64 {
-        rack.poke("disk", MIB + 4096 * k, &sector(k))?;
-    }
-    rack.open("disk", false)?;
+    add_image(&mut rack, "disk")?;
     Ok(rack)
 }
 
@@ -70,7 +77,7 @@ fn store(
     table.add(Chunk::read(alloc, 16 * MIB, bytes.as_slice())?)?;
     let mut store = Store::new(alloc, SumKind::Crc32c, [0; 16], 4096, table)?;
     assert!(rt; rack.count() == 1);
-    store.add_device(1, 0, rack.len(0))?;
+    store.add_device(1, 0, rack.len(0), false)?;
     Ok(store)
 }
 
@@ -166,14 +173,26 @@ fn one_by_one_around_a_bad_sector(rt: HostRuntime) -> Result<(), Fail> {
     Ok(())
 }
 
-// Whether a sector, by its number, is read as it stands in the image that is open.
-fn reads(rt: &impl Abort, rack: &mut AheadRack<MemRack>, k: u64) -> Result<bool, RackError>
+// Whether a sector, by its number, is read as it stands in an image that is open.
+fn reads_in(
+    rt: &impl Abort,
+    rack: &mut AheadRack<MemRack>,
+    slot: usize,
+    k: u64,
+) -> Result<bool, RackError>
     ensures { slots_of rack.new.rack ≡ slots_of rack.old.rack }
 {
     let mut bytes = [255; 4096];
-    assert!(rt; k < 128 && rack.count() == 1 && rack.len(0) == 3 * MIB);
-    rack.read_at(0, MIB + 4096 * k, &mut bytes)?;
+    assert!(rt; k < 128 && slot < rack.count() && rack.len(slot) == 3 * MIB);
+    rack.read_at(slot, MIB + 4096 * k, &mut bytes)?;
     Ok(bytes == sector(k))
+}
+
+// The same of the first image.
+fn reads(rt: &impl Abort, rack: &mut AheadRack<MemRack>, k: u64) -> Result<bool, RackError>
+    ensures { slots_of rack.new.rack ≡ slots_of rack.old.rack }
+{
+    reads_in(rt, rack, 0, k)
 }
 
 #[test]
@@ -194,10 +213,70 @@ fn a_run_is_read_by_few_reads(rt: HostRuntime) -> Result<(), Fail> {
 #[test]
 fn a_bad_sector_fails_alone(rt: HostRuntime) -> Result<(), Fail> {
     let mut below = image(rt.alloc())?;
+    add_image(&mut below, "other")?;
     below.fail_range("disk", MIB + 4096 * 20, 1)?;
+    below.fail_range("disk", MIB + 4096 * 90, 1)?;
+    below.fail_range("other", MIB + 4096 * 20, 1)?;
+
+    // Two openings. Of each image the first 15 sectors are had by 4 reads, and those from 15 to 30 by one that fails and 16 reads; of the first one, those
+    // to 62 by one, those to 126 by one that fails and 64 reads, and the last one by one; of the other one those from 31 on by one.
+    below.fail_call(113)?;
     let mut rack = AheadRack::new(below, rt.alloc());
     for k in 0..128u64 {
-        assert_eq!(rt; reads(&rt, &mut rack, k).is_err(), k == 20);
+        assert_eq!(rt; reads(&rt, &mut rack, k).is_err(), k == 20 || k == 90);
+    }
+    for k in 0..32u64 {
+        assert_eq!(rt; reads_in(&rt, &mut rack, 1, k).is_err(), k == 20);
+    }
+    assert_eq!(rt; reads(&rt, &mut rack, 5), Err(RackError::Failed));
+    assert_eq!(rt; reads(&rt, &mut rack, 5), Ok(true));
+    Ok(())
+}
+
+#[test]
+fn the_last_sector_is_not_read_twice(rt: HostRuntime) -> Result<(), Fail> {
+    let mut below = MemRack::new(rt.alloc());
+    below.add("disk", 8192)?;
+
+    // The opening and the read of the first sector are two calls.
+    below.fail_call(3)?;
+    let mut rack = AheadRack::new(below, rt.alloc());
+    rack.open("disk", false)?;
+    let mut bytes = [255; 4096];
+    assert!(rt; rack.len(0) == 8192);
+    rack.read_at(0, 0, &mut bytes)?;
+    assert!(rt; rack.count() == 1 && rack.len(0) == 8192);
+    assert_eq!(rt; rack.read_at(0, 4096, &mut bytes), Err(RackError::Failed));
+    Ok(())
+}
+
+// A rack over an image of so many sectors that is opened to be written, of whose calls two fail, by their numbers.
+fn opened_with_failures(
+    alloc: Global,
+    sectors: u32,
+    first: u64,
+    second: u64,
+) -> Result<AheadRack<MemRack>, Fail>
+    ensures { IfOk result (λ rack. IsTrue (opened_to_write (slots_of rack.rack) 0)) }
+{
+    let mut below = MemRack::new(alloc);
+    below.add("disk", 4096 * u64::from(sectors))?;
+    below.fail_call(first)?;
+    below.fail_call(second)?;
+    let mut rack = AheadRack::new(below, alloc);
+    rack.open("disk", true)?;
+    Ok(rack)
+}
+
+#[test]
+fn a_failed_sync_is_told(rt: HostRuntime) -> Result<(), Fail> {
+    // The opening, the write and three syncs.
+    let mut rack = opened_with_failures(rt.alloc(), 768, 3, 5)?;
+    assert!(rt; rack.count() == 1 && rack.len(0) == 3 * MIB);
+    rack.write_at(0, MIB, &sector(2))?;
+    for n in 0..3u64 {
+        assert!(rt; rack.count() == 1);
+        assert_eq!(rt; rack.sync(0).is_err(), n != 1);
     }
     Ok(())
 }

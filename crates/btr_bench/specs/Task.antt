@@ -5,7 +5,7 @@ use Rattle.std.specs.Str.{bytes_eq}
 use Rattle.btr_bench.specs.declared.fetching.Block.TheVariants.{Tree, Kept, Sector}
 use Rattle.btr_bench.specs.declared.task.Task.{Task}
 use Rattle.btr_bench.specs.declared.task.Task.TheVariants.{Over, Fetching, Walking}
-use Rattle.btr_bench.specs.declared.walking.Walk.TheVariants.{Scan, Seek, FindLe}
+use Rattle.btr_bench.specs.declared.walking.Walk.TheVariants.{Scan, FindLe}
 use Rattle.btr_bench.specs.Kernel.{kernel_of, takes as kernel_takes, digits_of as digits_of_result}
 use Rattle.btr_bench.specs.Fetching.{takes as block_takes}
 use Rattle.btr_bench.specs.Turns.{first_piece, first_kept, TurnsGive}
@@ -17,7 +17,6 @@ task_of name =
     else if bytes_eq name (codes "kept-block") then Some (Fetching Kept)
     else if bytes_eq name (codes "sector") then Some (Fetching Sector)
     else if bytes_eq name (codes "scan") then Some (Walking Scan)
-    else if bytes_eq name (codes "seek") then Some (Walking Seek)
     else if bytes_eq name (codes "find-le") then Some (Walking FindLe)
     else option_map Over (kernel_of name)
 

@@ -130,7 +130,7 @@ pub fn store_over(alloc: Global, nodesize: u32, rack: &MemRack) -> Result<Store,
     let Ok(mut store) = Store::new(alloc, KIND, FSID, nodesize, chunks) else {
         return Err(AllocError);
     };
-    let Ok(()) = store.add_device(DEVICE, SLOT, rack.len(SLOT)) else {
+    let Ok(()) = store.add_device(DEVICE, SLOT, rack.len(SLOT), false) else {
         return Err(AllocError);
     };
     Ok(store)

@@ -9,7 +9,7 @@
 //! `tree-block`, `kept-block` and `sector` fetch a block of SIZE bytes from an image in memory and give it back, in each turn. How
 //! many turns got it is printed in 16 hexadecimal digits.
 //!
-//! `scan`, `seek` and `find-le` have the items of a tree of SIZE items, whose image is in memory: in each turn all of them in
+//! `scan` and `find-le` have the items of a tree of SIZE items, whose image is in memory: in each turn all of them in
 //! order, or by SIZE lookups. How many the last turn had is printed in 16 hexadecimal digits.
 #![tactic(auto)]
 

@@ -26,7 +26,6 @@ impl Task {
             "kept-block" => Some(Task::Fetching(Block::Kept)),
             "sector" => Some(Task::Fetching(Block::Sector)),
             "scan" => Some(Task::Walking(Walk::Scan)),
-            "seek" => Some(Task::Walking(Walk::Seek)),
             "find-le" => Some(Task::Walking(Walk::FindLe)),
             _ => Kernel::from_name(name).map(|kernel| Task::Over(kernel)),
         }

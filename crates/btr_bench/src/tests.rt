@@ -27,7 +27,6 @@ fn results(rt: HostRuntime) -> Result<(), Fail> {
         ("sector", "4096", "30", 30),
         ("scan", "1", "1", 1),
         ("scan", "5000", "2", 5000),
-        ("seek", "5000", "2", 5000),
         ("find-le", "5000", "2", 5000),
     ];
     for (kernel, size, times, all) in rows {

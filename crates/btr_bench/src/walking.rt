@@ -19,8 +19,6 @@ use std::alloc::{AllocError, Global};
 pub enum Walk {
     /// One after the other, by a scan.
     Scan,
-    /// By a scan that seeks each of their keys, in ascending order.
-    Seek,
     /// By as many lookups of the greatest item at or below a key, at keys that follow no order.
     FindLe,
 }
@@ -68,14 +66,8 @@ fn takes_next(store: &mut Store, scan: &mut Scan, rack: &mut MemRack) -> bool
     }
 }
 
-// How many items a scan takes, `count` at most; each of them is sought first, where that is asked for.
-fn take_all(
-    store: &mut Store,
-    scan: &mut Scan,
-    rack: &mut MemRack,
-    is_seeking: bool,
-    count: u64,
-) -> u64
+// How many items a scan takes, `count` at most.
+fn take_all(store: &mut Store, scan: &mut Scan, rack: &mut MemRack, count: u64) -> u64
     requires ready { IsReady (seen_of rack.old) store.old scan.old }
     requires free { free_count (without_leaf store.old scan.old) ≡ 24 }
     ensures ready { IsReady (seen_of rack.new) store.new scan.new }
@@ -83,10 +75,7 @@ fn take_all(
     ensures most { result ≤ count }
 {
     let mut taken = 0;
-    for number in 0..count {
-        if is_seeking {
-            scan.seek(key(number), store);
-        }
+    for _item in 0..count {
         if takes_next(store, scan, rack) {
             taken += 1;
         }
@@ -95,13 +84,7 @@ fn take_all(
 }
 
 // How many items one scan has, `count` at most.
-fn scanned(
-    root: &RootPlace,
-    store: &mut Store,
-    rack: &mut MemRack,
-    is_seeking: bool,
-    count: u64,
-) -> u64
+fn scanned(root: &RootPlace, store: &mut Store, rack: &mut MemRack, count: u64) -> u64
     requires serves { Serves (seen_of rack.old) store.old }
     requires free { free_count store.old ≡ 24 }
     ensures serves { Serves (seen_of rack.new) store.new }
@@ -109,7 +92,7 @@ fn scanned(
     ensures most { result ≤ count }
 {
     let mut scan = Scan::new(root, key(0), key(count));
-    let taken = take_all(store, &mut scan, rack, is_seeking, count);
+    let taken = take_all(store, &mut scan, rack, count);
     scan.finish(store);
     taken
 }
@@ -179,8 +162,7 @@ fn turn(walk: Walk, root: &RootPlace, store: &mut Store, rack: &mut MemRack, cou
     ensures most { result ≤ count }
 {
     match walk {
-        Walk::Scan => scanned(root, store, rack, false, count),
-        Walk::Seek => scanned(root, store, rack, true, count),
+        Walk::Scan => scanned(root, store, rack, count),
         Walk::FindLe => found(root, store, rack, count),
     }
 }

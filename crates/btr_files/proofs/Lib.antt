@@ -1,5 +1,6 @@
 pub mod Folding
 pub mod Meeting
+pub mod Gathered
 pub mod Surveys
 pub mod Lookups
 pub mod Rows
@@ -22,3 +23,6 @@ pub mod Fills
 pub mod SectorBytes
 pub mod ExtentBytes
 pub mod Contents
+pub mod Plains
+pub mod Mixed
+pub mod Choosing

@@ -215,7 +215,7 @@ name_fits body entry xs e h n =
 
 -- a directory's scan, which has no leaf in hand
 abbrev pub scan_of : Rest → Scan
-scan_of rest = record { root = rest.root; lo = rest.lo; hi = rest.hi; place = rest.place; leaf = None }
+scan_of rest = record { lo = rest.lo; hi = rest.hi; place = rest.place; leaf = None }
 
 left_is : (B : Map) (store : Blocks) (kept : Option Frame) (p : RangeProg) → kept_prog B kept p ≡ leaf_prog B store None kept p
 left_is B store None p = refl

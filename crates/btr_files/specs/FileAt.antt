@@ -5,8 +5,10 @@ use Rattle.btr_base.specs.declared.kind.SumKind.{SumKind}
 use Rattle.btr_items.specs.FileExtent.{end_of}
 use Rattle.btr_items.specs.declared.shape.Shape.{Shape}
 use Rattle.btr_items.specs.declared.shape.Shape.TheVariants.{Inline, Regular, Prealloc}
-use Rattle.btr_prog.specs.Prog.{BlockMap, exec, steps}
-use Rattle.btr_read.specs.Fate.{Fault}
+use Rattle.btr_prog.specs.Blind.{IsAlike}
+use Rattle.btr_prog.specs.Goes.{GoesTo}
+use Rattle.btr_prog.specs.Prog.{BlockMap, Run, exec, steps, steps_of}
+use Rattle.btr_read.specs.Fate.{Fault, is_plain}
 use Rattle.btr_read.specs.declared.want.Want.{Want}
 use Rattle.btr_read.specs.declared.want.Want.TheVariants.{Tree, Block, Sector, Plain}
 use Rattle.btr_volume.specs.declared.root.TreeRoot.{TreeRoot}
@@ -65,3 +67,17 @@ ContentIsFile =
     → (exec B (content kind sums nosum size tree ino)).ending ≡ Ok tt
     → (length (bytes_of (steps B (content kind sums nosum size tree ino))) ≡ size)
     × ((p : ℕ) → p < size → slice_index (bytes_of (steps B (content kind sums nosum size tree ino))) p ≡ file_at B kind sums nosum (steps B (extents tree ino)) p)
+
+-- The same whatever reads failed, where each want comes to what some map says of it, each time perhaps another, and the maps differ in nothing but the bytes of
+-- sectors without a checksum: each byte of a file that was given whole is the one that it has by some of them.
+abbrev pub SomeContentIsFile : Type 0
+SomeContentIsFile =
+    (maps : ℕ → BlockMap Want Fault) (kind : SumKind) (sums : Option TreeRoot) (nosum : Bool) (size : ℕ) (tree : TreeRoot) (ino : ℕ)
+    (run : Run Want Fault Piece (Unit {0}))
+    → ((n : ℕ) (want : Want) (bytes : List ℕ) → maps n want ≡ Ok bytes → IsSectorLong want bytes)
+    → ((n : ℕ) (want : Want) → IsAlike (is_plain want) (maps n want) (maps 0 want))
+    → GoesTo maps (content kind sums nosum size tree ino) run
+    → run.ending ≡ Ok tt
+    → (length (bytes_of (steps_of run.marks)) ≡ size)
+    × ((p : ℕ) → p < size → (n : ℕ)
+    × (slice_index (bytes_of (steps_of run.marks)) p ≡ file_at (maps n) kind sums nosum (steps (maps n) (extents tree ino)) p))

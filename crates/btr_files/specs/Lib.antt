@@ -6,6 +6,7 @@ pub mod Aheads
 pub mod Content
 pub mod FileAt
 pub mod Steps
+pub mod Gathering
 pub mod Listing
 pub mod Maps
 pub mod Streaming

@@ -2,9 +2,9 @@
 //! checksum of a sector, and the bytes of a file, piece by piece.
 //!
 //! It is promised to the layer above that entries come in ascending index, that a lookup answers what stands in the tree, and that the pieces of a file are
-//! those of its content, whatever reads failed. Nothing takes memory. The definitions are in `specs/`: `Names`, `Entries`, `Extents` and `Sums` are the
-//! lookups and the cursor as programs over wants, `Content` has the pieces of a file, and `Listing` and `Streaming` what a directory and a file have still
-//! to give. `FileAt` has the byte at a position, and `laws` that the pieces of a file are those bytes.
+//! those of its content, whatever reads failed. Nothing but a list of names takes memory. The definitions are in `specs/`: `Names`, `Entries`, `Extents`
+//! and `Sums` are the lookups and the cursor as programs over wants, `Content` has the pieces of a file, and `Listing` and `Streaming` what a directory and
+//! a file have still to give. `FileAt` has the byte at a position, and `laws` that the pieces of a file are those bytes.
 #![tactic(auto)]
 
 mod clearness;
@@ -14,10 +14,12 @@ mod dir_row;
 mod extent;
 mod file;
 mod finding;
+mod gathering;
 mod laws;
 mod lookup;
 mod met;
 mod name;
+mod name_list;
 mod naming;
 mod piece;
 mod plan;
@@ -35,8 +37,10 @@ pub use dir::Dir;
 pub use dir_row::DirRow;
 pub use file::FileBytes;
 pub use finding::inode;
-pub use laws::content_is_file;
+pub use gathering::names;
+pub use laws::{content_is_file, some_content_is_file};
 pub use name::NameBuf;
+pub use name_list::{NameList, NameRef};
 pub use naming::{linked, mounted};
 pub use piece::Piece;
 pub use plan::RestorePlan;

@@ -119,8 +119,12 @@ fn sup_of(sums: SumKind, root: &RootPlace) -> Super {
         devid: 1,
         dev_uuid: [0; 16],
         label: [0; 256],
+        cache_generation: 0,
+        uuid_tree_generation: 0,
         metadata_uuid: [0; 16],
+        reserved: [0; 224],
         array: [0; 2048],
+        backups: [0; 1237],
     }
 }
 
@@ -144,7 +148,7 @@ fn volume_over(
     let mut chunks = ChunkTable::new(alloc);
     chunks.add(Chunk::read(alloc, START, item.as_slice())?)?;
     let mut store = Store::new(alloc, sums, Form::DEFAULT.fsid, BLOCK, chunks)?;
-    store.add_device(1, 0, rack.len(0))?;
+    store.add_device(1, 0, rack.len(0), false)?;
     Ok(Volume {
         store,
         sup: sup_of(sums, &root.place),

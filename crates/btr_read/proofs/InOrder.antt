@@ -13,7 +13,7 @@ use Rattle.btr_chunk.specs.declared.place.Part.{Part}
 use Rattle.btr_chunk.specs.Chunk.{data_count, mirror_count}
 use Rattle.btr_chunk.specs.Mapping.{HasPart}
 use Rattle.std.specs.Option.{option_map_or}
-use Rattle.btr_read.specs.Candidates.{Target, others, rebuilt, copies, candidates}
+use Rattle.btr_read.specs.Candidates.{Target, others, rebuilt, copies, ways}
 use Rattle.btr_read.specs.Sought.{CanTry, IsTarget, IsOneParity, IsTwoParities}
 
 -- k slices have k - 1 others
@@ -48,11 +48,11 @@ pair_at k i n j other lt is below e =
     past_three (Read (Slice i)) ByP ByQ (map ByBoth (others k i)) n j (omega (arith, is))
     ∙ (slice_get-get_or (map ByBoth (others k i)) j (ByBoth 0) long ∙ ap Some at)
 
--- the candidates of a row with P, and with P and Q
-pub with_p : (t : Target) → t.chunk.profile ≡ Raid5 → candidates t ≡ rebuilt Raid5 (length t.chunk.stripes - 1) t.at.index
+-- the ways of a row with P, and with P and Q
+pub with_p : (t : Target) → t.chunk.profile ≡ Raid5 → ways t ≡ rebuilt Raid5 (length t.chunk.stripes - 1) t.at.index
 with_p t e = ap (λ p. option_map_or copies (mirror_count p (length t.chunk.stripes)) (rebuilt p (data_count p (length t.chunk.stripes)) t.at.index)) e
 
-pub with_p_and_q : (t : Target) → t.chunk.profile ≡ Raid6 → candidates t ≡ rebuilt Raid6 (length t.chunk.stripes - 2) t.at.index
+pub with_p_and_q : (t : Target) → t.chunk.profile ≡ Raid6 → ways t ≡ rebuilt Raid6 (length t.chunk.stripes - 2) t.at.index
 with_p_and_q t e = ap (λ p. option_map_or copies (mirror_count p (length t.chunk.stripes)) (rebuilt p (data_count p (length t.chunk.stripes)) t.at.index)) e
 
 -- the slice that is sought is one of the row
@@ -74,11 +74,11 @@ can_try_two t ByP h e is = subst (λ p. IsNone (mirror_count p (length t.chunk.s
 can_try_two t ByQ h e is = e
 can_try_two t (ByBoth j) h e is = (e, subst (λ p. j < data_count p (length t.chunk.stripes)) (sym e) is.0, is.1)
 
--- the candidates by P and by Q are the second and the third
-pub second_is_p : (t : Target) → t.chunk.profile ≡ Raid6 → (d : Candidate) → get_or (candidates t) 1 d ≡ ByP
+-- the ways by P and by Q are the second and the third
+pub second_is_p : (t : Target) → t.chunk.profile ≡ Raid6 → (d : Candidate) → get_or (ways t) 1 d ≡ ByP
 second_is_p t e d = ap (λ cs. get_or cs 1 d) (with_p_and_q t e)
 
-pub third_is_q : (t : Target) → t.chunk.profile ≡ Raid6 → (d : Candidate) → get_or (candidates t) 2 d ≡ ByQ
+pub third_is_q : (t : Target) → t.chunk.profile ≡ Raid6 → (d : Candidate) → get_or (ways t) 2 d ≡ ByQ
 third_is_q t e d = ap (λ cs. get_or cs 2 d) (with_p_and_q t e)
 
 -- how many there are

@@ -4,6 +4,7 @@ pub mod Several
 pub mod Pieces
 pub mod Solutions
 pub mod Trials
+pub mod Compared
 pub mod Keeping
 pub mod ReadsOn
 pub mod Serving
@@ -20,4 +21,5 @@ pub mod Sums
 pub mod Parts
 pub mod Rebuilt
 pub mod Values
+pub mod Order
 pub mod Rows

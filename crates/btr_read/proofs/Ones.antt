@@ -12,16 +12,16 @@ abbrev pub In : {X : Type 0} → X → List X → Type 0
 In x [] = ⊥
 In x (y ∷ ys) = (y ≡ x) ⊎ In x ys
 
-in_left : {X : Type 0} (x : X) (xs ys : List X) → In x xs → In x (xs ++ ys)
+pub in_left : {X : Type 0} (x : X) (xs ys : List X) → In x xs → In x (xs ++ ys)
 in_left x [] ys h = absurd h
 in_left x (y ∷ xs) ys (inl e) = inl e
 in_left x (y ∷ xs) ys (inr h) = inr (in_left x xs ys h)
 
-in_right : {X : Type 0} (x : X) (xs ys : List X) → In x ys → In x (xs ++ ys)
+pub in_right : {X : Type 0} (x : X) (xs ys : List X) → In x ys → In x (xs ++ ys)
 in_right x [] ys h = h
 in_right x (y ∷ xs) ys h = inr (in_right x xs ys h)
 
-in_either : {X : Type 0} (x : X) (xs ys : List X) → In x (xs ++ ys) → In x xs ⊎ In x ys
+pub in_either : {X : Type 0} (x : X) (xs ys : List X) → In x (xs ++ ys) → In x xs ⊎ In x ys
 in_either x [] ys h = inr h
 in_either x (y ∷ xs) ys (inl e) = inl (inl e)
 in_either x (y ∷ xs) ys (inr h) = elim (in_either x xs ys h) [ inl a ↦ inl (inr a) | inr b ↦ inr b ]
@@ -36,7 +36,7 @@ of_map f y [] h = absurd h
 of_map f y (x ∷ xs) (inl e) = (x, inl refl, e)
 of_map f y (x ∷ xs) (inr h) = let r = of_map f y xs h in (r.0, inr r.1, r.2)
 
-in_at : {X : Type 0} (xs : List X) (i : ℕ) (d : X) → i < length xs → In (get_or xs i d) xs
+pub in_at : {X : Type 0} (xs : List X) (i : ℕ) (d : X) → i < length xs → In (get_or xs i d) xs
 in_at [] i d lt = absurd (omega (arith, lt))
 in_at (x ∷ xs) zero d lt = inl refl
 in_at (x ∷ xs) (suc i) d lt = inr (in_at xs i d (omega (arith, lt)))

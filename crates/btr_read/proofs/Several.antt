@@ -136,6 +136,14 @@ given_back old new a ks free h = record {
       h.others j (ne, none) (get_or-set_other old.lent a j true false ne ∙ live);
 }
 
+-- a slot was taken, written and given back, while another is lent
+pub one_back : (p0 p3 : Slots) (k o : ℕ) → IsFree p0 o → OnlyWrites o (with_lent p0 o) p3 → OnlyWrites k p0 (with_free p3 o)
+one_back p0 p3 k o free h =
+    let first : WritesLive (o ∷ []) (with_lent p0 o)
+    p3 = record { size = h.size; lent = h.lent; count = h.count; others = λ j none live. h.others j none.0 live } in
+    let all = given_back p0 p3 o [] free first in
+    record { size = all.size; lent = all.lent; count = all.count; others = λ j ne live. all.others j tt live }
+
 -- what stands in a slot that wasn't forgotten
 not_forgotten : (ws : List (Option Want)) (n j : ℕ) (want : Want) → get_or (set ws n None) j None ≡ Some want → (j ≢ n) × (get_or ws j None ≡ Some want)
 not_forgotten ws n j want is = (ne, sym (get_or-set_other ws n j None None ne) ∙ is)

@@ -1,5 +1,5 @@
 -- What a loop over the candidates keeps.
-use Rattle.std.proofs.Common.{◌≡◌, ℕ, ◌+◌, ◌^◌, ◌<◌, ◌≤◌, Bool, true, false, cond, List, [], ◌∷◌, ◌++◌, length, take, drop, get_or, slice_get, Option, Some, None, IfSome, IsSomeAnd, refl, sym, ap, ◌∙◌, subst, arith, inl, inr, length-take, length-append}
+use Rattle.std.proofs.Common.{◌≡◌, ℕ, ◌+◌, ◌^◌, ◌<◌, ◌≤◌, ◌⊎◌, Bool, true, false, cond, List, [], ◌∷◌, ◌++◌, length, take, drop, get_or, slice_get, Option, Some, None, IfSome, IsSomeAnd, refl, sym, ap, ◌∙◌, subst, arith, inl, inr, length-take, length-append}
 use Rattle.std.proofs.lemmas.Bool.{cases_lt}
 use Rattle.std.proofs.lemmas.List.{take_more, take_all, take-append-drop, drop_more, get_or_append_left}
 use Rattle.std.proofs.lemmas.List.Elements.{filter-append, filter_map-append}
@@ -16,6 +16,7 @@ use Rattle.btr_read.specs.declared.attempt.Outcome.TheVariants as outcome
 use Rattle.btr_read.specs.Attempt.{FitsOutcome}
 use Rattle.btr_read.specs.Cause.{IsOf, IsMissed, ReadFailed, Passes, IsUnread}
 use Rattle.btr_read.specs.Trial.{passing_of, passed_outcome, ended_outcome, CauseSoFar, TriedSoFar, BeganAt}
+use Rattle.btr_read.proofs.Ones.{In}
 use Rattle.btr_read.proofs.Keeping.{none_failed, none_more}
 use Rattle.btr_read.proofs.ReadsOn.{same_held, same_sure}
 
@@ -28,10 +29,10 @@ pub telling : {X : Type 0} (o : Option X) (P : X → Type 0) → IfSome o P → 
 telling None P h x e = cc
 telling (Some y) P h x e = let same : y ≡ x = cc in subst P same h
 
-any_before : {X : Type 0} (P : X → Type 0) (xs ys : List X) → Any P xs → Any P (xs ++ ys)
+pub any_before : {X : Type 0} (P : X → Type 0) (xs ys : List X) → Any P xs → Any P (xs ++ ys)
 any_before P xs ys h = (h.0, h.1, omega (arith, h.2, length-append xs ys), get_or_append_left xs ys h.1 h.0 h.2 ∙ h.3, h.4)
 
-any_last : {X : Type 0} (P : X → Type 0) (xs : List X) (y : X) → P y → Any P (xs ++ y ∷ [])
+pub any_last : {X : Type 0} (P : X → Type 0) (xs : List X) (y : X) → P y → Any P (xs ++ y ∷ [])
 any_last P xs y h = (length xs, y, omega (arith, length-append xs (y ∷ [])), get_or-append_seam xs y [] y, h)
 
 all_last : {X : Type 0} (P : X → Type 0) (xs : List X) (y : X) → All P xs → P y → All P (xs ++ y ∷ [])
@@ -294,3 +295,42 @@ one_passes t before now after None k c slot fresh h is lt calm standing test val
           subst (λ xs. slice_get xs 0 ≡ Some bytes) (sym split) (first_of (passing_of images t (take k (candidates t))) bytes (passing_of images t (drop (k + 1) (candidates t))) (omega (arith, so_far, h.cause.fresh, fresh))));
     }
 one_passes t before now after (Some s) k c slot fresh h is lt calm standing test value = later_passes t before now after s k k c slot h is lt calm standing test value
+
+-- ---- what is accepted, where all candidates are read
+
+nothing_left : {X : Type 0} (xs ys : List X) → xs ++ ys ≡ [] → (xs ≡ []) × (ys ≡ [])
+nothing_left [] ys e = (refl, e)
+nothing_left (x ∷ xs) ys e = absurd (cc)
+
+module _ (images : List (List ℕ)) (t : Target) where
+  module _ (k : ℕ) (c : Candidate) (is : slice_get (candidates t) k ≡ Some c) (lt : k < length (candidates t)) (standing : stands t c ≡ true) (so_far : passing_of images t (take k (candidates t)) ≡ []) where
+    -- one more that doesn't pass
+    pub none_then : passes t.setting t.want (value_of images t c) ≡ false → passing_of images t (take (k + 1) (candidates t)) ≡ []
+    none_then test = take_one_more images t (candidates t) k c is lt ∙ ap (λ xs. xs ++ passing_of images t (c ∷ [])) so_far ∙ differs_alone images t c (value_of images t c) (reading_stands images t c standing) test
+
+    -- the first that passes
+    pub first_then : passes t.setting t.want (value_of images t c) ≡ true → slice_get (passing images t) 0 ≡ Some (value_of images t c)
+    first_then test =
+        let behind = passing_of images t (drop (k + 1) (candidates t)) in
+        ap (λ xs. slice_get xs 0) (split_at images t k c (value_of images t c) is lt (reading_stands images t c standing) test ∙ ap (λ xs. xs ++ value_of images t c ∷ behind) so_far)
+
+  -- none of them passes
+  pub none_of_all : (k : ℕ) → length (candidates t) ≤ k → passing_of images t (take k (candidates t)) ≡ [] → passing images t ≡ []
+  none_of_all k le none = ap (passing_of images t) (sym (take_all k (candidates t) le)) ∙ none
+
+  fails_in : (cs : List Candidate) (c : Candidate) → passing_of images t cs ≡ [] → In c cs → stands t c ≡ true → passes t.setting t.want (value_of images t c) ≡ false
+  fails_in [] c none i standing = absurd i
+  fails_in (d ∷ cs) c none i standing =
+      let parts = nothing_left (passing_of images t (d ∷ [])) (passing_of images t cs) (sym (passing-append images t (d ∷ []) cs) ∙ none) in
+      by i parts.0 (fails_in cs c parts.1)
+    where
+      here : (b : Bool) → passes t.setting t.want (value_of images t c) ≡ b → passing_of images t (c ∷ []) ≡ [] → stands t c ≡ true → b ≡ false
+      here true test none standing = let one = sym (passes_first images t c [] (value_of images t c) (reading_stands images t c standing) test) ∙ none in cc
+      here false test none standing = refl
+
+      by : (d ≡ c) ⊎ In c cs → passing_of images t (d ∷ []) ≡ [] → (In c cs → stands t c ≡ true → passes t.setting t.want (value_of images t c) ≡ false) → passes t.setting t.want (value_of images t c) ≡ false
+      by (inl same) none rest = here (passes t.setting t.want (value_of images t c)) refl (subst (λ e. passing_of images t (e ∷ []) ≡ []) same none) standing
+      by (inr j) none rest = rest j standing
+
+  pub fails_where_none : (c : Candidate) → passing images t ≡ [] → In c (candidates t) → stands t c ≡ true → passes t.setting t.want (value_of images t c) ≡ false
+  fails_where_none c none i standing = fails_in (candidates t) c none i standing

@@ -1,5 +1,6 @@
 -- The ways to get the bytes at a position of a chunk, in their order, and what each of them gives.
-use Rattle.std.specs.Prelude.{ℕ, ◌+◌, ◌-◌, Bool, false, not, ◌&&◌, ◌==◌, nat_le, List, [], ◌∷◌, ◌++◌, length, map, slice_set, Option, Some, None, is_some, if◌then◌else◌}
+use Rattle.std.specs.Prelude.{ℕ, ◌+◌, ◌-◌, Bool, true, false, not, ◌&&◌, ◌==◌, nat_le, List, [], ◌∷◌, ◌++◌, length, map, slice_set, Option, Some, None, is_some, if◌then◌else◌}
+use Rattle.std.specs.Bool.{beq}
 use Rattle.std.specs.List.{range_with_len, filter, filter_map, list_all, list_any}
 use Rattle.std.specs.Option.{option_map_or}
 use Rattle.std.specs.Str.{bytes_eq}
@@ -54,9 +55,9 @@ rebuilt Raid5 k i = Read (Slice i) ∷ ByP ∷ []
 rebuilt Raid6 k i = Read (Slice i) ∷ ByP ∷ ByQ ∷ map ByBoth (others k i)
 rebuilt _ k i = []
 
--- the candidates in their order
-abbrev pub candidates : Target → List Candidate
-candidates t =
+-- the ways to get the bytes, in the order of the profile
+abbrev pub ways : Target → List Candidate
+ways t =
     option_map_or copies (mirror_count t.chunk.profile (length t.chunk.stripes)) (rebuilt t.chunk.profile (slice_count t) t.at.index)
 
 -- whether a candidate by parities, for slice i, reads a slice
@@ -76,6 +77,22 @@ parts_read k i (Read part) = part ∷ []
 parts_read k i ByP = P ∷ slices_read k i ByP
 parts_read k i ByQ = Q ∷ slices_read k i ByQ
 parts_read k i (ByBoth j) = P ∷ Q ∷ slices_read k i (ByBoth j)
+
+-- a part lies on a device whose image is older: it missed writes
+abbrev pub is_on_older : Target → Part → Bool
+is_on_older t part = option_map_or (λ device. device.older) (device_in t.devices (place_at t.chunk part t.at).devid) false
+
+-- a candidate reads an older image
+abbrev pub reads_older : Target → Candidate → Bool
+reads_older t candidate = list_any (is_on_older t) (parts_read (slice_count t) t.at.index candidate)
+
+-- of the ways those that read an older image, or those that read none
+abbrev pub among : Target → Bool → List Candidate
+among t older = filter (λ candidate. beq (reads_older t candidate) older) (ways t)
+
+-- the candidates in their order: first the ways that read no older image, then the others
+abbrev pub candidates : Target → List Candidate
+candidates t = among t false ++ among t true
 
 -- the bytes from an offset on in the image of a device, if it is given and they lie in the image
 abbrev pub range_on : ℕ → ℕ → Option Device → Option Range

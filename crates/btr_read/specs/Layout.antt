@@ -1,5 +1,5 @@
 -- How the blocks of a filesystem are found and tested.
-use Rattle.std.specs.Prelude.{◌≡◌, ℕ, ◌<◌, List, [], ◌∷◌, length, Option, Some, None, if◌then◌else◌, ◌==◌}
+use Rattle.std.specs.Prelude.{◌≡◌, ℕ, ◌<◌, Bool, List, [], ◌∷◌, length, Option, Some, None, if◌then◌else◌, ◌==◌}
 use Rattle.btr_chunk.specs.declared.chunk.Chunk.{Chunk}
 use Rattle.btr_rack.specs.Rack.{Slot, len_of}
 use Rattle.btr_read.specs.declared.device.Device.{Device}
@@ -16,6 +16,10 @@ pub record Layout : Type 0 where
 abbrev pub device_in : List Member → ℕ → Option Device
 device_in [] devid = None
 device_in (member ∷ members) devid = if member.devid == devid then Some member.device else device_in members devid
+
+-- a device's image is older than the chosen superblock
+abbrev pub is_older : Member → Bool
+is_older member = member.device.older
 
 -- an image is open in the device's slot, and has the device's length
 pub record IsOpen (slots : List Slot) (device : Device) : Type 0 where

@@ -1,4 +1,5 @@
 pub mod Want
+pub mod Order
 pub mod Layout
 pub mod Solution
 pub mod Candidates
@@ -13,6 +14,7 @@ pub mod Reading
 pub mod Finding
 pub mod Fetch
 pub mod Mirror
+pub mod Comparing
 pub mod Gathering
 pub mod Folding
 pub mod Values

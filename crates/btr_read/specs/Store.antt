@@ -130,9 +130,9 @@ with_member store member = record {
   kept = none_kept;
 }
 
--- the store with one more device, by its id: the image of a length in a slot
-abbrev pub with_device : Blocks → ℕ → ℕ → ℕ → Blocks
-with_device store devid slot len = with_member store (record { devid = devid; device = record { slot = slot; len = len } })
+-- the store with one more device, by its id: the image of a length in a slot, older or not
+abbrev pub with_device : Blocks → ℕ → ℕ → ℕ → Bool → Blocks
+with_device store devid slot len older = with_member store (record { devid = devid; device = record { slot = slot; len = len; older = older } })
 
 -- the store that keeps nothing
 abbrev pub without_kept : Blocks → Blocks

@@ -1,6 +1,7 @@
 // The devices that are given.
 ghost use Rattle.std.specs.Prelude.{◌≡◌};
-ghost use Rattle.btr_read.specs.Layout.{device_in};
+ghost use Rattle.btr_read.specs.Layout.{device_in, is_older};
+ghost use Rattle.std.specs.List.{list_any};
 
 /// A device that is given.
 #[derive(Clone, Copy, Debug, PartialEq, Eq)]
@@ -9,6 +10,8 @@ pub struct Device {
     pub slot: usize,
     /// The length of its image in bytes.
     pub len: u64,
+    /// Whether its image's superblock has a smaller generation than the chosen one: then it missed writes.
+    pub older: bool,
 }
 
 /// A device with its id.
@@ -18,6 +21,13 @@ pub struct Member {
     pub devid: u64,
     /// The device.
     pub device: Device,
+}
+
+// Whether the image of some device is older.
+pub(crate) fn any_older(members: &[Member]) -> bool
+    ensures { result ≡ list_any is_older members.now }
+{
+    members.iter().any(|member| member.device.older)
 }
 
 // The device of this id, if it is given.

@@ -94,7 +94,7 @@ fn find<R: Rack>(
 /// lent again without a read. It takes no memory. After a refusal the loans are as before.
 ///
 /// After a failed read the candidates that need what couldn't be read come last. A lost block of a row of k slices with P
-/// and Q takes at most 2k + 1 reads where all others stand and none fails.
+/// and Q takes at most 2k + 1 reads where all others stand, none fails and no candidate reads an older image.
 ///
 /// Each device's slot is open in the rack, with the device's length, what the store keeps is what the images hold, and
 /// four slots are free. The rack is told to forget the calls that failed before; after each answer but `Unread` it

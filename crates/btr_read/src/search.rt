@@ -1,10 +1,11 @@
 ghost use Rattle.std.specs.Prelude.{◌≡◌, ℕ, ◌+◌, ◌<◌, slice_get, Some};
 ghost use Rattle.btr_read.specs.Candidates.{rebuilt};
-ghost use Rattle.btr_read.specs.Sought.{IsByParities, IsInPlace, IsOneParity, IsTwoParities};
+ghost use Rattle.btr_read.specs.Comparing.{lesser};
+ghost use Rattle.btr_read.specs.Sought.{IsInPlace, IsOneParity, IsTwoParities};
 
 use crate::Want;
 use crate::candidate::Candidate;
-use crate::device::{Member, find_device};
+use crate::device::{Member, any_older, find_device};
 use crate::setting::Setting;
 use btr_chunk::{Chunk, Elements, Part, Profile, place_of};
 use btr_rack::Place;
@@ -37,7 +38,10 @@ impl Search<'_> {
     ghost use Rattle.btr_read.specs.Want.{passes};
     ghost use Rattle.btr_chunk.specs.declared.place.Part.{Part};
     ghost use Rattle.btr_chunk.specs.Chunk.{mirror_count};
-    ghost use Rattle.btr_read.specs.Candidates.{size_of, range_of, candidates, slice_count, slices_read, reads_slice, parts_stand, stands, lacks_slice};
+    ghost use Rattle.btr_read.specs.Candidates.{size_of, range_of, ways, candidates, slice_count, slices_read, reads_slice, reads_older, is_on_older, parts_stand, stands, lacks_slice};
+    ghost use Rattle.btr_read.specs.Comparing.{least_of, least_slot};
+    ghost use Rattle.btr_read.specs.Order.{FitsAmong, IsWayAt};
+    ghost use Rattle.std.specs.List.{list_any};
     ghost use Rattle.btr_read.specs.Sought.{CanTry, IsByParities, IsRebuilt, parities_read};
     ghost use Rattle.btr_read.specs.Gathering.{IsOfRow, RowStands};
 
@@ -149,6 +153,13 @@ impl Search<'_> {
     pub(crate) fn candidate_count(&self) -> u32
         ensures { result ≡ length (candidates self.now) }
     {
+        self.way_count()
+    }
+
+    // How many ways there are to get the bytes.
+    fn way_count(&self) -> u32
+        ensures { result ≡ length (ways self.now) }
+    {
         match self.chunk.mirrors() {
             Some(copies) => copies,
             None => match self.chunk.profile {
@@ -158,11 +169,12 @@ impl Search<'_> {
         }
     }
 
-    // Whether the chunk has P and Q.
-    pub(crate) fn has_two_parities(&self) -> bool
-        ensures { IsTrue result ↔ (self.now.chunk.profile ≡ Profile.Raid6) }
+    // Whether the chunk has P and Q, and no candidate reads an older image.
+    pub(crate) fn is_by_syndromes(&self) -> bool
+        ensures profile { IsTrue result → self.now.chunk.profile ≡ Profile.Raid6 }
+        ensures order { IsTrue result → candidates self.now ≡ ways self.now }
     {
-        matches!(self.chunk.profile, Profile::Raid6)
+        matches!(self.chunk.profile, Profile::Raid6) && self.reads_none_older()
     }
 
     // Whether P, Q and all slices but the one that is sought stand.
@@ -193,18 +205,150 @@ impl Search<'_> {
         }
     }
 
-    // The candidate at a place in their order.
-    pub(crate) fn candidate(&self, k: u32) -> Candidate
-        requires { k < length (candidates self.now) }
-        ensures value { slice_get (candidates self.now) k ≡ Some result }
+    // The way at a place in their order.
+    fn way(&self, k: u32) -> Candidate
+        requires { k < length (ways self.now) }
+        ensures value { slice_get (ways self.now) k ≡ Some result }
         ensures parts { CanTry self.now result }
-        ensures behind { self.now.chunk.profile ≡ Profile.Raid6 → 0 < k → IsByParities result }
     {
         match self.chunk.profile {
             Profile::Raid5 => by_one_parity(self.at.index, k),
             Profile::Raid6 => by_two_parities(self.at.index, k),
             _ => Candidate::Read(Part::Mirror(k)),
         }
+    }
+
+    // The candidate at a place in their order.
+    pub(crate) fn candidate(&self, k: u32) -> Candidate
+        requires { k < length (candidates self.now) }
+        ensures value { slice_get (candidates self.now) k ≡ Some result }
+        ensures parts { CanTry self.now result }
+        ensures behind { candidates self.now ≡ ways self.now → self.now.chunk.profile ≡ Profile.Raid6 → 0 < k → IsByParities result }
+    {
+        self.way(self.way_at(k))
+    }
+
+    // Which of the ways the candidate at a place in their order is, if there are so many.
+    pub(crate) fn way_at(&self, k: u32) -> u32
+        ensures { IsWayAt k result self.now }
+    {
+        if !any_older(self.devices) {
+            return k;
+        }
+        match self.way_among(false, k) {
+            Ok(way) => way,
+            Err(left) => match self.way_among(true, left) {
+                Ok(way) => way,
+                Err(_) => k,
+            },
+        }
+    }
+
+    // Whether no candidate reads an older image.
+    fn reads_none_older(&self) -> bool
+        ensures { IsTrue result → candidates self.now ≡ ways self.now }
+    {
+        if !any_older(self.devices) {
+            return true;
+        }
+        matches!(self.way_among(true, 0), Err(_))
+    }
+
+    // The way of a number among those that read an older image, or that don't; or how many are left of the number behind all
+    // of them.
+    fn way_among(&self, older: bool, mut number: u32) -> Result<u32, u32>
+        ensures { FitsAmong self.now older number result }
+    {
+        for k in 0..self.way_count() {
+            if self.reads_older(self.way(k)) == older {
+                if number == 0 {
+                    return Ok(k);
+                }
+                number -= 1;
+            }
+        }
+        Err(number)
+    }
+
+    // Whether a candidate reads an older image.
+    fn reads_older(&self, candidate: Candidate) -> bool
+        requires { CanTry self.now candidate }
+        ensures { result ≡ reads_older self.now candidate }
+    {
+        match candidate {
+            Candidate::Read(part) => self.is_on_older(part),
+            Candidate::ByP => self.is_on_older(Part::P) || self.reads_older_slice(Candidate::ByP),
+            Candidate::ByQ => self.is_on_older(Part::Q) || self.reads_older_slice(Candidate::ByQ),
+            Candidate::ByBoth(other) => {
+                self.is_on_older(Part::P)
+                    || self.is_on_older(Part::Q)
+                    || self.reads_older_slice(Candidate::ByBoth(other))
+            }
+        }
+    }
+
+    // Whether a candidate by parities reads a slice of an older image.
+    fn reads_older_slice(&self, candidate: Candidate) -> bool
+        requires { IsRebuilt self.now candidate }
+        ensures { result ≡ list_any (is_on_older self.now) (slices_read (slice_count self.now) self.now.at.index candidate) }
+    {
+        for slice in 0..self.slice_count() {
+            if self.reads(candidate, slice) && self.is_on_older(Part::Slice(slice)) {
+                return true;
+            }
+        }
+        false
+    }
+
+    // The smallest slot that a candidate reads, of the images that are given.
+    pub(crate) fn least_slot(&self, candidate: Candidate) -> Option<usize>
+        requires { CanTry self.now candidate }
+        ensures { result ≡ least_slot self.now candidate }
+    {
+        match candidate {
+            Candidate::Read(part) => lesser(None, self.range(part)),
+            Candidate::ByP => self.least_slice(Candidate::ByP, lesser(None, self.range(Part::P))),
+            Candidate::ByQ => self.least_slice(Candidate::ByQ, lesser(None, self.range(Part::Q))),
+            Candidate::ByBoth(other) => {
+                let parities = lesser(lesser(None, self.range(Part::P)), self.range(Part::Q));
+                self.least_slice(Candidate::ByBoth(other), parities)
+            }
+        }
+    }
+
+    // The smallest one of a slot and those of the slices that a candidate reads.
+    fn least_slice(&self, candidate: Candidate, mut least: Option<usize>) -> Option<usize>
+        requires { IsRebuilt self.now candidate }
+        ensures { result ≡ least_of self.now least (slices_read (slice_count self.now) self.now.at.index candidate) }
+    {
+        for slice in 0..self.slice_count() {
+            if self.reads(candidate, slice) {
+                least = lesser(least, self.range(Part::Slice(slice)));
+            }
+        }
+        least
+    }
+
+    // Whether a part lies on a device whose image is older.
+    fn is_on_older(&self, part: Part) -> bool
+        requires { HasPart self.now.chunk.profile (length self.now.chunk.stripes) part }
+        ensures { result ≡ is_on_older self.now part }
+    {
+        match find_device(self.devices, place_of(self.chunk, part, &self.at).devid) {
+            Some(device) => device.older,
+            None => false,
+        }
+    }
+}
+
+// The smaller one of a slot and the slot of a range, where there are such.
+fn lesser(least: Option<usize>, range: Option<Place>) -> Option<usize>
+    ensures { result ≡ lesser least range }
+{
+    match (least, range) {
+        (least, None) => least,
+        (None, Some(range)) => Some(range.slot),
+        (Some(slot), Some(range)) => Some(slot.min(range.slot)),
     }
 }
 
@@ -225,7 +369,6 @@ fn by_one_parity(index: u32, k: u32) -> Candidate
 fn by_two_parities(index: u32, k: u32) -> Candidate
     ensures value { IsInPlace index k result }
     ensures parts { (slices : ℕ) → index < slices → k < slices + 2 → IsTwoParities slices index result }
-    ensures behind { 0 < k → IsByParities result }
 {
     match k {
         0 => Candidate::Read(Part::Slice(index)),

@@ -69,18 +69,25 @@ impl Store {
         })
     }
 
-    /// Gives one more device: the image of `len` bytes in a slot of the rack. The store has no device of that id, and
-    /// forgets the blocks that it kept.
+    /// Gives one more device: the image of `len` bytes in a slot of the rack, and whether its superblock has a smaller
+    /// generation than the chosen one, so that it missed writes. The store has no device of that id, and forgets the blocks
+    /// that it kept.
     ///
     /// `Memory`: the store is as before.
-    pub fn add_device(&mut self, devid: u64, slot: usize, len: u64) -> Result<(), Memory>
+    pub fn add_device(
+        &mut self,
+        devid: u64,
+        slot: usize,
+        len: u64,
+        older: bool,
+    ) -> Result<(), Memory>
         requires { IsNone (device_in self.old.layout.devices devid) }
-        ensures added { IfOk result (λ _. self.new ≡ with_device self.old devid slot len) }
+        ensures added { IfOk result (λ _. self.new ≡ with_device self.old devid slot len older) }
         ensures unchanged { OnErr result (self.new ≡ self.old) }
     {
         let member = Member {
             devid,
-            device: Device { slot, len },
+            device: Device { slot, len, older },
         };
         match self.devices.push(member) {
             Ok(()) => {

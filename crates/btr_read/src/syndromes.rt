@@ -4,7 +4,7 @@ ghost use Rattle.std.specs.Prelude.{◌≡◌, ◌<◌, ◌≤◌, [], ◌∷◌
 ghost use Rattle.btr_pool.specs.Slots.{bytes_at};
 ghost use Rattle.btr_rack.specs.Rack.{OnlyReads};
 ghost use Rattle.btr_read.specs.Layout.{AreOpen};
-ghost use Rattle.btr_read.specs.Candidates.{size_of, slice_count};
+ghost use Rattle.btr_read.specs.Candidates.{candidates, size_of, slice_count, ways};
 ghost use Rattle.btr_read.specs.Sought.{IsRebuilt};
 ghost use Rattle.btr_read.specs.Gathering.{HasPairValue, HasValue, HaveSyndromes, RowStands, AccountsRow, IsOfRow};
 ghost use Rattle.btr_read.specs.Trial.{FitsSyndromes, GoesOn, IfStopped};
@@ -33,6 +33,7 @@ pub(crate) fn try_row<R: Rack>(
     spare: &Loan,
 ) -> Trial
     requires profile { search.now.chunk.profile ≡ Profile.Raid6 }
+    requires order { candidates search.now ≡ ways search.now }
     requires stands { RowStands search.now Candidate.ByP }
     requires open { AreOpen (R.seen rack.old).slots search.now.devices }
     requires loans { AreFour pool.old loan.now p.now q.now spare.now }
@@ -60,6 +61,7 @@ fn try_syndromes<R: Rack>(
     spare: &Loan,
 ) -> Trial
     requires profile { search.now.chunk.profile ≡ Profile.Raid6 }
+    requires order { candidates search.now ≡ ways search.now }
     requires stands { RowStands search.now Candidate.ByP }
     requires open { AreOpen (R.seen rack.old).slots search.now.devices }
     requires loans { AreFour pool.old loan.now p.now q.now spare.now }

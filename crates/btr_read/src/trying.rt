@@ -3,7 +3,7 @@ ghost use Rattle.std.specs.Prelude.{◌≡◌, ℕ, ◌<◌, ◌≤◌, [], List
 ghost use Rattle.btr_chunk.specs.Mapping.{HasPart};
 ghost use Rattle.btr_pool.specs.Slots.{IsLive, bytes_at, with_bytes, free_count};
 ghost use Rattle.btr_read.specs.Layout.{AreOpen};
-ghost use Rattle.btr_read.specs.Candidates.{size_of};
+ghost use Rattle.btr_read.specs.Candidates.{candidates, size_of, ways};
 ghost use Rattle.btr_read.specs.Sought.{CanTry, IsRebuilt};
 ghost use Rattle.btr_read.specs.Attempt.{FitsAttempt, FitsPart, AccountsAttempt, FitsOutcome};
 ghost use Rattle.btr_read.specs.declared.candidate.Candidate.{Candidate};
@@ -56,7 +56,7 @@ pub(crate) fn try_part<R: Rack>(
 }
 
 // Tries a candidate.
-fn try_candidate<R: Rack>(
+pub(crate) fn try_candidate<R: Rack>(
     search: &Search<'_>,
     candidate: Candidate,
     rack: &mut R,
@@ -163,6 +163,7 @@ fn try_by_parities<R: Rack>(
     loan: &Loan,
 ) -> Trial
     requires profile { search.now.chunk.profile ≡ Profile.Raid6 }
+    requires order { candidates search.now ≡ ways search.now }
     requires stands { RowStands search.now Candidate.ByP }
     requires open { AreOpen (R.seen rack.old).slots search.now.devices }
     requires live { IsLive pool.old loan.now }
@@ -231,6 +232,7 @@ fn try_behind<R: Rack>(
     loan: &Loan,
 ) -> Outcome
     requires profile { search.now.chunk.profile ≡ Profile.Raid6 }
+    requires order { candidates search.now ≡ ways search.now }
     requires open { AreOpen (R.seen rack.old).slots search.now.devices }
     requires live { IsLive pool.old loan.now }
     requires room { 3 ≤ free_count pool.old }
@@ -277,7 +279,7 @@ pub(crate) fn try_all<R: Rack>(
     ensures nodes { kept.new.nodes ≡ kept.old.nodes }
     ensures outcome { FitsOutcome search.now (R.seen rack.old) (R.seen rack.new) (bytes_at pool.new loan.now) result }
 {
-    if !search.has_two_parities() {
+    if !search.is_by_syndromes() {
         return try_from(search, 0, None, rack, pool, kept, loan);
     }
     let failed = match try_candidate(search, search.candidate(0), rack, pool, kept, loan) {

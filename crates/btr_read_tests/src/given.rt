@@ -37,13 +37,14 @@ pub(crate) fn empty_store(alloc: Global, shape: &Shape, kind: SumKind) -> Result
     })
 }
 
-/// Gives a store the device that is open in a slot.
+/// Gives a store the device that is open in a slot, whose image is older or not.
 pub(crate) fn with_device(
     rt: &impl Abort,
     given: Given,
     rack: &MemRack,
     devid: u64,
     slot: usize,
+    older: bool,
 ) -> Result<Given, Fail> {
     let Given {
         mut store,
@@ -51,10 +52,10 @@ pub(crate) fn with_device(
     } = given;
     assert!(rt; slot < rack.count() && store.device(devid).is_none());
     let len = rack.len(slot);
-    store.add_device(devid, slot, len)?;
+    store.add_device(devid, slot, len, older)?;
     devices.push(Member {
         devid,
-        device: Device { slot, len },
+        device: Device { slot, len, older },
     })?;
     Ok(Given { store, devices })
 }
@@ -67,11 +68,24 @@ pub(crate) fn store_without(
     shape: &Shape,
     missing: u32,
 ) -> Result<Given, Fail> {
+    store_behind(rt, alloc, rack, shape, missing, 0)
+}
+
+/// The same, where the images of a set of devices are older.
+pub(crate) fn store_behind(
+    rt: &impl Abort,
+    alloc: Global,
+    rack: &MemRack,
+    shape: &Shape,
+    missing: u32,
+    older: u32,
+) -> Result<Given, Fail> {
     let mut given = empty_store(alloc, shape, SumKind::Crc32c)?;
     for behind in 0..shape.devices {
         let device = shape.devices - 1 - behind;
         if !contains(missing, device) {
-            given = with_device(rt, given, rack, devid_of(device), behind as usize)?;
+            let is_older = contains(older, device);
+            given = with_device(rt, given, rack, devid_of(device), behind as usize, is_older)?;
         }
     }
     Ok(given)

@@ -4,6 +4,8 @@
 #[cfg(test)]
 mod blocks;
 #[cfg(test)]
+mod comparing;
+#[cfg(test)]
 mod faults;
 #[cfg(test)]
 mod given;
@@ -13,6 +15,8 @@ mod interrupts;
 mod kept;
 #[cfg(test)]
 mod mirrors;
+#[cfg(test)]
+mod older;
 #[cfg(test)]
 mod profiles;
 #[cfg(test)]

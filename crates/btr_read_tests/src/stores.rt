@@ -28,10 +28,11 @@ fn a_store_is_filled(rt: HostRuntime) -> Result<(), Fail> {
     let rack = open_images(rt.alloc(), &SINGLE)?;
     let given = empty_store(rt.alloc(), &SINGLE, SumKind::Crc32c)?;
     assert_eq!(rt; device(&given, 0), None);
-    let given = with_device(&rt, given, &rack, devid_of(0), 0)?;
+    let given = with_device(&rt, given, &rack, devid_of(0), 0, false)?;
     let first = Device {
         slot: 0,
         len: 12582912,
+        older: false,
     };
     assert_eq!(rt; device(&given, 0), Some(first));
     assert_eq!(rt; device(&given, 1), None);

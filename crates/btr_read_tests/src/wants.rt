@@ -42,7 +42,7 @@ const SUMS: [(SumKind, u8, [u8; 32], [u8; 32]); 3] = [
 // A store of the one device of `SINGLE`, whose checksums are of a kind.
 fn store_of(rt: &impl Abort, alloc: Global, rack: &MemRack, kind: SumKind) -> Result<Given, Fail> {
     let given = empty_store(alloc, &SINGLE, kind)?;
-    with_device(rt, given, rack, devid_of(0), 0)
+    with_device(rt, given, rack, devid_of(0), 0, false)
 }
 
 // The open image of `SINGLE`, in which a block stands.

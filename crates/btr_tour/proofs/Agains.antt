@@ -1,5 +1,5 @@
 -- A node that is read again.
-use Rattle.std.proofs.Common.{◌≡◌, ◌∙◌, ℕ, ◌+◌, ◌<◌, List, length, get_or, drop, Option, Some, None, IfSome, Ok, Err, refl, sym, ap, subst, arith}
+use Rattle.std.proofs.Common.{◌≡◌, ◌∙◌, ℕ, ◌+◌, ◌<◌, List, length, get_or, drop, Option, Some, None, IfSome, Ok, Err, sym, ap, subst, arith}
 use Rattle.btr_base.specs.declared.key.Key.{Key}
 use Rattle.btr_node.specs.Block.{KeyPointer, pointers}
 use Rattle.btr_node.specs.declared.node.Node.TheVariants.{Inner}
@@ -11,9 +11,11 @@ use Rattle.btr_walk.specs.Spot.{judged}
 use Rattle.btr_walk.specs.Le.{below, up_of, want_of}
 use Rattle.btr_walk.specs.Reading.{Map, UnreadBlock, Reads}
 use Rattle.btr_tour.specs.declared.again.Below.{Below}
-use Rattle.btr_tour.specs.declared.frame.Frame.{Frame}
+use Rattle.btr_walk.specs.declared.frame.Frame.{Frame}
 use Rattle.btr_tour.specs.Place.{IsNode}
-use Rattle.btr_tour.specs.Steps.{reason, FramesFrom, IsNextBelow, IsNext}
+use Rattle.btr_walk.specs.Rests.{IsUnreadOf}
+use Rattle.btr_walk.proofs.Halting.{named}
+use Rattle.btr_tour.specs.Steps.{FramesFrom, IsNextBelow, IsNext}
 use Rattle.btr_tour.proofs.Seeking.{length-spots, spot_at, some_pointer}
 
 module _ (lo hi : Key) where
@@ -32,7 +34,7 @@ module _ (lo hi : Key) where
     fits_from ps frame b.frame all more,
   )
 
-  module _ (B : Map) (level : ℕ) (frame : Frame) (node : IsNode lo hi B level frame) where
+  module _ (B : Map) (seen : List Want) (level : ℕ) (frame : Frame) (node : IsNode lo hi B seen level frame) where
     same_block : (block : List ℕ) → B (want_of level frame.spot) ≡ Ok block → block ≡ node.block
     same_block block e = let g : Ok block ≡ Ok node.block = sym e ∙ node.came in cc
 
@@ -43,9 +45,9 @@ module _ (lo hi : Key) where
     again_none block e other = other (node.all ∙ ap (λ (x : List ℕ). length (pointers x)) (sym (same_block block e)))
 
     -- a node that was good is good again, or could not be read
-    pub again_err : (Is : UnreadBlock → Want → Type 0) (store : Blocks) (f : TreeFault) → Reads Is B level frame.spot store (Err f) → reason f ≡ None
+    pub again_err : (Is : UnreadBlock → Want → Type 0) (store : Blocks) (f : TreeFault) → Reads Is B level frame.spot store (Err f) → IsUnreadOf Is seen f
     again_err Is store (Lost a) h = absurd (let e : Ok node.block ≡ Err _ = sym node.came ∙ h in cc)
-    again_err Is store (Unread a slot) h = refl
+    again_err Is store (Unread a slot) h = named Is (record { addr = a; slot = slot }) seen (want_of level frame.spot) h node.read
     again_err Is store (Unmapped a) h = absurd (let e : Ok node.block ≡ Err _ = sym node.came ∙ h in cc)
     again_err Is store (Crosses a) h = absurd (let e : Ok node.block ≡ Err _ = sym node.came ∙ h in cc)
     again_err Is store (Malformed a) h =

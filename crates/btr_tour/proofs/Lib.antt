@@ -1,9 +1,10 @@
 pub mod Seeking
 pub mod Agains
-pub mod Tours
+pub mod Programs
 pub mod Paths
 pub mod Enters
 pub mod Ranking
 pub mod Nexts
 pub mod Ranges
 pub mod Marks
+pub mod Resting

@@ -1,132 +1,133 @@
--- A tour without faults has the items of the range.
-use Rattle.std.proofs.Common.{◌≡◌, ◌∙◌, inl, inr, ℕ, zero, suc, ◌-◌, Bool, true, false, cond, List, [], ◌∷◌, ◌++◌, Option, Some, None, IsSome, Result, Ok, Err, refl, sym, ap, map, filter, flat_map, append_assoc, append-nil, arith}
+-- A range is the tour that stops at its first fault, and has the items of a tour without faults.
+use Rattle.std.proofs.Common.{◌≡◌, ◌∙◌, ℕ, zero, suc, ◌-◌, Bool, true, false, cond, List, [], ◌∷◌, Option, Some, None, Result, Ok, Err, refl, sym, ap, map, filter, arith}
+use Rattle.std.proofs.Math.Path.{fun_ext}
 use Rattle.std.specs.Option.{is_some}
 use Rattle.btr_base.specs.declared.key.Key.{Key}
-use Rattle.btr_node.specs.Block.{KeyPointer, items, pointers}
+use Rattle.btr_node.specs.Block.{Item as NodeItem, KeyPointer}
 use Rattle.btr_node.specs.declared.node.Node.{Node}
-use Rattle.btr_node.specs.declared.node.Node.TheVariants.{Leaf, Inner}
-use Rattle.btr_prog.specs.Prog.{Return, Wants, first, given, exec, steps_of}
-use Rattle.btr_read.specs.Fate.{Fault, Malformed}
+use Rattle.btr_node.specs.declared.node.Node.TheVariants as node
+use Rattle.btr_prog.specs.Prog.{Need, Emit, exec, given, steps_of}
+use Rattle.btr_prog.specs.Trying.{Done, Try, Act, tried, act_all}
+use Rattle.btr_read.specs.Fate.{Fault}
 use Rattle.btr_walk.specs.declared.spot.Spot.{Spot}
 use Rattle.btr_walk.specs.Spot.{judged}
 use Rattle.btr_walk.specs.Le.{TreeItem, root_spot, below, up_of, want_of}
 use Rattle.btr_walk.specs.Range.{RangeProg, meets, emit_all, items_within, over, range_leaf, range_inner, range_at}
 use Rattle.btr_walk.specs.Reading.{Map}
-use Rattle.btr_walk.proofs.Ways.{IsLeafAt, IsInnerAt, judged_is}
-use Rattle.btr_tour.specs.Tour.{Mark, Block, Child, Item, Left, place_of, child_spots, meets_keys, child_tour, node_tour, block_tour, tour_at, tour, items_met, faults_met}
-use Rattle.btr_tour.specs.Law.{FaultlessLaw}
-use Rattle.btr_tour.proofs.Tours.{leaf_tour, err_tour, bad_tour}
+use Rattle.btr_walk.proofs.Ways.{leaf_at, inner_at}
+use Rattle.btr_tour.specs.Tour.{Mark, Block, Child, Item, Left, child_spots, meets_keys, items_met, faults_met}
+use Rattle.btr_tour.specs.Program.{TourProg, children, by_node, tour_from, tour_prog, items_until_fault}
+use Rattle.btr_tour.specs.Law.{StopsLaw, FaultlessLaw}
+use Rattle.btr_tour.proofs.Programs.{marks_law}
 
-items_met-append : (xs ys : List Mark) → items_met (xs ++ ys) ≡ items_met xs ++ items_met ys
-items_met-append [] ys = refl
-items_met-append (Block place block ∷ xs) ys = items_met-append xs ys
-items_met-append (Child addr place ∷ xs) ys = items_met-append xs ys
-items_met-append (Item item ∷ xs) ys = ap (λ is. item ∷ is) (items_met-append xs ys)
-items_met-append (Left fault ∷ xs) ys = items_met-append xs ys
+-- a leaf is no inner node
+no_inner : (spot : Spot) (block : List ℕ) (ps : List KeyPointer) → judged 0 spot block ≡ Some (node.Inner ps) → ⊥
+no_inner spot block ps is =
+    let leaf = leaf_at 0 spot block (ap is_some is) refl in
+    let e : Some (node.Inner ps) ≡ Some (node.Leaf _) = sym is ∙ leaf.is in cc
 
-faults_met-append : (xs ys : List Mark) → faults_met (xs ++ ys) ≡ faults_met xs ++ faults_met ys
-faults_met-append [] ys = refl
-faults_met-append (Block place block ∷ xs) ys = faults_met-append xs ys
-faults_met-append (Child addr place ∷ xs) ys = faults_met-append xs ys
-faults_met-append (Item item ∷ xs) ys = faults_met-append xs ys
-faults_met-append (Left fault ∷ xs) ys = ap (λ fs. fault ∷ fs) (faults_met-append xs ys)
+no_leaf : (n : ℕ) (spot : Spot) (block : List ℕ) (xs : List NodeItem) → judged (suc n) spot block ≡ Some (node.Leaf xs) → ⊥
+no_leaf n spot block xs is =
+    let inner = inner_at (suc n) spot block (ap is_some is) (λ e. absurd (omega (arith, e))) in
+    let e : Some (node.Leaf xs) ≡ Some (node.Inner _) = sym is ∙ inner.is in cc
 
-neither : (xs ys : List Fault) → xs ++ ys ≡ [] → (xs ≡ []) × (ys ≡ [])
-neither [] ys e = (refl, e)
-neither (x ∷ xs) ys e = cc
+module _ (lo hi : Key) where
+  stops_items : (xs : List TreeItem) (rest : TourProg) → items_until_fault (act_all (map Item xs) rest) ≡ emit_all xs (items_until_fault rest)
+  stops_items [] rest = refl
+  stops_items (x ∷ xs) rest = ap (Emit x) (stops_items xs rest)
 
-items_of_items : (xs : List TreeItem) → items_met (map Item xs) ≡ xs
-items_of_items [] = refl
-items_of_items (x ∷ xs) = ap (λ is. x ∷ is) (items_of_items xs)
+  module _ (tour : Spot → TourProg → TourProg) (child : Spot → RangeProg → RangeProg) (stops : (spot : Spot) (rest : TourProg) → items_until_fault (tour spot rest) ≡ child spot (items_until_fault rest)) (addr level : ℕ) where
+    by_test : (b : Bool) (spot : Spot) (spots : List Spot) (rest : TourProg) (more : RangeProg) → items_until_fault (children tour addr level spots rest) ≡ more → items_until_fault (children tour addr level (cond b (spot ∷ spots) spots) rest) ≡ cond b (child spot more) more
+    by_test false spot spots rest more e = e
+    by_test true spot spots rest more e = stops spot (children tour addr level spots rest) ∙ ap (child spot) e
 
-module _ (lo hi : Key) (B : Map) where
-  -- a program gives the items of some marks, and then goes on
-  record Gives (p rest : RangeProg) (marks : List Mark) : Type 0 where
-    steps_are : steps_of (exec B p).marks ≡ items_met marks ++ steps_of (exec B rest).marks
-    ends : (exec B p).ending ≡ (exec B rest).ending
+    stops_children : (ps : List KeyPointer) (up : Option Key) (rest : TourProg) → items_until_fault (children tour addr level (filter (meets_keys lo hi) (child_spots ps up)) rest) ≡ over lo hi child ps up (items_until_fault rest)
+    stops_children [] up rest = refl
+    stops_children (p ∷ ps) up rest = by_test (meets lo hi p.key (up_of ps up)) (below p (up_of ps up)) (filter (meets_keys lo hi) (child_spots ps up)) rest (over lo hi child ps up (items_until_fault rest)) (stops_children ps up rest)
 
-  gives_then : (p q rest : RangeProg) (xs ys : List Mark) → Gives p q xs → Gives q rest ys → Gives p rest (xs ++ ys)
-  gives_then p q rest xs ys one two = record {
-    steps_are = one.steps_are ∙ ap (λ is. items_met xs ++ is) two.steps_are ∙ sym (append_assoc (items_met xs) (items_met ys) (steps_of (exec B rest).marks)) ∙ ap (λ is. is ++ steps_of (exec B rest).marks) (sym (items_met-append xs ys));
-    ends = one.ends ∙ two.ends;
-  }
+  stops_leaf : (spot : Spot) (block : List ℕ) (rest : TourProg) (o : Option Node) → judged 0 spot block ≡ o → items_until_fault (by_node lo hi (λ child more. more) 0 spot block rest o) ≡ range_leaf lo hi spot (items_until_fault rest) o
+  stops_leaf spot block rest None is = refl
+  stops_leaf spot block rest (Some (node.Leaf xs)) is = stops_items (items_within lo hi spot.addr xs) rest
+  stops_leaf spot block rest (Some (node.Inner ps)) is = absurd (no_inner spot block ps is)
 
-  emitted : (xs : List TreeItem) (rest : RangeProg) → (steps_of (exec B (emit_all xs rest)).marks ≡ xs ++ steps_of (exec B rest).marks) × ((exec B (emit_all xs rest)).ending ≡ (exec B rest).ending)
-  emitted [] rest = (refl, refl)
-  emitted (x ∷ xs) rest = let e = emitted xs rest in (ap (λ is. x ∷ is) e.0, e.1)
+  stops_inner : (n : ℕ) (spot : Spot) (block : List ℕ) (rest : TourProg) (o : Option Node) → ((child : Spot) (more : TourProg) → items_until_fault (tour_from lo hi n child more) ≡ range_at lo hi n child (items_until_fault more)) → judged (suc n) spot block ≡ o → items_until_fault (by_node lo hi (tour_from lo hi n) (suc n) spot block rest o) ≡ range_inner lo hi (range_at lo hi n) spot (items_until_fault rest) o
+  stops_inner n spot block rest None ih is = refl
+  stops_inner n spot block rest (Some (node.Leaf xs)) ih is = absurd (no_leaf n spot block xs is)
+  stops_inner n spot block rest (Some (node.Inner ps)) ih is = stops_children (tour_from lo hi n) (range_at lo hi n) ih spot.addr (suc n - 1) ps spot.up rest
 
-  -- a leaf
-  at_leaf : (spot : Spot) (rest : RangeProg) (block : List ℕ) (node : Option Node) → B (want_of 0 spot) ≡ Ok block → judged 0 spot block ≡ node → exec B (range_at lo hi 0 spot rest) ≡ first (Wants (want_of 0 spot)) (exec B (range_leaf lo hi spot rest node))
-  at_leaf spot rest block node came is =
-      ap (λ x. first (Wants (want_of 0 spot)) (given x (λ b. exec B (range_leaf lo hi spot rest (judged 0 spot b))))) came
-      ∙ ap (λ n. first (Wants (want_of 0 spot)) (exec B (range_leaf lo hi spot rest n))) is
+  stops_from : (level : ℕ) (spot : Spot) (rest : TourProg) → items_until_fault (tour_from lo hi level spot rest) ≡ range_at lo hi level spot (items_until_fault rest)
+  stops_from zero spot rest = ap (Need (want_of 0 spot)) (fun_ext (λ block. stops_leaf spot block rest (judged 0 spot block) refl))
+  stops_from (suc n) spot rest = ap (Need (want_of (suc n) spot)) (fun_ext (λ block. stops_inner n spot block rest (judged (suc n) spot block) (stops_from n) refl))
 
-  at_inner : (n : ℕ) (spot : Spot) (rest : RangeProg) (block : List ℕ) (node : Option Node) → B (want_of (suc n) spot) ≡ Ok block → judged (suc n) spot block ≡ node → exec B (range_at lo hi (suc n) spot rest) ≡ first (Wants (want_of (suc n) spot)) (exec B (range_inner lo hi (range_at lo hi n) spot rest node))
-  at_inner n spot rest block node came is =
-      ap (λ x. first (Wants (want_of (suc n) spot)) (given x (λ b. exec B (range_inner lo hi (range_at lo hi n) spot rest (judged (suc n) spot b))))) came
-      ∙ ap (λ m. first (Wants (want_of (suc n) spot)) (exec B (range_inner lo hi (range_at lo hi n) spot rest m))) is
+pub stops_law : StopsLaw
+stops_law root lo hi = stops_from lo hi root.level (root_spot root) (Done tt)
 
-  gives_leaf : (spot : Spot) (rest : RangeProg) (block : List ℕ) → IsLeafAt 0 spot block → B (want_of 0 spot) ≡ Ok block → Gives (range_at lo hi 0 spot rest) rest (tour_at lo hi B 0 spot)
-  gives_leaf spot rest block leaf came =
-      let e = at_leaf spot rest block (Some (Leaf (items block))) came leaf.is in
-      let out = emitted (items_within lo hi spot.addr (items block)) rest in
-      let met : items_met (tour_at lo hi B 0 spot) ≡ items_within lo hi spot.addr (items block) = ap items_met (leaf_tour lo hi B 0 spot block leaf came) ∙ items_of_items (items_within lo hi spot.addr (items block)) in
-      record {
-        steps_are = ap (λ r. steps_of r.marks) e ∙ out.0 ∙ ap (λ is. is ++ steps_of (exec B rest).marks) (sym met);
-        ends = ap (λ r. r.ending) e ∙ out.1;
-      }
+-- ---- without faults
 
-  -- the children of a node, one after another
-  module _ (n addr level : ℕ) (each : (spot : Spot) (rest : RangeProg) → faults_met (tour_at lo hi B n spot) ≡ [] → Gives (range_at lo hi n spot rest) rest (tour_at lo hi B n spot)) where
-    abbrev children : List Spot → List Mark
-    children spots = flat_map (child_tour lo hi (tour_at lo hi B n) addr level) spots
+-- a program meets this fault next
+abbrev IsLeft : Fault → TourProg → Type 0
+IsLeft fault (Done u) = ⊥
+IsLeft fault (Try w k) = ⊥
+IsLeft fault (Act (Block place block) p) = ⊥
+IsLeft fault (Act (Child addr place) p) = ⊥
+IsLeft fault (Act (Item item) p) = ⊥
+IsLeft fault (Act (Left other) p) = other ≡ fault
 
-    abbrev chosen : List KeyPointer → Option Key → List Spot
-    chosen ps up = filter (meets_keys lo hi) (child_spots ps up)
+-- each fault of a want is met at once
+abbrev MeetsFaults : TourProg → Type 0
+MeetsFaults (Done u) = Unit {0}
+MeetsFaults (Try w k) = ((fault : Fault) → IsLeft fault (k (Err fault))) × ((block : List ℕ) → MeetsFaults (k (Ok block)))
+MeetsFaults (Act mark p) = MeetsFaults p
 
-    by_test : (b : Bool) (spot : Spot) (spots : List Spot) (more rest : RangeProg) → (faults_met (children spots) ≡ [] → Gives more rest (children spots)) → faults_met (children (cond b (spot ∷ spots) spots)) ≡ [] → Gives (cond b (range_at lo hi n spot more) more) rest (children (cond b (spot ∷ spots) spots))
-    by_test false spot spots more rest then none = then none
-    by_test true spot spots more rest then none =
-        let split = neither (faults_met (tour_at lo hi B n spot)) (faults_met (children spots)) (sym (faults_met-append (tour_at lo hi B n spot) (children spots)) ∙ none) in
-        let g = gives_then (range_at lo hi n spot more) more rest (tour_at lo hi B n spot) (children spots) (each spot more split.0) (then split.1) in
-        record { steps_are = g.steps_are; ends = g.ends }
+meets_all : (ms : List Mark) (rest : TourProg) → MeetsFaults rest → MeetsFaults (act_all ms rest)
+meets_all [] rest h = h
+meets_all (m ∷ ms) rest h = meets_all ms rest h
 
-    gives_children : (ps : List KeyPointer) (up : Option Key) (rest : RangeProg) → faults_met (children (chosen ps up)) ≡ [] → Gives (over lo hi (range_at lo hi n) ps up rest) rest (children (chosen ps up))
-    gives_children [] up rest none = record { steps_are = refl; ends = refl }
-    gives_children (p ∷ ps) up rest none = by_test (meets lo hi p.key (up_of ps up)) (below p (up_of ps up)) (chosen ps up) (over lo hi (range_at lo hi n) ps up rest) rest (gives_children ps up rest) none
+meets_children : (tour : Spot → TourProg → TourProg) → ((spot : Spot) (rest : TourProg) → MeetsFaults rest → MeetsFaults (tour spot rest)) → (addr level : ℕ) (spots : List Spot) (rest : TourProg) → MeetsFaults rest → MeetsFaults (children tour addr level spots rest)
+meets_children tour each addr level [] rest h = h
+meets_children tour each addr level (spot ∷ spots) rest h = each spot (children tour addr level spots rest) (meets_children tour each addr level spots rest h)
 
-  -- an inner node
-  gives_inner : (n : ℕ) (spot : Spot) (rest : RangeProg) (block : List ℕ) → ((spot : Spot) (rest : RangeProg) → faults_met (tour_at lo hi B n spot) ≡ [] → Gives (range_at lo hi n spot rest) rest (tour_at lo hi B n spot)) → IsInnerAt (suc n) spot block → B (want_of (suc n) spot) ≡ Ok block → faults_met (tour_at lo hi B (suc n) spot) ≡ [] → Gives (range_at lo hi (suc n) spot rest) rest (tour_at lo hi B (suc n) spot)
-  gives_inner n spot rest block each inner came none =
-      let e = at_inner n spot rest block (Some (Inner (pointers block))) came inner.is in
-      let t : tour_at lo hi B (suc n) spot ≡ Block (place_of (suc n) spot) block ∷ flat_map (child_tour lo hi (tour_at lo hi B n) spot.addr (suc n - 1)) (filter (meets_keys lo hi) (child_spots (pointers block) spot.up)) =
-      ap (block_tour lo hi (tour_at lo hi B n) (suc n) spot) came ∙ ap (node_tour lo hi (tour_at lo hi B n) (suc n) spot block) inner.is in
-      let g = gives_children n spot.addr (suc n - 1) each (pointers block) spot.up rest (sym (ap faults_met t) ∙ none) in
-      record {
-        steps_are = ap (λ r. steps_of r.marks) e ∙ g.steps_are ∙ ap (λ ms. items_met ms ++ steps_of (exec B rest).marks) (sym t);
-        ends = ap (λ r. r.ending) e ∙ g.ends;
-      }
+module _ (lo hi : Key) where
+  meets_node : (tour : Spot → TourProg → TourProg) → ((spot : Spot) (rest : TourProg) → MeetsFaults rest → MeetsFaults (tour spot rest)) → (level : ℕ) (spot : Spot) (block : List ℕ) (rest : TourProg) (o : Option Node) → MeetsFaults rest → MeetsFaults (by_node lo hi tour level spot block rest o)
+  meets_node tour each level spot block rest None h = h
+  meets_node tour each level spot block rest (Some (node.Leaf xs)) h = meets_all (map Item (items_within lo hi spot.addr xs)) rest h
+  meets_node tour each level spot block rest (Some (node.Inner ps)) h = meets_children tour each spot.addr (level - 1) (filter (meets_keys lo hi) (child_spots ps spot.up)) rest h
 
-  -- a block that is left out is a fault
-  left_out : (level : ℕ) (spot : Spot) (fault : Fault) → tour_at lo hi B level spot ≡ Left fault ∷ [] → faults_met (tour_at lo hi B level spot) ≡ [] → ⊥
-  left_out level spot fault is none = let e : fault ∷ [] ≡ [] = sym (ap faults_met is) ∙ none in cc
+  meets_from : (level : ℕ) (spot : Spot) (rest : TourProg) → MeetsFaults rest → MeetsFaults (tour_from lo hi level spot rest)
+  meets_from zero spot rest h = (λ fault. refl, λ block. meets_node (λ child more. more) (λ child more g. g) 0 spot block rest (judged 0 spot block) h)
+  meets_from (suc n) spot rest h = (λ fault. refl, λ block. meets_node (tour_from lo hi n) (meets_from n) (suc n) spot block rest (judged (suc n) spot block) h)
 
-  gives_good : (level : ℕ) (spot : Spot) (rest : RangeProg) → ((block : List ℕ) → B (want_of level spot) ≡ Ok block → IsSome (judged level spot block) → Gives (range_at lo hi level spot rest) rest (tour_at lo hi B level spot)) → faults_met (tour_at lo hi B level spot) ≡ [] → Gives (range_at lo hi level spot rest) rest (tour_at lo hi B level spot)
-  gives_good level spot rest good none = by_block (B (want_of level spot)) refl
-    where
-      by_node : (block : List ℕ) (node : Option Node) → B (want_of level spot) ≡ Ok block → judged level spot block ≡ node → Gives (range_at lo hi level spot rest) rest (tour_at lo hi B level spot)
-      by_node block None came is = absurd (left_out level spot (Malformed spot.addr) (bad_tour lo hi B level spot block came is) none)
-      by_node block (Some node) came is = good block came (ap is_some is)
+module _ (B : Map) where
+  abbrev marks_by : TourProg → List Mark
+  marks_by p = steps_of (tried B p).marks
 
-      by_block : (r : Result (List ℕ) Fault) → B (want_of level spot) ≡ r → Gives (range_at lo hi level spot rest) rest (tour_at lo hi B level spot)
-      by_block (Err fault) e = absurd (left_out level spot fault (err_tour lo hi B level spot fault e) none)
-      by_block (Ok block) e = by_node block (judged level spot block) e refl
+  abbrev HasItems : TourProg → Type 0
+  HasItems p = (steps_of (exec B (items_until_fault p)).marks ≡ items_met (marks_by p)) × ((exec B (items_until_fault p)).ending ≡ Ok tt)
 
-  gives : (level : ℕ) (spot : Spot) (rest : RangeProg) → faults_met (tour_at lo hi B level spot) ≡ [] → Gives (range_at lo hi level spot rest) rest (tour_at lo hi B level spot)
-  gives zero spot rest none = gives_good 0 spot rest (λ block came good. elim (judged_is 0 spot block good) [ inl leaf ↦ gives_leaf spot rest block leaf came | inr inner ↦ absurd (let some = inner.some in omega (arith, some)) ]) none
-  gives (suc n) spot rest none = gives_good (suc n) spot rest (λ block came good. elim (judged_is (suc n) spot block good) [ inl leaf ↦ absurd (let low = leaf.zero_level in omega (arith, low)) | inr inner ↦ gives_inner n spot rest block (gives n) inner came none ]) none
+  no_left : (fault : Fault) (p : TourProg) → IsLeft fault p → faults_met (marks_by p) ≡ [] → ⊥
+  no_left fault (Done u) h none = h
+  no_left fault (Try w k) h none = h
+  no_left fault (Act (Block place block) p) h none = h
+  no_left fault (Act (Child addr place) p) h none = h
+  no_left fault (Act (Item item) p) h none = h
+  no_left fault (Act (Left other) p) h none = let e : other ∷ faults_met (marks_by p) ≡ [] = none in cc
+
+  by_fate : (x : Result (List ℕ) Fault) (k : Result (List ℕ) Fault → TourProg) → ((fault : Fault) → IsLeft fault (k (Err fault))) → ((block : List ℕ) → faults_met (marks_by (k (Ok block))) ≡ [] → HasItems (k (Ok block))) → faults_met (marks_by (k x)) ≡ []
+      → (steps_of (given x (λ block. exec B (items_until_fault (k (Ok block))))).marks ≡ items_met (marks_by (k x))) × ((given x (λ block. exec B (items_until_fault (k (Ok block))))).ending ≡ Ok tt)
+  by_fate (Ok block) k left ih none = ih block none
+  by_fate (Err fault) k left ih none = absurd (no_left fault (k (Err fault)) (left fault) none)
+
+  has_items : (p : TourProg) → MeetsFaults p → faults_met (marks_by p) ≡ [] → HasItems p
+  has_items (Done u) h none = (refl, refl)
+  has_items (Try w k) h none = by_fate (B w) k h.0 (λ block. has_items (k (Ok block)) (h.1 block)) none
+  has_items (Act (Block place block) p) h none = has_items p h none
+  has_items (Act (Child addr place) p) h none = has_items p h none
+  has_items (Act (Item item) p) h none = let g = has_items p h none in (ap (λ is. item ∷ is) g.0, g.1)
+  has_items (Act (Left fault) p) h none = absurd (let e : fault ∷ faults_met (marks_by p) ≡ [] = none in cc)
 
 pub faultless_law : FaultlessLaw
 faultless_law B root lo hi none =
-    let g = gives lo hi B root.level (root_spot root) (Return tt) none in
-    (g.steps_are ∙ append-nil (items_met (tour lo hi B root)), g.ends)
+    let same = marks_law B root lo hi in
+    let stops = sym (stops_law root lo hi) in
+    let g = has_items B (tour_prog lo hi root) (meets_from lo hi root.level (root_spot root) (Done tt) tt) (ap faults_met same ∙ none) in
+    (ap (λ p. steps_of (exec B p).marks) stops ∙ g.0 ∙ ap items_met same, ap (λ p. (exec B p).ending) stops ∙ g.1)

@@ -1,27 +1,22 @@
 -- A tour comes nearer to its end.
-use Rattle.std.proofs.Common.{◌≡◌, ◌∙◌, inl, inr, ℕ, zero, suc, ◌+◌, ◌-◌, ◌*◌, ◌^◌, ◌<◌, ◌≤◌, List, [], ◌∷◌, length, get_or, set, Option, Some, None, IfSome, refl, sym, ap, subst, arith}
-use Rattle.std.proofs.lemmas.Bool.{cases_eq}
-use Rattle.std.proofs.lemmas.List.{length-set, get_or-set_same, get_or-set_other}
+use Rattle.std.proofs.Common.{◌≡◌, ◌∙◌, ℕ, zero, suc, ◌+◌, ◌-◌, ◌*◌, ◌^◌, ◌<◌, ◌≤◌, List, [], ◌∷◌, length, get_or, set, Option, Some, None, IfSome, refl, sym, ap, subst, arith}
+use Rattle.std.proofs.lemmas.List.{length-set, get_or-set_other}
 use Rattle.btr_node.specs.Block.{KeyPointer}
 use Rattle.btr_base.specs.declared.key.Key.{Key}
 use Rattle.btr_walk.specs.declared.fault.TreeFault.{TreeFault}
 use Rattle.btr_walk.specs.declared.fault.TreeFault.TheVariants.{Lost, Unread, Unmapped, Crosses, Malformed}
 use Rattle.btr_walk.specs.declared.spot.Spot.{Spot}
 use Rattle.btr_tour.specs.declared.again.Below.{Below}
-use Rattle.btr_tour.specs.declared.frame.Frame.{Frame}
-use Rattle.btr_tour.specs.declared.frame.Todo.{Todo}
+use Rattle.btr_walk.specs.declared.frame.Frame.{Frame}
+use Rattle.btr_walk.specs.declared.frame.Todo.{Todo}
 use Rattle.btr_tour.specs.declared.leaf_at.LeafAt.{LeafAt}
-use Rattle.btr_tour.specs.declared.path.AtLevel.{AtLevel}
-use Rattle.btr_tour.specs.declared.place.Place.{Place}
-use Rattle.btr_tour.specs.Shape.{digit, rank_path, rank_todo, rank_at, rank_on, FrameFits, IsShaped, StepNears}
+use Rattle.btr_walk.specs.declared.path.AtLevel.{AtLevel}
+use Rattle.btr_walk.specs.declared.going.Where.{Where}
+use Rattle.btr_walk.specs.Ranks.{digit, rank_path, rank_todo, rank_at}
+use Rattle.btr_walk.proofs.Ranking.{one_more, again_less, frames_fit}
+use Rattle.btr_tour.specs.Shape.{rank_on, FrameFits, IsShaped, StepNears}
 use Rattle.btr_tour.specs.Steps.{IsLowest, FramesFrom, FitsBelow, left_out, passed_leaf}
 use Rattle.btr_tour.proofs.Seeking.{length-spots}
-
--- one more child is more
-one_more : (n : ℕ) (fs : List (Option Frame)) → rank_path fs + 1 ≤ rank_todo n fs
-one_more n [] = omega arith
-one_more zero (o ∷ fs) = omega arith
-one_more (suc n) (o ∷ fs) = omega (arith, one_more n fs)
 
 -- the children of a node are less than the node
 enter_less : (i : ℕ) (fs : List (Option Frame)) (o : Option Frame) → i < length fs → digit o < 2 ^ 64 → ((k : ℕ) → k < suc i → get_or fs k None ≡ None) → rank_path (set fs i o) + 1 ≤ rank_todo (suc i) fs
@@ -30,12 +25,6 @@ enter_less zero (x ∷ fs) o lt d h = let e : digit x ≡ 0 = ap digit (h 0 (ome
 enter_less (suc i) (x ∷ fs) o lt d h =
     let e : digit x ≡ 0 = ap digit (h 0 (omega arith)) in
     omega (arith, e, enter_less i fs o (omega (arith, lt)) d (λ k l. h (suc k) (omega (arith, l))))
-
--- a child that is taken from its node
-again_less : (i : ℕ) (fs : List (Option Frame)) (o : Option Frame) → i < length fs → digit o + 1 ≤ digit (get_or fs i None) → rank_todo i (set fs i o) ≤ rank_path fs
-again_less i [] o lt d = absurd (omega (arith, lt))
-again_less zero (x ∷ fs) o lt d = omega (arith, d)
-again_less (suc i) (x ∷ fs) o lt d = omega (arith, again_less i fs o (omega (arith, lt)) d)
 
 -- a node that is left out
 gone_less : (i : ℕ) (fs : List (Option Frame)) (o : Option Frame) → i < length fs → digit o ≤ digit (get_or fs i None) → rank_path (set fs i o) + (digit (get_or fs i None) - digit o) ≤ rank_path fs
@@ -60,24 +49,18 @@ pass_less_at None i fs = omega (arith, pass_less i fs)
 pass_less_at (Some t) i fs = omega (arith, pass_less_todo t.level i fs)
 
 -- what is below a block is left out
-pub pass_node : (place : Place) (i : ℕ) (leaf : Option LeafAt) → rank_on (record { path = set place.path i None; todo = place.todo }) leaf ≤ rank_on place leaf
+pub pass_node : (place : Where) (i : ℕ) (leaf : Option LeafAt) → rank_on (record { path = set place.path i None; todo = place.todo }) leaf ≤ rank_on place leaf
 pass_node place i leaf = omega (arith, pass_less_at place.todo i place.path)
 
-pub pass_leaf : (place : Place) (leaf : Option LeafAt) → rank_on place (passed_leaf 0 leaf) ≤ rank_on place leaf
+pub pass_leaf : (place : Where) (leaf : Option LeafAt) → rank_on place (passed_leaf 0 leaf) ≤ rank_on place leaf
 pass_leaf place None = omega arith
 pass_leaf place (Some l) = omega arith
 
 -- shapes
-frames_fit : (fs : List (Option Frame)) (i : ℕ) (o : Option Frame) → i < length fs → ((k : ℕ) → IfSome (get_or fs k None) FrameFits) → IfSome o FrameFits → (k : ℕ) → IfSome (get_or (set fs i o) k None) FrameFits
-frames_fit fs i o lt h g k = elim (cases_eq k i) [
-  | inl e ↦ subst (λ (j : ℕ). IfSome (get_or (set fs i o) j None) FrameFits) (sym e) (subst (λ x. IfSome x FrameFits) (sym (get_or-set_same fs i o None lt)) g)
-  | inr ne ↦ subst (λ x. IfSome x FrameFits) (sym (get_or-set_other fs i k o None ne)) (h k)
-]
-
 shaped_set : (path : List (Option Frame)) (i : ℕ) (o : Option Frame) (todo : Option Todo) → length path ≡ 7 → i < 7 → ((k : ℕ) → IfSome (get_or path k None) FrameFits) → IfSome o FrameFits → ((k : ℕ) → k < i → get_or path k None ≡ None) → IfSome todo (λ t. t.level ≡ i) → IsShaped (record { path = set path i o; todo = todo })
 shaped_set path i o todo long lt frames fits clear low = record {
   long = length-set path i o ∙ long;
-  frames = frames_fit path i o (omega (arith, long, lt)) frames fits;
+  frames = frames_fit FrameFits path i o (omega (arith, long, lt)) frames fits;
   above = above_of todo low;
 }
   where
@@ -86,16 +69,16 @@ shaped_set path i o todo long lt frames fits clear low = record {
     above_of (Some t) l = λ k lt'. get_or-set_other path i k o None (λ e. absurd (omega (arith, e, lt', l))) ∙ clear k (omega (arith, lt', l))
 
 -- a place with a block that is to be read
-todo_rank : (place : Place) (level : ℕ) (spot : Spot) → place.todo ≡ Some (record { level = level; spot = spot }) → rank_at place.todo place.path ≡ 2 * rank_todo level place.path
+todo_rank : (place : Where) (level : ℕ) (spot : Spot) → place.todo ≡ Some (record { level = level; spot = spot }) → rank_at place.todo place.path ≡ 2 * rank_todo level place.path
 todo_rank place level spot e = ap (λ t. rank_at t place.path) e
 
-pub leaf_nears : (place : Place) (level : ℕ) (spot : Spot) (l : LeafAt) → place.todo ≡ Some (record { level = level; spot = spot }) → l.end < 2 ^ 64 → rank_on (record { path = place.path; todo = None }) (Some l) < rank_on place None
+pub leaf_nears : (place : Where) (level : ℕ) (spot : Spot) (l : LeafAt) → place.todo ≡ Some (record { level = level; spot = spot }) → l.end < 2 ^ 64 → rank_on (record { path = place.path; todo = None }) (Some l) < rank_on place None
 leaf_nears place level spot l e small = omega (arith, todo_rank place level spot e, one_more level place.path, small)
 
-behind_nears : (place : Place) (level : ℕ) (spot : Spot) → place.todo ≡ Some (record { level = level; spot = spot }) → rank_on (record { path = place.path; todo = None }) None < rank_on place None
+behind_nears : (place : Where) (level : ℕ) (spot : Spot) → place.todo ≡ Some (record { level = level; spot = spot }) → rank_on (record { path = place.path; todo = None }) None < rank_on place None
 behind_nears place level spot e = omega (arith, todo_rank place level spot e, one_more level place.path)
 
-pub out_nears : (place : Place) (level : ℕ) (spot : Spot) (f : TreeFault) → place.todo ≡ Some (record { level = level; spot = spot }) → StepNears (rank_on place None) (rank_on (left_out place (record { path = place.path; todo = None }) f).place (left_out place (record { path = place.path; todo = None }) f).leaf) (left_out place (record { path = place.path; todo = None }) f).step
+pub out_nears : (place : Where) (level : ℕ) (spot : Spot) (f : TreeFault) → place.todo ≡ Some (record { level = level; spot = spot }) → StepNears (rank_on place None) (rank_on (left_out place (record { path = place.path; todo = None }) f).place (left_out place (record { path = place.path; todo = None }) f).leaf) (left_out place (record { path = place.path; todo = None }) f).step
 out_nears place level spot (Lost a) e = behind_nears place level spot e
 out_nears place level spot (Unread a slot) e = omega arith
 out_nears place level spot (Unmapped a) e = behind_nears place level spot e
@@ -111,11 +94,11 @@ fits_digit : (o : Option Frame) → IfSome o FrameFits → digit o < 2 ^ 64
 fits_digit None h = omega arith
 fits_digit (Some f) h = omega (arith, h.0, h.1)
 
-above_todo : (place : Place) (level : ℕ) (spot : Spot) → place.todo ≡ Some (record { level = level; spot = spot }) → IsShaped place → (k : ℕ) → k < level → get_or place.path k None ≡ None
+above_todo : (place : Where) (level : ℕ) (spot : Spot) → place.todo ≡ Some (record { level = level; spot = spot }) → IsShaped place → (k : ℕ) → k < level → get_or place.path k None ≡ None
 above_todo place level spot e s = let P : Option Todo → Type 0 = λ x. IfSome x (λ t. (k : ℕ) → k < t.level → get_or place.path k None ≡ None) in subst P e s.above
 
 -- an inner node was met
-pub node_nears : (place : Place) (level : ℕ) (spot : Spot) (path' : List (Option Frame)) (o : Option Frame) → place.todo ≡ Some (record { level = level; spot = spot }) → 0 < level → level ≤ 7 → IfSome o FrameFits → path' ≡ set place.path (level - 1) o → IsShaped place → IsShaped (record { path = path'; todo = None }) × (rank_on (record { path = path'; todo = None }) None < rank_on place None)
+pub node_nears : (place : Where) (level : ℕ) (spot : Spot) (path' : List (Option Frame)) (o : Option Frame) → place.todo ≡ Some (record { level = level; spot = spot }) → 0 < level → level ≤ 7 → IfSome o FrameFits → path' ≡ set place.path (level - 1) o → IsShaped place → IsShaped (record { path = path'; todo = None }) × (rank_on (record { path = path'; todo = None }) None < rank_on place None)
 node_nears place level spot path' o e some few fits set_is s =
     let i : ℕ = level - 1 in
     let up : suc i ≡ level = omega (arith, some) in
@@ -127,7 +110,7 @@ node_nears place level spot path' o e some few fits set_is s =
       omega (arith, todo_rank place level spot e, less, same),
     )
 
-module _ (place : Place) (low : AtLevel) (none : place.todo ≡ None) (lowest : IsLowest place low) (shaped : IsShaped place) where
+module _ (place : Where) (low : AtLevel) (none : place.todo ≡ None) (lowest : IsLowest place low) (shaped : IsShaped place) where
   within : low.at < length place.path
   within = let w = lowest.within in omega (arith, shaped.long, w)
 
@@ -161,6 +144,9 @@ module _ (place : Place) (low : AtLevel) (none : place.todo ≡ None) (lowest : 
   gone_nears path' set_is =
       let less = gone_less low.at place.path None within (omega arith) in
       subst (λ p. rank_on (record { path = p; todo = None }) None < rank_on place None) (sym set_is) (omega (arith, path_rank, less, digit_is, fits.0))
+
+  pub gone_shaped : (path' : List (Option Frame)) → path' ≡ set place.path low.at None → IsShaped (record { path = path'; todo = None })
+  gone_shaped path' set_is = subst (λ p. IsShaped (record { path = p; todo = None })) (sym set_is) (shaped_set place.path low.at None None shaped.long lowest.within shaped.frames tt lowest.before tt)
 
   -- a node was left out
   pub gone_out : (path' : List (Option Frame)) (f : TreeFault) → path' ≡ set place.path low.at None → StepNears (rank_on place None) (rank_on (left_out place (record { path = path'; todo = None }) f).place (left_out place (record { path = path'; todo = None }) f).leaf) (left_out place (record { path = path'; todo = None }) f).step

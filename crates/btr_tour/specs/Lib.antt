@@ -1,7 +1,9 @@
 pub mod Tour
+pub mod Program
 pub mod Law
 pub mod Place
 pub mod Shape
 pub mod Steps
 pub mod TourEnds
 pub mod Visits
+pub mod Rests

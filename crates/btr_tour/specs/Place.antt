@@ -1,67 +1,94 @@
 -- What a tour has still to meet.
-use Rattle.std.specs.Prelude.{◌≡◌, ℕ, ◌+◌, ◌-◌, true, List, [], ◌++◌, length, map, filter, flat_map, drop, slice_index_or, Option, Some, None, IfSome, ◌∷◌, Ok}
-use Rattle.std.specs.List.{HoldsAt}
+use Rattle.std.specs.Prelude.{◌≡◌, ℕ, ◌+◌, ◌-◌, true, List, [], ◌∷◌, length, map, filter, drop, slice_index_or, Option, Some, None, IfSome, Ok}
+use Rattle.std.specs.List.{HoldsAt, Contains}
 use Rattle.btr_base.specs.declared.key.Key.{Key}
 use Rattle.btr_node.specs.Block.{items, pointers}
-use Rattle.btr_node.specs.declared.node.Node.TheVariants.{Inner}
+use Rattle.btr_node.specs.declared.node.Node.TheVariants.{Leaf, Inner}
+use Rattle.btr_prog.specs.Trying.{Done, act_all}
 use Rattle.btr_read.specs.Store.{Blocks, block_of}
+use Rattle.btr_read.specs.declared.want.Want.{Want}
 use Rattle.btr_walk.specs.declared.spot.Spot.{Spot}
 use Rattle.btr_walk.specs.Spot.{judged}
 use Rattle.btr_walk.specs.Le.{TreeItem, want_of}
 use Rattle.btr_walk.specs.Range.{items_within}
 use Rattle.btr_walk.specs.Reading.{Map}
 use Rattle.btr_walk.specs.Scans.{pointers_in}
-use Rattle.btr_tour.specs.declared.frame.Frame.{Frame}
-use Rattle.btr_tour.specs.declared.frame.Todo.{Todo}
+use Rattle.btr_walk.specs.declared.frame.Frame.{Frame}
+use Rattle.btr_walk.specs.declared.frame.Todo.{Todo}
 use Rattle.btr_tour.specs.declared.leaf_at.LeafAt.{LeafAt}
-use Rattle.btr_tour.specs.declared.place.Place.{Place}
-use Rattle.btr_tour.specs.Tour.{Mark, Item, child_spots, meets_keys, child_tour, tour_at}
+use Rattle.btr_walk.specs.declared.going.Where.{Where}
+use Rattle.btr_tour.specs.Tour.{Item, child_spots, meets_keys}
+use Rattle.btr_tour.specs.Program.{TourProg, children, tour_from}
+
+-- the want of the lowest node of a path of which children are still to come, from a level on
+abbrev pub frame_want : ℕ → List (Option Frame) → Option Want
+frame_want n [] = None
+frame_want n (None ∷ frames) = frame_want (n + 1) frames
+frame_want n (Some frame ∷ frames) = Some (want_of (n + 1) frame.spot)
+
+-- the want of the block that is to be read, or else of that node, which is then read again
+abbrev pub want_next : Option Todo → List (Option Frame) → Option Want
+want_next None path = frame_want 0 path
+want_next (Some todo) path = Some (want_of todo.level todo.spot)
+
+-- the want of the block that a tour at this place reads next
+abbrev pub next_want : Where → Option Want
+next_want place = want_next place.todo place.path
+
+-- a leaf in hand is the block that its want came to, which was read
+pub record IsHeld (B : Map) (seen : List Want) (store : Blocks) (l : LeafAt) : Type 0 where
+  pub block : List ℕ
+  pub lent : block_of store l.loan ≡ Some block
+  pub came : B (want_of 0 l.spot) ≡ Ok block
+  pub is : judged 0 l.spot block ≡ Some (Leaf (items block))
+  pub read : Contains seen (want_of 0 l.spot)
 
 module _ (lo hi : Key) where
   -- the items of a leaf in hand that are still to come
   abbrev pub hand_items : Option (List ℕ) → LeafAt → List TreeItem
   hand_items None l = []
-  hand_items (Some block) l = items_within lo hi l.addr (drop l.next (items block))
+  hand_items (Some block) l = items_within lo hi l.spot.addr (drop l.next (items block))
 
-  abbrev pub leaf_left : Blocks → Option LeafAt → List Mark
-  leaf_left store None = []
-  leaf_left store (Some l) = map Item (hand_items (block_of store l.loan) l)
+  -- .. and then the rest
+  abbrev pub leaf_left : Blocks → Option LeafAt → TourProg → TourProg
+  leaf_left store None rest = rest
+  leaf_left store (Some l) rest = act_all (map Item (hand_items (block_of store l.loan) l)) rest
+
+  -- the children of a node of a level, those from child `from` on, and then the rest
+  abbrev pub children_left : ℕ → Spot → ℕ → List Spot → TourProg → TourProg
+  children_left level spot from spots rest = children (tour_from lo hi (level - 1)) spot.addr (level - 1) (filter (meets_keys lo hi) (drop from spots)) rest
 
   module _ (B : Map) where
-    -- the tours of the children of a node of a level, those from child `from` on
-    abbrev pub children_left : ℕ → Spot → ℕ → List Spot → List Mark
-    children_left level spot from spots =
-        flat_map (child_tour lo hi (tour_at lo hi B (level - 1)) spot.addr (level - 1)) (filter (meets_keys lo hi) (drop from spots))
-
     -- .. of a frame
-    abbrev pub frame_left : ℕ → Frame → List Mark
-    frame_left level frame = children_left level frame.spot frame.next (child_spots (pointers_in (B (want_of level frame.spot))) frame.spot.up)
+    abbrev pub frame_left : ℕ → Frame → TourProg → TourProg
+    frame_left level frame rest = children_left level frame.spot frame.next (child_spots (pointers_in (B (want_of level frame.spot))) frame.spot.up) rest
 
-    abbrev pub frame_or_none : ℕ → Option Frame → List Mark
-    frame_or_none level None = []
-    frame_or_none level (Some frame) = frame_left level frame
+    abbrev pub frame_or_rest : ℕ → Option Frame → TourProg → TourProg
+    frame_or_rest level None rest = rest
+    frame_or_rest level (Some frame) rest = frame_left level frame rest
 
-    -- the tours of the children of the frames of a path, those of the lowest level first
-    abbrev pub path_left : ℕ → List (Option Frame) → List Mark
-    path_left n [] = []
-    path_left n (frame ∷ frames) = frame_or_none (n + 1) frame ++ path_left (n + 1) frames
+    -- the children of the frames of a path, those of the lowest level first
+    abbrev pub path_left : ℕ → List (Option Frame) → TourProg
+    path_left n [] = Done tt
+    path_left n (frame ∷ frames) = frame_or_rest (n + 1) frame (path_left (n + 1) frames)
 
-    -- the tour of the block that is to be read
-    abbrev pub todo_left : Option Todo → List Mark
-    todo_left None = []
-    todo_left (Some todo) = tour_at lo hi B todo.level todo.spot
+    -- the block that is to be read, with all that is below it, and then the rest
+    abbrev pub todo_left : Option Todo → TourProg → TourProg
+    todo_left None rest = rest
+    todo_left (Some todo) rest = tour_from lo hi todo.level todo.spot rest
 
-    abbrev pub place_left : Place → List Mark
-    place_left place = todo_left place.todo ++ path_left 0 place.path
+    abbrev pub place_left : Where → TourProg
+    place_left place = todo_left place.todo (path_left 0 place.path)
 
-    -- a frame's node is a good one; its next child meets the keys
-    pub record IsNode (level : ℕ) (frame : Frame) : Type 0 where
+    -- a frame's node was read, and is a good one; its next child meets the keys
+    pub record IsNode (seen : List Want) (level : ℕ) (frame : Frame) : Type 0 where
       pub block : List ℕ
       pub came : B (want_of level frame.spot) ≡ Ok block
       pub is : judged level frame.spot block ≡ Some (Inner (pointers block))
+      pub read : Contains seen (want_of level frame.spot)
       pub all : frame.end ≡ length (pointers block)
       pub here : HoldsAt (λ spot. meets_keys lo hi spot ≡ true) (child_spots (pointers block) frame.spot.up) frame.next
 
     -- each frame of the path is one of the tree
-    pub record IsOn (place : Place) : Type 0 where
-      pub frames : (k : ℕ) → IfSome (slice_index_or place.path k None) (IsNode (k + 1))
+    pub record IsOn (seen : List Want) (place : Where) : Type 0 where
+      pub frames : (k : ℕ) → IfSome (slice_index_or place.path k None) (IsNode seen (k + 1))

@@ -8,29 +8,35 @@ use Rattle.btr_base.specs.declared.kind.SumKind.{SumKind}
 use Rattle.btr_base.specs.declared.key.Key.{Key}
 use Rattle.btr_node.specs.Block.{Item as NodeItem, KeyPointer, items, pointers, is_leaf}
 use Rattle.btr_node.specs.declared.node.Node.{Node}
+use Rattle.btr_prog.specs.Prog.{Wants, Does, first, prepend, want_marks}
+use Rattle.btr_prog.specs.Trying.{Done, tried}
+use Rattle.btr_prog.specs.Answers.{Follows, no_part}
 use Rattle.btr_rack.specs.Rack.{Seen}
 use Rattle.btr_read.specs.Fate as fate
 use Rattle.btr_read.specs.Layout.{Layout}
 use Rattle.btr_read.specs.Store.{Blocks, Lent, block_of, IsLiveIn}
+use Rattle.btr_read.specs.declared.want.Want.{Want}
 use Rattle.btr_walk.specs.declared.fault.TreeFault.{TreeFault}
 use Rattle.btr_walk.specs.declared.fault.TreeFault.TheVariants.{Lost, Unread, Unmapped, Crosses, Malformed}
 use Rattle.btr_walk.specs.declared.place.RootPlace.{RootPlace}
 use Rattle.btr_walk.specs.declared.spot.Spot.{Spot}
 use Rattle.btr_walk.specs.Spot.{judged}
 use Rattle.btr_walk.specs.Le.{tree_item, want_of}
-use Rattle.btr_walk.specs.Reading.{Map, FaultCause}
+use Rattle.btr_walk.specs.Reading.{Map, UnreadBlock, CauseOf, halt_of}
+use Rattle.btr_walk.specs.Rests.{IsUnreadOf}
 use Rattle.btr_tour.specs.declared.again.Below.{Below}
-use Rattle.btr_tour.specs.declared.frame.Frame.{Frame}
+use Rattle.btr_walk.specs.declared.frame.Frame.{Frame}
 use Rattle.btr_tour.specs.declared.leaf_at.LeafAt.{LeafAt}
-use Rattle.btr_tour.specs.declared.path.AtLevel.{AtLevel}
-use Rattle.btr_tour.specs.declared.place.Place.{Place}
+use Rattle.btr_walk.specs.declared.path.AtLevel.{AtLevel}
+use Rattle.btr_walk.specs.declared.going.Where.{Where}
 use Rattle.btr_tour.specs.declared.scope.Scope.{Scope}
 use Rattle.btr_tour.specs.declared.step.Advanced.{Advanced}
 use Rattle.btr_tour.specs.declared.step.Step.{Step}
 use Rattle.btr_tour.specs.declared.step.Step.TheVariants.{Block, Child, Item, Fault, End}
 use Rattle.btr_tour.specs.Tour as tour
-use Rattle.btr_tour.specs.Tour.{Mark, place_of, child_spots, meets_keys, under, tour_at}
-use Rattle.btr_tour.specs.Place.{leaf_left, place_left, IsNode, IsOn}
+use Rattle.btr_tour.specs.Tour.{Mark, place_of, child_spots, meets_keys}
+use Rattle.btr_tour.specs.Program.{TourProg, below_block, tour_from}
+use Rattle.btr_tour.specs.Place.{next_want, leaf_left, place_left, IsHeld, IsNode, IsOn}
 
 -- the first entry from one on that passes a test
 pub record IsFirstFrom {X : Type 0} (test : X → Bool) (xs : List X) (from at : ℕ) : Type 0 where
@@ -56,7 +62,7 @@ loan_of None = None
 loan_of (Some l) = Some l.loan
 
 -- the lowest frame of a path
-pub record IsLowest (place : Place) (low : AtLevel) : Type 0 where
+pub record IsLowest (place : Where) (low : AtLevel) : Type 0 where
   pub within : low.at < 7
   pub before : (k : ℕ) → k < low.at → slice_index_or place.path k None ≡ None
   pub here : slice_index_or place.path low.at None ≡ Some low.frame
@@ -69,8 +75,17 @@ reason (Unmapped a) = Some (fate.Unmapped a)
 reason (Crosses a) = Some (fate.Crosses a)
 reason (Malformed a) = Some (fate.Malformed a)
 
+-- where a tour is behind a step: its place, the leaf in hand, and what was met
+pub record Arrived : Type 0 where
+  pub place : Where
+  pub leaf : Option LeafAt
+  pub step : Result Step TreeFault
+
+abbrev pub arrived : Where → Advanced → Arrived
+arrived place a = record { place = place; leaf = a.leaf; step = a.step }
+
 -- what comes of a fault: where the block could not be read, the tour stays, and else it goes on behind the block
-abbrev pub left_out : Place → Place → TreeFault → Advanced
+abbrev pub left_out : Where → Where → TreeFault → Arrived
 left_out place after (Lost a) = record { place = after; leaf = None; step = Ok (Fault (Lost a)) }
 left_out place after (Unread a slot) = record { place = place; leaf = None; step = Err (Unread a slot) }
 left_out place after (Unmapped a) = record { place = after; leaf = None; step = Ok (Fault (Unmapped a)) }
@@ -78,12 +93,12 @@ left_out place after (Crosses a) = record { place = after; leaf = None; step = O
 left_out place after (Malformed a) = record { place = after; leaf = None; step = Ok (Fault (Malformed a)) }
 
 -- the same place and leaf without what is below the block of a level that was met last
-abbrev pub passed_place : ℕ → Place → Place
+abbrev pub passed_place : ℕ → Where → Where
 passed_place zero place = place
 passed_place (suc n) place = record { path = slice_set place.path n None; todo = place.todo }
 
 abbrev pub at_end : LeafAt → LeafAt
-at_end l = record { addr = l.addr; next = l.end; end = l.end; loan = l.loan }
+at_end l = record { spot = l.spot; next = l.end; end = l.end; loan = l.loan }
 
 abbrev pub passed_leaf : ℕ → Option LeafAt → Option LeafAt
 passed_leaf zero leaf = option_map at_end leaf
@@ -115,17 +130,17 @@ module _ (lo hi : Key) where
   IsNext ps frame (Some b) = (frame.end ≡ length ps) × IsNextBelow ps frame b × FitsBelow frame b
 
   module _ (B : Map) where
-    -- a node was read again: its next child, or why it didn't come
-    abbrev pub Rereads : ℕ → Frame → Result Below TreeFault → Type 0
-    Rereads level frame (Ok b) = (node : IsNode lo hi B level frame) → IsNextBelow (pointers node.block) frame b
-    Rereads level frame (Err f) = IsNode lo hi B level frame → reason f ≡ None
+    -- a node was read again: its next child, or it could not be read
+    abbrev pub Rereads : (UnreadBlock → Want → Type 0) → ℕ → Frame → Result Below TreeFault → Type 0
+    Rereads Is level frame (Ok b) = (seen : List Want) (node : IsNode lo hi B seen level frame) → IsNextBelow (pointers node.block) frame b
+    Rereads Is level frame (Err f) = (seen : List Want) → IsNode lo hi B seen level frame → IsUnreadOf Is seen f
 
     -- what is left at a place, with a leaf in hand
-    abbrev pub left : Blocks → Place → Option LeafAt → List Mark
-    left store place leaf = leaf_left lo hi store leaf ++ place_left lo hi B place
+    abbrev pub left : Blocks → Where → Option LeafAt → TourProg
+    left store place leaf = leaf_left lo hi store leaf (place_left lo hi B place)
 
-    -- a good block was met; what is below it comes next, and can be passed
-    pub record MeetsBlock (sums : SumKind) (before : List Mark) (store : Blocks) (place : Place) (leaf : Option LeafAt)
+    -- a good block was wanted and met; what is below it comes next, and can be passed
+    pub record MeetsBlock (seen : List Want) (sums : SumKind) (before : TourProg) (store : Blocks) (place : Where) (leaf : Option LeafAt)
         (at : RootPlace) (header : Header) : Type 0 where
       pub spot : Spot
       pub block : List ℕ
@@ -134,44 +149,57 @@ module _ (lo hi : Key) where
       pub good : judged at.level spot block ≡ Some node
       pub at_is : at ≡ place_of at.level spot
       pub header_is : header ≡ header_of sums block
-      pub met : before ≡ tour.Block at block ∷ left store place leaf
+      pub met : tried B before ≡ first (Wants (want_of at.level spot)) (first (Does (tour.Block at block)) (tried B (left store place leaf)))
       pub below :
           left store place leaf
-          ≡ under lo hi (tour_at lo hi B (at.level - 1)) at.level spot node ++ left store (passed_place at.level place) (passed_leaf at.level leaf)
-      pub on : IsOn lo hi B place
+          ≡ below_block lo hi (tour_from lo hi (at.level - 1)) at.level spot node (left store (passed_place at.level place) (passed_leaf at.level leaf))
+      pub on : IsOn lo hi B (seen ++ (want_of at.level spot ∷ [])) place
+      pub held : IfSome leaf (IsHeld B (seen ++ (want_of at.level spot ∷ [])) store)
 
-    -- one mark was met, and what is left comes behind
-    pub record Meets (before : List Mark) (store : Blocks) (place : Place) (leaf : Option LeafAt) (mark : Mark) : Type 0 where
-      pub met : before ≡ mark ∷ left store place leaf
-      pub on : IsOn lo hi B place
+    -- some wants, and then a mark was met; what is left comes behind
+    pub record Meets (seen : List Want) (before : TourProg) (store : Blocks) (place : Where) (leaf : Option LeafAt) (mark : Mark) : Type 0 where
+      pub past : List Want
+      pub met : tried B before ≡ prepend (want_marks past) (first (Does mark) (tried B (left store place leaf)))
+      pub on : IsOn lo hi B (seen ++ past) place
+      pub held : IfSome leaf (IsHeld B (seen ++ past) store)
+
+    -- nothing was met, since a block could not be read: one that was wanted before, or is the first to be wanted now
+    pub record Stays (Is : UnreadBlock → Want → Type 0) (seen : List Want) (before : TourProg) (store : Blocks) (place : Where)
+        (leaf : Option LeafAt) (f : TreeFault) : Type 0 where
+      pub refused : Follows Is no_part seen (tried B before) [] (Err (halt_of f))
+      pub same : before ≡ left store place leaf
+      pub on : IsOn lo hi B seen place
+      pub held : IfSome leaf (IsHeld B seen store)
 
     -- the item at a place of the leaf in hand was met
-    abbrev pub MeetsItem : List Mark → Blocks → Place → Option LeafAt → ℕ → Type 0
-    MeetsItem before store place None at = ⊥
-    MeetsItem before store place (Some l) at =
+    abbrev pub MeetsItem : List Want → TourProg → Blocks → Where → Option LeafAt → ℕ → Type 0
+    MeetsItem seen before store place None at = ⊥
+    MeetsItem seen before store place (Some l) at =
         IsSomeAnd (block_of store l.loan)
-        (λ block. HoldsAt (λ (item : NodeItem). Meets before store place (Some l) (tour.Item (tree_item l.addr item))) (items block) at)
+        (λ block. HoldsAt (λ (item : NodeItem). Meets seen before store place (Some l) (tour.Item (tree_item l.spot.addr item))) (items block) at)
 
-    -- a step of a tour that had this still to meet
-    abbrev pub StepsBy : SumKind → List Mark → Blocks → Place → Option LeafAt → Result Step TreeFault → Type 0
-    StepsBy sums before store place leaf (Ok (Block at header)) = MeetsBlock sums before store place leaf at header
-    StepsBy sums before store place leaf (Ok (Child block child)) = Meets before store place leaf (tour.Child block child)
-    StepsBy sums before store place leaf (Ok (Item at)) = MeetsItem before store place leaf at
-    StepsBy sums before store place leaf (Ok (Fault f)) = IsSomeAnd (reason f) (λ fault. Meets before store place leaf (tour.Left fault))
-    StepsBy sums before store place leaf (Ok End) = before ≡ []
-    StepsBy sums before store place leaf (Err f) = (before ≡ left store place leaf) × IsOn lo hi B place
+    module _ (Is : UnreadBlock → Want → Type 0) where
+      -- a step of a tour that had this still to meet
+      abbrev pub StepsBy : List Want → SumKind → TourProg → Blocks → Where → Option LeafAt → Result Step TreeFault → Type 0
+      StepsBy seen sums before store place leaf (Ok (Block at header)) = MeetsBlock seen sums before store place leaf at header
+      StepsBy seen sums before store place leaf (Ok (Child block child)) = Meets seen before store place leaf (tour.Child block child)
+      StepsBy seen sums before store place leaf (Ok (Item at)) = MeetsItem seen before store place leaf at
+      StepsBy seen sums before store place leaf (Ok (Fault f)) = IsSomeAnd (reason f) (λ fault. Meets seen before store place leaf (tour.Left fault))
+      StepsBy seen sums before store place leaf (Ok End) = before ≡ Done tt
+      StepsBy seen sums before store place leaf (Err f) = Stays Is seen before store place leaf f
 
-    -- what a step does from a place
-    abbrev pub Advances : SumKind → Place → List Mark → Blocks → Advanced → Type 0
-    Advances sums old before store a = IsOn lo hi B old → StepsBy sums before store a.place a.leaf a.step
+      -- what a step does from a place, where its leaf is what its want came to
+      abbrev pub Advances : (List Want → Type 0) → SumKind → Where → TourProg → Blocks → Arrived → Type 0
+      Advances Holds sums old before store a = (seen : List Want) → IsOn lo hi B seen old → Holds seen → StepsBy seen sums before store a.place a.leaf a.step
 
 -- what a step does within a scope, from a place with a leaf in hand or with none
-abbrev pub AdvancesIn : Scope → Map → Blocks → Place → Option LeafAt → Blocks → Advanced → Type 0
-AdvancesIn scope B old place leaf store a = Advances scope.lo scope.hi B scope.sums place (left scope.lo scope.hi B old place leaf) store a
+abbrev pub AdvancesIn : Scope → (UnreadBlock → Want → Type 0) → Map → Blocks → Where → Option LeafAt → Blocks → Arrived → Type 0
+AdvancesIn scope Is B old place leaf store a =
+    Advances scope.lo scope.hi B Is (λ seen. IfSome leaf (IsHeld B seen old)) scope.sums place (left scope.lo scope.hi B old place leaf) store a
 
 -- what is told whatever was read: an item stands in the leaf in hand; a loan is kept with an item or a good leaf alone; only
 -- a block that could not be read is refused, and then the place stays
-abbrev pub HasStep : Place → Place → Option LeafAt → Result Step TreeFault → Type 0
+abbrev pub HasStep : Where → Where → Option LeafAt → Result Step TreeFault → Type 0
 HasStep old place leaf (Ok (Block at header)) = at.level ≤ 7
 HasStep old place leaf (Ok (Child block child)) = leaf ≡ None
 HasStep old place leaf (Ok (Item at)) = IsSomeAnd leaf (λ l. (at < l.end) × (l.next ≡ at + 1))
@@ -179,11 +207,11 @@ HasStep old place leaf (Ok (Fault f)) = (leaf ≡ None) × IsSome (reason f)
 HasStep old place leaf (Ok End) = (leaf ≡ None) × (place ≡ old)
 HasStep old place leaf (Err f) = (leaf ≡ None) × (place ≡ old) × (reason f ≡ None)
 
--- a block that is left out or could not be read has its cause
-abbrev pub StepCause : Layout → Seen → Seen → Result Step TreeFault → Type 0
-StepCause layout old new (Ok (Block at header)) = Unit {0}
-StepCause layout old new (Ok (Child block child)) = Unit {0}
-StepCause layout old new (Ok (Item at)) = Unit {0}
-StepCause layout old new (Ok (Fault f)) = FaultCause layout old new f
-StepCause layout old new (Ok End) = Unit {0}
-StepCause layout old new (Err f) = FaultCause layout old new f
+-- a block that is left out or could not be read is the one that is read next, and has its cause
+abbrev pub StepCause : Layout → Seen → Seen → Where → Result Step TreeFault → Type 0
+StepCause layout old new place (Ok (Block at header)) = Unit {0}
+StepCause layout old new place (Ok (Child block child)) = Unit {0}
+StepCause layout old new place (Ok (Item at)) = Unit {0}
+StepCause layout old new place (Ok (Fault f)) = IsSomeAnd (next_want place) (λ want. CauseOf layout want old new f)
+StepCause layout old new place (Ok End) = Unit {0}
+StepCause layout old new place (Err f) = IsSomeAnd (next_want place) (λ want. CauseOf layout want old new f)

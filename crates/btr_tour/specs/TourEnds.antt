@@ -2,32 +2,38 @@
 use Rattle.std.specs.Prelude.{◌≡◌, ℕ, ◌<◌, ◌≤◌, List, [], Option, Some, None, IfSome, IsSome, IsSomeAnd, Result, Ok, Err, ⊤}
 use Rattle.std.specs.Borrow.{follows_so, MutBor, Fml}
 use mathlib.Core.Option.{none}
+use Rattle.btr_prog.specs.Trying.{Done}
 use Rattle.btr_rack.specs.Rack.{Seen}
 use Rattle.btr_read.specs.Layout.{Layout}
 use Rattle.btr_read.specs.Serves.{Serves}
 use Rattle.btr_read.specs.Store.{Blocks, SameLoans}
 use Rattle.btr_read.specs.contracts.store.Store.{the_row}
+use Rattle.btr_read.specs.declared.want.Want.{Want}
 use Rattle.btr_walk.specs.declared.fault.TreeFault.{TreeFault}
 use Rattle.btr_walk.specs.Lending.{base}
-use Rattle.btr_walk.specs.Reading.{Map, Tells, FaultCause}
+use Rattle.btr_walk.specs.Reading.{Map, UnreadBlock, TellsOf, CauseOf}
 use Rattle.btr_walk.specs.Showing.{item_of}
 use Rattle.btr_tour.specs.declared.leaf_at.LeafAt.{LeafAt}
 use Rattle.btr_tour.specs.declared.met.Met.{Met}
 use Rattle.btr_tour.specs.declared.met.Met.TheVariants.{Block, Child, Item, Fault}
 use Rattle.btr_tour.specs.declared.tour.Tour.{Tour}
 use Rattle.btr_tour.specs.Tour as marks
-use Rattle.btr_tour.specs.Tour.{Mark}
-use Rattle.btr_tour.specs.Place.{IsOn}
+use Rattle.btr_tour.specs.Program.{TourProg}
+use Rattle.btr_tour.specs.Place.{next_want, IsHeld, IsOn}
 use Rattle.btr_tour.specs.Shape.{IsShaped, rank_on}
-use Rattle.btr_tour.specs.Steps.{IsInHand, loan_of, reason, passed_place, passed_leaf, left, MeetsBlock, Meets}
+use Rattle.btr_tour.specs.Steps.{IsInHand, loan_of, reason, passed_place, passed_leaf, left, MeetsBlock, Meets, Stays}
 
 -- what a tour has still to meet
-abbrev pub left_of : Map → Blocks → Tour → List Mark
+abbrev pub left_of : Map → Blocks → Tour → TourProg
 left_of B store tour = left tour.scope.lo tour.scope.hi B store tour.place tour.leaf
 
--- a tour is on its way through the tree
-abbrev pub IsUnderway : Map → Tour → Type 0
-IsUnderway B tour = IsOn tour.scope.lo tour.scope.hi B tour.place
+-- a tour is on its way through the tree, where these wants came before
+abbrev pub IsUnderway : Map → List Want → Tour → Type 0
+IsUnderway B seen tour = IsOn tour.scope.lo tour.scope.hi B seen tour.place
+
+-- the leaf in hand, if there is one, is the block that its want came to, which was read
+abbrev pub HoldsLeaf : Map → List Want → Blocks → Tour → Type 0
+HoldsLeaf B seen store tour = IfSome tour.leaf (IsHeld B seen store)
 
 -- a tour without what is below the block that was met last
 abbrev pub passed_at : Option ℕ → Tour → Tour
@@ -48,28 +54,29 @@ pub record IsReady (rack : Seen) (store : Blocks) (tour : Tour) : Type 0 where
 abbrev pub without_leaf : Blocks → Tour → Blocks
 without_leaf store tour = base store (loan_of tour.leaf)
 
--- One mark is met, and what is left comes behind. Behind a good block comes what is below it, which can be passed. A block
--- that could not be read is met again.
-abbrev pub NextBy : Map → Blocks → Blocks → Tour → Tour → Result (Option Met) TreeFault → Type 0
-NextBy B old new tour tour' (Ok (Some (Block place header))) =
-    MeetsBlock tour.scope.lo tour.scope.hi B tour.scope.sums (left_of B old tour) new tour'.place tour'.leaf place header
-NextBy B old new tour tour' (Ok (Some (Child block place))) =
-    Meets tour.scope.lo tour.scope.hi B (left_of B old tour) new tour'.place tour'.leaf (marks.Child block place)
-NextBy B old new tour tour' (Ok (Some (Item found))) =
-    Meets tour.scope.lo tour.scope.hi B (left_of B old tour) new tour'.place tour'.leaf (marks.Item (item_of found))
-NextBy B old new tour tour' (Ok (Some (Fault f))) =
-    IsSomeAnd (reason f) (λ fault. Meets tour.scope.lo tour.scope.hi B (left_of B old tour) new tour'.place tour'.leaf (marks.Left fault))
-NextBy B old new tour tour' (Ok None) = left_of B old tour ≡ []
-NextBy B old new tour tour' (Err f) = (left_of B old tour ≡ left_of B new tour') × IsUnderway B tour'
+-- Some wants, and then one mark is met; what is left comes behind. Behind a good block comes what is below it, which can be
+-- passed. A block that could not be read is met again.
+abbrev pub NextBy : (UnreadBlock → Want → Type 0) → Map → List Want → Blocks → Blocks → Tour → Tour → Result (Option Met) TreeFault → Type 0
+NextBy Is B seen old new tour tour' (Ok (Some (Block place header))) =
+    MeetsBlock tour.scope.lo tour.scope.hi B seen tour.scope.sums (left_of B old tour) new tour'.place tour'.leaf place header
+NextBy Is B seen old new tour tour' (Ok (Some (Child block place))) =
+    Meets tour.scope.lo tour.scope.hi B seen (left_of B old tour) new tour'.place tour'.leaf (marks.Child block place)
+NextBy Is B seen old new tour tour' (Ok (Some (Item found))) =
+    Meets tour.scope.lo tour.scope.hi B seen (left_of B old tour) new tour'.place tour'.leaf (marks.Item (item_of found))
+NextBy Is B seen old new tour tour' (Ok (Some (Fault f))) =
+    IsSomeAnd (reason f) (λ fault. Meets tour.scope.lo tour.scope.hi B seen (left_of B old tour) new tour'.place tour'.leaf (marks.Left fault))
+NextBy Is B seen old new tour tour' (Ok None) = left_of B old tour ≡ Done tt
+NextBy Is B seen old new tour tour' (Err f) = Stays tour.scope.lo tour.scope.hi B Is seen (left_of B old tour) new tour'.place tour'.leaf f
 
-abbrev pub IsNextMark : Map → Blocks → Blocks → Tour → Tour → Result (Option Met) TreeFault → Type 0
-IsNextMark B old new tour tour' result = IsUnderway B tour → NextBy B old new tour tour' result
+abbrev pub IsNextMark : (UnreadBlock → Want → Type 0) → Map → Blocks → Blocks → Tour → Tour → Result (Option Met) TreeFault → Type 0
+IsNextMark Is B old new tour tour' result =
+    (seen : List Want) → IsUnderway B seen tour → HoldsLeaf B seen old tour → NextBy Is B seen old new tour tour' result
 
 -- a tour can go on, and no other loan changed; and what the step says of the block map
 pub record Toured (old new : Blocks) (tour tour' : Tour) (before now : Seen) (result : Result (Option Met) TreeFault) : Type 0 where
   pub others : SameLoans (without_leaf old tour) (without_leaf new tour')
   pub ready : IsReady now new tour'
-  pub content : Tells old.layout before now (λ B. IsNextMark B old new tour tour' result)
+  pub content : TellsOf old before now (λ Is B. IsNextMark Is B old new tour tour' result)
 
 abbrev pub TourEnds : MutBor Blocks → Tour → Tour → Seen → Seen → Result (Option Met) TreeFault → Fml
 TourEnds store tour tour' before now result = follows_so the_row the_row store.ghost_name none (λ _ _. ⊤) (λ new. Toured store.now new tour tour' before now result)
@@ -102,12 +109,13 @@ NextNears tour tour' (Ok (Some met)) = rank_of tour' < rank_of tour
 NextNears tour tour' (Ok None) = rank_of tour' ≤ rank_of tour
 NextNears tour tour' (Err f) = rank_of tour' ≤ rank_of tour
 
--- A block that is left out or could not be read has its cause. Only one that could not be read is refused, and then the place
--- stays; it is never left out.
+-- A block that is left out or could not be read is the one that the tour was to read next, and has its cause. Only one that
+-- could not be read is refused, and then the place stays; it is never left out.
 abbrev pub NextCause : Layout → Seen → Seen → Tour → Tour → Result (Option Met) TreeFault → Type 0
 NextCause layout old new tour tour' (Ok (Some (Block place header))) = ⊤
 NextCause layout old new tour tour' (Ok (Some (Child block place))) = ⊤
 NextCause layout old new tour tour' (Ok (Some (Item found))) = ⊤
-NextCause layout old new tour tour' (Ok (Some (Fault f))) = FaultCause layout old new f × IsSome (reason f)
+NextCause layout old new tour tour' (Ok (Some (Fault f))) = IsSomeAnd (next_want tour.place) (λ want. CauseOf layout want old new f) × IsSome (reason f)
 NextCause layout old new tour tour' (Ok None) = ⊤
-NextCause layout old new tour tour' (Err f) = FaultCause layout old new f × (reason f ≡ None) × (tour'.place ≡ tour.place)
+NextCause layout old new tour tour' (Err f) =
+    IsSomeAnd (next_want tour.place) (λ want. CauseOf layout want old new f) × (reason f ≡ None) × (tour'.place ≡ tour.place)

@@ -1,17 +1,26 @@
 -- What is made of all that a tour of a tree meets, one mark after another.
-use Rattle.std.specs.Prelude.{◌≡◌, ℕ, ◌<◌, ◌≤◌, Bool, true, false, List, [], fold, None, IsSomeAnd, Result, Ok, Err, ⊤}
+use Rattle.std.specs.Prelude.{◌≡◌, ℕ, ◌<◌, ◌≤◌, Bool, true, false, List, [], ◌++◌, fold, None, IsSomeAnd, Result, Ok, Err, ⊤}
 use Rattle.btr_base.specs.Header.{header_of}
+use Rattle.btr_base.specs.Key.{last_key}
 use Rattle.btr_base.specs.declared.kind.SumKind.{SumKind}
+use Rattle.btr_prog.specs.Prog as prog
+use Rattle.btr_prog.specs.Prog.{Run, prepend, steps_of, wants_of}
+use Rattle.btr_prog.specs.Trying.{Done, tried}
+use Rattle.btr_prog.specs.Answers.{Follows, no_part}
+use Rattle.btr_read.specs.Fate as fate
 use Rattle.btr_read.specs.Store.{Blocks}
+use Rattle.btr_read.specs.declared.want.Want.{Want}
 use Rattle.btr_tour.specs.Steps.{reason}
 use Rattle.btr_tour.specs.Tour as marks
-use Rattle.btr_tour.specs.Tour.{Mark, whole}
-use Rattle.btr_tour.specs.TourEnds.{left_of, IsUnderway, rank_of}
+use Rattle.btr_tour.specs.Tour.{Mark, first_key, whole}
+use Rattle.btr_tour.specs.Program.{tour_prog}
+use Rattle.btr_tour.specs.TourEnds.{left_of, IsUnderway, HoldsLeaf, rank_of}
 use Rattle.btr_tour.specs.declared.met.Met.{Met}
 use Rattle.btr_tour.specs.declared.met.Met.TheVariants.{Block, Child, Item, Fault}
 use Rattle.btr_tour.specs.declared.tour.Tour.{Tour}
-use Rattle.btr_walk.specs.Reading.{Map}
+use Rattle.btr_walk.specs.Reading.{Map, UnreadBlock, halt_of}
 use Rattle.btr_walk.specs.Showing.{item_of}
+use Rattle.btr_walk.specs.declared.fault.TreeFault.{TreeFault}
 use Rattle.btr_walk.specs.declared.folder.FoldFault.{FoldFault}
 use Rattle.btr_walk.specs.declared.folder.FoldFault.TheVariants.{Tree, Own}
 use Rattle.btr_walk.specs.declared.place.RootPlace.{RootPlace}
@@ -35,30 +44,47 @@ module _ {St : Type 0} (step : St → Mark → St) where
   IsTaken old met new (Err (Tree f)) = ⊥
   IsTaken old met new (Err (Own e)) = ⊤
 
-  module _ (B : Map) where
-    -- what comes of what was left comes of what is left now
-    pub record Goes (old new : Blocks) (tour tour' : Tour) (state state' : St) : Type 0 where
-      pub rest : fold step state (left_of B old tour) ≡ fold step state' (left_of B new tour')
-      pub on : IsUnderway B tour'
+  module _ (Is : UnreadBlock → Want → Type 0) (B : Map) where
+    -- some marks are past, and were treated; what is left comes behind
+    pub record Goes (seen : List Want) (old new : Blocks) (tour tour' : Tour) (state state' : St) : Type 0 where
+      pub past : List (prog.Mark Want Mark)
+      pub is : tried B (left_of B old tour) ≡ prepend past (tried B (left_of B new tour'))
+      pub treated : state' ≡ fold step state (steps_of past)
+      pub on : IsUnderway B (seen ++ wants_of past) tour'
+      pub held : HoldsLeaf B (seen ++ wants_of past) new tour'
 
-    abbrev pub MeetsBy : {E : Type 0} → Blocks → Blocks → Tour → Tour → St → St → Result Bool (FoldFault E) → Type 0
-    MeetsBy old new tour tour' state state' (Ok true) = Goes old new tour tour' state state'
-    MeetsBy old new tour tour' state state' (Ok false) = (left_of B old tour ≡ []) × (state' ≡ state)
-    MeetsBy old new tour tour' state state' (Err f) = ⊤
+    abbrev pub MeetsBy : {E : Type 0} → List Want → Blocks → Blocks → Tour → Tour → St → St → Result Bool (FoldFault E) → Type 0
+    MeetsBy seen old new tour tour' state state' (Ok true) = Goes seen old new tour tour' state state'
+    MeetsBy seen old new tour tour' state state' (Ok false) = (left_of B old tour ≡ Done tt) × (state' ≡ state)
+    MeetsBy seen old new tour tour' state state' (Err (Tree f)) = Follows Is no_part seen (tried B (left_of B old tour)) [] (Err (halt_of f)) × (state' ≡ state)
+    MeetsBy seen old new tour tour' state state' (Err (Own e)) = ⊤
 
-    -- one mark was met, or nothing was left
+    -- one mark was met, or nothing was left, or a block could not be read
     abbrev pub IsMet : {E : Type 0} → Blocks → Blocks → Tour → Tour → St → St → Result Bool (FoldFault E) → Type 0
-    IsMet old new tour tour' state state' result = IsUnderway B tour → MeetsBy old new tour tour' state state' result
+    IsMet old new tour tour' state state' result =
+        (seen : List Want) → IsUnderway B seen tour → HoldsLeaf B seen old tour → MeetsBy seen old new tour tour' state state' result
+
+    -- what was done of a run was treated, where nothing else ends it than a block that could not be read
+    pub record TreatsUpTo (seen : List Want) (r : Run Want fate.Fault Mark (Unit {0})) (state state' : St) (f : TreeFault) : Type 0 where
+      pub done : List Mark
+      pub treated : state' ≡ fold step state done
+      pub refused : Follows Is no_part seen r done (Err (halt_of f))
+
+    abbrev pub RunsBy : {E : Type 0} → List Want → Run Want fate.Fault Mark (Unit {0}) → St → St → Result (Unit {0}) (FoldFault E) → Type 0
+    RunsBy seen r state state' (Ok u) = state' ≡ fold step state (steps_of r.marks)
+    RunsBy seen r state state' (Err (Tree f)) = TreatsUpTo seen r state state' f
+    RunsBy seen r state state' (Err (Own e)) = ⊤
 
     -- all that a tour had still to meet
     abbrev pub IsRun : {E : Type 0} → Blocks → Tour → St → St → Result (Unit {0}) (FoldFault E) → Type 0
-    IsRun store tour state state' (Ok u) = IsUnderway B tour → state' ≡ fold step state (left_of B store tour)
-    IsRun store tour state state' (Err f) = ⊤
+    IsRun store tour state state' result =
+        (seen : List Want) → IsUnderway B seen tour → HoldsLeaf B seen store tour → RunsBy seen (tried B (left_of B store tour)) state state' result
 
-    -- a whole tree was visited
+    -- A whole tree was visited. Where a block could not be read, exactly the marks before some place behind one of its wants.
     abbrev pub Visits : {E : Type 0} → RootPlace → St → St → Result (Unit {0}) (FoldFault E) → Type 0
     Visits root old new (Ok u) = new ≡ fold step old (whole B root)
-    Visits root old new (Err f) = ⊤
+    Visits root old new (Err (Tree f)) = TreatsUpTo [] (tried B (tour_prog first_key last_key root)) old new f
+    Visits root old new (Err (Own e)) = ⊤
 
 -- a tour comes nearer to its end with each mark
 abbrev pub MetNears : {E : Type 0} → Tour → Tour → Result Bool (FoldFault E) → Type 0

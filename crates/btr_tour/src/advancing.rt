@@ -4,43 +4,46 @@ ghost use Rattle.btr_rack.specs.Rack.{OnlyReads};
 ghost use Rattle.btr_read.specs.Serves.{Serves};
 ghost use Rattle.btr_read.specs.Store.{SameLoans, free_count};
 ghost use Rattle.btr_walk.specs.Lending.{base};
-ghost use Rattle.btr_walk.specs.Reading.{Tells};
+ghost use Rattle.btr_walk.specs.Reading.{TellsOf};
 ghost use Rattle.btr_tour.specs.Shape.{IsShaped, rank_on, StepNears};
-ghost use Rattle.btr_tour.specs.Steps.{IsInHand, loan_of, HasStep, StepCause, AdvancesIn};
+ghost use Rattle.btr_tour.specs.Steps.{IsInHand, loan_of, arrived, HasStep, StepCause, AdvancesIn};
 
 use crate::entering::{enter, meet_child};
 use crate::leaf_at::LeafAt;
 use crate::meeting::seek_item;
-use crate::path::lowest;
-use crate::place::Place;
 use crate::scope::Scope;
 use crate::step::{Advanced, Step};
 use btr_node::Leaf;
 use btr_rack::Rack;
 use btr_read::Store;
+use btr_walk::{Where, lowest};
 
 // One step further with no leaf in hand.
-fn from_place<R: Rack>(place: &Place, scope: &Scope, rack: &mut R, store: &mut Store) -> Advanced
+fn from_place<R: Rack>(
+    place: &mut Where,
+    scope: &Scope,
+    rack: &mut R,
+    store: &mut Store,
+) -> Advanced
     requires serves { Serves (R.seen rack.old) store.old }
     requires room { 4 ≤ free_count store.old }
-    requires shaped { IsShaped place.now }
+    requires shaped { IsShaped place.old }
     ensures serves { Serves (R.seen rack.new) store.new }
     ensures reads { OnlyReads (R.seen rack.old) (R.seen rack.new) }
     ensures others { SameLoans store.old (base store.new (loan_of result.leaf)) }
     ensures hand { IfSome result.leaf (IsInHand store.new) }
-    ensures shaped { IsShaped result.place }
-    ensures nears { StepNears (rank_on place.now None) (rank_on result.place result.leaf) result.step }
-    ensures step { HasStep place.now result.place result.leaf result.step }
-    ensures cause { StepCause store.old.layout (R.seen rack.old) (R.seen rack.new) result.step }
-    ensures content { Tells store.old.layout (R.seen rack.old) (R.seen rack.new)
-        (λ B. AdvancesIn scope.now B store.old place.now None store.new result) }
+    ensures shaped { IsShaped place.new }
+    ensures nears { StepNears (rank_on place.old None) (rank_on place.new result.leaf) result.step }
+    ensures step { HasStep place.old place.new result.leaf result.step }
+    ensures cause { StepCause store.old.layout (R.seen rack.old) (R.seen rack.new) place.old result.step }
+    ensures content { TellsOf store.old (R.seen rack.old) (R.seen rack.new)
+        (λ Is B. AdvancesIn scope.now Is B store.old place.old None store.new (arrived place.new result)) }
 {
-    match &place.todo {
-        Some(todo) => enter(place, todo, scope, rack, store),
+    match place.todo {
+        Some(todo) => enter(place, &todo, scope, rack, store),
         None => match lowest(&place.path) {
             Some(low) => meet_child(place, &low, scope, rack, store),
             None => Advanced {
-                place: *place,
                 leaf: None,
                 step: Ok(Step::End),
             },
@@ -50,7 +53,7 @@ fn from_place<R: Rack>(place: &Place, scope: &Scope, rack: &mut R, store: &mut S
 
 /// One step further.
 pub(crate) fn advance<R: Rack>(
-    place: &Place,
+    place: &mut Where,
     leaf: Option<LeafAt>,
     scope: &Scope,
     rack: &mut R,
@@ -59,32 +62,31 @@ pub(crate) fn advance<R: Rack>(
     requires serves { Serves (R.seen rack.old) store.old }
     requires hand { IfSome leaf (IsInHand store.old) }
     requires room { 4 ≤ free_count (base store.old (loan_of leaf)) }
-    requires shaped { IsShaped place.now }
+    requires shaped { IsShaped place.old }
     ensures serves { Serves (R.seen rack.new) store.new }
     ensures reads { OnlyReads (R.seen rack.old) (R.seen rack.new) }
     ensures others { SameLoans (base store.old (loan_of leaf)) (base store.new (loan_of result.leaf)) }
     ensures hand { IfSome result.leaf (IsInHand store.new) }
-    ensures shaped { IsShaped result.place }
-    ensures nears { StepNears (rank_on place.now leaf) (rank_on result.place result.leaf) result.step }
-    ensures step { HasStep place.now result.place result.leaf result.step }
-    ensures cause { StepCause store.old.layout (R.seen rack.old) (R.seen rack.new) result.step }
-    ensures content { Tells store.old.layout (R.seen rack.old) (R.seen rack.new)
-        (λ B. AdvancesIn scope.now B store.old place.now leaf store.new result) }
+    ensures shaped { IsShaped place.new }
+    ensures nears { StepNears (rank_on place.old leaf) (rank_on place.new result.leaf) result.step }
+    ensures step { HasStep place.old place.new result.leaf result.step }
+    ensures cause { StepCause store.old.layout (R.seen rack.old) (R.seen rack.new) place.old result.step }
+    ensures content { TellsOf store.old (R.seen rack.old) (R.seen rack.new)
+        (λ Is B. AdvancesIn scope.now Is B store.old place.old leaf store.new (arrived place.new result)) }
 {
     let Some(hand) = leaf else {
         return from_place(place, scope, rack, store);
     };
     let LeafAt {
-        addr,
+        spot,
         next,
         end,
         loan,
     } = hand;
     match seek_item(&Leaf::of(store.bytes(&loan)), next, scope) {
         Some(at) => Advanced {
-            place: *place,
             leaf: Some(LeafAt {
-                addr,
+                spot,
                 next: at + 1,
                 end,
                 loan,

@@ -4,17 +4,17 @@ ghost use Rattle.btr_node.specs.Block.{pointers, is_inner};
 ghost use Rattle.btr_rack.specs.Rack.{OnlyReads};
 ghost use Rattle.btr_read.specs.Serves.{Serves};
 ghost use Rattle.btr_read.specs.Store.{SameLoans, free_count};
-ghost use Rattle.btr_walk.specs.Reading.{Tells, HasCause};
+ghost use Rattle.btr_walk.specs.Le.{want_of};
+ghost use Rattle.btr_walk.specs.Reading.{TellsOf, HasCauseOf};
 ghost use Rattle.btr_tour.specs.Shape.{FrameFits};
 ghost use Rattle.btr_tour.specs.Steps.{IsNext, FitsBelow, Rereads};
 
-use crate::frame::Frame;
 use crate::meeting::frame_from;
 use crate::scope::Scope;
 use btr_node::Inner;
 use btr_rack::Rack;
 use btr_read::Store;
-use btr_walk::{Spot, TreeFault, child_at, read_block};
+use btr_walk::{Frame, Spot, TreeFault, child_at, read_block};
 
 /// A child of a node, and the node where more are to come.
 #[derive(Clone, Copy)]
@@ -56,9 +56,9 @@ pub(crate) fn read_again<R: Rack>(
     ensures reads { OnlyReads (R.seen rack.old) (R.seen rack.new) }
     ensures store { SameLoans store.old store.new }
     ensures fits { IfOk result (FitsBelow frame.now) }
-    ensures cause { HasCause store.old.layout (R.seen rack.old) (R.seen rack.new) result }
-    ensures content { Tells store.old.layout (R.seen rack.old) (R.seen rack.new)
-        (λ B. Rereads scope.now.lo scope.now.hi B level frame.now result) }
+    ensures cause { HasCauseOf store.old.layout (want_of level frame.now.spot) (R.seen rack.old) (R.seen rack.new) result }
+    ensures content { TellsOf store.old (R.seen rack.old) (R.seen rack.new)
+        (λ Is B. Rereads scope.now.lo scope.now.hi B Is level frame.now result) }
 {
     match read_block(level, &frame.spot, rack, store) {
         Err(fault) => Err(fault),

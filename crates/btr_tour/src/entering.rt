@@ -4,23 +4,20 @@ ghost use Rattle.btr_rack.specs.Rack.{OnlyReads};
 ghost use Rattle.btr_read.specs.Serves.{Serves};
 ghost use Rattle.btr_read.specs.Store.{SameLoans, free_count};
 ghost use Rattle.btr_walk.specs.Lending.{base};
-ghost use Rattle.btr_walk.specs.Reading.{Tells};
+ghost use Rattle.btr_walk.specs.Reading.{TellsOf};
 ghost use Rattle.btr_tour.specs.Shape.{IsShaped, rank_on, StepNears};
-ghost use Rattle.btr_tour.specs.Steps.{IsInHand, loan_of, left_out, IsLowest, HasStep, StepCause, AdvancesIn};
+ghost use Rattle.btr_tour.specs.Steps.{IsInHand, loan_of, arrived, left_out, IsLowest, HasStep, StepCause, AdvancesIn};
 
 use crate::again::read_again;
-use crate::frame::Todo;
 use crate::leaf_at::LeafAt;
 use crate::meeting::frame_from;
-use crate::path::{AtLevel, with_frame};
-use crate::place::Place;
 use crate::scope::Scope;
 use crate::step::{Advanced, Step};
 use btr_base::Header;
 use btr_node::{Inner, Leaf};
 use btr_rack::Rack;
 use btr_read::Store;
-use btr_walk::{RootPlace, Spot, TreeFault, read_block};
+use btr_walk::{AtLevel, RootPlace, Spot, Todo, TreeFault, Where, read_block, set_frame};
 
 // Where the block of a level at a spot stands.
 fn place_of(level: u8, spot: &Spot) -> RootPlace
@@ -34,135 +31,132 @@ fn place_of(level: u8, spot: &Spot) -> RootPlace
 }
 
 // What comes of a fault: where the block could not be read, the tour stays, and else it goes on behind the block.
-fn left_out(place: &Place, after: Place, fault: TreeFault) -> Advanced
-    ensures { result ≡ left_out place.now after fault }
+fn left_out(place: &mut Where, after: Where, fault: TreeFault) -> Advanced
+    ensures { arrived place.new result ≡ left_out place.old after fault }
 {
     match fault {
         TreeFault::Unread(_, _) => Advanced {
-            place: *place,
             leaf: None,
             step: Err(fault),
         },
         TreeFault::Lost(_)
         | TreeFault::Unmapped(_)
         | TreeFault::Crosses(_)
-        | TreeFault::Malformed(_) => Advanced {
-            place: after,
-            leaf: None,
-            step: Ok(Step::Fault(fault)),
-        },
+        | TreeFault::Malformed(_) => {
+            *place = after;
+            Advanced {
+                leaf: None,
+                step: Ok(Step::Fault(fault)),
+            }
+        }
     }
 }
 
 /// Meets the block that is to be read.
 pub(crate) fn enter<R: Rack>(
-    place: &Place,
+    place: &mut Where,
     todo: &Todo,
     scope: &Scope,
     rack: &mut R,
     store: &mut Store,
 ) -> Advanced
-    requires todo { place.now.todo ≡ Some todo.now }
+    requires todo { place.old.todo ≡ Some todo.now }
     requires serves { Serves (R.seen rack.old) store.old }
     requires room { 4 ≤ free_count store.old }
-    requires shaped { IsShaped place.now }
+    requires shaped { IsShaped place.old }
     ensures serves { Serves (R.seen rack.new) store.new }
     ensures reads { OnlyReads (R.seen rack.old) (R.seen rack.new) }
     ensures others { SameLoans store.old (base store.new (loan_of result.leaf)) }
     ensures hand { IfSome result.leaf (IsInHand store.new) }
-    ensures shaped { IsShaped result.place }
-    ensures nears { StepNears (rank_on place.now None) (rank_on result.place result.leaf) result.step }
-    ensures step { HasStep place.now result.place result.leaf result.step }
-    ensures cause { StepCause store.old.layout (R.seen rack.old) (R.seen rack.new) result.step }
-    ensures content { Tells store.old.layout (R.seen rack.old) (R.seen rack.new)
-        (λ B. AdvancesIn scope.now B store.old place.now None store.new result) }
+    ensures shaped { IsShaped place.new }
+    ensures nears { StepNears (rank_on place.old None) (rank_on place.new result.leaf) result.step }
+    ensures step { HasStep place.old place.new result.leaf result.step }
+    ensures cause { StepCause store.old.layout (R.seen rack.old) (R.seen rack.new) place.old result.step }
+    ensures content { TellsOf store.old (R.seen rack.old) (R.seen rack.new)
+        (λ Is B. AdvancesIn scope.now Is B store.old place.old None store.new (arrived place.new result)) }
 {
-    let after = Place {
-        path: place.path,
-        todo: None,
-    };
     match read_block(todo.level, &todo.spot, rack, store) {
-        Err(fault) => left_out(place, after, fault),
+        Err(fault) => {
+            let after = Where {
+                path: place.path,
+                todo: None,
+            };
+            left_out(place, after, fault)
+        }
         Ok(loan) => {
             let step = Ok(Step::Block {
                 place: place_of(todo.level, &todo.spot),
                 header: Header::read(scope.sums, store.bytes(&loan)),
             });
+            place.todo = None;
             if todo.level == 0 {
                 let leaf = LeafAt {
-                    addr: todo.spot.addr,
+                    spot: todo.spot,
                     next: 0,
                     end: Leaf::of(store.bytes(&loan)).count(),
                     loan,
                 };
                 return Advanced {
-                    place: after,
                     leaf: Some(leaf),
                     step,
                 };
             }
             let frame = frame_from(&Inner::of(store.bytes(&loan)), &todo.spot, 0, scope);
             store.give(loan);
-            let place = Place {
-                path: with_frame(place.path, todo.level as usize - 1, frame),
-                todo: None,
-            };
-            Advanced {
-                place,
-                leaf: None,
-                step,
-            }
+            set_frame(&mut place.path, todo.level as usize - 1, frame);
+            Advanced { leaf: None, step }
         }
     }
 }
 
 /// Meets the next child of the lowest node.
 pub(crate) fn meet_child<R: Rack>(
-    place: &Place,
+    place: &mut Where,
     low: &AtLevel,
     scope: &Scope,
     rack: &mut R,
     store: &mut Store,
 ) -> Advanced
-    requires todo { place.now.todo ≡ None }
-    requires low { IsLowest place.now low.now }
+    requires todo { place.old.todo ≡ None }
+    requires low { IsLowest place.old low.now }
     requires serves { Serves (R.seen rack.old) store.old }
     requires room { 4 ≤ free_count store.old }
-    requires shaped { IsShaped place.now }
+    requires shaped { IsShaped place.old }
     ensures serves { Serves (R.seen rack.new) store.new }
     ensures reads { OnlyReads (R.seen rack.old) (R.seen rack.new) }
     ensures others { SameLoans store.old (base store.new (loan_of result.leaf)) }
     ensures hand { IfSome result.leaf (IsInHand store.new) }
-    ensures shaped { IsShaped result.place }
-    ensures nears { StepNears (rank_on place.now None) (rank_on result.place result.leaf) result.step }
-    ensures step { HasStep place.now result.place result.leaf result.step }
-    ensures cause { StepCause store.old.layout (R.seen rack.old) (R.seen rack.new) result.step }
-    ensures content { Tells store.old.layout (R.seen rack.old) (R.seen rack.new)
-        (λ B. AdvancesIn scope.now B store.old place.now None store.new result) }
+    ensures shaped { IsShaped place.new }
+    ensures nears { StepNears (rank_on place.old None) (rank_on place.new result.leaf) result.step }
+    ensures step { HasStep place.old place.new result.leaf result.step }
+    ensures cause { StepCause store.old.layout (R.seen rack.old) (R.seen rack.new) place.old result.step }
+    ensures content { TellsOf store.old (R.seen rack.old) (R.seen rack.new)
+        (λ Is B. AdvancesIn scope.now Is B store.old place.old None store.new (arrived place.new result)) }
 {
     let level = low.at as u8;
     let frame = &low.frame;
     match read_again(level + 1, frame, scope, rack, store) {
         Err(fault) => {
-            let after = Place {
-                path: with_frame(place.path, low.at, None),
+            let mut after = Where {
+                path: place.path,
                 todo: None,
             };
+            set_frame(&mut after.path, low.at, None);
             left_out(place, after, fault)
         }
-        Ok(below) => Advanced {
-            place: Place {
-                path: with_frame(place.path, low.at, below.frame),
-                todo: Some(Todo {
-                    level,
-                    spot: below.spot,
+        Ok(below) => {
+            set_frame(&mut place.path, low.at, below.frame);
+            place.todo = Some(Todo {
+                level,
+                spot: below.spot,
+            });
+            Advanced {
+                leaf: None,
+                step: Ok(Step::Child {
+                    block: frame.spot.addr,
+                    place: place_of(level, &below.spot),
                 }),
-            },
-            leaf: None,
-            step: Ok(Step::Child {
-                block: frame.spot.addr,
-                place: place_of(level, &below.spot),
-            }),
-        },
+            }
+        }
     }
 }

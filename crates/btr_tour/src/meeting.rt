@@ -5,11 +5,10 @@ ghost use Rattle.btr_walk.specs.Range.{is_within};
 ghost use Rattle.btr_tour.specs.Tour.{child_spots, meets_keys};
 ghost use Rattle.btr_tour.specs.Steps.{IsFirstFrom, NoneFrom, FramesFrom};
 
-use crate::frame::Frame;
 use crate::scope::Scope;
 use btr_base::Key;
 use btr_node::{Inner, Leaf};
-use btr_walk::{Spot, child_at};
+use btr_walk::{Frame, Spot, child_at};
 
 // Whether the keys that a block at a spot may have meet those from `lo` to `hi`.
 fn meets(spot: &Spot, lo: Key, hi: Key) -> bool

@@ -1,5 +1,4 @@
 use crate::leaf_at::LeafAt;
-use crate::place::Place;
 use btr_base::Header;
 use btr_walk::{RootPlace, TreeFault};
 
@@ -18,9 +17,8 @@ pub(crate) enum Step {
     End,
 }
 
-/// Where a tour is behind a step.
+/// What a step came to, and the leaf in hand behind it.
 pub(crate) struct Advanced {
-    pub(crate) place: Place,
     pub(crate) leaf: Option<LeafAt>,
     pub(crate) step: Result<Step, TreeFault>,
 }

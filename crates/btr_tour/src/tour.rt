@@ -1,32 +1,30 @@
 // A tour.
-ghost use Rattle.std.specs.Prelude.{◌≡◌, ◌≤◌, IfSome, IsSome, None, Some};
+ghost use Rattle.std.specs.Prelude.{◌≡◌, ◌≤◌, List, [], IfSome, IsSome, None, Some};
 ghost use Rattle.std.specs.Borrow.{sem};
 ghost use Rattle.btr_rack.specs.Rack.{OnlyReads, Seen};
 ghost use Rattle.btr_read.specs.Serves.{Serves};
 ghost use Rattle.btr_read.specs.Store.{Blocks, SameLoans, free_count};
+ghost use Rattle.btr_read.specs.declared.want.Want.{Want};
 ghost use Rattle.btr_walk.specs.Reading.{Map};
-ghost use Rattle.btr_tour.specs.Tour.{tour};
+ghost use Rattle.btr_tour.specs.Program.{tour_prog};
 ghost use Rattle.btr_tour.specs.Steps.{IsInHand, passed_leaf};
-ghost use Rattle.btr_tour.specs.TourEnds.{left_of, passed, without_leaf, rank_of, level_met, IsReady, IsUnderway, KeepsLeaf, NextNears, NextCause, TourEnds};
+ghost use Rattle.btr_tour.specs.TourEnds.{left_of, passed, without_leaf, rank_of, level_met, IsReady, IsUnderway, HoldsLeaf, KeepsLeaf, NextNears, NextCause, TourEnds};
 
 use crate::Met;
 use crate::advancing::advance;
-use crate::frame::Todo;
 use crate::leaf_at::LeafAt;
-use crate::path::HEIGHT;
-use crate::place::Place;
 use crate::scope::Scope;
 use crate::step::{Advanced, Step};
 use btr_base::{Key, SumKind};
 use btr_rack::Rack;
 use btr_read::Store;
-use btr_walk::{RootPlace, Spot, TreeFault, found_at};
+use btr_walk::{HEIGHT, RootPlace, Spot, Todo, TreeFault, Where, found_at};
 
 /// A tour through a tree, from one key to another, both included. It keeps at most one loan: that of its leaf. It is not let
 /// go but by `finish`.
 pub struct Tour {
     pub(crate) scope: Scope,
-    pub(crate) place: Place,
+    pub(crate) place: Where,
     pub(crate) leaf: Option<LeafAt>,
     // The level of the block that was met last, if nothing was met behind it.
     pub(crate) level: Option<u8>,
@@ -54,13 +52,13 @@ fn behind_all(leaf: Option<LeafAt>) -> Option<LeafAt>
         None => None,
         Some(hand) => {
             let LeafAt {
-                addr,
+                spot,
                 next: _,
                 end,
                 loan,
             } = hand;
             Some(LeafAt {
-                addr,
+                spot,
                 next: end,
                 end,
                 loan,
@@ -77,8 +75,8 @@ impl Tour {
         ensures leaf { result.leaf ≡ None }
         ensures level { result.level ≡ None }
         ensures ready { (rack : Seen) (store : Blocks) → Serves rack store → IsReady rack store result }
-        ensures left { (B : Map) (store : Blocks) → left_of B store result ≡ tour lo hi B root.now }
-        ensures on { (B : Map) → IsUnderway B result }
+        ensures left { (B : Map) (store : Blocks) → left_of B store result ≡ tour_prog lo hi root.now }
+        ensures on { (B : Map) → IsUnderway B [] result }
     {
         let spot = Spot {
             addr: root.addr,
@@ -88,7 +86,7 @@ impl Tour {
         };
         Tour {
             scope: Scope { lo, hi, sums },
-            place: Place {
+            place: Where {
                 path: [None; HEIGHT],
                 todo: Some(Todo {
                     level: root.level,
@@ -106,7 +104,8 @@ impl Tour {
         requires low { IfSome self.old.level (λ level. level ≤ 7) }
         ensures passed { self.new ≡ passed self.old }
         ensures ready { (rack : Seen) (store : Blocks) → IsReady rack store self.old → IsReady rack store self.new }
-        ensures on { (B : Map) → IsUnderway B self.old → IsUnderway B self.new }
+        ensures on { (B : Map) (seen : List Want) → IsUnderway B seen self.old → IsUnderway B seen self.new }
+        ensures held { (B : Map) (seen : List Want) (store : Blocks) → HoldsLeaf B seen store self.old → HoldsLeaf B seen store self.new }
         ensures nears { rank_of self.new ≤ rank_of self.old }
     {
         let Some(level) = self.level else {
@@ -137,7 +136,7 @@ impl Tour {
             None => {}
             Some(hand) => {
                 let LeafAt {
-                    addr: _,
+                    spot: _,
                     next: _,
                     end: _,
                     loan,
@@ -169,9 +168,9 @@ pub fn next<'e, R: Rack>(
     ensures cause { NextCause store.old.layout (R.seen rack.old) (R.seen rack.new) tour.old tour.new result }
 {
     let leaf = tour.leaf.take();
-    let Advanced { place, leaf, step } = advance(&tour.place, leaf, &tour.scope, rack, store);
+    let scope = tour.scope;
+    let Advanced { leaf, step } = advance(&mut tour.place, leaf, &scope, rack, store);
     put(&mut tour.leaf, leaf);
-    tour.place = place;
     tour.level = None;
     match step {
         Err(fault) => Err(fault),
@@ -186,7 +185,7 @@ pub fn next<'e, R: Rack>(
             let Some(hand) = &tour.leaf else {
                 unreachable!();
             };
-            Ok(Some(Met::Item(found_at(store.bytes(&hand.loan), hand.addr, at))))
+            Ok(Some(Met::Item(found_at(store.bytes(&hand.loan), hand.spot.addr, at))))
         }
     }
 }

@@ -5,7 +5,7 @@ ghost use Rattle.btr_read.specs.Serves.{Serves};
 ghost use Rattle.btr_read.specs.Store.{SameLoans, free_count};
 ghost use Rattle.btr_tour.specs.TourEnds.{IsReady, without_leaf};
 ghost use Rattle.btr_walk.specs.Folding.{FoldCause};
-ghost use Rattle.btr_walk.specs.Reading.{Tells};
+ghost use Rattle.btr_walk.specs.Reading.{TellsOf};
 ghost use Rattle.btr_tour.specs.Visits.{IsTaken, IsMet, MetNears, OnlyUnread, IsRun, Visits};
 
 use crate::visitor::Visitor;
@@ -54,8 +54,8 @@ fn meet_next<R: Rack, E, V: Visitor<E>>(
     ensures nears { MetNears tour.old tour.new result }
     ensures unread { OnlyUnread result }
     ensures cause { FoldCause store.old.layout (R.seen rack.old) (R.seen rack.new) result }
-    ensures content { Tells store.old.layout (R.seen rack.old) (R.seen rack.new)
-        (λ B. IsMet V.step B store.old store.new tour.old tour.new visitor.old visitor.new result) }
+    ensures content { TellsOf store.old (R.seen rack.old) (R.seen rack.new)
+        (λ Is B. IsMet V.step Is B store.old store.new tour.old tour.new visitor.old visitor.new result) }
 {
     match next(store, tour, rack) {
         Err(fault) => Err(FoldFault::Tree(fault)),
@@ -78,8 +78,8 @@ fn run<R: Rack, E, V: Visitor<E>>(
     ensures others { SameLoans (without_leaf store.old tour.old) (without_leaf store.new tour.new) }
     ensures unread { OnlyUnread result }
     ensures cause { FoldCause store.old.layout (R.seen rack.old) (R.seen rack.new) result }
-    ensures content { Tells store.old.layout (R.seen rack.old) (R.seen rack.new)
-        (λ B. IsRun V.step B store.old tour.old visitor.old visitor.new result) }
+    ensures content { TellsOf store.old (R.seen rack.old) (R.seen rack.new)
+        (λ Is B. IsRun V.step Is B store.old tour.old visitor.old visitor.new result) }
 {
     loop {
         match meet_next(tour, rack, store, visitor) {
@@ -93,8 +93,8 @@ fn run<R: Rack, E, V: Visitor<E>>(
 /// Visits all of a tree: treats each block, pointer, item and fault before the next block is read, in the order of a tour. Four slots
 /// are free; it takes no memory, and keeps no loan. Checksums in headers are of the kind `sums`.
 ///
-/// The refusal of the tree is `Unread`, where a block could not be read; all else that is wrong with a block is met as a fault. `Own` is
-/// the visitor's refusal.
+/// The refusal of the tree is `Unread`, where a block could not be read: one of those that the tour wants, of which exactly the marks
+/// before it were treated. All else that is wrong with a block is met as a fault. `Own` is the visitor's refusal.
 pub fn visit<R: Rack, E, V: Visitor<E>>(
     root: &RootPlace,
     sums: SumKind,
@@ -109,8 +109,8 @@ pub fn visit<R: Rack, E, V: Visitor<E>>(
     ensures loans { SameLoans store.old store.new }
     ensures unread { OnlyUnread result }
     ensures cause { FoldCause store.old.layout (R.seen rack.old) (R.seen rack.new) result }
-    ensures content { Tells store.old.layout (R.seen rack.old) (R.seen rack.new)
-        (λ B. Visits V.step B root.now visitor.old visitor.new result) }
+    ensures content { TellsOf store.old (R.seen rack.old) (R.seen rack.new)
+        (λ Is B. Visits V.step Is B root.now visitor.old visitor.new result) }
 {
     let mut tour = Tour::new(root, FIRST_KEY, LAST_KEY, sums);
     let ended = run(&mut tour, rack, store, visitor);

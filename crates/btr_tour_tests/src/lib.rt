@@ -4,6 +4,8 @@
 #[cfg(test)]
 mod faults;
 #[cfg(test)]
+mod rests;
+#[cfg(test)]
 mod tours;
 #[cfg(test)]
 mod visits;

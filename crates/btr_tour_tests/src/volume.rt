@@ -60,8 +60,8 @@ fn item(alloc: Global) -> Result<Body, AllocError> {
     bodies::chunk_item(alloc, CHUNK, 2, &[stripe])
 }
 
-// The key of an item that is numbered.
-fn key(n: u64) -> Key {
+/// The key of an item that is numbered.
+pub(crate) fn key(n: u64) -> Key {
     Key {
         objectid: n,
         kind: 1,
@@ -121,12 +121,12 @@ pub(crate) fn store_over(alloc: Global, rack: &MemRack) -> Result<Store, Fail>
 {
     let chunks = chunks(alloc)?;
     let mut store = Store::new(alloc, FORM.sums, FORM.fsid, 4096, chunks)?;
-    store.add_device(1, 0, rack.len(0))?;
+    store.add_device(1, 0, rack.len(0), false)?;
     Ok(store)
 }
 
-// The next mark. What is below the block at an address is passed.
-fn step(
+/// The next mark. What is below the block at an address is passed.
+pub(crate) fn step(
     store: &mut Store,
     tour: &mut Tour,
     rack: &mut MemRack,

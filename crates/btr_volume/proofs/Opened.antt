@@ -12,7 +12,7 @@ use Rattle.btr_chunk.specs.declared.array.ArrayFault.{ArrayFault}
 use Rattle.btr_read.specs.Store.{Blocks}
 use Rattle.btr_read.specs.declared.device.Member.{Member}
 use Rattle.btr_super.specs.Newest.{newest, newest_index, is_newest}
-use Rattle.btr_volume.specs.Start.{Start, Images, supers_from, start_of, start_with, start_by, started, with_kind, with_array, array_bytes, devices_from, refusals, first_refusal}
+use Rattle.btr_volume.specs.Start.{Start, Images, layout_by, supers_from, start_of, start_with, start_by, started, with_kind, with_array, array_bytes, devices_from, refusals, first_refusal}
 use Rattle.btr_volume.specs.Refusing.{IsRefusal}
 use Rattle.std.specs.Option.{IfSome}
 use Rattle.btr_base.specs.Key.{last_key}
@@ -31,19 +31,23 @@ use Rattle.btr_volume.specs.Opening.{ScansTable, ReadsTable, MakesStore, Begins,
 use Rattle.btr_volume.specs.declared.volume.Volume.{Volume}
 use Rattle.btr_prog.specs.Prog.{exec}
 use Rattle.btr_prog.specs.Answers.{Follows, no_part}
-use Rattle.btr_prog.specs.Calls.{Sure, First, Any, IsCalm}
+use Rattle.btr_prog.specs.Calls.{CanTell, Sure, First, Any, IsCalm}
 use Rattle.btr_read.specs.Fate.{fate, Agreed}
-use Rattle.btr_read.specs.Reading.{AgreedOn, OnMap}
+use Rattle.btr_read.specs.Reading.{AgreedOn, OnMap, shown}
 use Rattle.btr_volume.specs.Maps.{array_layout}
 use Rattle.btr_volume.specs.Table.{table_scan}
-use Rattle.btr_volume.specs.Opening.{OpenedIsOfImages}
+use Rattle.btr_volume.specs.Opening.{ComparesRoots, OpenedIsAlike, OpenedIsOfImages}
+use Rattle.btr_volume.specs.Tree.{root_want}
+use Rattle.btr_read.specs.Comparing.{Compares, disagreeing}
+use Rattle.btr_read.proofs.Compared.{compares_before, compares_steady}
+use Rattle.btr_read.proofs.ReadsOn.{same_held}
 use Rattle.btr_volume.proofs.Readings.{Sized}
-use Rattle.btr_rack.specs.Rack.{Slot, Account, OnlyCounts, NoneFailed}
+use Rattle.btr_rack.specs.Rack.{Slot, Account, OnlyCounts, OnlyReads, NoneFailed}
 use Rattle.btr_read.specs.Serves.{Serves}
 use Rattle.btr_read.specs.Store.{with_chunks}
 use Rattle.btr_read.proofs.Serving.{serving, serves_anew}
 use Rattle.btr_volume.specs.declared.fault.OpenFault.{OpenFault}
-use Rattle.btr_volume.specs.declared.fault.OpenFault.TheVariants.{ImageFault, NoSuper, SumKind as kind_fault, Foreign, Twin, Unsupported, Geometry, LogPending, BadArray, BadChunk as bad_chunk, Limit, Tree, Memory}
+use Rattle.btr_volume.specs.declared.fault.OpenFault.TheVariants.{ImageFault, NoSuper, SumKind as kind_fault, Foreign, Twin, Diverged, Unsupported, Geometry, LogPending, BadArray, BadChunk as bad_chunk, Limit, Tree, Memory}
 use Rattle.btr_volume.specs.declared.fault.TableFault.{TableFault}
 use Rattle.btr_volume.specs.declared.fault.TableFault.TheVariants.{Stripes, BadChunk, Chunks}
 
@@ -81,6 +85,7 @@ module _ (supers : List Super) (s : Super) (is : newest supers ≡ Some s) (lens
   begun_as (kind_fault n) e = e
   begun_as (Foreign slot) e = e
   begun_as (Twin slot) e = e
+  begun_as (Diverged slot) e = e
   begun_as (Unsupported bits) e = e
   begun_as Geometry e = e
   begun_as LogPending e = e
@@ -91,31 +96,32 @@ module _ (supers : List Super) (s : Super) (is : newest supers ≡ Some s) (lens
 
   -- refused by the superblocks alone
   pub begun_refused : (refusal : OpenFault) → IsRefusal (first_refusal (refusals supers s)) (Err refusal) → Begins supers lens (Err refusal)
-  begun_refused refusal e = begun_as refusal (ap (start_by supers lens) is ∙ ap (started s (devices_from 0 supers lens)) e)
+  begun_refused refusal e = begun_as refusal (ap (start_by supers lens) is ∙ ap (started s (devices_from s.generation 0 supers lens)) e)
 
-  accepted : (r : Result Unit OpenFault) → r ≡ Ok tt → IsRefusal (first_refusal (refusals supers s)) r → start_by supers lens (newest supers) ≡ with_kind s (devices_from 0 supers lens) (kind_of_type s.csum_type)
-  accepted r e none = ap (start_by supers lens) is ∙ ap (started s (devices_from 0 supers lens)) (subst (IsRefusal (first_refusal (refusals supers s))) e none)
+  accepted : (r : Result Unit OpenFault) → r ≡ Ok tt → IsRefusal (first_refusal (refusals supers s)) r → start_by supers lens (newest supers) ≡ with_kind s (devices_from s.generation 0 supers lens) (kind_of_type s.csum_type)
+  accepted r e none = ap (start_by supers lens) is ∙ ap (started s (devices_from s.generation 0 supers lens)) (subst (IsRefusal (first_refusal (refusals supers s))) e none)
 
   -- refused by the store
   pub begun_unstored : (refusal : OpenFault) → first_refusal (refusals supers s) ≡ None → MakesStore s (Err refusal) → Begins supers lens (Err refusal)
   begun_unstored Memory none made = tt
-  begun_unstored (ImageFault slot) none made = ap (start_by supers lens) is ∙ ap (started s (devices_from 0 supers lens)) none ∙ made (devices_from 0 supers lens)
-  begun_unstored (NoSuper slot) none made = ap (start_by supers lens) is ∙ ap (started s (devices_from 0 supers lens)) none ∙ made (devices_from 0 supers lens)
-  begun_unstored (kind_fault n) none made = ap (start_by supers lens) is ∙ ap (started s (devices_from 0 supers lens)) none ∙ made (devices_from 0 supers lens)
-  begun_unstored (Foreign slot) none made = ap (start_by supers lens) is ∙ ap (started s (devices_from 0 supers lens)) none ∙ made (devices_from 0 supers lens)
-  begun_unstored (Twin slot) none made = ap (start_by supers lens) is ∙ ap (started s (devices_from 0 supers lens)) none ∙ made (devices_from 0 supers lens)
-  begun_unstored (Unsupported bits) none made = ap (start_by supers lens) is ∙ ap (started s (devices_from 0 supers lens)) none ∙ made (devices_from 0 supers lens)
-  begun_unstored Geometry none made = ap (start_by supers lens) is ∙ ap (started s (devices_from 0 supers lens)) none ∙ made (devices_from 0 supers lens)
-  begun_unstored LogPending none made = ap (start_by supers lens) is ∙ ap (started s (devices_from 0 supers lens)) none ∙ made (devices_from 0 supers lens)
-  begun_unstored BadArray none made = ap (start_by supers lens) is ∙ ap (started s (devices_from 0 supers lens)) none ∙ made (devices_from 0 supers lens)
-  begun_unstored (bad_chunk start) none made = ap (start_by supers lens) is ∙ ap (started s (devices_from 0 supers lens)) none ∙ made (devices_from 0 supers lens)
-  begun_unstored (Limit which n) none made = ap (start_by supers lens) is ∙ ap (started s (devices_from 0 supers lens)) none ∙ made (devices_from 0 supers lens)
-  begun_unstored (Tree fault) none made = ap (start_by supers lens) is ∙ ap (started s (devices_from 0 supers lens)) none ∙ made (devices_from 0 supers lens)
+  begun_unstored (ImageFault slot) none made = ap (start_by supers lens) is ∙ ap (started s (devices_from s.generation 0 supers lens)) none ∙ made (devices_from s.generation 0 supers lens)
+  begun_unstored (NoSuper slot) none made = ap (start_by supers lens) is ∙ ap (started s (devices_from s.generation 0 supers lens)) none ∙ made (devices_from s.generation 0 supers lens)
+  begun_unstored (kind_fault n) none made = ap (start_by supers lens) is ∙ ap (started s (devices_from s.generation 0 supers lens)) none ∙ made (devices_from s.generation 0 supers lens)
+  begun_unstored (Foreign slot) none made = ap (start_by supers lens) is ∙ ap (started s (devices_from s.generation 0 supers lens)) none ∙ made (devices_from s.generation 0 supers lens)
+  begun_unstored (Twin slot) none made = ap (start_by supers lens) is ∙ ap (started s (devices_from s.generation 0 supers lens)) none ∙ made (devices_from s.generation 0 supers lens)
+  begun_unstored (Diverged slot) none made = ap (start_by supers lens) is ∙ ap (started s (devices_from s.generation 0 supers lens)) none ∙ made (devices_from s.generation 0 supers lens)
+  begun_unstored (Unsupported bits) none made = ap (start_by supers lens) is ∙ ap (started s (devices_from s.generation 0 supers lens)) none ∙ made (devices_from s.generation 0 supers lens)
+  begun_unstored Geometry none made = ap (start_by supers lens) is ∙ ap (started s (devices_from s.generation 0 supers lens)) none ∙ made (devices_from s.generation 0 supers lens)
+  begun_unstored LogPending none made = ap (start_by supers lens) is ∙ ap (started s (devices_from s.generation 0 supers lens)) none ∙ made (devices_from s.generation 0 supers lens)
+  begun_unstored BadArray none made = ap (start_by supers lens) is ∙ ap (started s (devices_from s.generation 0 supers lens)) none ∙ made (devices_from s.generation 0 supers lens)
+  begun_unstored (bad_chunk start) none made = ap (start_by supers lens) is ∙ ap (started s (devices_from s.generation 0 supers lens)) none ∙ made (devices_from s.generation 0 supers lens)
+  begun_unstored (Limit which n) none made = ap (start_by supers lens) is ∙ ap (started s (devices_from s.generation 0 supers lens)) none ∙ made (devices_from s.generation 0 supers lens)
+  begun_unstored (Tree fault) none made = ap (start_by supers lens) is ∙ ap (started s (devices_from s.generation 0 supers lens)) none ∙ made (devices_from s.generation 0 supers lens)
 
   -- the volume that begins
-  pub begun : (store store' : Blocks) → first_refusal (refusals supers s) ≡ None → MakesStore s (Ok store) → store'.layout ≡ record (store.layout) { devices = devices_from 0 supers lens } → Begins supers lens (Ok (record { store = store'; sup = s }))
+  pub begun : (store store' : Blocks) → first_refusal (refusals supers s) ≡ None → MakesStore s (Ok store) → store'.layout ≡ record (store.layout) { devices = devices_from s.generation 0 supers lens } → Begins supers lens (Ok (record { store = store'; sup = s }))
   begun store store' none made layout =
-      ap (start_by supers lens) is ∙ ap (started s (devices_from 0 supers lens)) none ∙ made.3 (devices_from 0 supers lens)
+      ap (start_by supers lens) is ∙ ap (started s (devices_from s.generation 0 supers lens)) none ∙ made.3 (devices_from s.generation 0 supers lens)
       ∙ ap {A = Layout} (λ l. Ok (record { sup = s; devices = l.devices; setting = l.setting; array = l.chunks })) (sym layout)
 
 abbrev the_ok : Start → Result Start OpenFault
@@ -164,6 +170,7 @@ module _ (slots : List Slot) (supers : List Super) where
       by (Err (kind_fault n)) early e = whole ∙ e
       by (Err (Foreign slot)) early e = whole ∙ e
       by (Err (Twin slot)) early e = whole ∙ e
+      by (Err (Diverged slot)) early e = whole ∙ e
       by (Err (Unsupported bits)) early e = whole ∙ e
       by (Err Geometry) early e = whole ∙ e
       by (Err LogPending) early e = whole ∙ e
@@ -185,6 +192,7 @@ module _ (old new : Seen) where
   refused_early (kind_fault n) T h = h
   refused_early (Foreign slot) T h = h
   refused_early (Twin slot) T h = h
+  refused_early (Diverged slot) T h = inl h
   refused_early (Unsupported bits) T h = h
   refused_early Geometry T h = h
   refused_early LogPending T h = h
@@ -200,6 +208,7 @@ module _ (old new : Seen) where
   opens_early images (kind_fault n) h = inl h
   opens_early images (Foreign slot) h = inl h
   opens_early images (Twin slot) h = inl h
+  opens_early images (Diverged slot) h = inl h
   opens_early images (Unsupported bits) h = inl h
   opens_early images Geometry h = inl h
   opens_early images LogPending h = inl h
@@ -222,6 +231,7 @@ module _ (old new : Seen) where
   refused_late layout (kind_fault n) T U h = absurd h
   refused_late layout (Foreign slot) T U h = absurd h
   refused_late layout (Twin slot) T U h = absurd h
+  refused_late layout (Diverged slot) T U h = absurd h
   refused_late layout (Unsupported bits) T U h = absurd h
   refused_late layout Geometry T U h = absurd h
   refused_late layout LogPending T U h = absurd h
@@ -238,6 +248,7 @@ module _ (old new : Seen) where
     opens_late images (kind_fault n) layout T c is h = absurd c
     opens_late images (Foreign slot) layout T c is h = absurd c
     opens_late images (Twin slot) layout T c is h = absurd c
+    opens_late images (Diverged slot) layout T c is h = absurd c
     opens_late images (Unsupported bits) layout T c is h = absurd c
     opens_late images Geometry layout T c is h = absurd c
     opens_late images LogPending layout T c is h = absurd c
@@ -247,17 +258,64 @@ module _ (old new : Seen) where
     told_late None refusal layout T c is h = tt
     told_late (Some images) refusal layout T c is h = opens_late images refusal layout T c is h
 
-    -- the volume that was opened
-    pub told_opened : (held : Option Images) (store : Blocks) (chunks : List Chunk) → IfSome held (λ images. start_of images ≡ Ok (start_in volume)) → store.layout ≡ record (volume.store.layout) { chunks = chunks } → ReadsTable volume.sup volume.store.layout old new (Ok chunks) → IfSome held (λ images. Opens images old new (Ok (record { store = store; sup = volume.sup })))
-    told_opened None store chunks is e h = tt
-    told_opened (Some images) store chunks is e h =
-        let same : store.layout.chunks ≡ chunks = ap (λ (l : Layout). l.chunks) e in
-        record {
-          start = start_in volume;
-          is = is;
-          by = record { sup = refl; layout = e ∙ ap {A = List Chunk} (λ c. record (volume.store.layout) { chunks = c }) (sym same) };
-          scans = subst (λ (c : List Chunk). Scans (start_in volume) old new (Ok (Ok c))) (sym same) h;
-        }
+-- what was scanned stands while more is read
+module _ (start : Start) (old now new : Seen) (reads : OnlyReads now new) (table : TableResult) where
+  scans_by : (sure : Sure) → CanTell (AgreedOn (array_layout start)) sure (shown old) (shown new) → Scans start old now (Ok table)
+      → OnMap (array_layout start) (λ B. Follows {S = ⊥} (unread_by (array_layout start) old new) no_part [] (exec B (table_scan start)) []
+      (Ok table)) sure old.held
+  scans_by First calm h = h.calls.content First (omega (arith, calm.0, h.calls.later, reads.later), omega (arith, calm.1, reads.later))
+  scans_by Any agreed h = h.calls.content Any agreed
+
+  pub scans_still : Scans start old now (Ok table) → Scans start old new (Ok table)
+  scans_still h = record {
+    calls = record { same = same_held reads ∙ h.calls.same; later = omega (arith, h.calls.later, reads.later); content = λ sure can. scans_by sure can h };
+  }
+
+-- the chunk tree was scanned, and then the candidates of the root tree's root block were compared
+module _ (old now new : Seen) (volume : Volume) (store : Blocks) (chunks : List Chunk) (first : OnlyReads old now) (then : OnlyReads now new)
+    (layout : store.layout ≡ record (volume.store.layout) { chunks = chunks })
+    (tells : ReadsTable volume.sup volume.store.layout old now (Ok chunks)) where
+  compared : (slot : Option ℕ) → Compares store.layout (root_want volume.sup) now new slot → ComparesRoots (start_in volume) chunks old new slot
+  compared slot h = compares_before (layout_by (start_in volume) chunks) (root_want volume.sup) old now new slot first
+      (subst (λ (l : Layout). Compares l (root_want volume.sup) now new slot) layout h)
+
+  -- they agree: the volume was opened
+  pub told_opened : (held : Option Images) (after : Blocks) → IfSome held (λ images. start_of images ≡ Ok (start_in volume))
+      → after.layout ≡ store.layout → Compares store.layout (root_want volume.sup) now new None
+      → IfSome held (λ images. Opens images old new (Ok (record { store = after; sup = volume.sup })))
+  told_opened None after is e h = tt
+  told_opened (Some images) after is e h =
+      let same : after.layout.chunks ≡ chunks = ap (λ (l : Layout). l.chunks) (e ∙ layout) in
+      record {
+        start = start_in volume;
+        is = is;
+        by = record { sup = refl; layout = e ∙ layout ∙ ap {A = List Chunk} (λ c. record (volume.store.layout) { chunks = c }) (sym same) };
+        scans = subst (λ (c : List Chunk). Scans (start_in volume) old new (Ok (Ok c))) (sym same)
+            (scans_still (start_in volume) old now new then (Ok chunks) tells);
+        alike = subst (λ (c : List Chunk). ComparesRoots (start_in volume) c old new None) (sym same) (compared None h);
+      }
+
+  -- they don't
+  pub told_diverged : (held : Option Images) (slot : ℕ) → IfSome held (λ images. start_of images ≡ Ok (start_in volume))
+      → Compares store.layout (root_want volume.sup) now new (Some slot)
+      → IfSome held (λ images. Opens images old new (Err (Diverged slot)))
+  told_diverged None slot is h = tt
+  told_diverged (Some images) slot is h = inr (record {
+    start = start_in volume;
+    is = is;
+    chunks = chunks;
+    scans = scans_still (start_in volume) old now new then (Ok chunks) tells;
+    differ = compared (Some slot) h;
+  })
+
+  pub diverged_cause : (slot : ℕ) (T : Type 0) → Compares store.layout (root_want volume.sup) now new (Some slot)
+      → OpenCause {T = T} old new (Err (Diverged slot))
+  diverged_cause slot T h = inr (record {
+    layout = store.layout;
+    want = root_want volume.sup;
+    differ = compares_before store.layout
+        (root_want volume.sup) old now new (Some slot) first h;
+  })
 
 -- a rack serves a store with other chunks
 pub served_anew : (rack : Seen) (store store' : Blocks) (chunks : List Chunk) → Serves rack store → store' ≡ with_chunks store chunks → Serves rack store'
@@ -288,3 +346,11 @@ opened_is images old new volume held opened known = record {
     by : IsCalm old.account.faults new.account.faults ⊎ Agreed images (array_layout opened.start) → P (fate images (array_layout opened.start))
     by (inl calm) = told_of images (array_layout opened.start) P old.held First held (opened.scans.calls.content First calm)
     by (inr agreed) = told_of images (array_layout opened.start) P old.held Any held (opened.scans.calls.content Any (subst (λ h. AgreedOn (array_layout opened.start) h) (sym held) agreed))
+
+-- in a volume that was opened the candidates of the root tree's root block agree
+pub opened_alike : OpenedIsAlike
+opened_alike images old new volume held opened steady =
+    let none = compares_steady images (layout_by opened.start volume.store.layout.chunks) (root_want opened.start.sup) old new None held steady
+    opened.alike in
+    ap (λ l. disagreeing images l (root_want volume.sup)) opened.by.layout
+    ∙ ap (λ s. disagreeing images (layout_by opened.start volume.store.layout.chunks) (root_want s)) opened.by.sup ∙ sym none

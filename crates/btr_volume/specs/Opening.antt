@@ -1,5 +1,5 @@
 -- What opening the images of a rack answers.
-use Rattle.std.specs.Prelude.{◌≡◌, ◌⊎◌, ℕ, ◌≤◌, false, List, [], replicate, Contains, Some, None, Result, Ok, Err, ⊤, Vec}
+use Rattle.std.specs.Prelude.{◌≡◌, ◌⊎◌, ℕ, ◌≤◌, false, List, [], replicate, Contains, Option, Some, None, Result, Ok, Err, ⊤, Vec}
 use Rattle.std.specs.declared.alloc.Global.{Global}
 use Rattle.btr_base.specs.Key.{last_key}
 use Rattle.btr_base.specs.Sum.{kind_of_type}
@@ -7,13 +7,15 @@ use Rattle.btr_chunk.specs.declared.array.ArrayFault.{ArrayFault}
 use Rattle.btr_chunk.specs.declared.chunk.Chunk.{Chunk}
 use Rattle.btr_prog.specs.Prog.{exec}
 use Rattle.btr_prog.specs.Answers.{Halt, Follows, no_part}
-use Rattle.btr_rack.specs.Rack.{Seen, Rose, NoneFailed, range_in}
+use Rattle.btr_rack.specs.Rack.{Seen, Rose, NoneFailed, Steady, range_in}
 use Rattle.btr_prog.specs.Calls.{IsCalm}
+use Rattle.btr_read.specs.Comparing.{Compares, disagreeing}
 use Rattle.btr_read.specs.Fate.{Fault, fate, Agreed}
 use Rattle.btr_read.specs.Layout.{Layout}
 use Rattle.btr_read.specs.Serves.{Serves}
 use Rattle.btr_read.specs.Store.{Blocks, none_kept}
 use Rattle.btr_read.specs.declared.device.Member.{Member}
+use Rattle.btr_read.specs.declared.want.Want.{Want}
 use Rattle.btr_super.specs.Newest.{newest}
 use Rattle.btr_super.specs.Slot.{places}
 use Rattle.btr_super.specs.declared.superblock.Super.{Super}
@@ -25,8 +27,9 @@ use Rattle.btr_volume.specs.declared.which.Which.{Which}
 use Rattle.btr_volume.specs.declared.which.Which.TheVariants as limit
 use Rattle.btr_volume.specs.Table.{TableResult, refusal_of, table_scan, table_step, whole_table, first_key, chunk_root}
 use Rattle.btr_volume.specs.Maps.{array_layout}
+use Rattle.btr_volume.specs.Tree.{root_want}
 use Rattle.btr_volume.specs.declared.fault.OpenFault.{OpenFault}
-use Rattle.btr_volume.specs.declared.fault.OpenFault.TheVariants.{ImageFault, BadChunk, Limit, Tree, Memory}
+use Rattle.btr_volume.specs.declared.fault.OpenFault.TheVariants.{ImageFault, Diverged, BadChunk, Limit, Tree, Memory}
 use Rattle.btr_volume.specs.declared.volume.Volume.{Volume}
 
 -- a superblock could not be read, of a rack that isn't sure: this was the last failed call
@@ -96,12 +99,25 @@ pub record Starts (images : Images) (old new : Seen) (answer : Result TableResul
   pub is : start_of images ≡ Ok start
   pub scans : Scans start old new answer
 
--- a volume is that of the images, and its chunks are what scanning the chunk tree came to
+-- the candidates of the root tree's root block, found by these chunks, were compared, and this is where they don't agree
+abbrev pub ComparesRoots : Start → List Chunk → Seen → Seen → Option ℕ → Type 0
+ComparesRoots start chunks old new slot = Compares (layout_by start chunks) (root_want start.sup) old new slot
+
+-- a volume is that of the images, its chunks are what scanning the chunk tree came to, and the candidates of the root tree's root block agree
 pub record Opened (images : Images) (old new : Seen) (volume : Volume) : Type 0 where
   pub start : Start
   pub is : start_of images ≡ Ok start
   pub by : IsBy start volume
   pub scans : Scans start old new (Ok (Ok volume.store.layout.chunks))
+  pub alike : ComparesRoots start volume.store.layout.chunks old new None
+
+-- the images are a start, scanning its chunk tree came to chunks, and by these the candidates of the root tree's root block don't agree
+pub record RootsDiffer (images : Images) (old new : Seen) (slot : ℕ) : Type 0 where
+  pub start : Start
+  pub is : start_of images ≡ Ok start
+  pub chunks : List Chunk
+  pub scans : Scans start old new (Ok (Ok chunks))
+  pub differ : ComparesRoots start chunks old new (Some slot)
 
 -- what a volume begins with, whose chunks are those of the array
 abbrev pub start_in : Volume → Start
@@ -142,16 +158,23 @@ TableCause layout old new (Err (Limit which n)) = IsCounted which
 TableCause layout old new (Err Memory) = ⊤
 TableCause layout old new (Err refusal) = ⊥
 
--- what is answered over the images: the volume; or the first refusal, by the superblocks or by the chunk tree
+-- what is answered over the images: the volume; or the first refusal, by the superblocks, by the chunk tree or by the root tree's root block
 abbrev pub Opens : Images → Seen → Seen → Result Volume OpenFault → Type 0
 Opens images old new (Ok volume) = Opened images old new volume
 Opens images old new (Err (ImageFault slot)) = ⊤
 Opens images old new (Err Memory) = ⊤
 Opens images old new (Err (Tree fault)) = Starts images old new (Err (halt_of fault))
+Opens images old new (Err (Diverged slot)) = (start_of images ≡ Err (Diverged slot)) ⊎ RootsDiffer images old new slot
 Opens images old new (Err refusal) = (start_of images ≡ Err refusal) ⊎ ((fault : TableFault) × (refusal_of fault ≡ refusal) × Starts images old new (Ok (Err fault)))
 
--- What lies behind a refusal: a superblock that could not be read; a block of the chunk tree that could not be had, found by some layout; for the refusals
--- by the superblocks no call failed. There are never too many images.
+-- the candidates of some block, found by some layout, don't agree
+pub record BlocksDiffer (old new : Seen) (slot : ℕ) : Type 0 where
+  pub layout : Layout
+  pub want : Want
+  pub differ : Compares layout want old new (Some slot)
+
+-- What lies behind a refusal: a superblock that could not be read; a block of the chunk tree that could not be had, found by some layout; a block whose
+-- candidates don't agree; for the refusals by the superblocks no call failed. There are never too many images.
 abbrev pub OpenCause : {T : Type 0} → Seen → Seen → Result T OpenFault → Type 0
 OpenCause old new (Ok volume) = ⊤
 OpenCause old new (Err (ImageFault slot)) = SuperUnread old new slot
@@ -159,6 +182,7 @@ OpenCause old new (Err (Tree fault)) = (layout : Layout) × FaultCause layout ol
 OpenCause old new (Err (BadChunk start)) = ⊤
 OpenCause old new (Err (Limit which n)) = IsCounted which
 OpenCause old new (Err Memory) = ⊤
+OpenCause old new (Err (Diverged slot)) = NoneFailed old.account new.account ⊎ BlocksDiffer old new slot
 OpenCause old new (Err refusal) = NoneFailed old.account new.account
 
 -- a volume can be read from a rack, no loan is live, and its nodes are as long as its superblock says
@@ -182,3 +206,12 @@ OpenedIsOfImages =
     → (opened : Opened images old new volume)
     → IsCalm old.account.faults new.account.faults ⊎ Agreed images (array_layout opened.start)
     → IsVolumeOf images volume
+
+-- In a volume that was opened the candidates of the root tree's root block agree, where the rack tells the images and no read failed.
+abbrev pub OpenedIsAlike : Type 0
+OpenedIsAlike =
+    (images : Images) (old new : Seen) (volume : Volume)
+    → old.held ≡ Some images
+    → (opened : Opened images old new volume)
+    → Steady old.account.faults new.account.faults
+    → disagreeing images volume.store.layout (root_want volume.sup) ≡ None

@@ -5,6 +5,7 @@ use Rattle.std.specs.Option.{option_map}
 use Rattle.std.specs.Str.{bytes_eq}
 use Rattle.btr_base.specs.Sum.{kind_of_type}
 use Rattle.btr_base.specs.declared.kind.SumKind.{SumKind}
+use Rattle.btr_super.specs.Compared.{diverged_from}
 use Rattle.btr_super.specs.Newest.{newest}
 use Rattle.btr_super.specs.Slot.{image_super}
 use Rattle.btr_super.specs.declared.superblock.Super.{Super}
@@ -20,7 +21,7 @@ use Rattle.btr_read.specs.declared.device.Member.{Member}
 use Rattle.btr_read.specs.declared.setting.Setting.{Setting}
 use Rattle.btr_volume.specs.declared.which.Which.TheVariants.{Stripes}
 use Rattle.btr_volume.specs.declared.fault.OpenFault.{OpenFault}
-use Rattle.btr_volume.specs.declared.fault.OpenFault.TheVariants.{ImageFault, NoSuper, SumKind as kind_fault, Foreign, Twin, Unsupported, Geometry, LogPending, BadArray, BadChunk, Limit, Memory}
+use Rattle.btr_volume.specs.declared.fault.OpenFault.TheVariants.{ImageFault, NoSuper, SumKind as kind_fault, Foreign, Twin, Diverged, Unsupported, Geometry, LogPending, BadArray, BadChunk, Limit, Memory}
 
 -- the bytes of the images, by slot
 abbrev pub Images : Type 0
@@ -85,6 +86,7 @@ abbrev pub refusals : List Super → Super → List (Option OpenFault)
 refusals supers s =
     option_map Foreign (foreign_from 0 s supers)
     ∷ option_map Twin (twin_from 0 [] supers)
+    ∷ option_map Diverged (diverged_from 0 s supers)
     ∷ if_so (not (unsupported s == 0)) (Unsupported (unsupported s))
     ∷ if_so (not (is_geometry s)) Geometry
     ∷ if_so (not (s.log_root == 0)) LogPending
@@ -101,19 +103,19 @@ header_id s = if bit_and s.incompat 0x400 == 0 then s.fsid else s.metadata_uuid
 abbrev pub setting_of : Super → SumKind → Setting
 setting_of s kind = record { kind = kind; fsid = header_id s; nodesize = s.nodesize }
 
--- the device that an image of so many bytes in a slot holds
-abbrev pub member : ℕ → Super → ℕ → Member
-member slot s len = record { devid = s.devid; device = record { slot = slot; len = len } }
+-- the device that an image of so many bytes in a slot holds, which is older where its generation is less than the newest
+abbrev pub member : ℕ → ℕ → Super → ℕ → Member
+member newest slot s len = record { devid = s.devid; device = record { slot = slot; len = len; older = nat_lt s.generation newest } }
 
--- the devices of the images in the slots from one on, by the lengths of the images
-abbrev pub devices_from : ℕ → List Super → List ℕ → List Member
-devices_from slot [] lens = []
-devices_from slot (s ∷ supers) [] = []
-devices_from slot (s ∷ supers) (len ∷ lens) = member slot s len ∷ devices_from (slot + 1) supers lens
+-- the devices of the images in the slots from one on, by the newest generation and the lengths of the images
+abbrev pub devices_from : ℕ → ℕ → List Super → List ℕ → List Member
+devices_from newest slot [] lens = []
+devices_from newest slot (s ∷ supers) [] = []
+devices_from newest slot (s ∷ supers) (len ∷ lens) = member newest slot s len ∷ devices_from newest (slot + 1) supers lens
 
 -- a layout with the devices of these superblocks, whose images stand in the first slots of a rack
-abbrev pub over_slots : Layout → List Super → Seen → Layout
-over_slots layout supers rack = record layout { devices = devices_from 0 supers (map (λ slot. slot.len) rack.slots) }
+abbrev pub over_slots : Layout → ℕ → List Super → Seen → Layout
+over_slots layout newest supers rack = record layout { devices = devices_from newest 0 supers (map (λ slot. slot.len) rack.slots) }
 
 -- why a system array has no chunks
 abbrev pub no_array : ArrayFault → OpenFault
@@ -143,7 +145,7 @@ started s devices None = with_kind s devices (kind_of_type s.csum_type)
 -- the start by the superblocks, the lengths of the images and the newest superblock; where there is no image there is none
 abbrev pub start_by : List Super → List ℕ → Option Super → Result Start OpenFault
 start_by supers lens None = Err (NoSuper 0)
-start_by supers lens (Some s) = started s (devices_from 0 supers lens) (first_refusal (refusals supers s))
+start_by supers lens (Some s) = started s (devices_from s.generation 0 supers lens) (first_refusal (refusals supers s))
 
 abbrev pub start_with : Images → Result (List Super) OpenFault → Result Start OpenFault
 start_with images (Err refusal) = Err refusal

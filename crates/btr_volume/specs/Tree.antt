@@ -5,6 +5,8 @@ use Rattle.btr_items.specs.RootItem.{root_item_of}
 use Rattle.btr_items.specs.declared.root_item.RootItem.{RootItem}
 use Rattle.btr_items.specs.Types.{root_item}
 use Rattle.btr_prog.specs.Prog.{Return, bind}
+use Rattle.btr_read.specs.declared.want.Want.{Want}
+use Rattle.btr_read.specs.declared.want.Want.TheVariants.{Tree}
 use Rattle.btr_super.specs.declared.superblock.Super.{Super}
 use Rattle.btr_walk.specs.declared.place.RootPlace.{RootPlace}
 use Rattle.btr_walk.specs.Le.{TreeItem, le}
@@ -20,8 +22,13 @@ key objectid kind offset = record { objectid = objectid; kind = kind; offset = o
 abbrev pub last : ℕ
 last = 2 ^ 64 - 1
 
+-- the root block of the root tree
 abbrev pub root_root : Super → RootPlace
 root_root s = record { addr = s.root; generation = s.generation; level = s.root_level }
+
+-- the same as it is sought
+abbrev pub root_want : Super → Want
+root_want s = Tree s.root s.generation s.root_level
 
 -- a tree whose root the superblock names
 abbrev pub named_root : ℕ → RootPlace → TreeRoot

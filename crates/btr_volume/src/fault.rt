@@ -31,6 +31,8 @@ pub enum OpenFault {
     Foreign(usize),
     /// The image in this slot repeats a device.
     Twin(usize),
+    /// The image in this slot holds something else of the newest generation than another: each was written without the other.
+    Diverged(usize),
     /// These incompatible features aren't supported.
     Unsupported(u64),
     /// The sizes of sectors or nodes, or a level, aren't supported.

@@ -12,27 +12,25 @@ use crate::devices::add_devices;
 use crate::refusing::test_supers;
 use crate::supers::read_supers;
 use crate::table::Chunks;
-use crate::tree::{FIRST_KEY, LAST_KEY, chunk_root};
+use crate::tree::{FIRST_KEY, LAST_KEY, chunk_root, root_want};
 use crate::{OpenFault, Volume, Which};
+use bitflags::Flags;
 use btr_base::SumKind;
 use btr_chunk::{ArrayFault, ChunkTable, read_array};
 use btr_rack::Rack;
-use btr_read::Store;
-use btr_super::{Super, choose};
+use btr_read::{Store, compare_candidates};
+use btr_super::{Incompat, Super, choose};
 use btr_walk::{FoldFault, fold};
 use std::alloc::Global;
-
-// The feature that says that tree blocks have another id than the superblock.
-const METADATA_UUID: u64 = 0x400;
 
 // The id in the headers of tree blocks.
 fn header_id(s: &Super) -> [u8; 16]
     ensures { result ≡ header_id s.now }
 {
-    if s.incompat & METADATA_UUID == 0 {
-        s.fsid
-    } else {
+    if s.incompat().intersects(Incompat::METADATA_UUID) {
         s.metadata_uuid
+    } else {
+        s.fsid
     }
 }
 
@@ -87,7 +85,7 @@ fn begin<R: Rack>(
 {
     test_supers(chosen, supers)?;
     let mut store = new_store(alloc, chosen)?;
-    match add_devices(supers, rack, &mut store) {
+    match add_devices(supers, chosen.generation, rack, &mut store) {
         Ok(()) => Ok(Volume {
             store,
             sup: *chosen,
@@ -140,13 +138,14 @@ fn read_table<R: Rack>(
 }
 
 impl Volume {
-    /// Opens the filesystem whose images are open in the rack, one at least: reads the superblock of each, tests them, and reads the whole
-    /// chunk tree. No slot of its store is lent.
+    /// Opens the filesystem whose images are open in the rack, one at least: reads the superblock of each, tests them, reads the whole
+    /// chunk tree, and compares the copies of the root tree's root block. No slot of its store is lent.
     ///
-    /// The first refusal of these: `ImageFault`, `SumKind` or `NoSuper` of the first image without a superblock; `Foreign` and `Twin`;
-    /// `Unsupported`, `Geometry`, `LogPending` by the newest superblock; `BadArray`, `Limit` or `BadChunk` of the system array; and what the
+    /// The first refusal of these: `ImageFault`, `SumKind` or `NoSuper` of the first image without a superblock; `Foreign`, `Twin` and
+    /// `Diverged`; `Unsupported`, `Geometry`, `LogPending` by the newest superblock; `BadArray`, `Limit` or `BadChunk` of the system array; and what the
     /// chunk tree comes to, read by the array's chunks alone: `Tree`, or `Limit` or `BadChunk` of the first of its chunks that can't be
-    /// added. `Memory` comes for want of it. After a refusal everything that was allocated is given back.
+    /// added; and `Diverged` where copies of the root tree's root block differ that can be read and pass, with the smallest slot that the
+    /// first one reads that isn't the first that passes. `Memory` comes for want of it. After a refusal everything that was allocated is given back.
     pub fn open<R: Rack>(alloc: Global, rack: &mut R) -> Result<Volume, OpenFault>
         requires some { 0 < length (R.seen rack.old).slots }
         ensures reads { OnlyReads (R.seen rack.old) (R.seen rack.new) }
@@ -158,6 +157,9 @@ impl Volume {
         let mut volume = prepare(alloc, rack)?;
         let chunks = read_table(alloc, &volume.sup, rack, &mut volume.store)?;
         volume.store.replace_chunks(chunks);
-        Ok(volume)
+        match compare_candidates(&root_want(&volume.sup), rack, &mut volume.store) {
+            None => Ok(volume),
+            Some(slot) => Err(OpenFault::Diverged(slot)),
+        }
     }
 }

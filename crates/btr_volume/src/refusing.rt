@@ -5,10 +5,24 @@ ghost use Rattle.btr_volume.specs.Refusing.{IsRefusal};
 ghost use Rattle.btr_volume.specs.Opening.{NoneAtFault};
 
 use crate::OpenFault;
-use btr_super::Super;
+use bitflags::Flags;
+use btr_super::{Incompat, Super, diverged};
 
-// The features that are read: the bits of FFFh.
-const SUPPORTED: u64 = 0xfff;
+// The features that are read.
+const SUPPORTED: Incompat = Incompat(
+    Incompat::MIXED_BACKREF.0
+        | Incompat::DEFAULT_SUBVOL.0
+        | Incompat::MIXED_GROUPS.0
+        | Incompat::COMPRESS_LZO.0
+        | Incompat::COMPRESS_ZSTD.0
+        | Incompat::BIG_METADATA.0
+        | Incompat::EXTENDED_IREF.0
+        | Incompat::RAID56.0
+        | Incompat::SKINNY_METADATA.0
+        | Incompat::NO_HOLES.0
+        | Incompat::METADATA_UUID.0
+        | Incompat::RAID1C34.0,
+);
 
 // The first slot whose superblock is of another filesystem.
 fn foreign(chosen: &Super, supers: &[Super]) -> Option<usize>
@@ -58,8 +72,8 @@ fn is_geometry(s: &Super) -> bool
         && s.sys_chunk_array_size <= 2048
 }
 
-/// Refuses superblocks, the newest of which is `chosen`, by the first reason: `Foreign`, `Twin`, `Unsupported`, `Geometry`,
-/// `LogPending`.
+/// Refuses superblocks, the newest of which is `chosen`, by the first reason: `Foreign`, `Twin`, `Diverged`, `Unsupported`,
+/// `Geometry`, `LogPending`.
 pub(crate) fn test_supers(chosen: &Super, supers: &[Super]) -> Result<(), OpenFault>
     ensures refusal { IsRefusal (first_refusal (refusals supers.now chosen.now)) result }
     ensures geometry { IfOk result (λ _. is_geometry chosen.now ≡ true) }
@@ -72,9 +86,12 @@ pub(crate) fn test_supers(chosen: &Super, supers: &[Super]) -> Result<(), OpenFa
     if let Some(slot) = twin(supers) {
         return Err(OpenFault::Twin(slot));
     }
-    let unsupported = chosen.incompat & !SUPPORTED;
-    if unsupported != 0 {
-        return Err(OpenFault::Unsupported(unsupported));
+    if let Some(slot) = diverged(chosen, supers) {
+        return Err(OpenFault::Diverged(slot));
+    }
+    let unsupported = chosen.incompat().difference(SUPPORTED);
+    if !unsupported.is_empty() {
+        return Err(OpenFault::Unsupported(unsupported.bits()));
     }
     if !is_geometry(chosen) {
         return Err(OpenFault::Geometry);

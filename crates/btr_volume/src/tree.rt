@@ -13,14 +13,14 @@ ghost use Rattle.btr_walk.specs.Showing.{item_of};
 ghost use Rattle.btr_volume.specs.Table.{first_key, chunk_root};
 ghost use Rattle.btr_items.specs.Form.{map_ok};
 ghost use Rattle.btr_items.specs.RootItem.{root_item_of};
-ghost use Rattle.btr_volume.specs.Tree.{root_root, named_root, is_root_of, described, root_found, root_in, tree_of};
+ghost use Rattle.btr_volume.specs.Tree.{root_root, root_want, named_root, is_root_of, described, root_found, root_in, tree_of};
 ghost use Rattle.btr_volume.specs.Looking.{Looks, Judges, SameVolume};
 
 use crate::{TreeRoot, Volume};
 use btr_base::Key;
 use btr_items::{ItemFault, RootItem};
 use btr_rack::Rack;
-use btr_read::{Loan, Store};
+use btr_read::{Loan, Store, Want};
 use btr_super::Super;
 use btr_walk::{Found, RootPlace, Scan, TreeFault, find_le};
 
@@ -48,6 +48,17 @@ pub fn root_root(s: &Super) -> RootPlace
     ensures { result ≡ root_root s.now }
 {
     RootPlace {
+        addr: s.root,
+        generation: s.generation,
+        level: s.root_level,
+    }
+}
+
+/// The same as it is sought.
+pub fn root_want(s: &Super) -> Want
+    ensures { result ≡ root_want s.now }
+{
+    Want::Tree {
         addr: s.root,
         generation: s.generation,
         level: s.root_level,

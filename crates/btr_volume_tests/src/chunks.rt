@@ -147,7 +147,10 @@ fn arrays_that_disagree(rt: HostRuntime) -> Result<(), Fail> {
     let mut sup = first_super(&mut rack)?;
     sup.array[65] = 2;
     sup.array[97] = 1;
-    put(&mut rack, "a", &sup)?;
+    for (name, devid) in [("a", 1), ("b", 2)] {
+        sup.devid = devid;
+        put(&mut rack, name, &sup)?;
+    }
     let bad = OpenFault::BadChunk(1048576);
     assert_eq!(rt; refusal(rt.alloc(), &mut rack), Some(bad));
     Ok(())

@@ -4,6 +4,8 @@
 #[cfg(test)]
 mod chunks;
 #[cfg(test)]
+mod differing;
+#[cfg(test)]
 mod refusals;
 #[cfg(test)]
 mod rows;

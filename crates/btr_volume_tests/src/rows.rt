@@ -1,5 +1,5 @@
 // The small volumes.
-use super::volume::{first_super, open, put, rack_of, refusal, summary};
+use super::volume::{first_super, older, open, put, rack_of, refusal, summary};
 use btr_make::RowVolume;
 use btr_rack::MemRack;
 use btr_super::Super;
@@ -73,6 +73,17 @@ fn each_failing_read_is_told_or_made_good(rt: HostRuntime) -> Result<(), Fail> {
     Ok(())
 }
 
+#[test]
+fn images_that_missed_writes_are_older(rt: HostRuntime) -> Result<(), Fail> {
+    let mut rack = rack_of(rt.alloc(), RowVolume::M1, &["b", "a"])?;
+    assert_eq!(rt; older(rt.alloc(), &mut rack)?, [false, false]);
+    let mut sup = first_super(&mut rack)?;
+    sup.generation = sup.generation.wrapping_sub(1);
+    put(&mut rack, "b", &sup)?;
+    assert_eq!(rt; older(rt.alloc(), &mut rack)?, [false, true]);
+    Ok(())
+}
+
 // What opening a rack's images comes to, once a superblock is written into the second.
 fn refused(alloc: Global, rack: &mut MemRack, sup: &Super) -> Result<Option<OpenFault>, Fail> {
     put(rack, "b", sup)?;
@@ -99,5 +110,47 @@ fn images_of_other_devices_and_filesystems(rt: HostRuntime) -> Result<(), Fail> 
     );
     rack.poke("b", 65600, &[0; 8])?;
     assert_eq!(rt; refusal(alloc, &mut rack), Some(OpenFault::NoSuper(1)));
+    Ok(())
+}
+
+// The superblock of an image of the small volume with two.
+fn super_in(alloc: Global, name: &str) -> Result<Super, Fail> {
+    first_super(&mut rack_of(alloc, RowVolume::M1, &[name])?)
+}
+
+// What opening its images in this order comes to, of which `b` has another superblock.
+fn with_other(alloc: Global, names: &[&str], sup: &Super) -> Result<Option<OpenFault>, Fail> {
+    let mut rack = rack_of(alloc, RowVolume::M1, names)?;
+    refused(alloc, &mut rack, sup)
+}
+
+#[test]
+fn images_written_each_alone(rt: HostRuntime) -> Result<(), Fail> {
+    let alloc = rt.alloc();
+    let mut sup = super_in(alloc, "b")?;
+    sup.backups[1236] = 1;
+    let second = Some(OpenFault::Diverged(1));
+    assert_eq!(rt; with_other(alloc, &["a", "b"], &sup)?, second);
+    assert_eq!(rt; with_other(alloc, &["b", "a"], &sup)?, second);
+    assert_eq!(rt; with_other(alloc, &["b"], &sup)?, None);
+    sup.incompat = 0x1361;
+    assert_eq!(rt; with_other(alloc, &["b", "a"], &sup)?, second);
+    sup.devid = 1;
+    let twin = Some(OpenFault::Twin(1));
+    assert_eq!(rt; with_other(alloc, &["a", "b"], &sup)?, twin);
+    Ok(())
+}
+
+#[test]
+fn images_of_one_commit(rt: HostRuntime) -> Result<(), Fail> {
+    let alloc = rt.alloc();
+    let mut sup = super_in(alloc, "b")?;
+    sup.dev_uuid = [9; 16];
+    sup.log_root = 2097152;
+    sup.log_root_level = 1;
+    assert_eq!(rt; with_other(alloc, &["a", "b"], &sup)?, None);
+    sup.generation = 6;
+    sup.bytes_used = 0;
+    assert_eq!(rt; with_other(alloc, &["a", "b"], &sup)?, None);
     Ok(())
 }

@@ -86,6 +86,24 @@ pub(super) fn summary(alloc: Global, rack: &mut MemRack) -> Result<Contents, Ope
     }
 }
 
+fn is_older(volume: &Volume, devid: u64) -> bool {
+    match volume.store.device(devid) {
+        Some(device) => device.older,
+        None => false,
+    }
+}
+
+/// Whether the images of the devices 1 and 2 are older than the chosen superblock.
+pub(super) fn older(alloc: Global, rack: &mut MemRack) -> Result<[bool; 2], OpenFault> {
+    if rack.count() == 0 {
+        return Err(OpenFault::NoSuper(0));
+    }
+    match opened(alloc, rack) {
+        Ok(volume) => Ok([is_older(&volume, 1), is_older(&volume, 2)]),
+        Err(refusal) => Err(refusal),
+    }
+}
+
 /// The refusal of a rack's open images.
 pub(super) fn refusal(alloc: Global, rack: &mut MemRack) -> Option<OpenFault> {
     match summary(alloc, rack) {

@@ -16,7 +16,7 @@ use Rattle.btr_walk.specs.Spot.{is_below, judged}
 use Rattle.btr_walk.specs.Le.{tree_item, want_of}
 use Rattle.btr_walk.specs.Range.{RangeProg, emit_all, over, range_leaf, range_inner, range_at}
 use Rattle.btr_walk.specs.Reading.{Map}
-use Rattle.btr_walk.specs.Scans.{IsPart, pointers_in, part_items, todo_prog, frame_or_rest, IsFrame, IsHeld, IsPick, IsDown}
+use Rattle.btr_walk.specs.Scans.{IsPart, pointers_in, part_items, todo_prog, frame_or_rest, IsFrame, IsHeld}
 use Rattle.btr_walk.specs.Entering.{IsBelow, IsPlace, below_prog}
 use Rattle.btr_walk.proofs.Choosing.{part_is}
 use Rattle.btr_walk.proofs.Ways.{IsLeafAt, IsInnerAt}
@@ -71,11 +71,6 @@ module _ (lo hi : Key) (B : Map) where
       subst (λ (l : ℕ). judged l todo.spot block ≡ Some (Inner (pointers block)) → B (want_of l todo.spot) ≡ Ok block → exec B (range_at lo hi l todo.spot rest) ≡ first (Wants (want_of l todo.spot)) (exec B (over lo hi (range_at lo hi n) (pointers block) todo.spot.up rest))) level (λ is f. enter_at n todo.spot block is f rest) inner.is e in
       here
       ∙ ap (λ p. first (Wants (want_of todo.level todo.spot)) (exec B p)) (b.program up (range_at lo hi n) rest ∙ below_as n todo.level todo.spot block below.frame below.todo refl e (place_spot (pointers block) todo.spot below.frame b.frame) b.none b.level rest)
-
-  -- the child that is picked, of the node that was read
-  pub down_from : (level : ℕ) (spot : Spot) (block : List ℕ) (frame : Option Frame) (todo : Option Todo) → judged level spot block ≡ Some (Inner (pointers block)) → B (want_of level spot) ≡ Ok block → IfSome todo (λ (t : Todo). IsPick hi (pointers block) spot frame t.spot) → IfSome todo (λ (t : Todo). IsDown hi B level spot frame t.spot)
-  down_from level spot block frame None is e h = tt
-  down_from level spot block frame (Some t) is e h = record { block = block; came = e; is = is; pick = h }
 
   frame_from : (level : ℕ) (spot : Spot) (block : List ℕ) (frame : Frame) (seen : List Want) → IsPlace lo hi (pointers block) spot frame → judged level spot block ≡ Some (Inner (pointers block)) → B (want_of level spot) ≡ Ok block → is_below spot.up lo ≡ true → Contains seen (want_of level spot) → IsFrame lo hi B seen level frame
   frame_from level spot block frame seen p is e up c = record {

@@ -16,7 +16,7 @@ use Rattle.btr_walk.specs.declared.fault.TreeFault.TheVariants as tree
 use Rattle.btr_walk.specs.declared.spot.Spot.{Spot}
 use Rattle.btr_node.specs.declared.node.Node.{Node}
 use Rattle.btr_walk.specs.Spot.{judged}
-use Rattle.btr_walk.specs.Reading.{Map, UnreadBlock, Reads, FaultCause, unread_by, tree_fault}
+use Rattle.btr_walk.specs.Reading.{Map, UnreadBlock, Reads, FaultCause, CauseOf, unread_by, tree_fault}
 use Rattle.btr_walk.specs.Le.{want_of}
 
 pub some_block : (store : Blocks) (loan : Lent) (block : List ℕ) (P : List ℕ → Type 0) → block_of store loan ≡ Some block → P block → IsSomeAnd (block_of store loan) P
@@ -71,6 +71,12 @@ cause_err layout old new level spot store (read.Lost a) fits = (want_of level sp
 cause_err layout old new level spot store (read.Unread a slot) fits = (want_of level spot, fits)
 cause_err layout old new level spot store (read.Unmapped a) fits = (want_of level spot, fits)
 cause_err layout old new level spot store (read.Crosses a) fits = (want_of level spot, fits)
+
+pub cause_of_err : (layout : Layout) (old new : Seen) (level : ℕ) (spot : Spot) (store : Blocks) (f : ReadFault) → FitsFetch layout (want_of level spot) old new store (Err f) → CauseOf layout (want_of level spot) old new (tree_fault f)
+cause_of_err layout old new level spot store (read.Lost a) fits = fits.2
+cause_of_err layout old new level spot store (read.Unread a slot) fits = fits
+cause_of_err layout old new level spot store (read.Unmapped a) fits = fits
+cause_of_err layout old new level spot store (read.Crosses a) fits = fits
 
 -- what holds of the fault that a read's becomes
 pub by_fault : {A : Type 0} (P : Result A TreeFault → Type 0) (r : Result A TreeFault) (f : ReadFault) → IsErrAnd r (λ e. e ≡ tree_fault f) → P (Err (tree_fault f)) → P r

@@ -1,7 +1,7 @@
 -- How far a scan has come on its way to the next leaf.
 use Rattle.std.proofs.Common.{◌≡◌, ℕ, ◌<◌, ◌≤◌, List, [], ◌∷◌, ◌++◌, Option, Some, None, IsSomeAnd, Result, Ok, Err, refl, sym, ap, ◌∙◌, subst, append-nil, append_assoc}
 use Rattle.btr_base.specs.declared.key.Key.{Key}
-use Rattle.btr_prog.specs.Prog.{Wants, Run, run, first, prepend, exec, steps_of, wants_of}
+use Rattle.btr_prog.specs.Prog.{Wants, run, prepend, exec, steps_of, wants_of}
 use Rattle.btr_prog.specs.Answers.{Halt, Follows, no_part}
 use Rattle.btr_prog.proofs.Follow.{follows_as, follows_behind}
 use Rattle.btr_read.specs.Fate as fate
@@ -34,16 +34,13 @@ pub wants-append : (xs ys : List Want) → wants (xs ++ ys) ≡ wants xs ++ want
 wants-append [] ys = refl
 wants-append (w ∷ xs) ys = ap (λ x. Wants w ∷ x) (wants-append xs ys)
 
-pub one_past : (past : List Want) (w : Want) (r : Run Want fate.Fault TreeItem (Unit {0})) → prepend (wants past) (first (Wants w) r) ≡ prepend (wants (past ++ w ∷ [])) r
-one_past past w r = ap (λ ms. run ms r.ending) (sym (append_assoc (wants past) (Wants w ∷ []) r.marks) ∙ ap (λ ms. ms ++ r.marks) (sym (wants-append past (w ∷ []))))
-
 module _ (lo hi : Key) (B : Map) where
   -- from whatever was seen before
   abbrev pub Leads : Where → Where → Type 0
   Leads from to = (seen : List Want) → IsAlong lo hi B seen from → Comes lo hi B seen from (place_prog lo hi B to) to
 
   pub leads_none : (place : Where) → Leads place place
-  leads_none place seen on = record { past = []; is = refl; on = subst (λ (x : List Want). IsAlong lo hi B x place) (sym (append-nil seen)) on; under = λ root u. u }
+  leads_none place seen on = record { past = []; is = refl; on = subst (λ (x : List Want). IsAlong lo hi B x place) (sym (append-nil seen)) on }
 
   -- one after another
   abbrev comes_then : (seen : List Want) (from at : Where) (c : RangeProg) (after : Where) → (x : Comes lo hi B seen from (place_prog lo hi B at) at) → Comes lo hi B (seen ++ x.past) at c after → Comes lo hi B seen from c after
@@ -52,7 +49,6 @@ module _ (lo hi : Key) (B : Map) where
     is = x.is ∙ ap (prepend (wants x.past)) y.is
         ∙ ap (λ ms. run ms (exec B c).ending) (sym (append_assoc (wants x.past) (wants y.past) (exec B c).marks) ∙ ap (λ ms. ms ++ (exec B c).marks) (sym (wants-append x.past y.past)));
     on = subst (λ (z : List Want). IsAlong lo hi B z after) (append_assoc seen x.past y.past) y.on;
-    under = λ root u. y.under root (x.under root u);
   }
 
   pub leads_between : (Is : UnreadBlock → Want → Type 0) (from at after : Where) (store : Blocks) → Leads from at → IsGone lo hi Is B at after store (Ok gone.Between) → Leads from after
@@ -72,7 +68,6 @@ module _ (lo hi : Key) (B : Map) where
           record {
             comes = comes_then seen from at (emit_all (part_items l.spot.addr block l.next l.end) (place_prog lo hi B after)) after x c;
             held = subst (λ (z : List Want). IsHeld B z store l) (append_assoc seen x.past c.past) h.held;
-            leads = λ root u. h.leads root (x.under root u);
           }
 
   -- a leaf with no item in the range

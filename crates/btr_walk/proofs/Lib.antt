@@ -10,12 +10,7 @@ pub mod Choosing
 pub mod Belows
 pub mod Entered
 pub mod Repeated
-pub mod Downs
-pub mod Nested
-pub mod Beyond
-pub mod Staying
 pub mod Paths
-pub mod Joins
 pub mod Items
 pub mod Ranking
 pub mod Leads
@@ -26,5 +21,4 @@ pub mod Turns
 pub mod Halting
 pub mod Preorders
 pub mod Walks
-pub mod Froms
 pub mod Resting

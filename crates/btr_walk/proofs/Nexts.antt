@@ -1,5 +1,5 @@
 -- A step of a scan.
-use Rattle.std.proofs.Common.{◌≡◌, ℕ, ◌+◌, ◌-◌, ◌*◌, ◌^◌, ◌<◌, ◌≤◌, true, false, List, [], ◌++◌, length, take, get_or, All, Option, Some, None, IfSome, IsSomeAnd, IsTrue, Bool, cond, Result, Ok, Err, OnErr, refl, sym, ap, ◌∙◌, subst, arith}
+use Rattle.std.proofs.Common.{◌≡◌, ℕ, ◌+◌, ◌-◌, ◌*◌, ◌^◌, ◌<◌, ◌≤◌, true, false, List, [], ◌++◌, length, get_or, Option, Some, None, IfSome, IsSomeAnd, IsTrue, Bool, Result, Ok, Err, OnErr, refl, sym, ap, ◌∙◌, subst, arith}
 use Rattle.btr_node.specs.Block.{Item, items, is_leaf}
 use Rattle.btr_prog.specs.Prog.{Does, first, prepend, exec}
 use Rattle.btr_prog.specs.Answers.{Follows, no_part}
@@ -15,30 +15,22 @@ use Rattle.btr_walk.specs.declared.found.Found.{Found}
 use Rattle.btr_walk.specs.declared.frame.Frame.{Frame}
 use Rattle.btr_walk.specs.declared.going.Where.{Where}
 use Rattle.btr_walk.specs.declared.scan.Scan.{Scan}
-use Rattle.btr_walk.specs.declared.spot.Spot.{Spot}
-use Rattle.btr_walk.specs.Spot.{is_below, judged}
-use Rattle.std.specs.List.{Contains}
-use Rattle.btr_base.specs.declared.key.Key.{Key}
 use Rattle.btr_walk.specs.declared.scan_place.ScanPlace.{ScanPlace}
-use Rattle.btr_walk.specs.Le.{TreeItem, tree_item, want_of}
+use Rattle.btr_walk.specs.Le.{TreeItem, tree_item}
 use Rattle.btr_walk.specs.Range.{RangeProg, emit_all}
 use Rattle.btr_walk.specs.Reading.{UnreadBlock, Tells, unread_by, FaultCause, HasCause, halt_of}
 use Rattle.btr_walk.specs.Reading.{Map}
-use Rattle.btr_walk.specs.Scans.{wants, from_key, frame_of, leaf_at, IsHeld, IsKept, items_in, kept_items}
+use Rattle.btr_walk.specs.Scans.{wants, frame_of, IsHeld, IsKept, items_in, kept_items}
 use Rattle.btr_walk.specs.Showing.{item_of}
 use Rattle.btr_walk.specs.Lending.{base}
 use Rattle.btr_walk.specs.Advancing.{IsInHand, loan_of, hand_items, hand_prog, leaf_prog, left, HasItem, Meets, AdvancesBy, IsAdvanced}
 use Rattle.btr_walk.specs.Ranks.{IsShaped, rank, rank_leaf, rank_on, StepNears}
-use Rattle.btr_walk.specs.Going.{place_prog, IsLeafUnder}
-use Rattle.btr_walk.specs.Rejoining.{Rejoins}
-use Rattle.btr_walk.specs.ScanEnds.{left_of, HoldsLeaf, HasLeafUnder, ArePastBelow, WasMet, Gives, IsNextOn, IsReady, Scanned, Paused, rank_of, IsFrom, stays, joined_from, sought_from, Sought}
+use Rattle.btr_walk.specs.Going.{place_prog}
+use Rattle.btr_walk.specs.ScanEnds.{left_of, HoldsLeaf, WasMet, Gives, IsNextOn, IsReady, Scanned, Paused, rank_of}
 use Rattle.btr_walk.proofs.Joined.{drawn, block_is}
-use Rattle.btr_walk.proofs.Staying.{leads_same, past_below, stays_past}
-use Rattle.btr_base.specs.Key.{key_number}
-use Rattle.btr_walk.specs.declared.place.RootPlace.{RootPlace}
 
 abbrev pub scan_at : Scan → ScanPlace → Option LeafAt → Scan
-scan_at scan place leaf = record { root = scan.root; lo = scan.lo; hi = scan.hi; place = place; leaf = leaf }
+scan_at scan place leaf = record { lo = scan.lo; hi = scan.hi; place = place; leaf = leaf }
 
 -- the place behind the leaf in hand
 abbrev pub in_hand : Where → ScanPlace
@@ -70,23 +62,23 @@ module _ (store new : Blocks) (scan : Scan) (taken : Option LeafAt) (is_taken : 
         (λ B h. f B (subst (λ l. IsAdvanced scan.lo scan.hi Is B scan.place after l store new a) is_taken h)) c;
   }
 
-  of_err : (B : Map) (was : Type 0) (led : RootPlace → Type 0) (seen : List Want) (p : RangeProg) (f : TreeFault) (l : Option LeafAt) → AdvancesBy scan.lo scan.hi was led Is B seen scan.place.rest p new after l (Err f) → Follows Is no_part seen (exec B p) [] (Err (halt_of f))
-  of_err B was led seen p f None h = h
-  of_err B was led seen p f (Some x) h = h
+  of_err : (B : Map) (was : Type 0) (seen : List Want) (p : RangeProg) (f : TreeFault) (l : Option LeafAt) → AdvancesBy scan.lo scan.hi was Is B seen p new after l (Err f) → Follows Is no_part seen (exec B p) [] (Err (halt_of f))
+  of_err B was seen p f None h = h
+  of_err B was seen p f (Some x) h = h
 
-  of_end : (B : Map) (was : Type 0) (led : RootPlace → Type 0) (seen : List Want) (p : RangeProg) (l : Option LeafAt) → AdvancesBy scan.lo scan.hi was led Is B seen scan.place.rest p new after l (Ok false) → Follows Is no_part seen (exec B p) [] (Ok tt)
-  of_end B was led seen p None h = h
-  of_end B was led seen p (Some x) h = h
+  of_end : (B : Map) (was : Type 0) (seen : List Want) (p : RangeProg) (l : Option LeafAt) → AdvancesBy scan.lo scan.hi was Is B seen p new after l (Ok false) → Follows Is no_part seen (exec B p) [] (Ok tt)
+  of_end B was seen p None h = h
+  of_end B was seen p (Some x) h = h
 
   pub next_err : (f : TreeFault) → a.met ≡ Err f → leaf ≡ None → IsShaped after → SameLoans (base store (loan_of taken)) (base new (loan_of a.leaf)) → IfSome a.leaf (IsInHand new) → Tells store.layout before now (λ B. IsAdvanced scan.lo scan.hi Is B scan.place after taken store new a) → Scanned store new scan (scan_at scan (moved scan after) leaf) before now (Err f)
-  next_err f e free shaped others hand c = scanned (moved scan after) (Err f) shaped (no_leaf scan leaf free) others hand (λ B h seen on. of_err B (HoldsLeaf B seen store scan) (λ root. HasLeafUnder root B scan) seen (left_of B store scan) f a.leaf (subst (λ m. AdvancesBy scan.lo scan.hi (HoldsLeaf B seen store scan) (λ root. HasLeafUnder root B scan) Is B seen scan.place.rest (left_of B store scan) new after a.leaf m) e (h seen on))) c
+  next_err f e free shaped others hand c = scanned (moved scan after) (Err f) shaped (no_leaf scan leaf free) others hand (λ B h seen on. of_err B (HoldsLeaf B seen store scan) seen (left_of B store scan) f a.leaf (subst (λ m. AdvancesBy scan.lo scan.hi (HoldsLeaf B seen store scan) Is B seen (left_of B store scan) new after a.leaf m) e (h seen on))) c
 
   pub next_end : a.met ≡ Ok false → leaf ≡ None → IsShaped after → SameLoans (base store (loan_of taken)) (base new (loan_of a.leaf)) → IfSome a.leaf (IsInHand new) → Tells store.layout before now (λ B. IsAdvanced scan.lo scan.hi Is B scan.place after taken store new a) → Scanned store new scan (scan_at scan (moved scan after) leaf) before now (Ok None)
-  next_end e free shaped others hand c = scanned (moved scan after) (Ok None) shaped (no_leaf scan leaf free) others hand (λ B h seen on. of_end B (HoldsLeaf B seen store scan) (λ root. HasLeafUnder root B scan) seen (left_of B store scan) a.leaf (subst (λ m. AdvancesBy scan.lo scan.hi (HoldsLeaf B seen store scan) (λ root. HasLeafUnder root B scan) Is B seen scan.place.rest (left_of B store scan) new after a.leaf m) e (h seen on))) c
+  next_end e free shaped others hand c = scanned (moved scan after) (Ok None) shaped (no_leaf scan leaf free) others hand (λ B h seen on. of_end B (HoldsLeaf B seen store scan) seen (left_of B store scan) a.leaf (subst (λ m. AdvancesBy scan.lo scan.hi (HoldsLeaf B seen store scan) Is B seen (left_of B store scan) new after a.leaf m) e (h seen on))) c
 
   module _ (l : LeafAt) (there : leaf ≡ Some l) (found : Found) (block : List ℕ) (is : block_of new l.loan ≡ Some block) (at : (d : Item) → tree_item l.spot.addr (get_or (items block) (l.next - 1) d) ≡ item_of found) where
-    gives : (B : Map) (seen : List Want) → IsInHand new l → Meets scan.lo scan.hi (HoldsLeaf B seen store scan) (λ root. HasLeafUnder root B scan) B seen scan.place.rest (left_of B store scan) new l after → Gives B seen store new scan (scan_at scan (in_hand after) leaf) found
-    gives B seen hand m =
+    gives : (B : Map) (seen : List Want) → Meets scan.lo scan.hi (HoldsLeaf B seen store scan) B seen (left_of B store scan) new l after → Gives B seen store new scan (scan_at scan (in_hand after) leaf) found
+    gives B seen m =
         let d : Item = record { key = scan.lo; offset = 0; size = 0; body = [] } in
         let here = block_is new l.loan block (λ b. (l.next ≤ length (items b)) × ((e : Item) → tree_item l.spot.addr (get_or (items b) (l.next - 1) e) ≡ m.item)) is m.at in
         let same : m.item ≡ item_of found = sym (here.1 d) ∙ at d in
@@ -96,17 +88,14 @@ module _ (store new : Blocks) (scan : Scan) (taken : Option LeafAt) (is_taken : 
               ∙ ap (λ (i : TreeItem). prepend (wants m.past) (first (Does i) (exec B (left scan.lo scan.hi B new (Some l) (in_hand after))))) same
               ∙ ap (λ x. prepend (wants m.past) (first (Does (item_of found)) (exec B (left scan.lo scan.hi B new x (in_hand after))))) (sym there);
           on = record { rest = m.on; kept = tt };
-          under = m.under;
-          leaf_under = λ root u h. subst (λ x. IsLeafUnder root scan.lo scan.hi B (leaf_at x None) after) (sym there) (m.leads root u h);
           held = λ w. subst (λ x. IfSome x (IsHeld B (seen ++ m.past) new)) (sym there) (m.held w);
           met = subst (λ x. IfSome x (WasMet new (item_of found))) (sym there) (subst (λ (i : TreeItem). WasMet new i l) same m.at);
-          below = λ key less. subst (λ x. IfSome x (ArePastBelow new key)) (sym there) (past_below new l block is key (item_of found) hand m.some here.0 at less);
         }
 
     pub next_item : a.met ≡ Ok true → IsShaped after → SameLoans (base store (loan_of taken)) (base new (loan_of a.leaf)) → IfSome a.leaf (IsInHand new) → Tells store.layout before now (λ B. IsAdvanced scan.lo scan.hi Is B scan.place after taken store new a) → Scanned store new scan (scan_at scan (in_hand after) leaf) before now (Ok (Some found))
     next_item e shaped others hand c =
         scanned (in_hand after) (Ok (Some found)) shaped (free_leaf after leaf) others hand
-        (λ B h seen on. gives B seen (subst (λ x. IfSome x (IsInHand new)) (sym is_leaf ∙ there) hand) (subst (λ x. AdvancesBy scan.lo scan.hi (HoldsLeaf B seen store scan) (λ root. HasLeafUnder root B scan) Is B seen scan.place.rest (left_of B store scan) new after x (Ok true)) (sym is_leaf ∙ there) (subst (λ m. AdvancesBy scan.lo scan.hi (HoldsLeaf B seen store scan) (λ root. HasLeafUnder root B scan) Is B seen scan.place.rest (left_of B store scan) new after a.leaf m) e (h seen on)))) c
+        (λ B h seen on. gives B seen (subst (λ x. AdvancesBy scan.lo scan.hi (HoldsLeaf B seen store scan) Is B seen (left_of B store scan) new after x (Ok true)) (sym is_leaf ∙ there) (subst (λ m. AdvancesBy scan.lo scan.hi (HoldsLeaf B seen store scan) Is B seen (left_of B store scan) new after a.leaf m) e (h seen on)))) c
 
 -- what is kept after a step
 pub keeps_end : (leaf leaf' : Option LeafAt) (met : Result Bool TreeFault) → leaf' ≡ leaf → met ≡ Ok false → HasItem leaf met → leaf' ≡ None
@@ -156,14 +145,12 @@ near_none scan leaf' after e on h =
 -- a scan that has no leaf in hand is paused
 pub paused_none : (store : Blocks) (scan : Scan) (leaf' : Option LeafAt) → scan.leaf ≡ None → leaf' ≡ None → Paused store store scan (scan_at scan scan.place leaf')
 paused_none store scan leaf' e f = record {
-  root = refl;
   lo = refl;
   hi = refl;
   leaf = f;
   kept = subst (λ x. IfSome x (λ l. scan.place.leaf ≡ Some (frame_of l))) (sym e) tt;
   rest = refl;
   rank = ap (λ l. rank_on scan.place l) (f ∙ sym e);
-  leaf_under = λ root B h. subst (λ l. IsLeafUnder root scan.lo scan.hi B (leaf_at l scan.place.leaf) scan.place.rest) (e ∙ sym f) h;
   program = λ B seen h. ap (λ l. left scan.lo scan.hi B store l scan.place) (f ∙ sym e);
   on = λ B seen h on. on;
 }
@@ -189,16 +176,12 @@ module _ (store after : Blocks) (scan : Scan) (leaf' : Option LeafAt) (l : LeafA
 
   pub paused_leaf : Paused store after scan (scan_at scan (record { leaf = Some kept; rest = scan.place.rest }) leaf')
   paused_leaf = record {
-    root = refl;
     lo = refl;
     hi = refl;
     leaf = none;
     kept = subst (λ x. IfSome x (λ y. Some kept ≡ Some (frame_of y))) (sym is) refl;
     rest = refl;
     rank = ap (λ x. 2 ^ 64 * rank scan.place.rest + rank_leaf x (Some kept)) none ∙ ap (λ x. 2 ^ 64 * rank scan.place.rest + rank_leaf x scan.place.leaf) (sym is);
-    leaf_under = λ root B h.
-        subst (λ x. IsLeafUnder root scan.lo scan.hi B (leaf_at x (Some kept)) scan.place.rest) (sym none)
-        (subst (λ x. IsLeafUnder root scan.lo scan.hi B (leaf_at x scan.place.leaf) scan.place.rest) is h);
     program = λ B seen h.
         let rest = place_prog scan.lo scan.hi B scan.place.rest in
         ap (λ x. leaf_prog B after x (Some kept) rest) none ∙ kept_same B seen rest (held_is B seen h) ∙ ap (λ x. leaf_prog B store x scan.place.leaf rest) (sym is);
@@ -213,106 +196,3 @@ ready_paused now store after scan leaf' place none same serves r = record {
   shaped = subst IsShaped (sym same) r.shaped;
   alone = subst (λ l. IfSome l (λ x. place.leaf ≡ None)) (sym none) tt;
 }
-
--- a scan goes on in its leaf
-module _ (store : Blocks) (scan : Scan) (key : Key) (l l' : LeafAt) (is : scan.leaf ≡ Some l) (below : is_below l.spot.up key ≡ true) (from : IsFrom store l key l') (leaf : Option LeafAt) (is_leaf : leaf ≡ Some l') where
-  abbrev from_here : Map → RangeProg
-  from_here B = emit_all (from_key key (hand_items (block_of store l.loan) l)) (place_prog scan.lo scan.hi B scan.place.rest)
-
-  items_here : (B : Map) → leaf_prog B store leaf scan.place.leaf (place_prog scan.lo scan.hi B scan.place.rest) ≡ from_here B
-  items_here B =
-      let rest = place_prog scan.lo scan.hi B scan.place.rest in
-      ap (λ x. leaf_prog B store x scan.place.leaf rest) is_leaf ∙ ap (λ x. emit_all x rest) from.items
-
-  same_items : (B : Map) → leaf_prog B store leaf scan.place.leaf (place_prog scan.lo scan.hi B scan.place.rest) ≡ sought_from B store scan key (Some l)
-  same_items B =
-      let rest = place_prog scan.lo scan.hi B scan.place.rest in
-      items_here B
-      ∙ ap (λ b. cond b (emit_all (from_key key (hand_items (block_of store l.loan) l)) rest) (joined_from B scan key)) (sym below)
-
-  pub sought_in : Sought store store scan (scan_at scan scan.place leaf) key
-  sought_in = record {
-    root = refl;
-    hi = refl;
-    program = λ B. same_items B ∙ ap (sought_from B store scan key) (sym is);
-    anew = λ B seen u can.
-        let c = can (ap (λ x. stays x key) is ∙ below) in
-        let p = stays_past scan.root scan.lo scan.hi B seen store key l scan.place.rest (subst (λ x. IfSome x (IsHeld B seen store)) is c.held) (subst (λ x. IfSome x (ArePastBelow store key)) is c.below) below (subst (λ x. IsLeafUnder scan.root scan.lo scan.hi B (leaf_at x scan.place.leaf) scan.place.rest) is c.under) in
-        (p.0, p.1 ∙ ap (λ x. prepend (wants p.0) (exec B x)) (sym (items_here B)));
-    under = λ B u. u;
-    leaf_under = λ root B h.
-        subst (λ x. IsLeafUnder root scan.lo scan.hi B (leaf_at x scan.place.leaf) scan.place.rest) (sym is_leaf)
-        (leads_same root scan.lo scan.hi B (frame_of l) (frame_of l') scan.place.rest from.spot from.end (subst (λ x. IsLeafUnder root scan.lo scan.hi B (leaf_at x scan.place.leaf) scan.place.rest) is h));
-    below = λ later le past. subst (λ x. IfSome x (ArePastBelow store later)) (sym is_leaf) (below_later later le (from.below (subst (λ x. IfSome x (ArePastBelow store key)) is past)));
-    on = λ B seen on. on;
-    held = λ B seen h. subst (λ x. IfSome x (IsHeld B seen store)) (sym is_leaf) (held_from B seen (subst (λ x. IfSome x (IsHeld B seen store)) is h));
-  }
-    where
-      all_less : (later : Key) → key_number key ≤ key_number later → (b : Option (List ℕ)) → IsSomeAnd b (λ block. All (λ i. key_number i.key < key_number key) (take l'.next (items block))) → IsSomeAnd b (λ block. All (λ i. key_number i.key < key_number later) (take l'.next (items block)))
-      all_less later le None h = absurd h
-      all_less later le (Some block) h = λ k d lt. let one = h k d lt in omega (arith, one, le)
-
-      below_later : (later : Key) → key_number key ≤ key_number later → ArePastBelow store key l' → ArePastBelow store later l'
-      below_later later le past = (past.0, all_less later le (block_of store l'.loan) past.1)
-
-      held_from : (B : Map) (seen : List Want) → IsHeld B seen store l → IsHeld B seen store l'
-      held_from B seen h = record {
-        block = h.block;
-        lent = ap (block_of store) from.loan ∙ h.lent;
-        came = ap (λ (s : Spot). B (want_of 0 s)) from.spot ∙ h.came;
-        is = ap (λ (s : Spot). judged 0 s h.block) from.spot ∙ h.is;
-        read = subst (λ (s : Spot). Contains seen (want_of 0 s)) (sym from.spot) h.read;
-      }
-
-  pub sought_others : SameLoans (base store (loan_of scan.leaf)) (base store (loan_of leaf))
-  sought_others = subst (λ x. SameLoans (base store (loan_of scan.leaf)) (base store (loan_of x))) (sym is_leaf)
-      (subst (λ x. SameLoans (base store (loan_of scan.leaf)) (base store (Some x))) (sym from.loan)
-      (subst (λ x. SameLoans (base store (loan_of x)) (base store (Some l.loan))) (sym is) (record { layout = refl; loans = refl })))
-
-  pub sought_ready : (now : Seen) → IsInHand store l' → IsReady now store scan → IsReady now store (scan_at scan scan.place leaf)
-  sought_ready now hand r = record {
-    serves = r.serves;
-    hand = subst (λ x. IfSome x (IsInHand store)) (sym is_leaf) hand;
-    shaped = r.shaped;
-    alone = subst (λ x. IfSome x (λ y. scan.place.leaf ≡ None)) (sym is_leaf) (subst (λ x. IfSome x (λ y. scan.place.leaf ≡ None)) is r.alone);
-  }
-
-abbrev pub anew : Scan → Key → ScanPlace → Option LeafAt → Scan
-anew scan key place leaf = record { root = scan.root; lo = key; hi = scan.hi; place = place; leaf = leaf }
-
--- .. or below a node of its path, or at the root
-pub sought_anew : (store new : Blocks) (scan : Scan) (key : Key) (place : ScanPlace) (leaf : Option LeafAt) → leaf ≡ None → place.leaf ≡ None → ((B : Map) → sought_from B store scan key scan.leaf ≡ joined_from B scan key) → Rejoins scan.root key scan.place.rest place.rest → Sought store new scan (anew scan key place leaf) key
-sought_anew store new scan key place leaf none free is joins = record {
-  root = refl;
-  hi = refl;
-  program = λ B. program B ∙ sym (is B);
-  anew = λ B seen u can. let p = joins.past scan.hi B u in (p.0, p.1 ∙ ap (λ x. prepend (wants p.0) (exec B x)) (sym (program B)));
-  under = λ B u. joins.under scan.hi B u;
-  leaf_under = λ root B h. subst (λ x. IsLeafUnder root key scan.hi B (leaf_at x place.leaf) place.rest) (sym none) (subst (λ x. IsLeafUnder root key scan.hi B x place.rest) (sym free) tt);
-  below = λ later le past. subst (λ x. IfSome x (ArePastBelow new later)) (sym none) tt;
-  on = λ B seen on. record { rest = joins.along scan.lo scan.hi B seen on.rest; kept = subst (λ x. IfSome x (IsKept B seen)) (sym free) tt };
-  held = λ B seen h. subst (λ x. IfSome x (IsHeld B seen new)) (sym none) tt;
-}
-  where
-    program : (B : Map) → left_of B new (anew scan key place leaf) ≡ joined_from B scan key
-    program B =
-        let rest = place_prog key scan.hi B place.rest in
-        ap (λ x. leaf_prog B new x place.leaf rest) none ∙ ap (λ x. leaf_prog B new None x rest) free ∙ joins.program scan.hi B
-
-pub anew_ready : (now : Seen) (store new : Blocks) (scan : Scan) (key : Key) (place : ScanPlace) (leaf : Option LeafAt) → leaf ≡ None → Rejoins scan.root key scan.place.rest place.rest → (Serves now store → Serves now new) → IsReady now store scan → IsReady now new (anew scan key place leaf)
-anew_ready now store new scan key place leaf none joins serves r = record {
-  serves = serves r.serves;
-  hand = subst (λ x. IfSome x (IsInHand new)) (sym none) tt;
-  shaped = joins.shaped r.shaped;
-  alone = subst (λ x. IfSome x (λ y. place.leaf ≡ None)) (sym none) tt;
-}
-
--- the key isn't in the leaf in hand
-pub no_hand : (B : Map) (store : Blocks) (scan : Scan) (key : Key) (leaf : Option LeafAt) → leaf ≡ None → scan.leaf ≡ leaf → sought_from B store scan key scan.leaf ≡ joined_from B scan key
-no_hand B store scan key leaf none is = ap (sought_from B store scan key) (is ∙ none)
-
-pub past_hand : (B : Map) (store : Blocks) (scan : Scan) (key : Key) (l : LeafAt) → scan.leaf ≡ Some l → is_below l.spot.up key ≡ false → sought_from B store scan key scan.leaf ≡ joined_from B scan key
-past_hand B store scan key l is past =
-    let rest = place_prog scan.lo scan.hi B scan.place.rest in
-    ap (sought_from B store scan key) is
-    ∙ ap (λ b. cond b (emit_all (from_key key (hand_items (block_of store l.loan) l)) rest) (joined_from B scan key)) past

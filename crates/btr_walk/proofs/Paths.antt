@@ -1,5 +1,5 @@
 -- How a scan goes on from place to place.
-use Rattle.std.proofs.Common.{◌≡◌, inl, inr, ℕ, zero, suc, ◌+◌, ◌-◌, ◌<◌, ◌≤◌, List, [], ◌∷◌, ◌++◌, length, get_or, set, drop, Option, Some, None, IfSome, IsSomeAnd, Result, Ok, Err, refl, sym, ap, ◌∙◌, subst, append-nil, arith}
+use Rattle.std.proofs.Common.{◌≡◌, inl, inr, ℕ, zero, suc, ◌+◌, ◌-◌, ◌<◌, ◌≤◌, List, [], ◌∷◌, ◌++◌, length, get_or, set, drop, replicate, Option, Some, None, IfSome, IsSomeAnd, Result, Ok, Err, refl, sym, ap, ◌∙◌, subst, append-nil, arith}
 use Rattle.std.specs.List.{Contains}
 use Rattle.std.proofs.lemmas.Bool.{cases_eq}
 use Rattle.std.proofs.lemmas.List.{get_or-set_same, get_or-set_other, set-get_or}
@@ -18,18 +18,23 @@ use Rattle.btr_walk.specs.declared.frame.Frame.{Frame}
 use Rattle.btr_walk.specs.declared.frame.Todo.{Todo}
 use Rattle.btr_walk.specs.declared.going.Gone.TheVariants.{Leaf, Between, End}
 use Rattle.btr_walk.specs.declared.going.Where.{Where}
+use Rattle.btr_walk.specs.declared.place.RootPlace.{RootPlace}
 use Rattle.btr_walk.specs.declared.spot.Spot.{Spot}
 use Rattle.btr_walk.specs.Spot.{judged}
-use Rattle.btr_walk.specs.Le.{want_of}
+use Rattle.btr_walk.specs.Le.{root_spot, want_of}
 use Rattle.btr_walk.specs.Range.{RangeProg, emit_all, range_leaf, range_inner, range_at}
 use Rattle.btr_walk.specs.Reading.{Map, UnreadBlock, Reads, halt_of}
-use Rattle.btr_walk.specs.Scans.{part_items, frame_of, todo_prog, frame_prog, frame_or_rest, IsFrame}
+use Rattle.btr_walk.specs.Scans.{part_items, todo_prog, frame_prog, frame_or_rest, IsFrame}
 use Rattle.btr_walk.specs.Entering.{IsEntered, HasLevel}
 use Rattle.btr_walk.specs.Again.{IsAgain}
 use Rattle.btr_walk.proofs.Halting.{need_halts, named}
-use Rattle.btr_walk.proofs.Nested.{bound_set, under_set}
-use Rattle.btr_walk.proofs.Staying.{leads_to_leaf}
-use Rattle.btr_walk.specs.Going.{LieBehind, LeadsTo, IsUnder, path_prog, place_prog, IsAlong, ComesTo, IsGone}
+use Rattle.btr_walk.specs.Going.{path_prog, place_prog, IsAlong, ComesTo, IsGone}
+
+-- a path of a new scan
+pub none_of : (n k : ℕ) → get_or {A = Option Frame} (replicate n None) k None ≡ None
+none_of zero k = refl
+none_of (suc n) zero = refl
+none_of (suc n) (suc k) = none_of n k
 
 module _ (lo hi : Key) (B : Map) where
   -- places of a path that have no frame
@@ -64,6 +69,14 @@ module _ (lo hi : Key) (B : Map) where
   pub path_none : (m : ℕ) (fs : List (Option Frame)) → ((k : ℕ) → get_or fs k None ≡ None) → path_prog lo hi B m fs ≡ Return tt
   path_none m [] h = refl
   path_none m (o ∷ fs) h = ap (λ x. frame_or_rest lo hi B (m + 1) x (path_prog lo hi B (m + 1) fs)) (h 0) ∙ path_none (m + 1) fs (λ k. h (suc k))
+
+  -- the root is to be read
+  pub along_root : (path : List (Option Frame)) → ((k : ℕ) → get_or path k None ≡ None) → (root : RootPlace) → (seen : List Want) → IsAlong lo hi B seen (record { path = path; todo = Some (record { level = root.level; spot = root_spot root }) })
+  along_root path clear root seen = record {
+    frames = λ k. subst (λ x. IfSome x (IsFrame lo hi B seen (k + 1))) (sym (clear k)) tt;
+    above = λ k lt. clear k;
+    up = refl;
+  }
 
   -- frames that were read before
   seen_more : (seen more : List Want) (level : ℕ) (frame : Frame) → IsFrame lo hi B seen level frame → IsFrame lo hi B (seen ++ more) level frame
@@ -113,11 +126,9 @@ module _ (lo hi : Key) (B : Map) where
         comes = record {
           past = want_of todo.level todo.spot ∷ [];
           is = g (path_prog lo hi B 0 path);
-          on = record { frames = λ k. seen_if seen (want_of todo.level todo.spot ∷ []) (k + 1) (get_or path k None) (on.frames k); above = tt; up = record { todo = tt; below = tt; nodes = on.up.nodes } };
-          under = λ root u. record { todo = tt; nodes = u.nodes };
+          on = record { frames = λ k. seen_if seen (want_of todo.level todo.spot ∷ []) (k + 1) (get_or path k None) (on.frames k); above = tt; up = tt };
         };
         held = h.1 (seen ++ (want_of todo.level todo.spot ∷ [])) (last_read seen (want_of todo.level todo.spot));
-        leads = λ root u. leads_to_leaf lo hi B path todo seen (frame_of l) h.2 on root u;
       }
 
   -- .. or an inner node
@@ -128,7 +139,7 @@ module _ (lo hi : Key) (B : Map) where
       let within : i < length path = omega (arith, long, some, few) in
       let level : i + 1 ≡ todo.level = omega (arith, some) in
       let clear : (k : ℕ) → k < i → get_or path k None ≡ None = λ k lt. on.above k (omega (arith, lt)) in
-      let e = h on.up.todo in
+      let e = h on.up in
       let new : path_prog lo hi B 0 path' ≡ frame_or_rest lo hi B todo.level b.frame (behind i path) =
       ap (path_prog lo hi B 0) set_is ∙ path_set i path b.frame within clear ∙ ap (λ x. frame_or_rest lo hi B x b.frame (behind i path)) level in
       let old : path_prog lo hi B 0 path ≡ behind i path = path_bare i path within (λ k lt. on.above k (omega (arith, lt, level))) in
@@ -138,10 +149,8 @@ module _ (lo hi : Key) (B : Map) where
         on = subst (λ x. IsAlong lo hi B (seen ++ (w ∷ [])) (record { path = x; todo = b.todo })) (sym set_is) (record {
           frames = frames_set seen (w ∷ []) path i b.frame within on.frames (subst (λ (x : ℕ). IfSome b.frame (IsFrame lo hi B (seen ++ (w ∷ [])) x)) (sym level) (e.1 (seen ++ (w ∷ [])) (last_read seen w)));
           above = above_set path i b.frame b.todo clear (lower b.todo todo.level i refl e.3);
-          up = bound_set path i b.frame within clear hi B todo.level (sym level) todo.spot e.5 lo b.todo e.2 e.3 e.4 on.up.below on.up.nodes;
+          up = e.2;
         });
-        under = λ root u. subst (λ x. IsUnder root hi B (record { path = x; todo = b.todo })) (sym set_is)
-            (under_set path i b.frame within clear hi B todo.level (sym level) todo.spot e.5 root b.todo e.3 e.4 u.todo u.nodes);
       }
 
   -- no block is to be read, and no node has more
@@ -151,7 +160,6 @@ module _ (lo hi : Key) (B : Map) where
   -- a node is read again
   pub gone_again : (Is : UnreadBlock → Want → Type 0) (path : List (Option Frame)) (i level : ℕ) (frame : Frame) (store : Blocks) (b : Below) (path' : List (Option Frame)) → length path ≡ 7 → i < 7 → level ≡ i + 1 → ((k : ℕ) → k < i → get_or path k None ≡ None) → get_or path i None ≡ Some frame → path' ≡ set path i b.frame → IsAgain lo hi Is B level frame (Ok b) → IsGone lo hi Is B (record { path = path; todo = None }) (record { path = path'; todo = b.todo }) store (Ok Between)
   gone_again Is path i level frame store b path' long lt level_is clear here set_is h seen on =
-      let node_here : (Q : ℕ → Spot → Type 0) → ((k : ℕ) → IfSome (get_or path k None) (λ f. Q (k + 1) f.spot)) → Q level frame.spot = λ Q nodes. subst (λ (x : ℕ). Q x frame.spot) (sym level_is) (subst (λ o. IfSome o (λ f. Q (i + 1) f.spot)) here (nodes i)) in
       let within : i < length path = omega (arith, long, lt) in
       let f : IsFrame lo hi B seen level frame = subst (λ (x : ℕ). IsFrame lo hi B seen x frame) (sym level_is) (subst (λ o. IfSome o (IsFrame lo hi B seen (i + 1))) here (on.frames i)) in
       let a = h seen f in
@@ -164,10 +172,8 @@ module _ (lo hi : Key) (B : Map) where
         on = subst (λ x. IsAlong lo hi B (seen ++ []) (record { path = x; todo = b.todo })) (sym set_is) (record {
           frames = frames_set seen [] path i b.frame within on.frames (seen_if seen [] (i + 1) b.frame (subst (λ (x : ℕ). IfSome b.frame (IsFrame lo hi B seen x)) level_is a.frame_is));
           above = above_set path i b.frame b.todo clear (lower b.todo level i (omega (arith, level_is)) a.level_is);
-          up = bound_set path i b.frame within clear hi B level level_is frame.spot a.spot lo b.todo a.up a.level_is a.down (node_here (λ n s. LieBehind B path n s) on.up.nodes) on.up.nodes;
+          up = a.up;
         });
-        under = λ root u. subst (λ x. IsUnder root hi B (record { path = x; todo = b.todo })) (sym set_is)
-            (under_set path i b.frame within clear hi B level level_is frame.spot a.spot root b.todo a.level_is a.down (node_here (λ n s. LeadsTo root hi B n s (drop n path)) u.nodes) u.nodes);
       }
 
   -- a block that could not be had

@@ -16,7 +16,7 @@ use Rattle.btr_walk.specs.declared.spot.Spot.{Spot}
 use Rattle.btr_walk.specs.Spot.{is_below, judged}
 use Rattle.btr_walk.specs.Le.{want_of}
 use Rattle.btr_walk.specs.Range.{RangeProg, over, range_at}
-use Rattle.btr_walk.specs.Scans.{pointers_in, frame_prog, IsFrame, KeepsLater, IsDown}
+use Rattle.btr_walk.specs.Scans.{pointers_in, frame_prog, IsFrame}
 use Rattle.btr_walk.specs.Again.{later, IsChild, IsNextBelow, IsNext, IsAgainBelow, IsAgain, Rereads}
 use Rattle.btr_walk.specs.Reading.{Map, UnreadBlock, Reads}
 use Rattle.btr_walk.proofs.Choosing.{over_none, bound_behind}
@@ -58,20 +58,6 @@ module _ (lo hi : Key) (B : Map) (level : ℕ) (frame : Frame) (seen : List Want
     high = f.high;
   }
 
-  picked : (o : Option Frame) (todo : Todo) → IsChild (pointers f.block) level frame todo → KeepsLater hi (pointers f.block) frame.spot frame.next o → IsDown hi B level frame.spot o todo.spot
-  picked o todo c later = record {
-    block = f.block;
-    came = f.came;
-    is = f.is;
-    pick = record {
-      at = frame.next;
-      there = c.there;
-      spot = c.spot_is;
-      low = λ d. all_at (λ (p : KeyPointer). key_number p.key ≤ key_number hi) (pointers f.block) frame.end frame.next d f.more c.there f.low;
-      later = later;
-    };
-  }
-
   again_as : (o : Option Frame) (t : Option Todo) → IsNextBelow (pointers f.block) level frame o t → IsAgainBelow lo hi B level frame seen (record { frame = o; todo = t })
   again_as None None h = absurd h
   again_as (Some g) None h = absurd h
@@ -81,8 +67,6 @@ module _ (lo hi : Key) (B : Map) (level : ℕ) (frame : Frame) (seen : List Want
     up = child_up todo h.0;
     some = refl;
     level_is = h.0.level_is;
-    down = picked None todo h.0 (all_later (λ (p : KeyPointer). key_number hi < key_number p.key) frame.end (frame.next + 1) (pointers f.block) h.1 f.high);
-    spot = tt;
   }
   again_as (Some g) (Some todo) h = record {
     program = λ rest.
@@ -93,8 +77,6 @@ module _ (lo hi : Key) (B : Map) (level : ℕ) (frame : Frame) (seen : List Want
     up = child_up todo h.0;
     some = refl;
     level_is = h.0.level_is;
-    down = picked (Some g) todo h.0 (ap (λ (x : Frame). x.spot) h.2, ap (λ (x : Frame). x.next) h.2);
-    spot = ap (λ (x : Frame). x.spot) h.2;
   }
 
   again_ok : (block : List ℕ) (b : Below) → B (want_of level frame.spot) ≡ Ok block → IsNext (pointers block) level frame (Some b) → IsAgainBelow lo hi B level frame seen b

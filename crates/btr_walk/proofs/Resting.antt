@@ -19,12 +19,12 @@ use Rattle.btr_walk.specs.declared.scan.Scan.{Scan}
 use Rattle.btr_walk.specs.Advancing.{leaf_prog, IsLeafOf, IsLeafAgain}
 use Rattle.btr_walk.specs.Entering.{LendsLeafAt}
 use Rattle.btr_walk.specs.Le.{TreeItem, tree_item, want_of}
-use Rattle.btr_walk.specs.Going.{place_prog, IsOn, IsLeafUnder}
+use Rattle.btr_walk.specs.Going.{place_prog, IsOn}
 use Rattle.btr_walk.specs.Range.{RangeProg}
 use Rattle.btr_walk.specs.Ranks.{rank_on}
 use Rattle.btr_walk.specs.Reading.{Map, UnreadBlock, Tells, unread_by, halt_of}
 use Rattle.btr_walk.specs.Rests.{kept_prog, Rests, items_of_leaf, item_before, IsLentAgain, IsUnreadOf, IsMetAgain}
-use Rattle.btr_walk.specs.Scans.{frame_of, leaf_at, IsHeld, IsKept}
+use Rattle.btr_walk.specs.Scans.{frame_of, IsHeld, IsKept}
 use Rattle.btr_walk.specs.ScanEnds.{WasMet, IsReady, Paused}
 use Rattle.btr_walk.proofs.Joined.{block_is, drawn}
 use Rattle.btr_walk.proofs.Leads.{leaf_back}
@@ -37,7 +37,7 @@ kept_is : (B : Map) (store : Blocks) (leaf : Option LeafAt) (kept : Option Frame
 kept_is B store leaf kept p e = kept_none B store kept p ∙ ap (λ (l : Option LeafAt). leaf_prog B store l kept p) (sym e)
 
 abbrev rest_of : Scan → Rest
-rest_of scan = record { root = scan.root; lo = scan.lo; hi = scan.hi; place = scan.place }
+rest_of scan = record { lo = scan.lo; hi = scan.hi; place = scan.place }
 
 some_kept : (leaf : Option LeafAt) (kept : Option Frame) → IfSome leaf (λ l. kept ≡ Some (frame_of l)) → IsSomeAnd leaf (λ l. (0 < l.next) × (l.next ≤ l.end)) → IsSomeAnd kept (λ f. (0 < f.next) × (f.next ≤ f.end))
 some_kept None kept h i = absurd i
@@ -65,7 +65,6 @@ met_kept B seen store item (Some l) kept h held i m =
 
 pub rests_is : (old new : Blocks) (scan paused : Scan) → Paused old new scan paused → ((rack : Seen) → IsReady rack old scan → IsReady rack new paused) → Rests old scan (rest_of paused)
 rests_is old new scan paused p ready = record {
-  root = p.root;
   lo = p.lo;
   hi = p.hi;
   path = p.rest;
@@ -73,7 +72,6 @@ rests_is old new scan paused p ready = record {
   shaped = λ rack h. (ready rack h).shaped;
   some = some_kept scan.leaf paused.place.leaf p.kept;
   met = λ B seen item held i m. met_kept B seen old item scan.leaf paused.place.leaf p.kept held i m;
-  leaf_under = λ root B h. subst (λ o. IsLeafUnder root paused.lo paused.hi B (leaf_at o paused.place.leaf) paused.place.rest) p.leaf (p.leaf_under root B h);
   program = λ B seen held. kept_is B new paused.leaf paused.place.leaf (place_prog paused.lo paused.hi B paused.place.rest) p.leaf ∙ p.program B seen held;
   on = λ B seen held h. subst (λ (k : Key). IsOn k paused.hi B seen paused.place) (sym p.lo) (subst (λ (k : Key). IsOn scan.lo k B seen paused.place) (sym p.hi) (p.on B seen held h));
 }

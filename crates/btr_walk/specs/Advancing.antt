@@ -11,14 +11,13 @@ use Rattle.btr_walk.specs.declared.entering.LeafAt.{LeafAt}
 use Rattle.btr_walk.specs.declared.fault.TreeFault.{TreeFault}
 use Rattle.btr_walk.specs.declared.frame.Frame.{Frame}
 use Rattle.btr_walk.specs.declared.going.Where.{Where}
-use Rattle.btr_walk.specs.declared.place.RootPlace.{RootPlace}
 use Rattle.btr_walk.specs.declared.scan_place.ScanPlace.{ScanPlace}
 use Rattle.btr_walk.specs.Entering.{LendsLeafAt}
 use Rattle.btr_walk.specs.Le.{TreeItem, tree_item}
 use Rattle.btr_walk.specs.Range.{RangeProg, emit_all}
 use Rattle.btr_walk.specs.Reading.{Map, UnreadBlock, halt_of}
-use Rattle.btr_walk.specs.Scans.{wants, part_items, IsHeld, IsKept, kept_items, frame_of, leaf_at}
-use Rattle.btr_walk.specs.Going.{place_prog, IsAlong, IsOn, IsUnder, LeadsToLeaf, IsLeafUnder}
+use Rattle.btr_walk.specs.Scans.{wants, part_items, IsHeld, IsKept, kept_items}
+use Rattle.btr_walk.specs.Going.{place_prog, IsAlong, IsOn}
 use Rattle.btr_walk.specs.Lending.{base}
 
 -- a leaf behind its next item
@@ -78,44 +77,39 @@ module _ (lo hi : Key) where
   left B store leaf place = leaf_prog B store leaf place.leaf (place_prog lo hi B place.rest)
 
   -- the item before `next` was met, some wants before it; what is left comes behind. The leaf is among the blocks that were
-  -- read, where `was` holds of the one before, and one under a root, where `led` holds of the one before.
-  pub record Meets (was : Type 0) (led : RootPlace → Type 0) (B : Map) (seen : List Want) (from : Where) (before : RangeProg)
-      (store : Blocks) (l : LeafAt) (place : Where) : Type 0 where
+  -- read, where `was` holds of the one before.
+  pub record Meets (was : Type 0) (B : Map) (seen : List Want) (before : RangeProg) (store : Blocks) (l : LeafAt) (place : Where) : Type 0 where
     pub past : List Want
     pub item : TreeItem
     pub is : exec B before ≡ prepend (wants past) (first (Does item) (exec B (hand_prog store l (place_prog lo hi B place))))
     pub on : IsAlong lo hi B (seen ++ past) place
-    pub under : (root : RootPlace) → IsUnder root hi B from → IsUnder root hi B place
     pub some : 0 < l.next
     pub at : IsSomeAnd (block_of store l.loan)
         (λ block. (l.next ≤ length (items block)) × ((d : Item) → tree_item l.spot.addr (slice_index_or (items block) (l.next - 1) d) ≡ item))
     pub held : was → IsHeld B (seen ++ past) store l
-    pub leads : (root : RootPlace) → IsUnder root hi B from → led root → LeadsToLeaf root lo hi B (frame_of l) place
 
   -- a step of a scan that had still to give what `before` says
-  abbrev pub AdvancesBy : Type 0 → (RootPlace → Type 0) → (UnreadBlock → Want → Type 0) → Map → List Want → Where → RangeProg → Blocks → Where → Option LeafAt → Result Bool TreeFault → Type 0
-  AdvancesBy was led Is B seen from before store place None (Ok true) = ⊥
-  AdvancesBy was led Is B seen from before store place (Some l) (Ok true) = Meets was led B seen from before store l place
-  AdvancesBy was led Is B seen from before store place leaf (Ok false) = Follows Is no_part seen (exec B before) [] (Ok tt)
-  AdvancesBy was led Is B seen from before store place leaf (Err f) = Follows Is no_part seen (exec B before) [] (Err (halt_of f))
+  abbrev pub AdvancesBy : Type 0 → (UnreadBlock → Want → Type 0) → Map → List Want → RangeProg → Blocks → Where → Option LeafAt → Result Bool TreeFault → Type 0
+  AdvancesBy was Is B seen before store place None (Ok true) = ⊥
+  AdvancesBy was Is B seen before store place (Some l) (Ok true) = Meets was B seen before store l place
+  AdvancesBy was Is B seen before store place leaf (Ok false) = Follows Is no_part seen (exec B before) [] (Ok tt)
+  AdvancesBy was Is B seen before store place leaf (Err f) = Follows Is no_part seen (exec B before) [] (Err (halt_of f))
 
   -- with no leaf, with one in hand, and with one in hand or given back
   abbrev pub FromPlace : (UnreadBlock → Want → Type 0) → Map → Where → Where → Blocks → Advanced → Type 0
   FromPlace Is B place after store a =
       (seen : List Want) → IsAlong lo hi B seen place
-      → AdvancesBy (Unit {0}) (λ root. Unit {0}) Is B seen place (place_prog lo hi B place) store after a.leaf a.met
+      → AdvancesBy (Unit {0}) Is B seen (place_prog lo hi B place) store after a.leaf a.met
 
   abbrev pub FromHand : (UnreadBlock → Want → Type 0) → Map → Where → Where → LeafAt → Blocks → Blocks → Advanced → Type 0
   FromHand Is B place after hand old new a =
       (seen : List Want) → IsAlong lo hi B seen place
-      → AdvancesBy (IsHeld B seen old hand) (λ root. LeadsToLeaf root lo hi B (frame_of hand) place)
-      Is B seen place (hand_prog old hand (place_prog lo hi B place)) new after a.leaf a.met
+      → AdvancesBy (IsHeld B seen old hand) Is B seen (hand_prog old hand (place_prog lo hi B place)) new after a.leaf a.met
 
   abbrev pub IsAdvanced : (UnreadBlock → Want → Type 0) → Map → ScanPlace → Where → Option LeafAt → Blocks → Blocks → Advanced → Type 0
   IsAdvanced Is B place after leaf old new a =
       (seen : List Want) → IsOn lo hi B seen place
-      → AdvancesBy (IfSome leaf (IsHeld B seen old)) (λ root. IsLeafUnder root lo hi B (leaf_at leaf place.leaf) place.rest)
-      Is B seen place.rest (left B old leaf place) new after a.leaf a.met
+      → AdvancesBy (IfSome leaf (IsHeld B seen old)) Is B seen (left B old leaf place) new after a.leaf a.met
 
 -- a leaf is kept where an item was met, which stands before `next`, and only there
 abbrev pub HasItem : Option LeafAt → Result Bool TreeFault → Type 0

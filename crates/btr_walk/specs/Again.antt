@@ -13,7 +13,7 @@ use Rattle.btr_walk.specs.Spot.{judged}
 use Rattle.btr_walk.specs.Le.{below, up_of, want_of}
 use Rattle.btr_walk.specs.Reading.{Map, UnreadBlock}
 use Rattle.btr_walk.specs.Range.{RangeProg}
-use Rattle.btr_walk.specs.Scans.{todo_prog, frame_prog, frame_or_rest, IsFrame, IsTodo, IsDown}
+use Rattle.btr_walk.specs.Scans.{todo_prog, frame_prog, frame_or_rest, IsFrame, IsTodo}
 
 -- the frame behind its next child
 abbrev pub later : Frame → Frame
@@ -57,8 +57,6 @@ module _ (lo hi : Key) where
     pub up : IsTodo lo hi b.todo
     pub some : IsSome b.todo
     pub level_is : IfSome b.todo (λ t. t.level ≡ level - 1)
-    pub down : IfSome b.todo (λ t. IsDown hi B level frame.spot b.frame t.spot)
-    pub spot : IfSome b.frame (λ f. f.spot ≡ frame.spot)
 
   -- where the node was read before, it is the same again, or it could not be read
   abbrev pub IsAgain : (UnreadBlock → Want → Type 0) → Map → ℕ → Frame → Result Below TreeFault → Type 0

@@ -19,7 +19,7 @@ use Rattle.btr_walk.specs.Spot.{is_below}
 use Rattle.btr_walk.specs.Le.{want_of}
 use Rattle.btr_walk.specs.Range.{RangeProg, emit_all, over, range_at}
 use Rattle.btr_walk.specs.Reading.{Map, UnreadBlock, Reads}
-use Rattle.btr_walk.specs.Scans.{part_items, kept_items, from_key, frame_of, whole, todo_prog, frame_or_rest, IsFrame, IsTodo, IsHeld, IsPick, IsDown}
+use Rattle.btr_walk.specs.Scans.{part_items, todo_prog, frame_or_rest, IsFrame, IsTodo, IsHeld}
 
 module _ (lo hi : Key) where
   abbrev pub rest_of : (Spot → RangeProg → RangeProg) → List KeyPointer → Option Frame → RangeProg → RangeProg
@@ -48,16 +48,6 @@ module _ (lo hi : Key) where
     pub fits : IfSome below.frame (λ f. (0 < f.next) × (f.next < f.end) × (f.end < 2 ^ 64))
     pub level : IfSome below.todo (λ t. t.level ≡ todo.level - 1)
     pub up : is_below todo.spot.up lo ≡ true → IsTodo lo hi below.todo
-    pub pick : IfSome below.todo (λ t. IsPick hi ps todo.spot below.frame t.spot)
-
-  -- a leaf that was read: from any key on, it gives its items from that key on
-  pub record IsLeafFrom (B : Map) (todo : Todo) (leaf : Frame) : Type 0 where
-    pub level : todo.level ≡ 0
-    pub spot : leaf.spot ≡ todo.spot
-    pub from :
-        (key : Key) (rest : RangeProg)
-        → exec B (range_at key hi todo.level todo.spot rest)
-        ≡ first (Wants (want_of todo.level todo.spot)) (exec B (emit_all (from_key key (kept_items B (whole leaf))) rest))
 
   -- a block was read: the program of its spot is the want, and then what it has
   abbrev pub IsEntered : (UnreadBlock → Want → Type 0) → Map → Todo → Blocks → Result Entered TreeFault → Type 0
@@ -66,7 +56,6 @@ module _ (lo hi : Key) where
       (λ block. (rest : RangeProg) → exec B (range_at lo hi todo.level todo.spot rest)
       ≡ first (Wants (want_of todo.level todo.spot)) (exec B (emit_all (part_items l.spot.addr block l.next l.end) rest)))
       × ((seen : List Want) → Contains seen (want_of todo.level todo.spot) → IsHeld B seen store l)
-      × IsLeafFrom B todo (frame_of l)
   IsEntered Is B todo store (Ok (Inner b)) =
       is_below todo.spot.up lo ≡ true
       → ((rest : RangeProg) → exec B (range_at lo hi todo.level todo.spot rest)
@@ -74,8 +63,6 @@ module _ (lo hi : Key) where
       × ((seen : List Want) → Contains seen (want_of todo.level todo.spot) → IfSome b.frame (IsFrame lo hi B seen todo.level))
       × IsTodo lo hi b.todo
       × IfSome b.todo (λ t. t.level ≡ todo.level - 1)
-      × IfSome b.todo (λ t. IsDown hi B todo.level todo.spot b.frame t.spot)
-      × IfSome b.frame (λ f. f.spot ≡ todo.spot)
   IsEntered Is B todo store (Err f) = Reads Is B todo.level todo.spot store (Err f)
 
 -- a leaf that is lent

@@ -12,7 +12,6 @@ pub mod Again
 pub mod Going
 pub mod Ranks
 pub mod Leaving
-pub mod Rejoining
 pub mod Advancing
 pub mod ScanEnds
 pub mod Folds

@@ -72,6 +72,20 @@ module _ (Is : UnreadBlock → Want → Type 0) (B : Map) where
 abbrev pub IsGoodFor : ℕ → Spot → Blocks → Lent → Type 0
 IsGoodFor level spot store loan = IsSomeAnd (block_of store loan) (λ block. IsSome (judged level spot block))
 
+-- Why a block that was wanted could not be had: it is lost, has no position, or could not be read, with the whole cause. Whether
+-- it is malformed the block map says.
+abbrev pub CauseOf : Layout → Want → Seen → Seen → TreeFault → Type 0
+CauseOf layout want old new (tree.Lost a) = IfSome old.held (λ images. fate images layout want ≡ Err (fate.Lost a))
+CauseOf layout want old new (tree.Unread a slot) = IsUnreadFor layout want old new a slot
+CauseOf layout want old new (tree.Unmapped a) = sought layout want ≡ Err (fate.Unmapped a)
+CauseOf layout want old new (tree.Crosses a) = sought layout want ≡ Err (fate.Crosses a)
+CauseOf layout want old new (tree.Malformed a) = ⊤
+
+-- a fault is that of this want
+abbrev pub HasCauseOf : {A : Type 0} → Layout → Want → Seen → Seen → Result A TreeFault → Type 0
+HasCauseOf layout want old new (Ok a) = ⊤
+HasCauseOf layout want old new (Err f) = CauseOf layout want old new f
+
 -- A fault of a tree has its cause: some want was lost, has no position, or is the one that could not be read. Whether a block is malformed hangs
 -- on the blocks before it: the program says it.
 abbrev pub FaultCause : Layout → Seen → Seen → TreeFault → Type 0

@@ -9,18 +9,17 @@ use Rattle.btr_read.specs.declared.want.Want.{Want}
 use Rattle.btr_walk.specs.declared.fault.TreeFault.{TreeFault}
 use Rattle.btr_walk.specs.declared.fault.TreeFault.TheVariants.{Lost, Unread, Unmapped, Crosses, Malformed}
 use Rattle.btr_walk.specs.declared.frame.Frame.{Frame}
-use Rattle.btr_walk.specs.declared.place.RootPlace.{RootPlace}
 use Rattle.btr_walk.specs.declared.rest.MetAgain.{MetAgain}
 use Rattle.btr_walk.specs.declared.rest.Rest.{Rest}
 use Rattle.btr_walk.specs.declared.scan.Scan.{Scan}
-use Rattle.btr_walk.specs.Going.{place_prog, IsOn, IsLeafUnder}
+use Rattle.btr_walk.specs.Going.{place_prog, IsOn}
 use Rattle.btr_walk.specs.Le.{TreeItem, tree_item, want_of}
 use Rattle.btr_walk.specs.Lending.{base}
 use Rattle.btr_walk.specs.Range.{RangeProg, emit_all}
 use Rattle.btr_walk.specs.Ranks.{IsShaped, rank_on}
 use Rattle.btr_walk.specs.Reading.{Map, UnreadBlock}
 use Rattle.btr_walk.specs.Scans.{kept_items}
-use Rattle.btr_walk.specs.ScanEnds.{left_of, rank_of, HoldsLeaf, HasLeafUnder, WasMet, IsReady}
+use Rattle.btr_walk.specs.ScanEnds.{left_of, rank_of, HoldsLeaf, WasMet, IsReady}
 
 -- the items of a leaf that was given back, and then the rest
 abbrev pub kept_prog : Map → Option Frame → RangeProg → RangeProg
@@ -34,10 +33,6 @@ rest_left B rest = kept_prog B rest.place.leaf (place_prog rest.lo rest.hi B res
 -- the blocks that it goes on from are among those that were read
 abbrev pub IsRestOn : Map → List Want → Rest → Type 0
 IsRestOn B seen rest = IsOn rest.lo rest.hi B seen rest.place
-
--- the leaf that was given back is one under this root
-abbrev pub HasRestUnder : RootPlace → Map → Rest → Type 0
-HasRestUnder root B rest = IsLeafUnder root rest.lo rest.hi B rest.place.leaf rest.place.rest
 
 -- how much is still to do, whatever the tree holds
 abbrev pub rank_left : Rest → ℕ
@@ -62,13 +57,11 @@ HasMet rest = IsSomeAnd rest.place.leaf (λ frame. (0 < frame.next) × (frame.ne
 
 -- where a scan goes on whose leaf was given back: what is still to come is the same
 pub record Rests (store : Blocks) (scan : Scan) (rest : Rest) : Type 0 where
-  pub root : rest.root ≡ scan.root
   pub lo : rest.lo ≡ scan.lo
   pub hi : rest.hi ≡ scan.hi
   pub path : rest.place.rest ≡ scan.place.rest
   pub rank : rank_left rest ≡ rank_of scan
   pub shaped : (rack : Seen) → IsReady rack store scan → IsShaped rest.place.rest
-  pub leaf_under : (root : RootPlace) (B : Map) → HasLeafUnder root B scan → HasRestUnder root B rest
   pub program : (B : Map) (seen : List Want) → HoldsLeaf B seen store scan → rest_left B rest ≡ left_of B store scan
   pub on : (B : Map) (seen : List Want) → HoldsLeaf B seen store scan → IsOn scan.lo scan.hi B seen scan.place → IsRestOn B seen rest
   pub some : IsSomeAnd scan.leaf (λ l. (0 < l.next) × (l.next ≤ l.end)) → HasMet rest

@@ -1,9 +1,7 @@
 -- What a scan and its store are after a step.
-use Rattle.std.specs.Prelude.{◌≡◌, ℕ, ◌-◌, ◌<◌, ◌≤◌, ◌++◌, Bool, true, false, List, length, take, All, slice_index_or, if◌then◌else◌, [], Option, Some, None, IfSome, IsSomeAnd, Result, Ok, Err, ⊤}
+use Rattle.std.specs.Prelude.{◌≡◌, ℕ, ◌-◌, ◌<◌, ◌≤◌, ◌++◌, List, length, slice_index_or, [], Option, Some, None, IfSome, IsSomeAnd, Result, Ok, Err, ⊤}
 use Rattle.std.specs.Borrow.{follows_so, MutBor, Fml}
 use mathlib.Core.Option.{none}
-use Rattle.btr_base.specs.Key.{key_number}
-use Rattle.btr_base.specs.declared.key.Key.{Key}
 use Rattle.btr_node.specs.Block.{Item, items}
 use Rattle.btr_prog.specs.Prog.{Does, first, prepend, exec}
 use Rattle.btr_prog.specs.Answers.{Follows, no_part}
@@ -15,18 +13,16 @@ use Rattle.btr_read.specs.declared.want.Want.{Want}
 use Rattle.btr_walk.specs.declared.entering.LeafAt.{LeafAt}
 use Rattle.btr_walk.specs.declared.fault.TreeFault.{TreeFault}
 use Rattle.btr_walk.specs.declared.found.Found.{Found}
-use Rattle.btr_walk.specs.declared.place.RootPlace.{RootPlace}
 use Rattle.btr_walk.specs.declared.scan.Scan.{Scan}
-use Rattle.btr_walk.specs.Spot.{is_below}
 use Rattle.btr_walk.specs.Le.{TreeItem, tree_item}
 use Rattle.btr_walk.specs.Reading.{Map, UnreadBlock, TellsOf, halt_of}
-use Rattle.btr_walk.specs.Scans.{wants, from_key, frame_of, leaf_at, IsHeld}
-use Rattle.btr_walk.specs.Range.{RangeProg, emit_all, range}
+use Rattle.btr_walk.specs.Scans.{wants, frame_of, IsHeld}
+use Rattle.btr_walk.specs.Range.{RangeProg}
 use Rattle.btr_walk.specs.Showing.{item_of}
 use Rattle.btr_walk.specs.Lending.{base}
-use Rattle.btr_walk.specs.Going.{place_prog, IsPast, rejoined, IsOn, IsUnder, IsLeafUnder}
+use Rattle.btr_walk.specs.Going.{IsOn}
 use Rattle.btr_walk.specs.Ranks.{IsShaped, rank_on}
-use Rattle.btr_walk.specs.Advancing.{IsInHand, loan_of, hand_items, left}
+use Rattle.btr_walk.specs.Advancing.{IsInHand, loan_of, left}
 
 -- what a scan has still to give
 abbrev pub left_of : Map → Blocks → Scan → RangeProg
@@ -42,27 +38,13 @@ WasMet store item l =
     IsSomeAnd (block_of store l.loan)
     (λ block. (l.next ≤ length (items block)) × ((d : Item) → tree_item l.spot.addr (slice_index_or (items block) (l.next - 1) d) ≡ item))
 
--- the leaf in hand, or the one that was given back, is one under this root: a new scan from any key that is in it comes to it, and goes on
--- behind it as the scan does
-abbrev pub HasLeafUnder : RootPlace → Map → Scan → Type 0
-HasLeafUnder root B scan = IsLeafUnder root scan.lo scan.hi B (leaf_at scan.leaf scan.place.leaf) scan.place.rest
-
--- there are items of a leaf in hand before `next`, and they are below a key
-abbrev pub ArePastBelow : Blocks → Key → LeafAt → Type 0
-ArePastBelow store key l =
-    (0 < l.next)
-    × IsSomeAnd (block_of store l.loan) (λ block. All (λ i. key_number i.key < key_number key) (take l.next (items block)))
-
 -- some wants, and then the item; what is left comes behind
 pub record Gives (B : Map) (seen : List Want) (old new : Blocks) (scan scan' : Scan) (found : Found) : Type 0 where
   pub past : List Want
   pub is : exec B (left_of B old scan) ≡ prepend (wants past) (first (Does (item_of found)) (exec B (left_of B new scan')))
   pub on : IsOn scan.lo scan.hi B (seen ++ past) scan'.place
-  pub under : (root : RootPlace) → IsUnder root scan.hi B scan.place.rest → IsUnder root scan.hi B scan'.place.rest
-  pub leaf_under : (root : RootPlace) → IsUnder root scan.hi B scan.place.rest → HasLeafUnder root B scan → HasLeafUnder root B scan'
   pub held : HoldsLeaf B seen old scan → HoldsLeaf B (seen ++ past) new scan'
   pub met : IfSome scan'.leaf (WasMet new (item_of found))
-  pub below : (key : Key) → key_number found.key < key_number key → IfSome scan'.leaf (ArePastBelow new key)
 
 abbrev pub NextBy : (UnreadBlock → Want → Type 0) → Map → List Want → Blocks → Blocks → Scan → Scan → Result (Option Found) TreeFault → Type 0
 NextBy Is B seen old new scan scan' (Ok (Some found)) = Gives B seen old new scan scan' found
@@ -108,65 +90,13 @@ NextNears scan scan' (Ok (Some found)) = rank_of scan' < rank_of scan
 NextNears scan scan' (Ok None) = rank_of scan' ≤ rank_of scan
 NextNears scan scan' (Err f) = rank_of scan' ≤ rank_of scan
 
--- a leaf in hand behind its items below a key
-pub record IsFrom (store : Blocks) (l : LeafAt) (key : Key) (l' : LeafAt) : Type 0 where
-  pub loan : l'.loan ≡ l.loan
-  pub spot : l'.spot ≡ l.spot
-  pub end : l'.end ≡ l.end
-  pub below : ArePastBelow store key l → ArePastBelow store key l'
-  pub fewer : l'.end - l'.next ≤ l.end - l.next
-  pub items : hand_items (block_of store l'.loan) l' ≡ from_key key (hand_items (block_of store l.loan) l)
-
--- a leaf in hand ends behind a key
-abbrev pub stays : Option LeafAt → Key → Bool
-stays None key = false
-stays (Some l) key = is_below l.spot.up key
-
--- what is left from a key on, with no leaf in hand: what the lowest node of the path that the key is in has from it on, and what is to
--- come of the nodes above; where it is in none, what a new scan gives
-abbrev pub joined_from : Map → Scan → Key → RangeProg
-joined_from B scan key = rejoined key scan.hi B 0 scan.place.rest.path (range key scan.hi scan.root)
-
--- the same where a leaf may be in hand: where it ends behind the key, its items from the key on, and then what comes behind the leaf
-abbrev pub sought_from : Map → Blocks → Scan → Key → Option LeafAt → RangeProg
-sought_from B store scan key None = joined_from B scan key
-sought_from B store scan key (Some l) =
-    if is_below l.spot.up key
-    then emit_all (from_key key (hand_items (block_of store l.loan) l)) (place_prog scan.lo scan.hi B scan.place.rest)
-    else joined_from B scan key
-
--- the leaf in hand is one under the scan's root and the block that its want came to, and the key lies behind the items of it that are past
-pub record CanStay (B : Map) (seen : List Want) (store : Blocks) (scan : Scan) (key : Key) : Type 0 where
-  pub under : HasLeafUnder scan.root B scan
-  pub held : HoldsLeaf B seen store scan
-  pub below : IfSome scan.leaf (ArePastBelow store key)
-
--- a scan goes on at a key. What is left is what a new scan from the key gives, past some wants: the nodes above the one that it goes on
--- from are not read again, nor is the leaf that it stays in
-pub record Sought (old new : Blocks) (scan scan' : Scan) (key : Key) : Type 0 where
-  pub root : scan'.root ≡ scan.root
-  pub hi : scan'.hi ≡ scan.hi
-  pub program : (B : Map) → left_of B new scan' ≡ sought_from B old scan key scan.leaf
-  pub anew :
-      (B : Map) (seen : List Want) → IsUnder scan.root scan.hi B scan.place.rest → (stays scan.leaf key ≡ true → CanStay B seen old scan key)
-      → IsPast B (range key scan.hi scan.root) (left_of B new scan')
-  pub under : (B : Map) → IsUnder scan.root scan.hi B scan.place.rest → IsUnder scan.root scan.hi B scan'.place.rest
-  pub leaf_under : (root : RootPlace) (B : Map) → HasLeafUnder root B scan → HasLeafUnder root B scan'
-  pub on : (B : Map) (seen : List Want) → IsOn scan.lo scan.hi B seen scan.place → IsOn scan'.lo scan'.hi B seen scan'.place
-  pub held : (B : Map) (seen : List Want) → HoldsLeaf B seen old scan → HoldsLeaf B seen new scan'
-  pub below :
-      (later : Key) → key_number key ≤ key_number later → IfSome scan.leaf (ArePastBelow old key)
-      → IfSome scan'.leaf (ArePastBelow new later)
-
 -- a scan that gave its leaf back has still to give the same, and comes to its end as near
 pub record Paused (old new : Blocks) (scan scan' : Scan) : Type 0 where
-  pub root : scan'.root ≡ scan.root
   pub lo : scan'.lo ≡ scan.lo
   pub hi : scan'.hi ≡ scan.hi
   pub leaf : scan'.leaf ≡ None
   pub kept : IfSome scan.leaf (λ l. scan'.place.leaf ≡ Some (frame_of l))
   pub rest : scan'.place.rest ≡ scan.place.rest
   pub rank : rank_of scan' ≡ rank_of scan
-  pub leaf_under : (root : RootPlace) (B : Map) → HasLeafUnder root B scan → HasLeafUnder root B scan'
   pub program : (B : Map) (seen : List Want) → HoldsLeaf B seen old scan → left_of B new scan' ≡ left_of B old scan
   pub on : (B : Map) (seen : List Want) → HoldsLeaf B seen old scan → IsOn scan.lo scan.hi B seen scan.place → IsOn scan.lo scan.hi B seen scan'.place

@@ -1,7 +1,7 @@
 -- What a scan has still to give.
-use Rattle.std.specs.Prelude.{◌≡◌, ℕ, ◌+◌, ◌-◌, ◌<◌, ◌≤◌, true, List, [], ◌∷◌, length, take, drop, map, filter, All, slice_index_or, Option, Some, None, IfSome, Result, Ok, Err}
+use Rattle.std.specs.Prelude.{◌≡◌, ℕ, ◌+◌, ◌-◌, ◌<◌, ◌≤◌, true, List, [], ◌∷◌, length, take, drop, map, All, Option, Some, None, IfSome, Result, Ok, Err}
 use Rattle.std.specs.List.{Contains}
-use Rattle.btr_base.specs.Key.{key_number, key_le}
+use Rattle.btr_base.specs.Key.{key_number}
 use Rattle.btr_base.specs.declared.key.Key.{Key}
 use Rattle.btr_node.specs.Block.{Item, KeyPointer, items, pointers}
 use Rattle.btr_prog.specs.Prog.{Mark, Wants}
@@ -13,9 +13,8 @@ use Rattle.btr_walk.specs.declared.choice.Part.{Part}
 use Rattle.btr_walk.specs.declared.entering.LeafAt.{LeafAt}
 use Rattle.btr_walk.specs.declared.frame.Frame.{Frame}
 use Rattle.btr_walk.specs.declared.frame.Todo.{Todo}
-use Rattle.btr_walk.specs.declared.spot.Spot.{Spot}
 use Rattle.btr_walk.specs.Spot.{is_below, judged}
-use Rattle.btr_walk.specs.Le.{TreeItem, tree_item, below, up_of, want_of}
+use Rattle.btr_walk.specs.Le.{TreeItem, tree_item, below, want_of}
 use Rattle.btr_walk.specs.Range.{RangeProg, over, range_at}
 use Rattle.btr_walk.specs.Reading.{Map}
 
@@ -78,31 +77,6 @@ module _ (lo hi : Key) where
   abbrev pub IsTodo : Option Todo → Type 0
   IsTodo todo = IfSome todo (λ t. is_below t.spot.up lo ≡ true)
 
--- what a node keeps behind the child at a place: a frame from the next child on, or nothing where all behind begin above hi
-abbrev pub KeepsLater : Key → List KeyPointer → Spot → ℕ → Option Frame → Type 0
-KeepsLater hi ps node at None = All (λ p. key_number hi < key_number p.key) (drop (at + 1) ps)
-KeepsLater hi ps node at (Some frame) = (frame.spot ≡ node) × (frame.next ≡ at + 1)
-
--- a child of a node with these pointers, and what the node keeps behind it
-pub record IsPick (hi : Key) (ps : List KeyPointer) (node : Spot) (frame : Option Frame) (child : Spot) : Type 0 where
-  pub at : ℕ
-  pub there : at < length ps
-  pub spot : (d : KeyPointer) → child ≡ below (slice_index_or ps at d) (up_of (drop (at + 1) ps) node.up)
-  pub low : (d : KeyPointer) → key_number (slice_index_or ps at d).key ≤ key_number hi
-  pub later : KeepsLater hi ps node at frame
-
--- .. of a node that was read
-pub record IsDown (hi : Key) (B : Map) (level : ℕ) (node : Spot) (frame : Option Frame) (child : Spot) : Type 0 where
-  pub block : List ℕ
-  pub came : B (want_of level node) ≡ Ok block
-  pub is : judged level node block ≡ Some (Inner (pointers block))
-  pub pick : IsPick hi (pointers block) node frame child
-
--- a frame's node ends behind a key, and its children that are still to come begin behind it
-pub record IsBehind (B : Map) (key : Key) (level : ℕ) (frame : Frame) : Type 0 where
-  pub up : is_below frame.spot.up key ≡ true
-  pub next : All (λ p. key_number key < key_number p.key) (drop frame.next (pointers_in (B (want_of level frame.spot))))
-
 abbrev pub wants : List Want → List (Mark Want TreeItem)
 wants [] = []
 wants (w ∷ ws) = Wants w ∷ wants ws
@@ -131,19 +105,6 @@ items_in (Err f) addr next end = []
 abbrev pub kept_items : Map → Frame → List TreeItem
 kept_items B frame = items_in (B (want_of 0 frame.spot)) frame.spot.addr frame.next frame.end
 
--- the items from a key on
-abbrev pub from_key : Key → List TreeItem → List TreeItem
-from_key key items = filter (λ (i : TreeItem). key_le key i.key) items
-
 -- where a leaf in hand stands, without its loan
 abbrev pub frame_of : LeafAt → Frame
 frame_of l = record { spot = l.spot; next = l.next; end = l.end }
-
--- a leaf from its first item on
-abbrev pub whole : Frame → Frame
-whole leaf = record { spot = leaf.spot; next = 0; end = leaf.end }
-
--- the leaf in hand, or the one that was given back
-abbrev pub leaf_at : Option LeafAt → Option Frame → Option Frame
-leaf_at None kept = kept
-leaf_at (Some l) kept = Some (frame_of l)

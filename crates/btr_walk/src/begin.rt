@@ -5,7 +5,7 @@ ghost use Rattle.btr_walk.specs.Le.{root_spot};
 ghost use Rattle.btr_walk.specs.Range.{range};
 ghost use Rattle.btr_walk.specs.Reading.{Map};
 ghost use Rattle.btr_read.specs.declared.want.Want.{Want};
-ghost use Rattle.btr_walk.specs.Going.{IsAlong, IsUnder, place_prog};
+ghost use Rattle.btr_walk.specs.Going.{IsAlong, place_prog};
 ghost use Rattle.btr_walk.specs.Ranks.{IsShaped};
 
 use crate::RootPlace;
@@ -21,7 +21,6 @@ pub(crate) fn begin(root: &RootPlace) -> Where
     ensures path { (k : ℕ) → slice_index_or result.path k None ≡ None }
     ensures shaped { IsShaped result }
     ensures on { (lo hi : Key) (B : Map) (seen : List Want) → IsAlong lo hi B seen result }
-    ensures under { (hi : Key) (B : Map) → IsUnder root.now hi B result }
 {
     let spot = Spot {
         addr: root.addr,

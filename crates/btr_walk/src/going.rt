@@ -16,11 +16,11 @@ use btr_base::Key;
 use btr_rack::Rack;
 use btr_read::Store;
 
-/// Where a scan is: the block that is to be read, if one is, and the nodes of which children are still to come.
+/// Where a cursor is: the block that is to be read, if one is, and the nodes of which children are still to come.
 #[derive(Clone, Copy, Debug, PartialEq, Eq)]
-pub(crate) struct Where {
-    pub(crate) path: Path,
-    pub(crate) todo: Option<Todo>,
+pub struct Where {
+    pub path: Path,
+    pub todo: Option<Todo>,
 }
 
 /// What came of reading on.

@@ -3,7 +3,7 @@ ghost use Rattle.std.specs.Prelude.{◌≡◌, ◌≤◌, length, IsSome, IsSome
 ghost use Rattle.std.specs.Option.{is_some};
 ghost use Rattle.btr_node.specs.Node.{node_of};
 ghost use Rattle.btr_read.specs.Store.{IsLiveIn, block_of};
-ghost use Rattle.btr_walk.specs.Spot.{fits_ends, is_below, judged, spans};
+ghost use Rattle.btr_walk.specs.Spot.{fits_ends, is_below, judged};
 
 use crate::spot::Spot;
 use btr_base::Key;
@@ -12,24 +12,13 @@ use btr_read::{Loan, Store};
 
 impl Spot {
     // Whether the block may have a key from this one on.
-    pub(crate) fn ends_behind(&self, key: Key) -> bool
+    fn ends_behind(&self, key: Key) -> bool
         ensures { result ≡ is_below self.now.up key }
     {
         match self.up {
             None => true,
             Some(up) => key.is_before(up),
         }
-    }
-
-    // Whether the key is at or behind the one that its pointer states, and the block may have it.
-    pub(crate) fn spans(&self, key: Key) -> bool
-        ensures { result ≡ spans self.now key }
-    {
-        let begins = match self.first {
-            None => true,
-            Some(first) => !key.is_before(first),
-        };
-        begins && self.ends_behind(key)
     }
 
     // Whether a block whose first and last key are these fits.

@@ -4,7 +4,7 @@ ghost use Rattle.btr_read.specs.Serves.{Serves};
 ghost use Rattle.btr_rack.specs.Rack.{OnlyReads};
 ghost use Rattle.btr_read.specs.Store.{IsLentBy, SameLoans, free_count};
 ghost use Rattle.btr_walk.specs.Le.{want_of};
-ghost use Rattle.btr_walk.specs.Reading.{TellsOf, Reads, IsGoodFor, HasCause};
+ghost use Rattle.btr_walk.specs.Reading.{TellsOf, Reads, IsGoodFor, HasCause, HasCauseOf};
 
 use crate::TreeFault;
 use crate::judging::is_judged;
@@ -30,6 +30,7 @@ pub fn read_block<R: Rack>(
     ensures refused { OnErr result (SameLoans store.old store.new) }
     ensures good { IfOk result (IsGoodFor level spot.now store.new) }
     ensures cause { HasCause store.old.layout (R.seen rack.old) (R.seen rack.new) result }
+    ensures of_want { HasCauseOf store.old.layout (want_of level spot.now) (R.seen rack.old) (R.seen rack.new) result }
     ensures content { TellsOf store.old (R.seen rack.old) (R.seen rack.new)
         (λ Is B. Reads Is B level spot.now store.new result) }
 {

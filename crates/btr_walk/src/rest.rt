@@ -4,11 +4,11 @@ ghost use Rattle.btr_rack.specs.Rack.{Seen, OnlyReads};
 ghost use Rattle.btr_read.specs.Serves.{Serves};
 ghost use Rattle.btr_read.specs.Store.{SameLoans, free_count};
 ghost use Rattle.btr_walk.specs.Advancing.{IsInHand};
-ghost use Rattle.btr_walk.specs.Going.{IsOn, IsUnder};
+ghost use Rattle.btr_walk.specs.Going.{IsOn};
 ghost use Rattle.btr_walk.specs.Range.{range};
 ghost use Rattle.btr_walk.specs.Ranks.{IsShaped};
 ghost use Rattle.btr_walk.specs.Reading.{Map, TellsOf, HasCause};
-ghost use Rattle.btr_walk.specs.Rests.{Rests, rest_left, HasRestUnder, HasMet, LendsMet, IsMetAgain};
+ghost use Rattle.btr_walk.specs.Rests.{Rests, rest_left, HasMet, LendsMet, IsMetAgain};
 ghost use Rattle.btr_walk.specs.ScanEnds.{without_leaf};
 
 use crate::begin::begin;
@@ -23,7 +23,6 @@ use btr_read::{Loan, Store};
 /// A scan that keeps no loan: where it goes on. It can be copied, and let go.
 #[derive(Clone, Copy, Debug, PartialEq, Eq)]
 pub struct Rest {
-    pub(crate) root: RootPlace,
     pub(crate) lo: Key,
     pub(crate) hi: Key,
     pub(crate) place: ScanPlace,
@@ -59,11 +58,8 @@ impl Rest {
         ensures shaped { IsShaped result.place.rest }
         ensures program { (B : Map) → rest_left B result ≡ range lo hi root.now }
         ensures on { (B : Map) → IsOn lo hi B [] result.place }
-        ensures under { (B : Map) → IsUnder root.now hi B result.place.rest }
-        ensures leaf_under { (B : Map) → HasRestUnder root.now B result }
     {
         Rest {
-            root: *root,
             lo,
             hi,
             place: ScanPlace {
@@ -75,10 +71,9 @@ impl Rest {
 
     /// The scan that goes on there.
     pub fn scan(self) -> Scan
-        ensures { result ≡ record { root = self.root; lo = self.lo; hi = self.hi; place = self.place; leaf = None } }
+        ensures { result ≡ record { lo = self.lo; hi = self.hi; place = self.place; leaf = None } }
     {
         Scan {
-            root: self.root,
             lo: self.lo,
             hi: self.hi,
             place: self.place,
@@ -121,19 +116,13 @@ impl Scan {
         let mut scan = self;
         scan.pause(store);
         let Scan {
-            root,
             lo,
             hi,
             place,
             leaf,
         } = scan;
         match leaf {
-            None => Rest {
-                root,
-                lo,
-                hi,
-                place,
-            },
+            None => Rest { lo, hi, place },
             Some(_) => unreachable!(),
         }
     }

@@ -1,5 +1,5 @@
 // A scan of a range.
-ghost use Rattle.std.specs.Prelude.{◌≡◌, ℕ, ◌+◌, ◌-◌, ◌≤◌, slice_index_or, IfSome, OnErr, None, Some};
+ghost use Rattle.std.specs.Prelude.{◌≡◌, ℕ, ◌≤◌, slice_index_or, IfSome, OnErr, None, Some};
 ghost use Rattle.std.specs.Borrow.{sem};
 ghost use Rattle.btr_read.specs.Serves.{Serves};
 ghost use Rattle.btr_rack.specs.Rack.{OnlyReads};
@@ -10,29 +10,26 @@ ghost use Rattle.btr_read.specs.Store.{Blocks};
 ghost use Rattle.btr_walk.specs.Range.{range};
 ghost use Rattle.btr_walk.specs.Reading.{Map, HasCause};
 ghost use Rattle.btr_base.specs.declared.key.Key.{Key};
-ghost use Rattle.btr_walk.specs.Going.{IsOn, IsUnder, place_prog};
+ghost use Rattle.btr_walk.specs.Going.{IsOn, place_prog};
 ghost use Rattle.btr_walk.specs.Le.{root_spot};
 ghost use Rattle.btr_walk.specs.Ranks.{IsShaped};
 ghost use Rattle.btr_rack.specs.Rack.{Seen};
-ghost use Rattle.btr_walk.specs.ScanEnds.{left_of, without_leaf, IsReady, HasLeafUnder, KeepsLeaf, NextNears, Paused, IsFrom, Sought, ScanEnds};
+ghost use Rattle.btr_walk.specs.ScanEnds.{left_of, without_leaf, IsReady, KeepsLeaf, NextNears, Paused, ScanEnds};
 
 use crate::advancing::{Advanced, advance};
 use crate::begin::begin;
 use crate::entering::LeafAt;
 use crate::finding::found_at;
 use crate::frame::Frame;
-use crate::rejoining::rejoin;
 use crate::scan_place::ScanPlace;
 use crate::{Found, RootPlace, TreeFault};
 use btr_base::Key;
-use btr_node::Leaf;
 use btr_rack::Rack;
 use btr_read::Store;
 
 /// A scan of the items from one key to another, both included. It keeps at most one loan: that of its leaf. It is not let
 /// go but by `finish`.
 pub struct Scan {
-    pub(crate) root: RootPlace,
     pub(crate) lo: Key,
     pub(crate) hi: Key,
     pub(crate) place: ScanPlace,
@@ -47,7 +44,6 @@ fn before_all(root: &RootPlace) -> ScanPlace
     ensures path { (k : ℕ) → slice_index_or result.rest.path k None ≡ None }
     ensures shaped { IsShaped result.rest }
     ensures on { (lo hi : Key) (B : Map) → IsOn lo hi B [] result }
-    ensures under { (hi : Key) (B : Map) → IsUnder root.now hi B result.rest }
 {
     ScanPlace {
         leaf: None,
@@ -58,18 +54,14 @@ fn before_all(root: &RootPlace) -> ScanPlace
 impl Scan {
     /// A scan of the tree with this root; nothing is read yet. Where `lo` is above `hi` it has no item.
     pub fn new(root: &RootPlace, lo: Key, hi: Key) -> Scan
-        ensures root { result.root ≡ root.now }
         ensures lo { result.lo ≡ lo }
         ensures hi { result.hi ≡ hi }
         ensures leaf { result.leaf ≡ None }
         ensures ready { (rack : Seen) (store : Blocks) → Serves rack store → IsReady rack store result }
         ensures program { (B : Map) (store : Blocks) → left_of B store result ≡ range lo hi root.now }
         ensures on { (B : Map) → IsOn lo hi B [] result.place }
-        ensures under { (B : Map) → IsUnder root.now hi B result.place.rest }
-        ensures leaf_under { (B : Map) → HasLeafUnder root.now B result }
     {
         Scan {
-            root: *root,
             lo,
             hi,
             place: before_all(root),
@@ -101,46 +93,6 @@ impl Scan {
         }
     }
 
-    /// Goes on at a key, where that is above the key of the item that was met last. Where the leaf that is kept ends behind the
-    /// key, the scan stays in it, at its first item from the key on. Else it gives the leaf back and goes on as a new scan from the
-    /// key would, below the lowest node of its path that the key is in: that node is read again, and none above it. Only where the
-    /// key is in none of them, it begins anew at the root. Nothing is read here.
-    pub fn seek(&mut self, key: Key, store: &mut Store)
-        requires { IfSome self.old.leaf (IsInHand store.old) }
-        ensures others { SameLoans (without_leaf store.old self.old) (without_leaf store.new self.new) }
-        ensures ready { (rack : Seen) → IsReady rack store.old self.old → IsReady rack store.new self.new }
-        ensures sought { Sought store.old store.new self.old self.new key }
-    {
-        match self.leaf.take() {
-            None => {
-                self.lo = key;
-                self.place = ScanPlace {
-                    leaf: None,
-                    rest: rejoin(&self.place.rest, &self.root, key),
-                };
-            }
-            Some(hand) => {
-                if hand.spot.ends_behind(key) {
-                    let hand = hand_from(hand, key, store);
-                    put(&mut self.leaf, Some(hand));
-                    return;
-                }
-                let LeafAt {
-                    spot: _,
-                    next: _,
-                    end: _,
-                    loan,
-                } = hand;
-                store.give(loan);
-                self.lo = key;
-                self.place = ScanPlace {
-                    leaf: None,
-                    rest: rejoin(&self.place.rest, &self.root, key),
-                };
-            }
-        }
-    }
-
     /// Gives the loan of the leaf back, if one is kept. No scan is let go without it.
     pub fn finish(self, store: &mut Store)
         requires { IfSome self.leaf (IsInHand store.old) }
@@ -148,7 +100,6 @@ impl Scan {
         ensures serves { (rack : Seen) → Serves rack store.old → Serves rack store.new }
     {
         let Scan {
-            root: _,
             lo: _,
             hi: _,
             place: _,
@@ -166,35 +117,6 @@ impl Scan {
                 store.give(loan);
             }
         }
-    }
-}
-
-// The greater of two places.
-fn at_least(next: usize, at: usize) -> usize
-    ensures { result ≡ next + (at - next) }
-{
-    if next < at { at } else { next }
-}
-
-// The leaf in hand behind its items below a key.
-fn hand_from(hand: LeafAt, key: Key, store: &Store) -> LeafAt
-    requires { IsInHand store.now hand }
-    ensures hand { IsInHand store.now result }
-    ensures from { IsFrom store.now hand key result }
-{
-    let LeafAt {
-        spot,
-        next,
-        end,
-        loan,
-    } = hand;
-    let at = Leaf::of(store.bytes(&loan)).seek(key);
-    let next = at_least(next, at);
-    LeafAt {
-        spot,
-        next,
-        end,
-        loan,
     }
 }
 
@@ -227,7 +149,6 @@ pub fn next<'e, R: Rack>(
     requires room { 4 ≤ free_count (without_leaf store.old scan.old) }
     ensures* after { sem 𝓛 (ScanEnds store.entry scan.old scan.new (R.seen rack.old) (R.seen rack.new) result) }
     ensures reads { OnlyReads (R.seen rack.old) (R.seen rack.new) }
-    ensures root { scan.new.root ≡ scan.old.root }
     ensures lo { scan.new.lo ≡ scan.old.lo }
     ensures hi { scan.new.hi ≡ scan.old.hi }
     ensures kept { KeepsLeaf result scan.new.leaf }

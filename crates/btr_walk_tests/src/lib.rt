@@ -10,8 +10,6 @@ mod rests;
 #[cfg(test)]
 mod scans;
 #[cfg(test)]
-mod seeks;
-#[cfg(test)]
 mod volume;
 #[cfg(test)]
 mod walks;

@@ -141,7 +141,7 @@ fn store_by(alloc: Global, rack: &MemRack, item: &[u8]) -> Result<Store, Fail>
 {
     let chunks = table(alloc, item)?;
     let mut store = Store::new(alloc, FORM.sums, FORM.fsid, 4096, chunks)?;
-    store.add_device(1, 0, rack.len(0))?;
+    store.add_device(1, 0, rack.len(0), false)?;
     Ok(store)
 }
 

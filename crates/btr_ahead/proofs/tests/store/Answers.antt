@@ -26,12 +26,12 @@ own_alone device d e a b at bt same = sym (eqb-true 1 d (in_one (nat_eq 1 d) dev
 pub returns : goal.returns
 returns g c =
     let rack = c.args.rack.now in
-    let device : Device = record { slot = 0; len = c.len.result } in
+    let device : Device = record { slot = 0; len = c.len.result; older = false } in
     let before = c.in_ok-store.ensures in
     let added = c.in_ok-add_device.ensures.added in
-    let devices = ap (λ (s : Blocks). s.layout.devices) (added ∙ ap (λ (s : Blocks). with_device s 1 0 c.len.result) before) in
+    let devices = ap (λ (s : Blocks). s.layout.devices) (added ∙ ap (λ (s : Blocks). with_device s 1 0 c.len.result false) before) in
     let is : IsOpen (slots_of rack) device = record { slot = omega (arith, c.count.ensures); len = sym c.len.ensures.len } in
     serves_anew (seen_of rack) c.add_device.new.self
     (subst (AreOpen (slots_of rack)) (sym devices) (open_alone (slots_of rack) device is))
     (subst HaveOwnSlots (sym devices) (own_alone device))
-    (ap (λ (s : Blocks). s.kept) (added ∙ ap (λ (s : Blocks). with_device s 1 0 c.len.result) before))
+    (ap (λ (s : Blocks). s.kept) (added ∙ ap (λ (s : Blocks). with_device s 1 0 c.len.result false) before))

@@ -5,9 +5,9 @@ use Rattle.btr_walk.specs.ScanEnds.{IsReady, without_leaf}
 use Rattle.btr_bench.proofs.walking.take_all.Given as goal
 
 -- no more items are taken than there were turns
-abbrev pub invariant-loop-number : goal.invariant-loop-number
-invariant-loop-number l = record {
+abbrev pub invariant-loop-item : goal.invariant-loop-item
+invariant-loop-item l = record {
   ready : IsReady (seen_of l.rack) l.store l.scan;
   free : free_count (without_leaf l.store l.scan) ≡ 24;
-  most : l.taken ≤ l.number;
+  most : l.taken ≤ l._item;
 }

@@ -3,7 +3,6 @@ use Rattle.btr_read.specs.Layout.{Layout}
 use Rattle.btr_files.specs.declared.piece.Piece.{Piece as Lending}
 use Rattle.btr_files.specs.declared.piece.Piece.TheVariants as lending
 use Rattle.btr_files.specs.declared.streaming.Shown.{Shown}
-use Rattle.btr_files.specs.declared.progress.Progress.{Progress}
 use Rattle.btr_files.specs.Giving.{IsShown, LendsNext, NextStepsOn, shown_piece}
 use Rattle.btr_files.specs.Maps.{TellsAll}
 use Rattle.btr_files.specs.Streaming.{IsUnderway}

@@ -25,7 +25,7 @@ returns-then-passes-clause-trial g c = λ before is h.
     let slot = bytes_at c.try_by_syndromes.new.pool c.args.loan.now in
     let bytes : List ℕ = take (size_of t) slot in
     let lt : c.loop-k.k < length (candidates t) = omega (arith, c.loop-k-test.true, c.candidate_count-k-end.ensures) in
-    let standing = stands_in_row t cand c.requires.stands (c.candidate-candidate.ensures.behind c.requires.profile (omega (arith, c.loop-k.auto.k))) in
+    let standing = stands_in_row t cand c.requires.stands (c.candidate-candidate.ensures.behind c.requires.order c.requires.profile (omega (arith, c.loop-k.auto.k))) in
     subst (FitsOutcome t before after slot) (sym c.passed_after.ensures)
     (one_passes t before now after c.args.failed c.loop-k.k cand slot is.fresh (c.loop-k.invariant.tried before is h) c.candidate-candidate.ensures.value lt e.account standing (e.value.0 ∙ c.if-passes.true)
     (λ images im. telling now.held (λ images. value_of images t cand ≡ bytes) e.value.1 images (same_held c.loop-k.invariant.reads ∙ is.held ∙ im)))
@@ -36,7 +36,7 @@ returns-in-Err-clause-trial g c = λ before is h.
     let now = g.R.Rack.seen c.loop-k.rack in
     let after = g.R.Rack.seen c.try_by_syndromes.new.rack in
     let e = c.in-Err.ensures.account in
-    tried_missed t before now after c.args.failed c.loop-k.k c.in-Err.unread.slot e.0 (c.loop-k.invariant.tried before is h) (omega (arith, c.loop-k-test.true, c.candidate_count-k-end.type_inv)) (same_sure c.loop-k.invariant.reads ∙ is.sure) (of_row t c.in-Err.unread.part e.0 c.requires.profile c.requires.stands e.4 e.3) e.1 e.2
+    tried_missed t before now after c.args.failed c.loop-k.k c.in-Err.unread.slot e.0 (c.loop-k.invariant.tried before is h) (omega (arith, c.loop-k-test.true, c.candidate_count-k-end.type_inv)) (same_sure c.loop-k.invariant.reads ∙ is.sure) (of_row t c.in-Err.unread.part e.0 c.requires.order c.requires.profile c.requires.stands e.4 e.3) e.1 e.2
 
 pub loop-k-preserved : goal.loop-k-preserved
 loop-k-preserved g c =
@@ -50,7 +50,7 @@ loop-k-preserved g c =
     let e = c.in-Ok.ensures in
     let bytes : List ℕ = take n (bytes_at new c.args.loan.now) in
     let lt : c.loop-k.k < length (candidates t) = omega (arith, c.loop-k-test.true, c.candidate_count-k-end.ensures) in
-    let standing = stands_in_row t cand c.requires.stands (c.candidate-candidate.ensures.behind c.requires.profile (omega (arith, c.loop-k.auto.k))) in
+    let standing = stands_in_row t cand c.requires.stands (c.candidate-candidate.ensures.behind c.requires.order c.requires.profile (omega (arith, c.loop-k.auto.k))) in
     record {
       reads = reads_more inv.reads e.reads;
       writes = writes_more c.args.pool.now c.loop-k.pool new _ inv.writes e.pool;

@@ -12,8 +12,8 @@ first_there : (cs : List Candidate) (c : Candidate) → slice_get cs 0 ≡ Some 
 first_there [] c e = cc
 first_there (d ∷ cs) c e = omega arith
 
-pub returns-then-not-has_two_parities-clause-outcome : goal.returns-then-not-has_two_parities-clause-outcome
-returns-then-not-has_two_parities-clause-outcome g c =
+pub returns-then-not-is_by_syndromes-clause-outcome : goal.returns-then-not-is_by_syndromes-clause-outcome
+returns-then-not-is_by_syndromes-clause-outcome g c =
     let old = g.R.Rack.seen c.args.rack.now in
     c.try_from.ensures.outcome old (record { fresh = c.requires.fresh; held = refl; sure = refl }) (tried_none c.args.search.now old c.requires.missed)
 

@@ -4,6 +4,7 @@ use Rattle.btr_pool.specs.Slots.{bytes_at}
 use Rattle.btr_read.specs.Candidates.{Target, size_of, candidates, value_of}
 use Rattle.btr_read.specs.Trial.{TriedSoFar}
 use Rattle.btr_read.proofs.ReadsOn.{open_still}
+use Rattle.btr_read.proofs.Serving.{still_more}
 use Rattle.btr_read.proofs.Trials.{telling, began_on, tried_still, tried_missed, later_passes}
 use Rattle.btr_read.proofs.trying.try_around.Goals as goal
 use Rattle.btr_read.proofs.trying.try_around.Goals.{in-Differs, in-Absent, in-Failed}
@@ -43,3 +44,7 @@ returns-clause-outcome g c = λ before is h.
     ]
     in
     c.try_from.ensures.outcome before (began_on c.try_candidate.ensures.reads is) tried
+
+pub returns-clause-kept : goal.returns-clause-kept
+returns-clause-kept g c =
+    still_more c.args.kept.now.wants c.try_candidate.new.kept.wants c.try_from.new.kept.wants c.args.pool.now c.try_candidate.new.pool c.try_from.new.pool c.try_candidate.ensures.kept c.try_from.ensures.kept

@@ -1,7 +1,7 @@
-use Rattle.std.proofs.Common.{[], ◌∷◌, set, None, subst, sym, ap, ◌∙◌}
-use Rattle.btr_pool.specs.Slots.{IsFree, IsLive, bytes_at, with_lent, with_free}
+use Rattle.std.proofs.Common.{[], ◌∷◌, set, None, subst, sym, ap, ◌∙◌, arith}
+use Rattle.btr_pool.specs.Slots.{IsFree, IsLive, bytes_at, free_count, with_lent, with_free}
 use Rattle.btr_read.specs.Trial.{FitsTrial}
-use Rattle.btr_pool.proofs.Loans.{live_after_give}
+use Rattle.btr_pool.proofs.Loans.{free_count-with_lent, live_after_give}
 use Rattle.btr_read.specs.Writing.{AreFour, OnlyWrites, OnlyWritesIn, StillKept}
 use Rattle.btr_read.proofs.Several.{four_taken, four_still, three_back, three_forgotten}
 use Rattle.btr_read.proofs.trying.try_by_parities.Goals as goal
@@ -112,3 +112,9 @@ returns-clause-trial g c =
     let s = c.take_least-spare.result in
     let given = c.give-3.ensures ∙ ap (λ x. with_free x p) (c.give-2.ensures ∙ ap (λ x. with_free x q) c.give.ensures) in
     λ before is h. subst (λ x. FitsTrial c.args.search.now before (g.R.Rack.seen c.try_row-trial.new.rack) (bytes_at x k) c.try_row-trial.result) (sym given) (c.try_row-trial.ensures.trial before is h)
+
+pub take_least-spare-requires-clause-room : goal.take_least-spare-requires-clause-room
+take_least-spare-requires-clause-room g c =
+    let one = free_count-with_lent c.args.pool.now c.take_least-p.result c.take_least-p.ensures.free in
+    let two = free_count-with_lent c.take_least-p.new.pool c.take_least-q.result c.take_least-q.ensures.free in
+    omega (arith, c.requires.room, one, two, ap free_count c.take_least-p.ensures.lent, ap free_count c.take_least-q.ensures.lent)

@@ -19,7 +19,7 @@ open_before slots member rest is are devid device e = open_if slots member.devic
 
 -- what stands past the last device
 abbrev no_member : Member
-no_member = record { devid = 0; device = record { slot = 0; len = 0 } }
+no_member = record { devid = 0; device = record { slot = 0; len = 0; older = false } }
 
 open_next : (slots : List Slot) (members : List Member) (i : ℕ) → i < length members → IsOpen slots (get_or members i no_member).device → AreOpen slots (drop (i + 1) members) → AreOpen slots (drop i members)
 open_next slots members i lt is are = subst (AreOpen slots) (sym (drop_more members i no_member lt)) (open_before slots (get_or members i no_member) (drop (i + 1) members) is are)

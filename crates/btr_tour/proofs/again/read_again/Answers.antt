@@ -17,8 +17,8 @@ returns-in-Err-clause-content g c =
     let is = unread_by c.args.store.now.layout (g.R.Rack.seen c.args.rack.now) (g.R.Rack.seen c.read_block.new.rack) in
     let lo = c.args.scope.now.lo in
     let hi = c.args.scope.now.hi in
-    drawn c.args.store.now.layout (λ B. Reads is B c.args.level c.args.frame.now.spot c.read_block.new.store (Err c.in-Err.fault)) (λ B. Rereads lo hi B c.args.level c.args.frame.now (Err c.in-Err.fault))
-    (λ B reads node. again_err lo hi B c.args.level c.args.frame.now node is c.read_block.new.store c.in-Err.fault reads) c.in-Err.ensures.content
+    drawn c.args.store.now.layout (λ B. Reads is B c.args.level c.args.frame.now.spot c.read_block.new.store (Err c.in-Err.fault)) (λ B. Rereads lo hi B is c.args.level c.args.frame.now (Err c.in-Err.fault))
+    (λ B reads seen node. again_err lo hi B seen c.args.level c.args.frame.now node is c.read_block.new.store c.in-Err.fault reads) c.in-Err.ensures.content
 
 pub returns-in-Some-clause-store : goal.returns-in-Some-clause-store
 returns-in-Some-clause-store g c = given_back _ _ _ _ c.in-Ok.loan c.in-Ok.ensures.lent c.give.ensures
@@ -32,8 +32,8 @@ returns-in-Some-clause-content g c =
     let lo = c.args.scope.now.lo in
     let hi = c.args.scope.now.hi in
     let block = c.bytes.result.now in
-    drawn c.args.store.now.layout (λ B. Reads is B c.args.level c.args.frame.now.spot c.read_block.new.store (Ok c.in-Ok.loan)) (λ B. Rereads lo hi B c.args.level c.args.frame.now (Ok c.in-Some.below))
-    (λ B reads node. again_some lo hi B c.args.level c.args.frame.now node block c.in-Some.below (block_is c.read_block.new.store c.in-Ok.loan block (λ (b : List ℕ). B (want_of c.args.level c.args.frame.now.spot) ≡ Ok b) c.bytes.ensures.value reads) c.in-Some.ensures.1) c.in-Ok.ensures.content
+    drawn c.args.store.now.layout (λ B. Reads is B c.args.level c.args.frame.now.spot c.read_block.new.store (Ok c.in-Ok.loan)) (λ B. Rereads lo hi B is c.args.level c.args.frame.now (Ok c.in-Some.below))
+    (λ B reads seen node. again_some lo hi B seen c.args.level c.args.frame.now node block c.in-Some.below (block_is c.read_block.new.store c.in-Ok.loan block (λ (b : List ℕ). B (want_of c.args.level c.args.frame.now.spot) ≡ Ok b) c.bytes.ensures.value reads) c.in-Some.ensures.1) c.in-Ok.ensures.content
 
 pub returns-in-None-clause-store : goal.returns-in-None-clause-store
 returns-in-None-clause-store g c = given_back _ _ _ _ c.in-Ok.loan c.in-Ok.ensures.lent c.give.ensures
@@ -47,5 +47,5 @@ returns-in-None-clause-content g c =
     let lo = c.args.scope.now.lo in
     let hi = c.args.scope.now.hi in
     let block = c.bytes.result.now in
-    drawn c.args.store.now.layout (λ B. Reads is B c.args.level c.args.frame.now.spot c.read_block.new.store (Ok c.in-Ok.loan)) (λ B. Rereads lo hi B c.args.level c.args.frame.now (Err (tree.Malformed c.args.frame.now.spot.addr)))
-    (λ B reads node. absurd (again_none lo hi B c.args.level c.args.frame.now node block (block_is c.read_block.new.store c.in-Ok.loan block (λ (b : List ℕ). B (want_of c.args.level c.args.frame.now.spot) ≡ Ok b) c.bytes.ensures.value reads) c.in-None.ensures)) c.in-Ok.ensures.content
+    drawn c.args.store.now.layout (λ B. Reads is B c.args.level c.args.frame.now.spot c.read_block.new.store (Ok c.in-Ok.loan)) (λ B. Rereads lo hi B is c.args.level c.args.frame.now (Err (tree.Malformed c.args.frame.now.spot.addr)))
+    (λ B reads seen node. absurd (again_none lo hi B seen c.args.level c.args.frame.now node block (block_is c.read_block.new.store c.in-Ok.loan block (λ (b : List ℕ). B (want_of c.args.level c.args.frame.now.spot) ≡ Ok b) c.bytes.ensures.value reads) c.in-None.ensures)) c.in-Ok.ensures.content

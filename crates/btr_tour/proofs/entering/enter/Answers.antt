@@ -1,18 +1,22 @@
-use Rattle.std.proofs.Common.{◌≡◌, ℕ, List, Ok, Err, None, Some, IsTrue, refl, sym, ap, subst, length, ◌∙◌, arith}
+use Rattle.std.proofs.Common.{◌≡◌, IfSome, ℕ, List, Ok, Err, None, Some, IsTrue, refl, sym, ap, subst, length, ◌∙◌, arith}
 use Rattle.btr_node.specs.Block.{KeyPointer, items, pointers, is_leaf}
 use Rattle.btr_walk.specs.declared.place.RootPlace.{RootPlace}
 use Rattle.btr_walk.specs.Le.{want_of}
-use Rattle.btr_walk.specs.Reading.{Reads, unread_by}
+use Rattle.btr_read.specs.declared.want.Want.{Want}
+use Rattle.btr_walk.specs.Reading.{Reads, CauseOf, unread_by}
 use Rattle.btr_walk.proofs.Fetched.{some_block}
 use Rattle.btr_walk.proofs.Lending.{given_back, served_back}
 use Rattle.btr_walk.proofs.Joined.{drawn, block_is, is_leaf_at, is_inner_at}
 use Rattle.btr_read.specs.Store.{block_of}
 use Rattle.btr_tour.specs.declared.leaf_at.LeafAt.{LeafAt}
-use Rattle.btr_tour.specs.declared.place.Place.{Place}
+use Rattle.btr_walk.specs.declared.going.Where.{Where}
 use Rattle.btr_tour.specs.Tour.{place_of}
-use Rattle.btr_tour.specs.Steps.{Advances, FramesFrom, MeetsBlock}
+use Rattle.btr_read.specs.Store.{SameLoans}
+use Rattle.btr_walk.specs.Lending.{base}
+use Rattle.btr_tour.specs.Shape.{IsShaped, rank_on, StepNears}
+use Rattle.btr_tour.specs.Steps.{Arrived, arrived, IsInHand, loan_of, HasStep, Advances, StepCause, FramesFrom, MeetsBlock}
 use Rattle.btr_tour.specs.Place.{place_left, IsOn}
-use Rattle.btr_tour.proofs.Enters.{same_block, enter_leaf, enter_node, enter_fault}
+use Rattle.btr_tour.proofs.Enters.{same_block, enter_leaf, enter_node, enter_fault, todo_wanted, out_shaped, out_step, out_leaf, out_cause}
 use Rattle.btr_tour.proofs.Ranking.{leaf_nears, out_nears, node_nears, fits_frame}
 use Rattle.btr_tour.proofs.entering.enter.Goals as goal
 
@@ -22,15 +26,39 @@ of-requires-clause-good g c = (is_leaf_at c.args.todo.now.level c.args.todo.now.
 pub of-requires-in-Ok-clause-good : goal.of-requires-in-Ok-clause-good
 of-requires-in-Ok-clause-good g c = (is_inner_at c.args.todo.now.level c.args.todo.now.spot c.read_block.new.store c.in-Ok.loan c.bytes-in-Ok.result.now c.bytes-in-Ok.ensures.value c.in-Ok.ensures.good c.if-todo-eq0.false).good
 
-pub with_frame-requires : goal.with_frame-requires
-with_frame-requires g c =
+pub set_frame-requires : goal.set_frame-requires
+set_frame-requires g c =
     let inner = is_inner_at c.args.todo.now.level c.args.todo.now.spot c.read_block.new.store c.in-Ok.loan c.bytes-in-Ok.result.now c.bytes-in-Ok.ensures.value c.in-Ok.ensures.good c.if-todo-eq0.false in
     let some = inner.some in
     let few = inner.few in
     omega (arith, some, few)
 
 pub returns-in-Err-clause-nears : goal.returns-in-Err-clause-nears
-returns-in-Err-clause-nears g c = rw c.left_out.ensures (out_nears c.args.place.now c.args.todo.now.level c.args.todo.now.spot c.in-Err.fault c.requires.todo)
+returns-in-Err-clause-nears g c =
+    let place = c.args.place.now in
+    subst (λ (a : Arrived). StepNears (rank_on place None) (rank_on a.place a.leaf) a.step) (sym c.left_out.ensures) (out_nears place c.args.todo.now.level c.args.todo.now.spot c.in-Err.fault c.requires.todo)
+
+pub returns-in-Err-clause-shaped : goal.returns-in-Err-clause-shaped
+returns-in-Err-clause-shaped g c =
+    let place = c.args.place.now in
+    let after : Where = record { path = place.path; todo = None } in
+    let s = c.requires.shaped in
+    subst (λ (a : Arrived). IsShaped a.place) (sym c.left_out.ensures) (out_shaped place after c.in-Err.fault s (record { long = s.long; frames = s.frames; above = tt }))
+
+pub returns-in-Err-clause-step : goal.returns-in-Err-clause-step
+returns-in-Err-clause-step g c =
+    let place = c.args.place.now in
+    subst (λ (a : Arrived). HasStep place a.place a.leaf a.step) (sym c.left_out.ensures) (out_step place (record { path = place.path; todo = None }) c.in-Err.fault)
+
+pub returns-in-Err-clause-others : goal.returns-in-Err-clause-others
+returns-in-Err-clause-others g c =
+    let none = ap (λ (a : Arrived). a.leaf) c.left_out.ensures ∙ out_leaf c.args.place.now (record { path = c.args.place.now.path; todo = None }) c.in-Err.fault in
+    subst (λ l. SameLoans c.args.store.now (base c.read_block.new.store (loan_of l))) (sym none) c.in-Err.ensures.refused
+
+pub returns-in-Err-clause-hand : goal.returns-in-Err-clause-hand
+returns-in-Err-clause-hand g c =
+    let none = ap (λ (a : Arrived). a.leaf) c.left_out.ensures ∙ out_leaf c.args.place.now (record { path = c.args.place.now.path; todo = None }) c.in-Err.fault in
+    subst (λ l. IfSome l (IsInHand c.read_block.new.store)) (sym none) tt
 
 pub returns-in-Err-clause-content : goal.returns-in-Err-clause-content
 returns-in-Err-clause-content g c =
@@ -41,8 +69,17 @@ returns-in-Err-clause-content g c =
     let place = c.args.place.now in
     let todo = c.args.todo.now in
     let store = c.read_block.new.store in
-    drawn c.args.store.now.layout (λ B. Reads is B todo.level todo.spot store (Err c.in-Err.fault)) (λ B. Advances lo hi B sums place (place_left lo hi B place) store c.left_out.result)
-    (λ B reads. subst (Advances lo hi B sums place (place_left lo hi B place) store) (sym c.left_out.ensures) (enter_fault lo hi B is sums place todo.level todo.spot store c.in-Err.fault c.requires.todo reads)) c.in-Err.ensures.content
+    drawn c.args.store.now.layout (λ B. Reads is B todo.level todo.spot store (Err c.in-Err.fault)) (λ B. Advances lo hi B is (λ seen. Unit {0}) sums place (place_left lo hi B place) store (arrived c.left_out.new.place c.left_out.result))
+    (λ B reads. subst (Advances lo hi B is (λ seen. Unit {0}) sums place (place_left lo hi B place) store) (sym c.left_out.ensures) (enter_fault lo hi B is sums place todo.level todo.spot store c.in-Err.fault c.requires.todo reads)) c.in-Err.ensures.content
+
+pub returns-in-Err-clause-cause : goal.returns-in-Err-clause-cause
+returns-in-Err-clause-cause g c =
+    let layout = c.args.store.now.layout in
+    let before = g.R.Rack.seen c.args.rack.now in
+    let now = g.R.Rack.seen c.read_block.new.rack in
+    let place = c.args.place.now in
+    subst (λ (a : Arrived). StepCause layout before now place a.step) (sym c.left_out.ensures)
+    (out_cause layout before now place (record { path = place.path; todo = None }) c.in-Err.fault (todo_wanted place c.args.todo.now (λ want. CauseOf layout want before now c.in-Err.fault) c.requires.todo c.in-Err.ensures.of_want))
 
 pub returns-then-todo-eq0-clause-others : goal.returns-then-todo-eq0-clause-others
 returns-then-todo-eq0-clause-others g c = given_back _ _ _ _ c.in-Ok.loan c.in-Ok.ensures.lent refl
@@ -61,7 +98,7 @@ returns-then-todo-eq0-clause-hand g c =
     }
 
 pub returns-then-todo-eq0-clause-nears : goal.returns-then-todo-eq0-clause-nears
-returns-then-todo-eq0-clause-nears g c = leaf_nears c.args.place.now c.args.todo.now.level c.args.todo.now.spot (record { addr = c.args.todo.now.spot.addr; next = 0; end = c.count.result; loan = c.in-Ok.loan }) c.requires.todo (omega (arith, c.count.ensures.small))
+returns-then-todo-eq0-clause-nears g c = leaf_nears c.args.place.now c.args.todo.now.level c.args.todo.now.spot (record { spot = c.args.todo.now.spot; next = 0; end = c.count.result; loan = c.in-Ok.loan }) c.requires.todo (omega (arith, c.count.ensures.small))
 
 pub returns-then-todo-eq0-clause-content : goal.returns-then-todo-eq0-clause-content
 returns-then-todo-eq0-clause-content g c =
@@ -74,14 +111,14 @@ returns-then-todo-eq0-clause-content g c =
     let store = c.read_block.new.store in
     let loan = c.in-Ok.loan in
     let block = c.bytes.result.now in
-    let after : Place = record { path = place.path; todo = None } in
-    let hand : LeafAt = record { addr = todo.spot.addr; next = 0; end = c.count.result; loan = loan } in
+    let after : Where = record { path = place.path; todo = None } in
+    let hand : LeafAt = record { spot = todo.spot; next = 0; end = c.count.result; loan = loan } in
     let leaf = is_leaf_at todo.level todo.spot store loan block c.bytes.ensures.value c.in-Ok.ensures.good c.if-todo-eq0.true in
     let end : c.count.result ≡ length (items block) = c.count.ensures.all ∙ ap length c.of.ensures ∙ ap (λ (b : List ℕ). length (items b)) (same_block (block_of store loan) c.bytes-then-todo-eq0.result.now block c.bytes-then-todo-eq0.ensures.value c.bytes.ensures.value) in
-    drawn c.args.store.now.layout (λ B. Reads is B todo.level todo.spot store (Ok loan)) (λ B. IsOn lo hi B place → MeetsBlock lo hi B sums (place_left lo hi B place) store after (Some hand) c.place_of.result c.read.result)
-    (λ B reads on. subst (λ (at : RootPlace). MeetsBlock lo hi B sums (place_left lo hi B place) store after (Some hand) at c.read.result) (sym c.place_of.ensures) (
-    subst (MeetsBlock lo hi B sums (place_left lo hi B place) store after (Some hand) (place_of todo.level todo.spot)) (sym c.read.ensures) (
-    enter_leaf lo hi B sums place todo.level todo.spot store loan block c.count.result c.requires.todo c.if-todo-eq0.true leaf (block_is store loan block (λ (b : List ℕ). B (want_of todo.level todo.spot) ≡ Ok b) c.bytes.ensures.value reads) c.bytes.ensures.value end on)))
+    drawn c.args.store.now.layout (λ B. Reads is B todo.level todo.spot store (Ok loan)) (λ B. (seen : List Want) → IsOn lo hi B seen place → Unit {0} → MeetsBlock lo hi B seen sums (place_left lo hi B place) store after (Some hand) c.place_of.result c.read.result)
+    (λ B reads seen on none. subst (λ (at : RootPlace). MeetsBlock lo hi B seen sums (place_left lo hi B place) store after (Some hand) at c.read.result) (sym c.place_of.ensures) (
+    subst (MeetsBlock lo hi B seen sums (place_left lo hi B place) store after (Some hand) (place_of todo.level todo.spot)) (sym c.read.ensures) (
+    enter_leaf lo hi B seen sums place todo.level todo.spot store loan block c.count.result c.requires.todo c.if-todo-eq0.true leaf (block_is store loan block (λ (b : List ℕ). B (want_of todo.level todo.spot) ≡ Ok b) c.bytes.ensures.value reads) c.bytes.ensures.value end on)))
     c.in-Ok.ensures.content
 
 pub returns-else-todo-eq0-clause-serves : goal.returns-else-todo-eq0-clause-serves
@@ -93,12 +130,12 @@ returns-else-todo-eq0-clause-others g c = given_back _ _ _ _ c.in-Ok.loan c.in-O
 pub returns-else-todo-eq0-clause-shaped : goal.returns-else-todo-eq0-clause-shaped
 returns-else-todo-eq0-clause-shaped g c =
     let inner = is_inner_at c.args.todo.now.level c.args.todo.now.spot c.read_block.new.store c.in-Ok.loan c.bytes-in-Ok.result.now c.bytes-in-Ok.ensures.value c.in-Ok.ensures.good c.if-todo-eq0.false in
-    (node_nears c.args.place.now c.args.todo.now.level c.args.todo.now.spot c.with_frame.result c.frame_from-frame.result c.requires.todo inner.some inner.few (fits_frame c.args.scope.now.lo c.args.scope.now.hi c.of-in-Ok.result c.args.todo.now.spot 0 c.frame_from-frame.result c.frame_from-frame.ensures) c.with_frame.ensures.set c.requires.shaped).0
+    (node_nears c.args.place.now c.args.todo.now.level c.args.todo.now.spot c.set_frame.new.path c.frame_from-frame.result c.requires.todo inner.some inner.few (fits_frame c.args.scope.now.lo c.args.scope.now.hi c.of-in-Ok.result c.args.todo.now.spot 0 c.frame_from-frame.result c.frame_from-frame.ensures) c.set_frame.ensures.set c.requires.shaped).0
 
 pub returns-else-todo-eq0-clause-nears : goal.returns-else-todo-eq0-clause-nears
 returns-else-todo-eq0-clause-nears g c =
     let inner = is_inner_at c.args.todo.now.level c.args.todo.now.spot c.read_block.new.store c.in-Ok.loan c.bytes-in-Ok.result.now c.bytes-in-Ok.ensures.value c.in-Ok.ensures.good c.if-todo-eq0.false in
-    (node_nears c.args.place.now c.args.todo.now.level c.args.todo.now.spot c.with_frame.result c.frame_from-frame.result c.requires.todo inner.some inner.few (fits_frame c.args.scope.now.lo c.args.scope.now.hi c.of-in-Ok.result c.args.todo.now.spot 0 c.frame_from-frame.result c.frame_from-frame.ensures) c.with_frame.ensures.set c.requires.shaped).1
+    (node_nears c.args.place.now c.args.todo.now.level c.args.todo.now.spot c.set_frame.new.path c.frame_from-frame.result c.requires.todo inner.some inner.few (fits_frame c.args.scope.now.lo c.args.scope.now.hi c.of-in-Ok.result c.args.todo.now.spot 0 c.frame_from-frame.result c.frame_from-frame.ensures) c.set_frame.ensures.set c.requires.shaped).1
 
 pub returns-else-todo-eq0-clause-step : goal.returns-else-todo-eq0-clause-step
 returns-else-todo-eq0-clause-step g c =
@@ -119,12 +156,12 @@ returns-else-todo-eq0-clause-content g c =
     let loan = c.in-Ok.loan in
     let block = c.bytes.result.now in
     let o = c.frame_from-frame.result in
-    let after : Place = record { path = c.with_frame.result; todo = None } in
+    let after : Where = record { path = c.set_frame.new.path; todo = None } in
     let inner = is_inner_at todo.level todo.spot store loan block c.bytes.ensures.value c.in-Ok.ensures.good c.if-todo-eq0.false in
     let from : FramesFrom lo hi (pointers block) todo.spot 0 o =
     subst (λ (ps : List KeyPointer). FramesFrom lo hi ps todo.spot 0 o) (c.of-in-Ok.ensures ∙ ap pointers (same_block (block_of store loan) c.bytes-in-Ok.result.now block c.bytes-in-Ok.ensures.value c.bytes.ensures.value)) c.frame_from-frame.ensures in
-    drawn c.args.store.now.layout (λ B. Reads is B todo.level todo.spot store (Ok loan)) (λ B. IsOn lo hi B place → MeetsBlock lo hi B sums (place_left lo hi B place) new after None c.place_of.result c.read.result)
-    (λ B reads on. subst (λ (at : RootPlace). MeetsBlock lo hi B sums (place_left lo hi B place) new after None at c.read.result) (sym c.place_of.ensures) (
-    subst (MeetsBlock lo hi B sums (place_left lo hi B place) new after None (place_of todo.level todo.spot)) (sym c.read.ensures) (
-    enter_node lo hi B sums place todo.level todo.spot new block c.with_frame.result o c.requires.todo inner (block_is store loan block (λ (b : List ℕ). B (want_of todo.level todo.spot) ≡ Ok b) c.bytes.ensures.value reads) c.requires.shaped from c.with_frame.ensures.set on)))
+    drawn c.args.store.now.layout (λ B. Reads is B todo.level todo.spot store (Ok loan)) (λ B. (seen : List Want) → IsOn lo hi B seen place → Unit {0} → MeetsBlock lo hi B seen sums (place_left lo hi B place) new after None c.place_of.result c.read.result)
+    (λ B reads seen on none. subst (λ (at : RootPlace). MeetsBlock lo hi B seen sums (place_left lo hi B place) new after None at c.read.result) (sym c.place_of.ensures) (
+    subst (MeetsBlock lo hi B seen sums (place_left lo hi B place) new after None (place_of todo.level todo.spot)) (sym c.read.ensures) (
+    enter_node lo hi B seen sums place todo.level todo.spot new block c.set_frame.new.path o c.requires.todo inner (block_is store loan block (λ (b : List ℕ). B (want_of todo.level todo.spot) ≡ Ok b) c.bytes.ensures.value reads) c.requires.shaped from c.set_frame.ensures.set on)))
     c.in-Ok.ensures.content

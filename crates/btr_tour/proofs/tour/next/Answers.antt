@@ -1,12 +1,13 @@
 use Rattle.std.proofs.Common.{◌≡◌, ◌∙◌, Ok, refl, ap}
 use Rattle.std.specs.Option.{is_some}
 use Rattle.btr_tour.specs.declared.step.Step.TheVariants.{Item}
+use Rattle.btr_tour.specs.Steps.{Arrived, arrived}
 use Rattle.btr_tour.proofs.Nexts.{toured_item, near_item}
 use Rattle.btr_tour.proofs.tour.next.Goals as goal
 
 pub returns-in-Some : goal.returns-in-Some
 returns-in-Some g c =
-    let a = c.advance-leaf.result in
+    let a : Arrived = arrived c.advance-leaf.new.place c.advance-leaf.result in
     let is : a.step ≡ Ok c.in-Ok-Item.field-0 = c.in-Ok-Item.is in
     let field = rw is at c.in-Ok-Item.field-0-is in
     let step : a.step ≡ Ok (Item c.in-Ok-Item.at) = is ∙ ap Ok field in (

@@ -1,7 +1,7 @@
 use Rattle.std.proofs.Common.{◌≡◌, ◌≤◌}
 use Rattle.btr_rack.specs.Rack.{OnlyReads}
 use Rattle.btr_read.specs.Store.{SameLoans, free_count}
-use Rattle.btr_walk.specs.Reading.{Tells}
+use Rattle.btr_walk.specs.Reading.{TellsOf}
 use Rattle.btr_tour.specs.TourEnds.{IsReady, without_leaf, rank_of}
 use Rattle.btr_tour.proofs.Marks.{Led}
 use Rattle.btr_tour.proofs.visiting.run.Given as goal
@@ -13,7 +13,7 @@ invariant-loop-fault g l = record {
   others : SameLoans (without_leaf l.fn.store l.fn.tour) (without_leaf l.store l.tour);
   room : 4 ≤ free_count (without_leaf l.store l.tour);
   layout : l.store.layout ≡ l.fn.store.layout;
-  tells : Tells l.fn.store.layout (g.R.Rack.seen l.fn.rack) (g.R.Rack.seen l.rack) (λ B. Led g.V.Visitor.step B l.fn.store l.fn.tour l.fn.visitor l.store l.tour l.visitor);
+  tells : TellsOf l.fn.store (g.R.Rack.seen l.fn.rack) (g.R.Rack.seen l.rack) (λ Is B. Led g.V.Visitor.step B l.fn.store l.fn.tour l.fn.visitor Is l.store l.tour l.visitor);
 }
 
 abbrev pub decreases-loop-fault : goal.decreases-loop-fault

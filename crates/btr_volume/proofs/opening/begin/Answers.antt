@@ -17,7 +17,7 @@ returns-in-Ok-clause-fresh g c =
     let seen = g.R.Rack.seen c.args.rack.now in
     let layout = sym c.in-Ok.ensures.devices in
     record {
-      serves = serves_anew seen c.add_devices.new.store (subst (λ (l : Layout). AreOpen seen.slots l.devices) layout (are_open c.args.supers.now seen.slots)) (subst (λ (l : Layout). HaveOwnSlots l.devices) layout (own_slots c.args.supers.now seen.slots)) (c.in-Ok.ensures.kept c.in_ok-store.ensures.store.1);
+      serves = serves_anew seen c.add_devices.new.store (subst (λ (l : Layout). AreOpen seen.slots l.devices) layout (are_open c.args.chosen.now.generation c.args.supers.now seen.slots)) (subst (λ (l : Layout). HaveOwnSlots l.devices) layout (own_slots c.args.chosen.now.generation c.args.supers.now seen.slots)) (c.in-Ok.ensures.kept c.in_ok-store.ensures.store.1);
       loans = c.in-Ok.ensures.loans ∙ c.in_ok-store.ensures.store.0;
       nodesize = sym c.in_ok-store.ensures.nodesize ∙ ap (λ (l : Layout). l.setting.nodesize) layout;
     }

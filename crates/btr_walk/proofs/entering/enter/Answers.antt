@@ -1,5 +1,5 @@
 use Rattle.std.proofs.Common.{◌≡◌, ◌≤◌, ℕ, List, Ok, IsTrue, length}
-use Rattle.btr_node.specs.Block.{items, pointers, is_leaf}
+use Rattle.btr_node.specs.Block.{items, is_leaf}
 use Rattle.btr_prog.specs.Prog.{Wants, first, exec}
 use Rattle.btr_walk.specs.declared.entering.Entered.TheVariants.{Leaf, Inner}
 use Rattle.btr_walk.specs.Le.{want_of}
@@ -10,8 +10,7 @@ use Rattle.btr_walk.specs.Entering.{IsEntered}
 use Rattle.btr_walk.proofs.Fetched.{some_block}
 use Rattle.btr_walk.proofs.Lending.{given_back, served_back}
 use Rattle.btr_walk.proofs.Joined.{drawn, block_is, is_leaf_at, is_inner_at}
-use Rattle.btr_walk.proofs.Entered.{enter_leaf, held_leaf, enter_inner, enter_frame, down_from, place_spot}
-use Rattle.btr_walk.proofs.Staying.{leaf_from}
+use Rattle.btr_walk.proofs.Entered.{enter_leaf, held_leaf, enter_inner, enter_frame}
 use Rattle.btr_walk.proofs.entering.enter.Goals as goal
 
 pub part_of-part-requires-clause-good : goal.part_of-part-requires-clause-good
@@ -42,7 +41,6 @@ returns-then-todo-eq0-clause-content g c =
       some_block store c.in_ok-loan.loan block (λ (b : List ℕ). (rest : RangeProg) → exec B (range_at c.args.lo c.args.hi todo.level todo.spot rest) ≡ first (Wants (want_of todo.level todo.spot)) (exec B (emit_all (part_items todo.spot.addr b c.part_of-part.result.next c.part_of-part.result.end) rest))) c.bytes.ensures.value
           (enter_leaf c.args.lo c.args.hi B todo.level todo.spot block c.part_of-part.result leaf c.part_of-part.ensures e),
       λ seen read. held_leaf c.args.lo c.args.hi B todo.level todo.spot block store c.part_of-part.result.next c.part_of-part.result.end c.in_ok-loan.loan seen leaf c.bytes.ensures.value e read,
-      leaf_from c.args.lo c.args.hi B todo block c.part_of-part.result.next c.part_of-part.result.end leaf c.part_of-part.ensures.low c.part_of-part.ensures.high e,
     ))
     c.in_ok-loan.ensures.content
 
@@ -69,8 +67,6 @@ returns-clause-content g c =
       enter_frame c.args.lo c.args.hi B todo block c.below_of-below.result inner c.below_of-below.ensures e up,
       c.below_of-below.ensures.up up,
       c.below_of-below.ensures.level,
-      down_from c.args.lo c.args.hi B todo.level todo.spot block c.below_of-below.result.frame c.below_of-below.result.todo inner.is e c.below_of-below.ensures.pick,
-      place_spot c.args.lo c.args.hi B (pointers block) todo.spot c.below_of-below.result.frame c.below_of-below.ensures.frame,
     ))
     c.in_ok-loan.ensures.content
 

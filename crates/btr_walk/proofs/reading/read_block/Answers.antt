@@ -2,9 +2,9 @@ use Rattle.std.proofs.Common.{None, Err, Ok, refl, sym, ap, ◌∙◌, subst}
 use Rattle.btr_read.specs.Fetch.{FitsFetch, AnswersOf, CallsFetch}
 use Rattle.btr_walk.specs.declared.fault.TreeFault.TheVariants as tree
 use Rattle.btr_walk.specs.Le.{want_of}
-use Rattle.btr_walk.specs.Reading.{Tells, TellsOf, Reads, HasCause, unread_by, tree_fault}
+use Rattle.btr_walk.specs.Reading.{Tells, TellsOf, Reads, HasCause, HasCauseOf, unread_by, tree_fault}
 use Rattle.btr_read.specs.Store.{Blocks, block_of, with_loan}
-use Rattle.btr_walk.proofs.Fetched.{bad_block, reads_err, cause_err, by_fault}
+use Rattle.btr_walk.proofs.Fetched.{bad_block, reads_err, cause_err, cause_of_err, by_fault}
 use Rattle.btr_walk.proofs.Joined.{drawn}
 use Rattle.btr_walk.proofs.Lending.{given_back, served_back}
 use Rattle.btr_walk.proofs.reading.read_block.Goals as goal
@@ -31,6 +31,16 @@ returns-in_err-loan-clause-cause g c =
     let fault = c.in_err-loan.field-0.0 in
     by_fault (HasCause layout old new) c.from_residual.result fault c.from_residual.ensures.1
     (cause_err layout old new c.args.level c.args.spot.now c.fetch.new.store fault (subst (FitsFetch layout want old new c.fetch.new.store) (c.in_err-loan.was {u = tt}) c.fetch.ensures.answer))
+
+pub returns-in_err-loan-clause-of_want : goal.returns-in_err-loan-clause-of_want
+returns-in_err-loan-clause-of_want g c =
+    let want = want_of c.args.level c.args.spot.now in
+    let layout = c.args.store.now.layout in
+    let old = g.R.Rack.seen c.args.rack.now in
+    let new = g.R.Rack.seen c.fetch.new.rack in
+    let fault = c.in_err-loan.field-0.0 in
+    by_fault (HasCauseOf layout want old new) c.from_residual.result fault c.from_residual.ensures.1
+    (cause_of_err layout old new c.args.level c.args.spot.now c.fetch.new.store fault (subst (FitsFetch layout want old new c.fetch.new.store) (c.in_err-loan.was {u = tt}) c.fetch.ensures.answer))
 
 pub returns-else-is_judged-clause-serves : goal.returns-else-is_judged-clause-serves
 returns-else-is_judged-clause-serves g c = served_back (g.R.Rack.seen c.fetch.new.rack) c.fetch.new.store c.give.new.self c.in_ok-loan.loan c.in_ok-loan.ensures.serves (c.give.ensures ∙ ap (λ s. with_loan s c.in_ok-loan.loan.slot None) c.is_judged.ensures.same)

@@ -10,7 +10,6 @@ returns-in-Err g c =
       record {
         after = tt;
         reads = c.advance-leaf.ensures.reads;
-        root = refl;
         lo = refl;
         hi = refl;
         kept = free;
@@ -28,7 +27,6 @@ returns-in-Some g c =
       record {
         after = tt;
         reads = c.advance-leaf.ensures.reads;
-        root = refl;
         lo = refl;
         hi = refl;
         kept = keeps_item a.leaf c.put.new.place c.in-Some.hand a.met c.put.ensures c.in-Some.is met c.advance-leaf.ensures.item;
@@ -47,7 +45,6 @@ returns-in-Ok-false g c =
       record {
         after = tt;
         reads = c.advance-leaf.ensures.reads;
-        root = refl;
         lo = refl;
         hi = refl;
         kept = free;

@@ -1,0 +1,64 @@
+use Rattle.std.proofs.Common.{◌≡◌, ◌∙◌, ℕ, List, Ok, Err, IsTrue, length, refl, sym, ap, arith}
+use Rattle.btr_node.specs.Block.{items, is_leaf}
+use Rattle.btr_walk.specs.declared.fault.TreeFault.TheVariants as tree
+use Rattle.btr_walk.specs.Le.{want_of}
+use Rattle.btr_walk.specs.Reading.{Reads, unread_by}
+use Rattle.btr_walk.proofs.Fetched.{some_block}
+use Rattle.btr_walk.proofs.Joined.{drawn, block_is, is_leaf_at}
+use Rattle.btr_walk.proofs.Lending.{given_back, served_back}
+use Rattle.btr_tour.specs.Rests.{IsLeafAgain}
+use Rattle.btr_tour.proofs.Resting.{kept_err, kept_other, kept_held}
+use Rattle.btr_tour.proofs.rest.read_kept.Goals as goal
+
+pub of-requires-clause-good : goal.of-requires-clause-good
+of-requires-clause-good g c = (is_leaf_at 0 c.args.frame.now.spot c.read_block.new.store c.in-Ok.loan c.bytes.result.now c.bytes.ensures.value c.in-Ok.ensures.good refl).good
+
+pub returns-in-Err-clause-content : goal.returns-in-Err-clause-content
+returns-in-Err-clause-content g c =
+    let is = unread_by c.args.store.now.layout (g.R.Rack.seen c.args.rack.now) (g.R.Rack.seen c.read_block.new.rack) in
+    let frame = c.args.frame.now in
+    let store = c.read_block.new.store in
+    drawn c.args.store.now.layout (λ B. Reads is B 0 frame.spot store (Err c.in-Err.fault)) (λ B. IsLeafAgain is B frame store (Err c.in-Err.fault))
+    (λ B h seen kept. kept_err B seen frame kept is store c.in-Err.fault h) c.in-Err.ensures.content
+
+pub returns-then-count-frame-clause-serves : goal.returns-then-count-frame-clause-serves
+returns-then-count-frame-clause-serves g c = served_back _ c.read_block.new.store c.give.new.self c.in-Ok.loan c.in-Ok.ensures.serves c.give.ensures
+
+pub returns-then-count-frame-clause-lent : goal.returns-then-count-frame-clause-lent
+returns-then-count-frame-clause-lent g c = given_back _ _ _ _ c.in-Ok.loan c.in-Ok.ensures.lent c.give.ensures
+
+pub returns-then-count-frame-clause-content : goal.returns-then-count-frame-clause-content
+returns-then-count-frame-clause-content g c =
+    let is = unread_by c.args.store.now.layout (g.R.Rack.seen c.args.rack.now) (g.R.Rack.seen c.read_block.new.rack) in
+    let frame = c.args.frame.now in
+    let store = c.read_block.new.store in
+    let block = c.bytes.result.now in
+    let count : c.count-count.result ≡ length (items block) = c.count-count.ensures.all ∙ ap length c.of.ensures in
+    drawn c.args.store.now.layout (λ B. Reads is B 0 frame.spot store (Ok c.in-Ok.loan)) (λ B. IsLeafAgain is B frame c.give.new.self (Err (tree.Malformed frame.spot.addr)))
+    (λ B h seen kept. absurd (kept_other B seen frame kept block (block_is store c.in-Ok.loan block (λ (b : List ℕ). B (want_of 0 frame.spot) ≡ Ok b) c.bytes.ensures.value h) (λ e. c.if-count-frame.true (count ∙ sym e)))) c.in-Ok.ensures.content
+
+pub returns-else-count-frame-clause-lent : goal.returns-else-count-frame-clause-lent
+returns-else-count-frame-clause-lent g c =
+    let store = c.read_block.new.store in
+    let block = c.bytes.result.now in
+    let leaf = is_leaf_at 0 c.args.frame.now.spot store c.in-Ok.loan block c.bytes.ensures.value c.in-Ok.ensures.good refl in
+    let end : c.args.frame.now.end ≡ length (items block) = sym c.if-count-frame.false ∙ c.count-count.ensures.all ∙ ap length c.of.ensures in
+    let fits = c.requires.fits in (
+      record {
+        live = c.in-Ok.ensures.lent.live;
+        large = c.in-Ok.ensures.lent.large;
+        small = fits.1;
+        within = omega (arith, fits.0);
+        good = some_block store c.in-Ok.loan block (λ (b : List ℕ). IsTrue (is_leaf b) × (c.args.frame.now.end ≡ length (items b))) c.bytes.ensures.value (leaf.good, end);
+      },
+      given_back _ _ _ _ c.in-Ok.loan c.in-Ok.ensures.lent refl,
+    )
+
+pub returns-else-count-frame-clause-content : goal.returns-else-count-frame-clause-content
+returns-else-count-frame-clause-content g c =
+    let is = unread_by c.args.store.now.layout (g.R.Rack.seen c.args.rack.now) (g.R.Rack.seen c.read_block.new.rack) in
+    let frame = c.args.frame.now in
+    let store = c.read_block.new.store in
+    let block = c.bytes.result.now in
+    drawn c.args.store.now.layout (λ B. Reads is B 0 frame.spot store (Ok c.in-Ok.loan)) (λ B. IsLeafAgain is B frame store (Ok (record { spot = frame.spot; next = frame.next; end = frame.end; loan = c.in-Ok.loan })))
+    (λ B h seen kept. kept_held B seen frame kept store c.in-Ok.loan block c.bytes.ensures.value (block_is store c.in-Ok.loan block (λ (b : List ℕ). B (want_of 0 frame.spot) ≡ Ok b) c.bytes.ensures.value h)) c.in-Ok.ensures.content
