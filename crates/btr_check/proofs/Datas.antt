@@ -4,7 +4,6 @@ use Rattle.std.proofs.lemmas.Bool.{ltb-true}
 use Rattle.std.proofs.lemmas.List.Elements.{filter_map-append}
 use Rattle.std.specs.List.{AllByRecursion, Contains, cons_option}
 use Rattle.std.specs.Prelude.{slice_get}
-use Rattle.std.specs.BTreeSet.{BTreeSet}
 use Rattle.btr_base.specs.declared.kind.SumKind.{SumKind}
 use Rattle.btr_base.specs.declared.stored.Sum.{Sum}
 use Rattle.btr_files.specs.Content.{want_by}
@@ -45,11 +44,12 @@ use Rattle.std.specs.Result.{result_ok}
 use Rattle.btr_check.specs.Data.{is_readable, data_lost, data_findings, sum_runs, ReadsBy, unread_stop}
 use Rattle.btr_check.specs.Trees.{tree_of}
 use Rattle.btr_refs.proofs.Adding.{adds_as, adds_more}
-use Rattle.btr_refs.specs.Findings.{Adds, found, unless}
+use Rattle.btr_refs.specs.Findings.{Adds, found, unless, FoundSet}
 use Rattle.btr_refs.specs.declared.finding.Finding.{Finding}
 use Rattle.std.proofs.lemmas.List.FromFn.{length-map-range_with_len, get_or-map-range_with_len}
 use Rattle.btr_sums.specs.Ranks.{run_end}
-use Rattle.btr_sums.specs.Sums.{sectors, run_sectors}
+use Rattle.btr_refs.specs.Sectors.{sectors}
+use Rattle.btr_sums.specs.Sums.{run_sectors}
 use Rattle.std.proofs.lemmas.List.{take_all}
 use Rattle.std.specs.Option.{option_to_list}
 use Rattle.btr_check.specs.Filesystem.{Filesystem, kind_of_sums, tree_items}
@@ -186,7 +186,7 @@ then_read fs sums sector want (Ok can) by is = is ∙ sym by
 then_read fs sums sector want (Err stop) by is = is
 
 -- the finding on a sector
-pub sector_adds : (fs : Filesystem) (sums : Option TreeRoot) (sector : ℕ) (can : Bool) (row : Finding) (old new : BTreeSet Finding) → row ≡ found 31 (sector ∷ []) → Adds (option_to_list (unless can row)) old new → can ≡ is_readable fs sums sector → Adds (option_to_list (data_lost fs sums sector)) old new
+pub sector_adds : (fs : Filesystem) (sums : Option TreeRoot) (sector : ℕ) (can : Bool) (row : Finding) (old new : FoundSet) → row ≡ found 31 (sector ∷ []) → Adds (option_to_list (unless can row)) old new → can ≡ is_readable fs sums sector → Adds (option_to_list (data_lost fs sums sector)) old new
 sector_adds fs sums sector can row old new same adds is =
     adds_as (option_to_list (unless can row)) (option_to_list (data_lost fs sums sector)) old new (ap (λ f. option_to_list (unless can f)) same ∙ ap (λ b. option_to_list (unless b (found 31 (sector ∷ [])))) is) adds
 
@@ -197,7 +197,7 @@ sector_at : (start count i : ℕ) → i < count → get_or (sectors start count)
 sector_at start count i below = get_or-map-range_with_len (λ i. start + i * 4096) 0 count i i 0 below (omega arith)
 
 -- the sectors of a run, one more
-pub run_more : (fs : Filesystem) (sums : Option TreeRoot) (run : SumRun) (i : ℕ) (sector : ℕ) (a b c : BTreeSet Finding) → i < run.count → sector ≡ run.start + i * 4096
+pub run_more : (fs : Filesystem) (sums : Option TreeRoot) (run : SumRun) (i : ℕ) (sector : ℕ) (a b c : FoundSet) → i < run.count → sector ≡ run.start + i * 4096
     → Adds (filter_map (data_lost fs sums) (take i (run_sectors run))) a b → Adds (option_to_list (data_lost fs sums sector)) b c → Adds (filter_map (data_lost fs sums) (take (i + 1) (run_sectors run))) a c
 run_more fs sums run i sector a b c below is before here =
     let long : length (run_sectors run) ≡ run.count = sectors_long run.start run.count in
@@ -205,7 +205,7 @@ run_more fs sums run i sector a b c below is before here =
     adds_more (data_lost fs sums) (run_sectors run) i 0 a b c (omega (arith, long, below)) before
     (adds_as (option_to_list (data_lost fs sums sector)) (option_to_list (data_lost fs sums (get_or (run_sectors run) i 0))) b c (ap (λ s. option_to_list (data_lost fs sums s)) (is ∙ sym at)) here)
 
-pub run_all : (fs : Filesystem) (sums : Option TreeRoot) (run : SumRun) (i : ℕ) (a b : BTreeSet Finding) → run.count ≤ i → Adds (filter_map (data_lost fs sums) (take i (run_sectors run))) a b → Adds (filter_map (data_lost fs sums) (run_sectors run)) a b
+pub run_all : (fs : Filesystem) (sums : Option TreeRoot) (run : SumRun) (i : ℕ) (a b : FoundSet) → run.count ≤ i → Adds (filter_map (data_lost fs sums) (take i (run_sectors run))) a b → Adds (filter_map (data_lost fs sums) (run_sectors run)) a b
 run_all fs sums run i a b end h =
     let long : length (run_sectors run) ≡ run.count = sectors_long run.start run.count in
     adds_as (filter_map (data_lost fs sums) (take i (run_sectors run))) (filter_map (data_lost fs sums) (run_sectors run)) a b (ap (filter_map (data_lost fs sums)) (take_all i (run_sectors run) (omega (arith, long, end)))) h
@@ -230,7 +230,7 @@ rows_of rule make [] = refl
 rows_of rule make (x ∷ xs) = ap (λ l. filter_map rule (make x) ++ l) (rows_of rule make xs) ∙ sym (filter_map-append rule (make x) (flat_map make xs))
 
 -- all runs of the checksum tree
-pub data_all : (fs : Filesystem) (sums : Option TreeRoot) (list : List SumRun) (i : ℕ) (a b : BTreeSet Finding) → length list ≤ i → list ≡ sum_runs fs → sums ≡ tree_of fs.sup fs.blocks 7 → Adds (flat_map (run_findings fs sums) (take i list)) a b → Adds (data_findings fs) a b
+pub data_all : (fs : Filesystem) (sums : Option TreeRoot) (list : List SumRun) (i : ℕ) (a b : FoundSet) → length list ≤ i → list ≡ sum_runs fs → sums ≡ tree_of fs.sup fs.blocks 7 → Adds (flat_map (run_findings fs sums) (take i list)) a b → Adds (data_findings fs) a b
 data_all fs sums list i a b end is tree h =
     adds_as (flat_map (run_findings fs sums) (take i list)) (data_findings fs) a b
     (ap (flat_map (run_findings fs sums)) (take_all i list end) ∙ rows_of (data_lost fs sums) run_sectors list ∙ ap (λ l. filter_map (data_lost fs sums) (flat_map run_sectors l)) is ∙ ap (λ t. filter_map (data_lost fs t) (flat_map run_sectors (sum_runs fs))) tree) h

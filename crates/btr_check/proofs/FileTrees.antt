@@ -2,8 +2,8 @@
 use Rattle.std.proofs.Common.{◌≡◌, ℕ, Bool, true, false, cond, map, filter_map, ◌+◌, ◌<◌, ◌≤◌, List, [], ◌∷◌, ◌++◌, length, take, get_or, filter, flat_map, fold, Result, Ok, Err, refl, sym, ap, ◌∙◌, subst, append_assoc, append-nil}
 use Rattle.std.proofs.lemmas.Grind.{flat_map-append}
 use Rattle.std.proofs.lemmas.List.{take_more, take_all}
-use Rattle.std.specs.BTreeSet.{BTreeSet}
 use Rattle.btr_base.specs.declared.memory.Memory.{Memory}
+use Rattle.btr_chunk.specs.declared.chunk.Chunk.{Chunk}
 use Rattle.btr_items.specs.declared.sum_run.SumRun.{SumRun}
 use Rattle.btr_names.specs.Names.{Names, NamesLaw, no_names, names_step, names_findings}
 use Rattle.btr_names.specs.Subvolumes.{Subvolumes, leads_to_root, name_at, subvolumes_at, subvolumes_in, subvolume_findings}
@@ -11,7 +11,7 @@ use Rattle.btr_names.specs.Unpaired.{UnpairedLaw, are_paired, nothing_unpaired, 
 use Rattle.btr_names.specs.declared.unpaired.Unpaired.{Unpaired}
 use Rattle.btr_refs.proofs.Adding.{adds_none, adds_as, adds_then}
 use Rattle.btr_refs.specs.declared.finding.Finding.{Finding}
-use Rattle.btr_refs.specs.Findings.{Adds}
+use Rattle.btr_refs.specs.Findings.{Adds, FoundSet}
 use Rattle.btr_sums.specs.Items.{UsesMet, KeepsUses, uses_step, loose_in, used_in}
 use Rattle.btr_sums.specs.Sums.{tree_missing}
 use Rattle.btr_tour.specs.Tour.{Mark, whole}
@@ -69,49 +69,49 @@ module _ (B : Map) where
   pub all_names_met : NamesLaw → (tree : TreeRoot) (none all : Names) → none ≡ no_names tree.id tree.dirid → all ≡ fold names_step none (whole B tree.place) → all ≡ names_of B tree
   all_names_met names tree none all empty is = is ∙ ap (λ n. fold names_step n (whole B tree.place)) empty ∙ names tree.id tree.dirid (whole B tree.place)
 
-  pub treats_names : (tree : TreeRoot) (all : Names) (a b : BTreeSet Finding) (names names' : Subvolumes) → all ≡ names_of B tree → Adds (names_findings all) a b → names' ≡ subvolumes_at names all.tree all.indexed → TreatsNames B tree a b names names'
+  pub treats_names : (tree : TreeRoot) (all : Names) (a b : FoundSet) (names names' : Subvolumes) → all ≡ names_of B tree → Adds (names_findings all) a b → names' ≡ subvolumes_at names all.tree all.indexed → TreatsNames B tree a b names names'
   treats_names tree all a b names names' is adds at = record {
     found = adds_as (names_findings all) (names_findings (names_of B tree)) a b (ap names_findings is) adds;
     entries = at ∙ ap (λ (n : Names). subvolumes_at names n.tree n.indexed) is;
   }
 
-  module _ (runs : List SumRun) where
-    pub treats_none : (set : BTreeSet Finding) (names : Subvolumes) → Treats B runs [] set set names names
+  module _ (chunks : List Chunk) (runs : List SumRun) where
+    pub treats_none : (set : FoundSet) (names : Subvolumes) → Treats B chunks runs [] set set names names
     treats_none set names = record {
       found = adds_none set;
       entries = λ i. record { refs = names.refs; backrefs = names.backrefs; entries = sym (append-nil names.entries) i };
     }
 
     -- what is missing of checksums
-    missing_added : (tree : TreeRoot) (met : FileTree) (a b : BTreeSet Finding) → IsMetOf tree met → Adds (tree_missing runs tree.id met.uses.loose met.uses.used) a b → Adds (missing_findings B runs tree) a b
-    missing_added tree met a b is adds = adds_as (tree_missing runs tree.id met.uses.loose met.uses.used) (missing_findings B runs tree) a b (ap (λ (u : UsesMet). tree_missing runs tree.id u.loose u.used) is.uses) adds
+    missing_added : (tree : TreeRoot) (met : FileTree) (a b : FoundSet) → IsMetOf tree met → Adds (tree_missing chunks runs tree.id met.uses.loose met.uses.used) a b → Adds (missing_findings B chunks runs tree) a b
+    missing_added tree met a b is adds = adds_as (tree_missing chunks runs tree.id met.uses.loose met.uses.used) (missing_findings B chunks runs tree) a b (ap (λ (u : UsesMet). tree_missing chunks runs tree.id u.loose u.used) is.uses) adds
 
     -- a tree whose names are all paired
-    pub treats_paired : (tree : TreeRoot) (met : FileTree) (a b : BTreeSet Finding) (names names' : Subvolumes) → IsMetOf tree met → are_paired met.names ≡ true → Adds (tree_missing runs tree.id met.uses.loose met.uses.used) a b
-        → names' ≡ subvolumes_at names tree.id met.names.subvolumes → Treats B runs (tree ∷ []) a b names names'
+    pub treats_paired : (tree : TreeRoot) (met : FileTree) (a b : FoundSet) (names names' : Subvolumes) → IsMetOf tree met → are_paired met.names ≡ true → Adds (tree_missing chunks runs tree.id met.uses.loose met.uses.used) a b
+        → names' ≡ subvolumes_at names tree.id met.names.subvolumes → Treats B chunks runs (tree ∷ []) a b names names'
     treats_paired tree met a b names names' is paired adds at =
-        let missing : List Finding = missing_findings B runs tree in
+        let missing : List Finding = missing_findings B chunks runs tree in
         let nothing = is.sound paired in
         record {
-          found = adds_as missing (flat_map (file_tree_findings B runs) (tree ∷ [])) a b
-              (sym (append-nil (missing_findings B runs tree)) ∙ ap (λ l. missing_findings B runs tree ++ l) (sym nothing) ∙ sym (append-nil (file_tree_findings B runs tree))) (missing_added tree met a b is adds);
+          found = adds_as missing (flat_map (file_tree_findings B chunks runs) (tree ∷ [])) a b
+              (sym (append-nil (missing_findings B chunks runs tree)) ∙ ap (λ l. missing_findings B chunks runs tree ++ l) (sym nothing) ∙ sym (append-nil (file_tree_findings B chunks runs tree))) (missing_added tree met a b is adds);
           entries = at ∙ ap (λ l. subvolumes_at names tree.id l) is.subvolumes
               ∙ ap (λ l. with_entries names (map (name_at tree.id) l)) (filter_twice leads_to_root (names_of B tree).indexed)
               ∙ ap (with_entries names) (sym (append-nil (root_entries B tree)));
         }
 
     -- .. and one whose names were all looked at
-    pub treats_looked : (tree : TreeRoot) (met : FileTree) (a b c : BTreeSet Finding) (names names' names'' : Subvolumes) → IsMetOf tree met → Adds (tree_missing runs tree.id met.uses.loose met.uses.used) a b → names' ≡ names
-        → TreatsNames B tree b c names' names'' → Treats B runs (tree ∷ []) a c names names''
+    pub treats_looked : (tree : TreeRoot) (met : FileTree) (a b c : FoundSet) (names names' names'' : Subvolumes) → IsMetOf tree met → Adds (tree_missing chunks runs tree.id met.uses.loose met.uses.used) a b → names' ≡ names
+        → TreatsNames B tree b c names' names'' → Treats B chunks runs (tree ∷ []) a c names names''
     treats_looked tree met a b c names names' names'' is adds same treats = record {
-      found = adds_as (missing_findings B runs tree ++ names_findings (names_of B tree)) (flat_map (file_tree_findings B runs) (tree ∷ [])) a c (sym (append-nil (file_tree_findings B runs tree)))
-          (adds_then (missing_findings B runs tree) (names_findings (names_of B tree)) a b c (missing_added tree met a b is adds) treats.found);
+      found = adds_as (missing_findings B chunks runs tree ++ names_findings (names_of B tree)) (flat_map (file_tree_findings B chunks runs) (tree ∷ [])) a c (sym (append-nil (file_tree_findings B chunks runs tree)))
+          (adds_then (missing_findings B chunks runs tree) (names_findings (names_of B tree)) a b c (missing_added tree met a b is adds) treats.found);
       entries = treats.entries ∙ ap (λ n. subvolumes_at n tree.id (names_of B tree).indexed) same ∙ ap (with_entries names) (sym (append-nil (root_entries B tree)));
     }
 
-    pub treats_then : (xs ys : List TreeRoot) (a b c : BTreeSet Finding) (m n o : Subvolumes) → Treats B runs xs a b m n → Treats B runs ys b c n o → Treats B runs (xs ++ ys) a c m o
+    pub treats_then : (xs ys : List TreeRoot) (a b c : FoundSet) (m n o : Subvolumes) → Treats B chunks runs xs a b m n → Treats B chunks runs ys b c n o → Treats B chunks runs (xs ++ ys) a c m o
     treats_then xs ys a b c m n o one two =
-        let f = file_tree_findings B runs in
+        let f = file_tree_findings B chunks runs in
         let g = root_entries B in
         record {
           found = adds_as (flat_map f xs ++ flat_map f ys) (flat_map f (xs ++ ys)) a c (sym (flat_map-append f xs ys)) (adds_then (flat_map f xs) (flat_map f ys) a b c one.found two.found);
@@ -121,20 +121,20 @@ module _ (B : Map) where
         }
 
     -- the first trees of a list, one more
-    pub treats_next : (trees : List TreeRoot) (i : ℕ) (d : TreeRoot) (a b c : BTreeSet Finding) (m n o : Subvolumes) → i < length trees → Treats B runs (take i trees) a b m n → Treats B runs (get_or trees i d ∷ []) b c n o
-        → Treats B runs (take (i + 1) trees) a c m o
+    pub treats_next : (trees : List TreeRoot) (i : ℕ) (d : TreeRoot) (a b c : FoundSet) (m n o : Subvolumes) → i < length trees → Treats B chunks runs (take i trees) a b m n → Treats B chunks runs (get_or trees i d ∷ []) b c n o
+        → Treats B chunks runs (take (i + 1) trees) a c m o
     treats_next trees i d a b c m n o below before here =
-        subst (λ l. Treats B runs l a c m o) (sym (take_more trees i d below)) (treats_then (take i trees) (get_or trees i d ∷ []) a b c m n o before here)
+        subst (λ l. Treats B chunks runs l a c m o) (sym (take_more trees i d below)) (treats_then (take i trees) (get_or trees i d ∷ []) a b c m n o before here)
 
     -- and all of them
-    pub treats_all : (trees : List TreeRoot) (i : ℕ) (a b : BTreeSet Finding) (m n : Subvolumes) → length trees ≤ i → Treats B runs (take i trees) a b m n → Treats B runs trees a b m n
-    treats_all trees i a b m n long h = subst (λ l. Treats B runs l a b m n) (take_all i trees long) h
+    pub treats_all : (trees : List TreeRoot) (i : ℕ) (a b : FoundSet) (m n : Subvolumes) → length trees ≤ i → Treats B chunks runs (take i trees) a b m n → Treats B chunks runs trees a b m n
+    treats_all trees i a b m n long h = subst (λ l. Treats B chunks runs l a b m n) (take_all i trees long) h
 
 -- trees of files were treated, and then the names of subvolumes
-pub files_put : (fs : Filesystem) (trees files : List TreeRoot) (a b c : BTreeSet Finding) (names names' : Subvolumes) → Lists trees fs → files ≡ filter (λ tree. is_file_tree tree.id) trees → names ≡ subvolumes_in (root_items fs) []
-    → Treats fs.blocks (sum_runs fs) files a b names names' → Adds (subvolume_findings names') b c → Adds (found_on_files fs) a c
+pub files_put : (fs : Filesystem) (trees files : List TreeRoot) (a b c : FoundSet) (names names' : Subvolumes) → Lists trees fs → files ≡ filter (λ tree. is_file_tree tree.id) trees → names ≡ subvolumes_in (root_items fs) []
+    → Treats fs.blocks fs.chunks (sum_runs fs) files a b names names' → Adds (subvolume_findings names') b c → Adds (found_on_files fs) a c
 files_put fs trees files a b c names names' lists are begun treats adds =
-    let f = file_tree_findings fs.blocks (sum_runs fs) in
+    let f = file_tree_findings fs.blocks fs.chunks (sum_runs fs) in
     let all : files ≡ file_trees fs = are ∙ ap (filter (λ (tree : TreeRoot). is_file_tree tree.id)) lists in
     let same : names' ≡ subvolumes fs = treats.entries ∙ ap (λ n. with_entries n (flat_map (root_entries fs.blocks) files)) begun ∙ ap (λ l. subvolumes_in (root_items fs) (flat_map (root_entries fs.blocks) l)) all in
     adds_as (flat_map f files ++ subvolume_findings names') (found_on_files fs) a c (λ i. flat_map f (all i) ++ subvolume_findings (same i))

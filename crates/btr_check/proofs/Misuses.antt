@@ -1,10 +1,9 @@
 -- What is wrong with extents by all uses is what is wrong by those that are kept.
 use Rattle.std.proofs.Common.{◌≡◌, ℕ, Bool, true, false, ◌&&◌, ◌||◌, List, [], ◌∷◌, flat_map, if◌then◌else◌, eqb, refl, sym, ap, ◌∙◌}
 use Rattle.std.proofs.lemmas.List.Folds.{list_any-append}
-use Rattle.std.specs.BTreeSet.{BTreeSet}
 use Rattle.std.specs.List.{list_any}
 use Rattle.btr_refs.proofs.Used.{used_any}
-use Rattle.btr_refs.specs.Findings.{Adds, has, is_one_of, is_same}
+use Rattle.btr_refs.specs.Findings.{Adds, has, is_one_of, is_same, FoundSet}
 use Rattle.btr_refs.specs.Forward.{AreUsedBy, Use, no_uses, used_by}
 use Rattle.btr_refs.specs.declared.extent.Extent.{Extent}
 use Rattle.btr_refs.specs.declared.finding.Finding.{Finding}
@@ -47,7 +46,7 @@ module _ (nodesize : ℕ) (extent : Extent) (uses : List Use) (used : UsedExtent
       ∙ sym (any_of (misused_by nodesize extent) one uses)
 
   -- by the uses as tree blocks, and then by those as data
-  pub misused_all : (a b c : BTreeSet Finding) (blocks : List BlockUse) (datas : List DataUse)
+  pub misused_all : (a b c : FoundSet) (blocks : List BlockUse) (datas : List DataUse)
       → ((one : Finding) → list_any (is_by_block nodesize extent one) blocks ≡ list_any (is_by_block nodesize extent one) used.tree_blocks.keys)
       → ((one : Finding) → list_any (is_by_data nodesize extent one) datas ≡ list_any (is_by_data nodesize extent one) used.data_extents.keys)
       → ((one : Finding) → has b one ≡ (list_any (is_by_block nodesize extent one) blocks || has a one))

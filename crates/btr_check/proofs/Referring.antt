@@ -1,7 +1,6 @@
 -- Extents and uses that were read.
 use Rattle.std.proofs.Common.{◌≡◌, ℕ, Bool, true, false, ◌||◌, List, [], ◌++◌, map, flat_map, fold, None, Result, Ok, Err, OnOk, refl, sym, ap, ◌∙◌}
 use Rattle.std.proofs.lemmas.List.Folds.{list_any-append}
-use Rattle.std.specs.BTreeSet.{BTreeSet}
 use Rattle.btr_refs.proofs.Adding.{adds_as, adds_then, on_ok}
 use Rattle.btr_refs.proofs.Sets.{any-in_order}
 use Rattle.btr_refs.proofs.Used.{refs_all}
@@ -10,7 +9,7 @@ use Rattle.btr_refs.specs.declared.extent.Extent.{Extent}
 use Rattle.btr_refs.specs.declared.finding.Finding.{Finding}
 use Rattle.btr_refs.specs.Differences.{count_findings, total_findings}
 use Rattle.btr_refs.specs.Extents.{Kept, nothing_kept, extents_in, stored_in}
-use Rattle.btr_refs.specs.Findings.{Adds, has, in_order, is_one_of, is_same}
+use Rattle.btr_refs.specs.Findings.{Adds, has, in_order, is_one_of, is_same, FoundSet}
 use Rattle.btr_refs.specs.Forward.{AreUsedBy, Use, Uses, no_uses, with_use, root_use, used_by}
 use Rattle.btr_refs.specs.declared.uses.UsedExtents.{UsedExtents}
 use Rattle.btr_tour.specs.Tour.{Reached, whole, blocks_met}
@@ -46,7 +45,7 @@ refs_of fs stored kept is same full = record {
 }
 
 -- what its extents state differs from what it stores by these findings
-pub totals_put : (fs : Filesystem) (stored : Kept) (a b : BTreeSet Finding) → IsStoredOf fs stored → Adds (total_findings stored.extents stored.refs) a b → Adds (found_on_totals fs) a b
+pub totals_put : (fs : Filesystem) (stored : Kept) (a b : FoundSet) → IsStoredOf fs stored → Adds (total_findings stored.extents stored.refs) a b → Adds (found_on_totals fs) a b
 totals_put fs stored a b is =
     adds_as (total_findings stored.extents stored.refs) (found_on_totals fs) a b (ap (λ l. total_findings l stored.refs) is.extents ∙ ap (total_findings (words.extents fs)) is.refs)
 
@@ -75,7 +74,7 @@ used_extents uses forward used is blocks_are data_are = record {
 }
 
 -- what was counted differs from what is stored by these findings
-pub counts_put : (fs : Filesystem) (forward : Uses) (stored : StoredRefs) (a b : BTreeSet Finding) → forward ≡ used_by (all_uses fs) → AreRefsOf fs stored → Adds (count_findings forward.refs stored.refs.entries) a b → Adds (found_on_counts fs) a b
+pub counts_put : (fs : Filesystem) (forward : Uses) (stored : StoredRefs) (a b : FoundSet) → forward ≡ used_by (all_uses fs) → AreRefsOf fs stored → Adds (count_findings forward.refs stored.refs.entries) a b → Adds (found_on_counts fs) a b
 counts_put fs forward stored a b is kept =
     adds_as (count_findings forward.refs stored.refs.entries) (found_on_counts fs) a b
     (ap (λ refs. count_findings refs stored.refs.entries) (ap (λ (u : Uses). u.refs) is ∙ refs_all (all_uses fs) no_uses) ∙ ap (count_findings (counted_refs fs)) kept.refs)
@@ -85,13 +84,13 @@ or_assoc true b c = refl
 or_assoc false b c = refl
 
 -- some findings behind others are all of them, in whatever order
-pub adds_in_order : (xs ys : List Finding) (a b c : BTreeSet Finding) → Adds ys a b → Adds xs b c → Adds (in_order (xs ++ ys)) a c
+pub adds_in_order : (xs ys : List Finding) (a b c : FoundSet) → Adds ys a b → Adds xs b c → Adds (in_order (xs ++ ys)) a c
 adds_in_order xs ys a b c first second one =
     second one ∙ ap (λ r. is_one_of xs one || r) (first one) ∙ or_assoc (is_one_of xs one) (is_one_of ys one) (has a one)
     ∙ ap (λ r. r || has a one) (sym (any-in_order (xs ++ ys) one ∙ list_any-append (is_same one) xs ys))
 
 -- what is wrong with the extents by all that uses them was put behind the differences
-pub misused_put : (fs : Filesystem) (size : ℕ) (all : List Extent) (used : UsedExtents) (a b c : BTreeSet Finding) (done : Result (Unit {0}) Memory) → size ≡ fs.sup.nodesize → all ≡ words.extents fs → AreUsed fs used → Adds (difference_findings fs) a b
+pub misused_put : (fs : Filesystem) (size : ℕ) (all : List Extent) (used : UsedExtents) (a b c : FoundSet) (done : Result (Unit {0}) Memory) → size ≡ fs.sup.nodesize → all ≡ words.extents fs → AreUsed fs used → Adds (difference_findings fs) a b
     → ((uses : List Use) → AreUsedBy uses used → OnOk done (Adds (flat_map (extent_findings size uses) all) b c)) → OnOk done (Adds (reference_findings fs) a c)
 misused_put fs size all used a b c done large are by first puts =
     let rest : List Finding = flat_map (extent_findings fs.sup.nodesize (all_uses fs)) (words.extents fs) in

@@ -1,11 +1,9 @@
 -- Block groups and devices that were collected.
 use Rattle.std.proofs.Common.{◌≡◌, ℕ, List, [], fold, filter_map, Option, Some, ap, ◌∙◌}
-use Rattle.std.specs.BTreeSet.{BTreeSet}
 use Rattle.btr_chunk.specs.declared.chunk.Chunk.{Chunk}
 use Rattle.btr_refs.proofs.Adding.{adds_as}
 use Rattle.btr_refs.specs.declared.extent.Extent.{Extent}
-use Rattle.btr_refs.specs.declared.finding.Finding.{Finding}
-use Rattle.btr_refs.specs.Findings.{Adds}
+use Rattle.btr_refs.specs.Findings.{Adds, FoundSet}
 use Rattle.btr_space.specs.Devices.{device_findings}
 use Rattle.btr_space.specs.Groups.{group_findings}
 use Rattle.btr_space.specs.Items.{with_mark, group_in, device_extent_in, device_in, groups_in, Collects}
@@ -25,7 +23,7 @@ module _ (fs : Filesystem) where
   groups_are law trees tree none met lists is empty folded =
       collected group_in law fs.blocks tree none met empty folded ∙ ap (λ t. groups_in (items_if fs.blocks t)) (is ∙ ap group_tree lists)
 
-  pub groups_put : (chunks : List Chunk) (extent_list : List Extent) (group_list : List Group) (bytes : ℕ) (a b : BTreeSet Finding) → chunks ≡ fs.chunks → extent_list ≡ extents fs → group_list ≡ groups fs → bytes ≡ fs.sup.bytes_used
+  pub groups_put : (chunks : List Chunk) (extent_list : List Extent) (group_list : List Group) (bytes : ℕ) (a b : FoundSet) → chunks ≡ fs.chunks → extent_list ≡ extents fs → group_list ≡ groups fs → bytes ≡ fs.sup.bytes_used
       → Adds (group_findings chunks extent_list group_list bytes) a b → Adds (found_on_groups fs) a b
   groups_put chunks extent_list group_list bytes a b one two three four adds =
       adds_as (group_findings chunks extent_list group_list bytes) (found_on_groups fs) a b (λ i. group_findings (one i) (two i) (three i) (four i)) adds
@@ -41,7 +39,7 @@ module _ (fs : Filesystem) where
   devices_are law tree none met is empty folded =
       collected device_in law fs.blocks (Some tree) none met empty folded ∙ ap (λ t. filter_map device_in (items_if fs.blocks (Some t))) is
 
-  pub devices_put : (chunks : List Chunk) (extent_list : List DeviceExtent) (device_list : List StatedDevice) (a b : BTreeSet Finding) → chunks ≡ fs.chunks → extent_list ≡ device_extents fs → device_list ≡ devices fs
+  pub devices_put : (chunks : List Chunk) (extent_list : List DeviceExtent) (device_list : List StatedDevice) (a b : FoundSet) → chunks ≡ fs.chunks → extent_list ≡ device_extents fs → device_list ≡ devices fs
       → Adds (device_findings chunks extent_list device_list) a b → Adds (found_on_devices fs) a b
   devices_put chunks extent_list device_list a b one two three adds =
       adds_as (device_findings chunks extent_list device_list) (found_on_devices fs) a b (λ i. device_findings (one i) (two i) (three i)) adds

@@ -1,12 +1,10 @@
 -- Runs of checksums that were collected.
 use Rattle.std.proofs.Common.{◌≡◌, List, [], fold, Option, ap, ◌∙◌}
-use Rattle.std.specs.BTreeSet.{BTreeSet}
 use Rattle.btr_base.specs.declared.kind.SumKind.{SumKind}
 use Rattle.btr_items.specs.declared.sum_run.SumRun.{SumRun}
 use Rattle.btr_refs.proofs.Adding.{adds_as}
 use Rattle.btr_refs.specs.declared.extent.Extent.{Extent}
-use Rattle.btr_refs.specs.declared.finding.Finding.{Finding}
-use Rattle.btr_refs.specs.Findings.{Adds}
+use Rattle.btr_refs.specs.Findings.{Adds, FoundSet}
 use Rattle.btr_sums.specs.Items.{RunsMet, KeepsRuns, runs_step, runs_in}
 use Rattle.btr_sums.specs.Sums.{sum_findings}
 use Rattle.btr_volume.specs.declared.root.TreeRoot.{TreeRoot}
@@ -24,5 +22,5 @@ module _ (fs : Filesystem) where
       ap (λ (m : RunsMet). m.runs) (folded ∙ ap (λ n. fold runs_step n (marks_if fs.blocks tree)) (empty ∙ (λ i. record { kind = same i; runs = [] })) ∙ law (kind_of_sums fs) (marks_if fs.blocks tree))
       ∙ ap (runs_in (kind_of_sums fs)) (marks_items fs.blocks tree) ∙ ap (λ t. runs_in (kind_of_sums fs) (items_if fs.blocks t)) (is ∙ ap (last_of 7) lists)
 
-  pub sums_put : (run_list : List SumRun) (extent_list : List Extent) (a b : BTreeSet Finding) → run_list ≡ sum_runs fs → extent_list ≡ extents fs → Adds (sum_findings run_list extent_list) a b → Adds (found_on_sums fs) a b
+  pub sums_put : (run_list : List SumRun) (extent_list : List Extent) (a b : FoundSet) → run_list ≡ sum_runs fs → extent_list ≡ extents fs → Adds (sum_findings run_list extent_list) a b → Adds (found_on_sums fs) a b
   sums_put run_list extent_list a b one two adds = adds_as (sum_findings run_list extent_list) (found_on_sums fs) a b (λ i. sum_findings (one i) (two i)) adds

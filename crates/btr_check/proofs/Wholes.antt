@@ -1,12 +1,11 @@
 -- All findings, as a set.
 use Rattle.std.proofs.Common.{◌≡◌, Bool, true, false, List, [], ◌∷◌, ◌++◌, Option, None, Some, flat_map, refl, sym, ap, ◌∙◌}
 use Rattle.std.specs.Borrow.{Bor}
-use Rattle.std.specs.BTreeSet.{BTreeSet}
 use Rattle.std.specs.Option.{option_copied}
 use Rattle.btr_files.specs.Sums.{tree_behind}
 use Rattle.btr_refs.proofs.Adding.{adds_as, adds_just}
 use Rattle.btr_refs.specs.declared.finding.Finding.{Finding}
-use Rattle.btr_refs.specs.Findings.{Adds, HasJust, has, in_order}
+use Rattle.btr_refs.specs.Findings.{Adds, HasJust, has, in_order, FoundSet}
 use Rattle.btr_volume.specs.declared.root.TreeRoot.{TreeRoot}
 use Rattle.btr_check.specs.Filesystem.{Filesystem}
 use Rattle.btr_check.specs.Findings.{all_findings, findings, or_rules, rule_findings}
@@ -40,12 +39,12 @@ module _ (fs : Filesystem) (listed_trees all : List TreeRoot) (lists : Lists lis
   }
 
   -- then all findings are those on what the trees say
-  pub rules_just : (read_data : Bool) (walk : WalkSeen) (old new : BTreeSet Finding) → ((one : Finding) → has old one ≡ false) → IsWalked listed_trees all walk fs → Adds (rule_findings read_data fs) old new → HasJust (all_findings read_data fs) new
+  pub rules_just : (read_data : Bool) (walk : WalkSeen) (old new : FoundSet) → ((one : Finding) → has old one ≡ false) → IsWalked listed_trees all walk fs → Adds (rule_findings read_data fs) old new → HasJust (all_findings read_data fs) new
   rules_just read_data walk old new empty known adds =
       adds_just (all_findings read_data fs) old new empty (adds_as (rule_findings read_data fs) (all_findings read_data fs) old new (sym (ap (λ l. or_rules l (rule_findings read_data fs)) known.sound)) adds)
 
   -- else they are the walk's
-  pub walk_just : (read_data : Bool) (walk : WalkSeen) (old new : BTreeSet Finding) → ((one : Finding) → has old one ≡ false) → IsWalkOf fs all walk → is_nothing (walk.broken ++ walk.overlapping) ≡ false → Adds (walk.broken ++ walk.overlapping) old new
+  pub walk_just : (read_data : Bool) (walk : WalkSeen) (old new : FoundSet) → ((one : Finding) → has old one ≡ false) → IsWalkOf fs all walk → is_nothing (walk.broken ++ walk.overlapping) ≡ false → Adds (walk.broken ++ walk.overlapping) old new
       → HasJust (all_findings read_data fs) new
   walk_just read_data walk old new empty walked unsound adds =
       let same = walk_is walk walked in

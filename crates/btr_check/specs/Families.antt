@@ -61,7 +61,7 @@ module _ (fs : Filesystem) where
 
   -- 12, 15 to 23
   abbrev pub found_on_files : List Finding
-  found_on_files = flat_map (file_tree_findings fs.blocks (sum_runs fs)) (file_trees fs) ++ subvolume_findings subvolumes
+  found_on_files = flat_map (file_tree_findings fs.blocks fs.chunks (sum_runs fs)) (file_trees fs) ++ subvolume_findings subvolumes
 
   -- what is wrong with extents: 5 to 11, 13, 14, 24, 25, 28, 30
   abbrev pub found_on_extents : List Finding

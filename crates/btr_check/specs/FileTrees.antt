@@ -1,7 +1,7 @@
 -- What is met of trees of files.
 use Rattle.std.specs.Prelude.{◌≡◌, ℕ, Bool, true, false, List, [], ◌++◌, map, filter_map, flat_map, Result, IfOk}
-use Rattle.std.specs.BTreeSet.{BTreeSet}
 use Rattle.btr_base.specs.declared.memory.Memory.{Memory}
+use Rattle.btr_chunk.specs.declared.chunk.Chunk.{Chunk}
 use Rattle.btr_items.specs.declared.sum_run.SumRun.{SumRun}
 use Rattle.btr_names.specs.Entry.{Entry}
 use Rattle.btr_names.specs.Names.{Names, names_in, names_findings}
@@ -9,7 +9,7 @@ use Rattle.btr_names.specs.Subvolume.{NamedSubvolume}
 use Rattle.btr_names.specs.Subvolumes.{Subvolumes, names_at, subvolumes_at}
 use Rattle.btr_names.specs.Unpaired.{nothing_unpaired, unpaired_step}
 use Rattle.btr_refs.specs.declared.finding.Finding.{Finding}
-use Rattle.btr_refs.specs.Findings.{Adds}
+use Rattle.btr_refs.specs.Findings.{Adds, FoundSet}
 use Rattle.btr_space.specs.Cover.{HoldSame}
 use Rattle.btr_space.specs.declared.cover.Stretch.{Stretch}
 use Rattle.btr_sums.specs.Items.{uses_step, loose_in, used_in}
@@ -32,13 +32,13 @@ module _ (B : Map) where
   abbrev pub names_of : TreeRoot → Names
   names_of tree = names_in tree.id tree.dirid (items_in B tree)
 
-  -- 12: what is wrong with the sectors that its files use, where these are the checksums
-  abbrev pub missing_findings : List SumRun → TreeRoot → List Finding
-  missing_findings runs tree = tree_missing runs tree.id (filter_map loose_in (items_in B tree)) (filter_map used_in (items_in B tree))
+  -- 12: what is wrong with the sectors that its files use, where these are the chunks and the checksums
+  abbrev pub missing_findings : List Chunk → List SumRun → TreeRoot → List Finding
+  missing_findings chunks runs tree = tree_missing chunks runs tree.id (filter_map loose_in (items_in B tree)) (filter_map used_in (items_in B tree))
 
   -- 12, 15 to 22: what is wrong with a tree of files
-  abbrev pub file_tree_findings : List SumRun → TreeRoot → List Finding
-  file_tree_findings runs tree = missing_findings runs tree ++ names_findings (names_of tree)
+  abbrev pub file_tree_findings : List Chunk → List SumRun → TreeRoot → List Finding
+  file_tree_findings chunks runs tree = missing_findings chunks runs tree ++ names_findings (names_of tree)
 
   -- the entries of a tree that lead to subvolumes, as their names
   abbrev pub root_entries : TreeRoot → List NamedSubvolume
@@ -50,16 +50,16 @@ entries_if true tree entries names = subvolumes_at names tree entries
 entries_if false tree entries names = names
 
 -- by the ranges of addresses that have checksums, what is missing of those of a tree was put
-abbrev pub AddsMissing : ℕ → FileTree → List Stretch → BTreeSet Finding → BTreeSet Finding → Result Bool Memory → Type 0
-AddsMissing tree met sums old new result =
-    (runs : List SumRun) → HoldSame (map run_stretch runs) sums → IfOk result (λ paired. Adds (tree_missing runs tree met.uses.loose met.uses.used) old new)
+abbrev pub AddsMissing : ℕ → FileTree → List Chunk → List Stretch → FoundSet → FoundSet → Result Bool Memory → Type 0
+AddsMissing tree met chunks sums old new result =
+    (runs : List SumRun) → HoldSame (map run_stretch runs) sums → IfOk result (λ paired. Adds (tree_missing chunks runs tree met.uses.loose met.uses.used) old new)
 
 -- the entries of a tree that lead to subvolumes are kept where its names are paired
 abbrev pub KeepsEntries : ℕ → FileTree → Subvolumes → Subvolumes → Result Bool Memory → Type 0
 KeepsEntries tree met names names' result = IfOk result (λ paired. names' ≡ entries_if paired tree met.names.subvolumes names)
 
 -- the names in a tree were treated
-pub record TreatsNames (B : Map) (tree : TreeRoot) (old new : BTreeSet Finding) (names names' : Subvolumes) : Type 0 where
+pub record TreatsNames (B : Map) (tree : TreeRoot) (old new : FoundSet) (names names' : Subvolumes) : Type 0 where
   pub found : Adds (names_findings (names_of B tree)) old new
   pub entries : names' ≡ subvolumes_at names tree.id (names_of B tree).indexed
 
@@ -68,6 +68,6 @@ abbrev pub with_entries : Subvolumes → List NamedSubvolume → Subvolumes
 with_entries names entries = record { refs = names.refs; backrefs = names.backrefs; entries = names.entries ++ entries }
 
 -- trees of files were treated: what is wrong with them was put into a set, and their names of subvolumes were kept
-pub record Treats (B : Map) (runs : List SumRun) (trees : List TreeRoot) (old new : BTreeSet Finding) (names names' : Subvolumes) : Type 0 where
-  pub found : Adds (flat_map (file_tree_findings B runs) trees) old new
+pub record Treats (B : Map) (chunks : List Chunk) (runs : List SumRun) (trees : List TreeRoot) (old new : FoundSet) (names names' : Subvolumes) : Type 0 where
+  pub found : Adds (flat_map (file_tree_findings B chunks runs) trees) old new
   pub entries : names' ≡ with_entries names (flat_map (root_entries B) trees)

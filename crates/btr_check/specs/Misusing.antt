@@ -1,13 +1,12 @@
 -- Extents that are others than what uses them: one use after another.
 use Rattle.std.specs.Prelude.{◌≡◌, ℕ, ◌==◌, ◌&&◌, ◌||◌, Bool, List, flat_map, Result, OnOk}
-use Rattle.std.specs.BTreeSet.{BTreeSet}
 use Rattle.std.specs.List.{list_any}
 use Rattle.btr_base.specs.declared.memory.Memory.{Memory}
 use Rattle.btr_refs.specs.declared.extent.Extent.{Extent}
 use Rattle.btr_refs.specs.declared.finding.Finding.{Finding}
 use Rattle.btr_refs.specs.declared.uses.BlockUse.{BlockUse}
 use Rattle.btr_refs.specs.declared.uses.DataUse.{DataUse}
-use Rattle.btr_refs.specs.Findings.{Adds, has, is_one_of}
+use Rattle.btr_refs.specs.Findings.{Adds, has, is_one_of, FoundSet}
 use Rattle.btr_refs.specs.Forward.{AreUsedBy, Used, TreeBlock, Data, Use}
 use Rattle.btr_refs.specs.declared.uses.UsedExtents.{UsedExtents}
 use Rattle.btr_check.specs.Uses.{extent_findings, misused}
@@ -42,9 +41,9 @@ abbrev pub HasDataAt : ℕ → List DataUse → List DataUse → Type 0
 HasDataAt addr some all = (p : DataUse → Bool) → list_any (λ one. (one.addr == addr) && p one) some ≡ list_any (λ one. (one.addr == addr) && p one) all
 
 -- a set has just what it had, and the findings that pass a test
-abbrev pub AddsIf : (Finding → Bool) → BTreeSet Finding → BTreeSet Finding → Type 0
+abbrev pub AddsIf : (Finding → Bool) → FoundSet → FoundSet → Type 0
 AddsIf test old new = (one : Finding) → has new one ≡ (test one || has old one)
 
 -- by the extents that some uses use, findings were put
-abbrev pub AddsByUses : UsedExtents → (List Use → List Finding) → BTreeSet Finding → BTreeSet Finding → Result (Unit {0}) Memory → Type 0
+abbrev pub AddsByUses : UsedExtents → (List Use → List Finding) → FoundSet → FoundSet → Result (Unit {0}) Memory → Type 0
 AddsByUses used findings old new result = (uses : List Use) → AreUsedBy uses used → OnOk result (Adds (findings uses) old new)

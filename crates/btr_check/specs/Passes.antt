@@ -1,10 +1,9 @@
 -- What a pass of a check does: it visits a tree, and puts what is wrong into a set of findings.
 use Rattle.std.specs.Prelude.{◌≡◌, List, [], Option, Some, None, Result, Ok, Err}
-use Rattle.std.specs.BTreeSet.{BTreeSet}
 use Rattle.btr_base.specs.declared.memory.Memory.{Memory}
 use Rattle.btr_refs.specs.declared.extent.Extent.{Extent}
 use Rattle.btr_refs.specs.declared.finding.Finding.{Finding}
-use Rattle.btr_refs.specs.Findings.{Adds}
+use Rattle.btr_refs.specs.Findings.{Adds, FoundSet}
 use Rattle.btr_refs.specs.Forward.{AreUsedBy}
 use Rattle.btr_refs.specs.declared.uses.UsedExtents.{UsedExtents}
 use Rattle.btr_tour.specs.Tour.{Mark, whole}
@@ -67,9 +66,9 @@ pub record IsWalked (listed_trees all_trees : List TreeRoot) (walk : WalkSeen) (
   pub sound : walk_findings fs ≡ []
 
 -- where something is known of a filesystem, some findings were put into a set, unless a block could not be read or there was no memory
-abbrev pub Puts : (Filesystem → Type 0) → (Filesystem → List Finding) → BTreeSet Finding → BTreeSet Finding → Result (Unit {0}) Stop → Filesystem → Type 0
+abbrev pub Puts : (Filesystem → Type 0) → (Filesystem → List Finding) → FoundSet → FoundSet → Result (Unit {0}) Stop → Filesystem → Type 0
 Puts Known found old new result fs = Known fs → Unless (λ u. Adds (found fs) old new) result
 
 -- the same of a call that answers a value
-abbrev pub PutsAnd : {A : Type 0} → (Filesystem → Type 0) → (Filesystem → A → Type 0) → (Filesystem → List Finding) → BTreeSet Finding → BTreeSet Finding → Result A Stop → Filesystem → Type 0
+abbrev pub PutsAnd : {A : Type 0} → (Filesystem → Type 0) → (Filesystem → A → Type 0) → (Filesystem → List Finding) → FoundSet → FoundSet → Result A Stop → Filesystem → Type 0
 PutsAnd Known Is found old new result fs = Known fs → Unless (λ a. Is fs a × Adds (found fs) old new) result

@@ -4,11 +4,10 @@ ghost use Rattle.btr_refs.specs.Findings.{Adds};
 
 use crate::walk::Walk;
 use btr_base::Memory;
-use btr_refs::{Finding, put_unless};
-use std::collections::BTreeSet;
+use btr_refs::{Finding, Found, put_unless};
 
 /// Puts findings into a set. `Memory`: there is no memory; then nothing is said of the set.
-pub(crate) fn put_all(found: &mut BTreeSet<Finding>, list: &[Finding]) -> Result<(), Memory>
+pub(crate) fn put_all(found: &mut Found, list: &[Finding]) -> Result<(), Memory>
     ensures { OnOk result (Adds list.now found.old found.new) }
 {
     for finding in list {
@@ -18,7 +17,7 @@ pub(crate) fn put_all(found: &mut BTreeSet<Finding>, list: &[Finding]) -> Result
 }
 
 /// Puts all that was found on a walk into a set, kinds 1 to 4. `Memory`: there is no memory; then nothing is said of the set.
-pub fn put_walk_findings(found: &mut BTreeSet<Finding>, walk: &Walk) -> Result<(), Memory>
+pub fn put_walk_findings(found: &mut Found, walk: &Walk) -> Result<(), Memory>
     ensures { OnOk result (Adds (walk.now.broken ++ walk.now.overlapping) found.old found.new) }
 {
     put_all(found, walk.broken())?;

@@ -18,16 +18,15 @@ use crate::walk::Walk;
 use crate::{all_trees, put_walk_findings, read_trees, walk_trees};
 use btr_base::Memory;
 use btr_rack::Rack;
-use btr_refs::{Finding, listed};
+use btr_refs::{Findings, Found};
 use btr_sums::{Runs, sum_cover};
 use btr_volume::{Stop, TreeRoot, Volume};
 use std::alloc::Global;
-use std::collections::BTreeSet;
 
 // Puts what is wrong with extents, kinds 5 to 11, 13, 14, 24, 25, 28 and 30, and answers the runs of checksums.
 fn put_extents<R: Rack>(
     alloc: Global,
-    found: &mut BTreeSet<Finding>,
+    found: &mut Found,
     listed: &[TreeRoot],
     trees: &[TreeRoot],
     walk: Walk,
@@ -54,7 +53,7 @@ fn put_extents<R: Rack>(
 // Puts what is lost of the data, where data is read.
 fn put_data_if<R: Rack>(
     read_data: bool,
-    found: &mut BTreeSet<Finding>,
+    found: &mut Found,
     listed: &[TreeRoot],
     runs: &Runs,
     rack: &mut R,
@@ -77,7 +76,7 @@ fn put_data_if<R: Rack>(
 fn put_contents<R: Rack>(
     alloc: Global,
     read_data: bool,
-    found: &mut BTreeSet<Finding>,
+    found: &mut Found,
     listed: &[TreeRoot],
     runs: Runs,
     rack: &mut R,
@@ -102,7 +101,7 @@ fn put_contents<R: Rack>(
 fn put_rules<R: Rack>(
     alloc: Global,
     read_data: bool,
-    found: &mut BTreeSet<Finding>,
+    found: &mut Found,
     listed: &[TreeRoot],
     trees: &[TreeRoot],
     walk: Walk,
@@ -130,7 +129,7 @@ fn find_all<R: Rack>(
     listed: &[TreeRoot],
     rack: &mut R,
     vol: &mut Volume,
-) -> Result<BTreeSet<Finding>, Stop>
+) -> Result<Found, Stop>
     requires ready { IsReady (world (R.seen rack.old) vol.old) }
     ensures ran { Ran (λ fs. Lists listed.now fs → Unless (HasJust (all_findings read_data fs)) result)
         (world (R.seen rack.old) vol.old) (world (R.seen rack.new) vol.new) result }
@@ -144,7 +143,7 @@ fn find_all<R: Rack>(
         Ok(walk) => walk,
         Err(stop) => return Err(stop),
     };
-    let mut found = BTreeSet::new(alloc);
+    let mut found = Found::new(alloc);
     if walk.is_sound() {
         match put_rules(alloc, read_data, &mut found, listed, trees, walk, rack, vol) {
             Ok(()) => Ok(found),
@@ -158,20 +157,22 @@ fn find_all<R: Rack>(
     }
 }
 
-/// Checks a filesystem: all that is wrong with it, each finding once and in ascending order. Four slots are free. Where something is
+/// Checks a filesystem: all that is wrong with it, each finding once and in ascending order; those on sectors one behind another take the memory
+/// of one. Four slots are free. Where something is
 /// wrong with the trees themselves, kinds 1 to 4, that is all; else come the kinds 5 to 30, and 31 where `read_data` says that each
 /// sector that has a checksum is read. The trees are read several times, and nothing is written.
 ///
 /// `Tree`: a block could not be read, which is `Unread`; or the root tree itself can't be read on, as `read_trees` says, which also says when
-/// `Balance`, `Deletion` and `NoTree` come. `Memory`: there is no memory for what is kept. No other stop comes.
+/// `Balance`, `Deletion` and `NoTree` come. `Memory`: there is no memory for what is kept, or there are 2^64 findings
+/// or more. No other stop comes.
 pub fn check<R: Rack>(
     alloc: Global,
     read_data: bool,
     rack: &mut R,
     vol: &mut Volume,
-) -> Result<Vec<Finding>, Stop>
+) -> Result<Findings, Stop>
     requires ready { IsReady (world (R.seen rack.old) vol.old) }
-    ensures ran { Ran (λ fs. Answers (λ all. (refusal fs ≡ None) × (all.items ≡ findings read_data fs)) fs result)
+    ensures ran { Ran (λ fs. Answers (λ all. (refusal fs ≡ None) × (all ≡ findings read_data fs)) fs result)
         (world (R.seen rack.old) vol.old) (world (R.seen rack.new) vol.new) result }
 {
     let trees = match read_trees(alloc, rack, vol) {
@@ -182,7 +183,7 @@ pub fn check<R: Rack>(
         Ok(found) => found,
         Err(stop) => return Err(stop),
     };
-    match listed(alloc, &found) {
+    match found.list(alloc) {
         Ok(all) => Ok(all),
         Err(Memory) => Err(Stop::Memory),
     }

@@ -5,7 +5,9 @@ ghost use Rattle.btr_refs.specs.Forward.{with_use, root_use};
 ghost use Rattle.btr_check.specs.Running.{world, IsReady, Ran};
 ghost use Rattle.btr_check.specs.Counting.{BlockCounts, BlocksCount, UsesCount, IsFull};
 
+use bitflags::Flags;
 use btr_base::Memory;
+use btr_items::ExtentFlags;
 use btr_rack::Rack;
 use btr_read::{Want, fetch};
 use btr_refs::{Extent, Forward};
@@ -14,16 +16,13 @@ use btr_walk::{RootPlace, TreeFault};
 use std::alloc::Global;
 use std::collections::BTreeSet;
 
-// The flag of extents whose blocks refer by their own address.
-const FULL_BACKREF: u64 = 0x100;
-
 /// The addresses of blocks that refer by their own address, as extents say. `Memory`: there is no memory for them.
 pub(crate) fn full_backrefs(alloc: Global, extents: &[Extent]) -> Result<BTreeSet<u64>, Memory>
     ensures { IfOk result (IsFull extents.now) }
 {
     let mut full = BTreeSet::new(alloc);
     for extent in extents {
-        if extent.flags & FULL_BACKREF != 0 {
+        if extent.flags().intersects(ExtentFlags::FULL_BACKREF) {
             match full.insert(extent.addr) {
                 Ok(_) => {}
                 Err(_) => return Err(Memory),

@@ -23,12 +23,11 @@ use btr_names::{
     subvolumes_law, unpaired_law,
 };
 use btr_rack::Rack;
-use btr_refs::Finding;
+use btr_refs::{Finding, Found};
 use btr_space::Cover;
-use btr_sums::{keeps_law, put_missing_sums};
+use btr_sums::{SumPlaces, keeps_law, put_missing_sums};
 use btr_volume::{Stop, TreeRoot, Volume, named_root, root_root};
 use std::alloc::Global;
-use std::collections::BTreeSet;
 
 // The trees of files among some trees.
 fn file_trees(alloc: Global, trees: &[TreeRoot]) -> Result<Vec<TreeRoot>, Memory>
@@ -47,17 +46,24 @@ fn file_trees(alloc: Global, trees: &[TreeRoot]) -> Result<Vec<TreeRoot>, Memory
 // answer is whether they are.
 fn put_met(
     alloc: Global,
-    found: &mut BTreeSet<Finding>,
+    found: &mut Found,
     subvolumes: &mut SubvolumeNames,
     tree: u64,
     met: FileTree,
-    sums: &Cover,
+    places: &SumPlaces<'_>,
 ) -> Result<bool, Memory>
-    ensures found { AddsMissing tree met sums.now found.old found.new result }
+    ensures found { AddsMissing tree met places.now.chunks.now places.now.sums.now found.old found.new result }
     ensures paired { IfOk result (λ paired. paired ≡ are_paired met.names) }
     ensures entries { KeepsEntries tree met subvolumes.old subvolumes.new result }
 {
-    put_missing_sums(alloc, found, tree, met.uses.loose(), met.uses.used(), sums)?;
+    put_missing_sums(
+        alloc,
+        found,
+        tree,
+        met.uses.loose(),
+        met.uses.used(),
+        places,
+    )?;
     if met.names.are_paired() {
         subvolumes.take_kept(tree, &met.names)?;
         Ok(true)
@@ -69,7 +75,7 @@ fn put_met(
 // Puts what is wrong with the names in a tree of files, and keeps its names of subvolumes.
 fn put_all_names(
     alloc: Global,
-    found: &mut BTreeSet<Finding>,
+    found: &mut Found,
     subvolumes: &mut SubvolumeNames,
     all: &TreeNames,
 ) -> Result<(), Memory>
@@ -83,7 +89,7 @@ fn put_all_names(
 // Visits a tree of files once more where something is wrong with its names: all of them are kept, and what is wrong is put.
 fn put_names<R: Rack>(
     alloc: Global,
-    found: &mut BTreeSet<Finding>,
+    found: &mut Found,
     subvolumes: &mut SubvolumeNames,
     tree: &TreeRoot,
     rack: &mut R,
@@ -105,7 +111,7 @@ fn put_names<R: Rack>(
 // Visits a tree of files, puts what is wrong with it, and keeps its names of subvolumes.
 fn put_file_tree<R: Rack>(
     alloc: Global,
-    found: &mut BTreeSet<Finding>,
+    found: &mut Found,
     subvolumes: &mut SubvolumeNames,
     tree: &TreeRoot,
     sums: &Cover,
@@ -113,7 +119,7 @@ fn put_file_tree<R: Rack>(
     vol: &mut Volume,
 ) -> Result<(), Stop>
     requires ready { IsReady (world (R.seen rack.old) vol.old) }
-    ensures ran { Ran (λ fs. IsCoverOf fs sums.now → Unless (λ u. Treats fs.blocks (sum_runs fs)
+    ensures ran { Ran (λ fs. IsCoverOf fs sums.now → Unless (λ u. Treats fs.blocks fs.chunks (sum_runs fs)
         (tree.now ∷ []) found.old found.new subvolumes.old subvolumes.new) result)
         (world (R.seen rack.old) vol.old) (world (R.seen rack.new) vol.new) result }
 {
@@ -123,7 +129,9 @@ fn put_file_tree<R: Rack>(
         Ok(met) => met,
         Err(stop) => return Err(stop),
     };
-    let paired = match put_met(alloc, found, subvolumes, tree.id, met, sums) {
+    let chunks = vol.store.chunks();
+    let places = SumPlaces { chunks, sums };
+    let paired = match put_met(alloc, found, subvolumes, tree.id, met, &places) {
         Ok(paired) => paired,
         Err(Memory) => return Err(Stop::Memory),
     };
@@ -137,7 +145,7 @@ fn put_file_tree<R: Rack>(
 // The same for some trees, one after another.
 fn put_file_trees<R: Rack>(
     alloc: Global,
-    found: &mut BTreeSet<Finding>,
+    found: &mut Found,
     subvolumes: &mut SubvolumeNames,
     files: &[TreeRoot],
     sums: &Cover,
@@ -145,7 +153,7 @@ fn put_file_trees<R: Rack>(
     vol: &mut Volume,
 ) -> Result<(), Stop>
     requires ready { IsReady (world (R.seen rack.old) vol.old) }
-    ensures ran { Ran (λ fs. IsCoverOf fs sums.now → Unless (λ u. Treats fs.blocks
+    ensures ran { Ran (λ fs. IsCoverOf fs sums.now → Unless (λ u. Treats fs.blocks fs.chunks
         (sum_runs fs) files.now found.old found.new subvolumes.old subvolumes.new) result)
         (world (R.seen rack.old) vol.old) (world (R.seen rack.new) vol.new) result }
 {
@@ -179,7 +187,7 @@ fn read_subvolumes<R: Rack>(
 /// `Tree`: a block could not be read, which is `Unread`. `Memory`: there is no memory for what is kept.
 pub(crate) fn put_files<R: Rack>(
     alloc: Global,
-    found: &mut BTreeSet<Finding>,
+    found: &mut Found,
     listed: &[TreeRoot],
     sums: &Cover,
     rack: &mut R,

@@ -5,9 +5,10 @@ ghost use Rattle.btr_refs.specs.Forward.{TreeBlock, Data};
 ghost use Rattle.btr_check.specs.Misusing.{AddsByUses, AddsIf, HasBlocksAt, HasDataAt, by_blocks, by_data, is_by_block, is_by_data, misused_of};
 ghost use Rattle.btr_check.specs.Uses.{extent_findings, misused};
 
+use bitflags::Flags;
 use btr_base::Memory;
-use btr_items::ExtentItem;
-use btr_refs::{BlockUse, DataUse, Extent, Finding, UsedExtents, put_unless};
+use btr_items::ExtentFlags;
+use btr_refs::{BlockUse, DataUse, Extent, Finding, Found, UsedExtents, put_unless};
 use std::collections::BTreeSet;
 use std::collections::btree_set::Range;
 
@@ -22,15 +23,10 @@ fn row(kind: u8, extent: &Extent, stated: u64, found: u64) -> Finding
 }
 
 // What is wrong with an extent that is used as a tree block of a level.
-fn put_block_use(
-    found: &mut BTreeSet<Finding>,
-    nodesize: u64,
-    extent: &Extent,
-    level: u8,
-) -> Result<(), Memory>
+fn put_block_use(found: &mut Found, nodesize: u64, extent: &Extent, level: u8) -> Result<(), Memory>
     ensures { OnOk result (Adds (misused nodesize extent.now (TreeBlock level)) found.old found.new) }
 {
-    let is_block = extent.flags & ExtentItem::TREE_BLOCK != 0;
+    let is_block = extent.flags().intersects(ExtentFlags::TREE_BLOCK);
     put_unless(found, is_block, row(9, extent, extent.flags, 0))?;
     let is_node = extent.len == nodesize;
     put_unless(found, is_node, row(10, extent, extent.len, nodesize))?;
@@ -44,15 +40,10 @@ fn put_block_use(
 }
 
 // What is wrong with an extent that is used as data of a length.
-fn put_data_use(
-    found: &mut BTreeSet<Finding>,
-    nodesize: u64,
-    extent: &Extent,
-    len: u64,
-) -> Result<(), Memory>
+fn put_data_use(found: &mut Found, nodesize: u64, extent: &Extent, len: u64) -> Result<(), Memory>
     ensures { OnOk result (Adds (misused nodesize extent.now (Data len)) found.old found.new) }
 {
-    let is_data = extent.flags & ExtentItem::TREE_BLOCK == 0;
+    let is_data = extent.flags & ExtentFlags::TREE_BLOCK.0 == 0;
     put_unless(found, is_data, row(9, extent, extent.flags, 0))?;
     put_unless(found, extent.len == len, row(10, extent, extent.len, len))
 }
@@ -81,7 +72,7 @@ fn data_at(extents: &BTreeSet<DataUse>, addr: u64) -> Range<'_, DataUse>
 
 // What is wrong with an extent by a use as a tree block, where it is one of this extent.
 fn put_block(
-    found: &mut BTreeSet<Finding>,
+    found: &mut Found,
     nodesize: u64,
     extent: &Extent,
     block: &BlockUse,
@@ -97,7 +88,7 @@ fn put_block(
 
 // The same by some uses.
 fn put_blocks(
-    found: &mut BTreeSet<Finding>,
+    found: &mut Found,
     nodesize: u64,
     extent: &Extent,
     blocks: Range<'_, BlockUse>,
@@ -112,7 +103,7 @@ fn put_blocks(
 
 // What is wrong with an extent by a use as data, where it is one of this extent.
 fn put_data(
-    found: &mut BTreeSet<Finding>,
+    found: &mut Found,
     nodesize: u64,
     extent: &Extent,
     data_use: &DataUse,
@@ -128,7 +119,7 @@ fn put_data(
 
 // The same by some uses.
 fn put_datas(
-    found: &mut BTreeSet<Finding>,
+    found: &mut Found,
     nodesize: u64,
     extent: &Extent,
     uses: Range<'_, DataUse>,
@@ -143,7 +134,7 @@ fn put_datas(
 
 // What is wrong with an extent, by all that uses it.
 fn put_misused(
-    found: &mut BTreeSet<Finding>,
+    found: &mut Found,
     nodesize: u64,
     extent: &Extent,
     used: &UsedExtents,
@@ -159,7 +150,7 @@ fn put_misused(
 /// Puts what is wrong with extents by all that uses them, kinds 9 to 11. A node has `nodesize` bytes. `Memory`: there is no memory; then
 /// nothing is said of the set.
 pub(crate) fn put_all_misused(
-    found: &mut BTreeSet<Finding>,
+    found: &mut Found,
     nodesize: u64,
     extents: &[Extent],
     used: &UsedExtents,

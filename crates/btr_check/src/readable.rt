@@ -1,5 +1,5 @@
 // Data that has a checksum, and whether it is readable.
-ghost use Rattle.std.specs.Prelude.{◌≡◌, ◌+◌, ◌*◌, ◌^◌, ◌<◌, ◌∷◌, [], true, is_ok, filter_map, Ok, IsTrue};
+ghost use Rattle.std.specs.Prelude.{◌≡◌, ◌+◌, ◌*◌, ◌^◌, ◌<◌, ◌∷◌, [], true, is_ok, filter_map, Ok, OnOk, IsTrue};
 ghost use Rattle.std.specs.Option.{option_to_list};
 ghost use Rattle.btr_ahead.specs.Ahead.{IsAhead};
 ghost use Rattle.btr_files.specs.Content.{want_by};
@@ -20,10 +20,9 @@ use btr_files::{SumsAhead, sum_ahead};
 use btr_items::SumRun;
 use btr_rack::Rack;
 use btr_read::{Want, fetch};
-use btr_refs::{Finding, put_unless};
+use btr_refs::{Found, SectorRule, put_sectors};
 use btr_volume::{Stop, TreeRoot, Volume};
 use btr_walk::TreeFault;
-use std::collections::BTreeSet;
 
 // A sector of a run: its address, and how many sectors of the run are left, this one too.
 #[derive(Clone, Copy)]
@@ -159,19 +158,19 @@ fn is_readable<R: Rack>(
     }
 }
 
-// A finding of kind 31.
-fn row(sector: u64) -> Finding
-    ensures { result ≡ rows.found 31 (sector ∷ []) }
+// Puts the finding on a sector into a set, unless it is readable.
+fn put_lost(found: &mut Found, readable: bool, sector: u64) -> Result<(), Memory>
+    ensures { OnOk result (Adds (option_to_list (rows.unless readable (rows.found 31 (sector ∷ [])))) found.old found.new) }
 {
-    Finding {
-        kind: 31,
-        n: [sector, 0, 0, 0, 0, 0, 0],
+    if readable {
+        return Ok(());
     }
+    put_sectors(found, SectorRule::Lost, u128::from(sector), 1)
 }
 
 // Puts a sector into a set, unless it is readable.
 fn put_sector<R: Rack>(
-    found: &mut BTreeSet<Finding>,
+    found: &mut Found,
     sector: RunSector,
     sums: Option<&TreeRoot>,
     ahead: &mut SumsAhead,
@@ -188,7 +187,7 @@ fn put_sector<R: Rack>(
 {
     match is_readable(sector, sums, ahead, copies, rack, vol) {
         Err(stop) => Err(stop),
-        Ok(readable) => match put_unless(found, readable, row(sector.addr)) {
+        Ok(readable) => match put_lost(found, readable, sector.addr) {
             Ok(()) => Ok(()),
             Err(Memory) => Err(Stop::Memory),
         },
@@ -207,7 +206,7 @@ fn sector_at(run: &SumRun, i: u64) -> RunSector
 
 // Puts the sectors of a run that aren't readable into a set.
 fn put_run<R: Rack>(
-    found: &mut BTreeSet<Finding>,
+    found: &mut Found,
     run: &SumRun,
     sums: Option<&TreeRoot>,
     copies: &mut DataAhead,
@@ -237,7 +236,7 @@ fn put_run<R: Rack>(
 ///
 /// `Tree`: a block could not be read, which is `Unread`. `Memory`: there is no memory for the findings.
 pub(crate) fn put_data_findings<R: Rack>(
-    found: &mut BTreeSet<Finding>,
+    found: &mut Found,
     runs: &[SumRun],
     sums: Option<&TreeRoot>,
     rack: &mut R,

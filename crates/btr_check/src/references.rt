@@ -17,7 +17,7 @@ use crate::walk::Walk;
 use btr_base::Memory;
 use btr_rack::Rack;
 use btr_refs::{
-    Extent, Finding, RefKey, Stored, UsedExtents, put_count_findings, put_total_findings,
+    Extent, Finding, Found, RefKey, Stored, UsedExtents, put_count_findings, put_total_findings,
 };
 use btr_volume::{Stop, TreeRoot, Volume};
 use btr_walk::RootPlace;
@@ -51,11 +51,7 @@ fn read_extents<R: Rack>(
 }
 
 // Puts kind 8, and keeps of what is stored the references alone.
-fn put_totals(
-    alloc: Global,
-    found: &mut BTreeSet<Finding>,
-    stored: Stored,
-) -> Result<StoredRefs, Memory>
+fn put_totals(alloc: Global, found: &mut Found, stored: Stored) -> Result<StoredRefs, Memory>
     ensures found { IfOk result (λ kept. Adds (total_findings stored.extents stored.refs) found.old found.new) }
     ensures refs { IfOk result (λ kept. kept.refs.entries ≡ stored.refs) }
     ensures full { IfOk result (λ kept. IsFull stored.extents kept.full) }
@@ -69,7 +65,7 @@ fn put_totals(
 // The same by what the extent tree says.
 fn put_stored<R: Rack>(
     alloc: Global,
-    found: &mut BTreeSet<Finding>,
+    found: &mut Found,
     listed: &[TreeRoot],
     rack: &mut R,
     vol: &mut Volume,
@@ -90,7 +86,7 @@ fn put_stored<R: Rack>(
 // Counts what uses extents, by the blocks that were met, puts kind 7, and keeps the extents that are used.
 fn put_counted<R: Rack>(
     alloc: Global,
-    found: &mut BTreeSet<Finding>,
+    found: &mut Found,
     trees: &[TreeRoot],
     places: Vec<RootPlace>,
     stored: StoredRefs,
@@ -115,7 +111,7 @@ fn put_counted<R: Rack>(
 // Puts kinds 7 and 8, and keeps the extents that are used. Of the walk, the blocks that were met are kept, and read again.
 fn put_differences<R: Rack>(
     alloc: Global,
-    found: &mut BTreeSet<Finding>,
+    found: &mut Found,
     listed: &[TreeRoot],
     trees: &[TreeRoot],
     walk: Walk,
@@ -141,7 +137,7 @@ fn put_differences<R: Rack>(
 /// `Tree`: a block could not be read, which is `Unread`. `Memory`: there is no memory for what is kept.
 pub(crate) fn put_references<R: Rack>(
     alloc: Global,
-    found: &mut BTreeSet<Finding>,
+    found: &mut Found,
     listed: &[TreeRoot],
     trees: &[TreeRoot],
     walk: Walk,

@@ -8,13 +8,12 @@ use crate::collecting::{collect, or_memory};
 use crate::refusing::{DEVICE_TREE, EXTENT_TREE, last_of};
 use crate::trees::CHUNK_TREE;
 use btr_rack::Rack;
-use btr_refs::{Extent, Finding};
+use btr_refs::{Extent, Finding, Found};
 use btr_space::{
     DeviceExtents, Devices, Groups, collects_law, put_device_findings, put_group_findings,
 };
 use btr_volume::{Stop, TreeRoot, Volume, chunk_root, named_root};
 use std::alloc::Global;
-use std::collections::BTreeSet;
 
 const GROUP_TREE: u64 = 11;
 
@@ -34,7 +33,7 @@ fn group_tree(trees: &[TreeRoot]) -> Option<TreeRoot>
 /// `Tree`: a block could not be read, which is `Unread`. `Memory`: there is no memory for what is kept.
 pub(crate) fn put_groups<R: Rack>(
     alloc: Global,
-    found: &mut BTreeSet<Finding>,
+    found: &mut Found,
     listed: &[TreeRoot],
     extents: &[Extent],
     rack: &mut R,
@@ -64,7 +63,7 @@ pub(crate) fn put_groups<R: Rack>(
 /// `Tree`: a block could not be read, which is `Unread`. `Memory`: there is no memory for what is kept.
 pub(crate) fn put_devices<R: Rack>(
     alloc: Global,
-    found: &mut BTreeSet<Finding>,
+    found: &mut Found,
     listed: &[TreeRoot],
     rack: &mut R,
     vol: &mut Volume,

@@ -8,11 +8,10 @@ use crate::form::kind_of;
 use crate::refusing::last_of;
 use btr_base::Memory;
 use btr_rack::Rack;
-use btr_refs::{Extent, Finding};
+use btr_refs::{Extent, Finding, Found};
 use btr_sums::{Runs, keeps_law, put_sum_findings};
 use btr_volume::{Stop, TreeRoot, Volume};
 use std::alloc::Global;
-use std::collections::BTreeSet;
 
 pub(crate) const SUM_TREE: u64 = 7;
 
@@ -21,7 +20,7 @@ pub(crate) const SUM_TREE: u64 = 7;
 /// `Tree`: a block could not be read, which is `Unread`. `Memory`: there is no memory for what is kept.
 pub(crate) fn put_sums<R: Rack>(
     alloc: Global,
-    found: &mut BTreeSet<Finding>,
+    found: &mut Found,
     listed: &[TreeRoot],
     extents: &[Extent],
     rack: &mut R,

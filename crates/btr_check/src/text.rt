@@ -1,11 +1,11 @@
 // How findings are printed.
-ghost use Rattle.std.specs.Prelude.{◌≡◌, ◌≤◌};
+ghost use Rattle.std.specs.Prelude.{◌≡◌, ◌≤◌, IfOk, length};
 ghost use Rattle.btr_rack.specs.Out.{Puts, Counts};
 ghost use Rattle.btr_text.specs.Text.{Writes};
 ghost use Rattle.btr_check.specs.Text.{printed_of, numbers_text, line_of, lines_of, last_line, findings_text};
 
 use btr_rack::{Out, SinkError};
-use btr_refs::Finding;
+use btr_refs::{Finding, Findings};
 use btr_text::{Piece, TextBuffer};
 
 // The word of a kind.
@@ -92,23 +92,27 @@ fn push_finding<O: Out>(
     buffer.push(Piece::Plain(b"\n"), out)
 }
 
-// Writes the lines of findings.
+// Writes the lines of findings, and answers how many there are.
 fn push_findings<O: Out>(
     buffer: &mut TextBuffer,
-    findings: &[Finding],
+    mut findings: Findings,
     out: &mut O,
-) -> Result<(), SinkError>
-    ensures text { Writes (O.text out.old) (O.text out.new) buffer.old buffer.new (lines_of findings.now) result }
+) -> Result<u64, SinkError>
+    ensures text { Writes (O.text out.old) (O.text out.new) buffer.old buffer.new (lines_of findings) result }
+    ensures count { IfOk result (λ count. count ≡ length findings) }
     ensures account { Counts (O.account out.old) (O.account out.new) result }
 {
-    for finding in findings {
-        push_finding(buffer, finding, out)?;
+    findings.few_law();
+    let mut count = 0;
+    while let Some(finding) = findings.next() {
+        push_finding(buffer, &finding, out)?;
+        count += 1;
     }
-    Ok(())
+    Ok(count)
 }
 
 // Writes how many findings there are.
-fn push_count<O: Out>(buffer: &mut TextBuffer, count: usize, out: &mut O) -> Result<(), SinkError>
+fn push_count<O: Out>(buffer: &mut TextBuffer, count: u64, out: &mut O) -> Result<(), SinkError>
     ensures text { Writes (O.text out.old) (O.text out.new) buffer.old buffer.new (last_line count) result }
     ensures account { Counts (O.account out.old) (O.account out.new) result }
 {
@@ -117,19 +121,22 @@ fn push_count<O: Out>(buffer: &mut TextBuffer, count: usize, out: &mut O) -> Res
     }
     let pieces = [
         Piece::Plain(b"findings "),
-        Piece::Decimal(count as u64),
+        Piece::Decimal(count),
         Piece::Plain(b"\n"),
     ];
     buffer.push_all(&pieces, out)
 }
 
-/// Puts the lines of findings, and then how many there are. The error is the output's; a first part of the text stands there then.
-pub fn put_findings<O: Out>(findings: &[Finding], out: &mut O) -> Result<(), SinkError>
-    ensures text { Puts (O.text out.old) (O.text out.new) (findings_text findings.now) result }
+/// Puts the lines of findings, one after another, and then how many there are, which is the answer. The error is the output's; a first part of
+/// the text stands there then.
+pub fn put_findings<O: Out>(findings: Findings, out: &mut O) -> Result<u64, SinkError>
+    ensures text { Puts (O.text out.old) (O.text out.new) (findings_text findings) result }
+    ensures count { IfOk result (λ count. count ≡ length findings) }
     ensures account { Counts (O.account out.old) (O.account out.new) result }
 {
     let mut buffer = TextBuffer::new();
-    push_findings(&mut buffer, findings, out)?;
-    push_count(&mut buffer, findings.len(), out)?;
-    buffer.flush(out)
+    let count = push_findings(&mut buffer, findings, out)?;
+    push_count(&mut buffer, count, out)?;
+    buffer.flush(out)?;
+    Ok(count)
 }

@@ -25,7 +25,7 @@ fn checked(
         Err(stop) => return Ok(Err(stop)),
     };
     let mut out = MemOut::new(alloc);
-    if put_findings(&findings, &mut out).is_err() {
+    if put_findings(findings, &mut out).is_err() {
         return Err("the output failed")?;
     }
     Ok(Ok(out.text().to_vec(alloc)?))

@@ -1,8 +1,8 @@
 -- Inodes, one after another, and what is counted of each one's items.
-use Rattle.std.proofs.Common.{◌≡◌, ℕ, ◌+◌, ◌*◌, ◌<◌, Bool, true, false, not, cond, if◌then◌else◌, ◌==◌, ◌&&◌, ◌⊎◌, nat_le, List, [], ◌∷◌, ◌++◌, length, All, Option, Some, None, inl, inr, refl, sym, ap, ◌∙◌, subst, true≢false, eqb-true, eq-eqb, ne_eqb, leb-false, lt_trans, add-zero, arith}
+use Rattle.std.proofs.Common.{◌≡◌, ℕ, ◌+◌, ◌*◌, ◌<◌, Bool, true, false, not, cond, if◌then◌else◌, ◌==◌, ◌&&◌, ◌||◌, ◌⊎◌, nat_le, List, [], ◌∷◌, ◌++◌, length, map, filter, All, Option, Some, None, inl, inr, refl, sym, ap, ◌∙◌, subst, true≢false, eqb-true, eq-eqb, ne_eqb, leb-false, lt_trans, add-zero, arith}
 use Rattle.std.proofs.lemmas.List.Elements.{All-nil, All-push, All-weaker}
 use Rattle.std.proofs.lemmas.List.Sums.{sum_by_push}
-use Rattle.std.specs.List.{list_any}
+use Rattle.std.specs.List.{AllByRecursion, list_any}
 use Rattle.std.specs.BTreeMap.{is_at}
 use Rattle.std.specs.BTreeSet.{insert_key}
 use Rattle.std.specs.Ordering.{is_eq, nat_cmp, match_ordering}
@@ -12,10 +12,10 @@ use Rattle.std.specs.declared.cmp.Ordering.TheVariants.{Less, Equal, Greater}
 use Rattle.btr_names.specs.declared.current.Current.{Current}
 use Rattle.btr_names.specs.declared.inode_at.InodeAt.{InodeAt}
 use Rattle.btr_names.specs.Entry.{Entry, NameRef}
-use Rattle.btr_names.specs.Inodes.{Inodes, begun_with, is_counted, last_counted, last_format, may_follow, is_last, last_linked, last_named, with_unlinked, linked, named, are_settled}
-use Rattle.btr_names.specs.Names.{fits_mode, format_of, links_of, mode_of_kind, names_size}
+use Rattle.btr_names.specs.Inodes.{Inodes, begun_with, is_counted, last_counted, last_format, may_follow, is_gone, is_last, last_linked, last_named, with_unlinked, linked, named, are_settled}
+use Rattle.btr_names.specs.Names.{fits_mode, format_of, is_among, is_removed, is_unlinked, links_of, mode_of_kind, names_size, removed_dirs}
 use Rattle.btr_names.proofs.Claims.{number_is}
-use Rattle.btr_names.proofs.MetEntries.{any_left, any_right, any_head}
+use Rattle.btr_names.proofs.MetEntries.{IsGone, any_left, any_right, any_head}
 use Rattle.btr_names.proofs.Pairing.{both, is_not}
 
 -- an inode states what its references and the names in it are
@@ -153,6 +153,14 @@ last_fits (Some current) ref inodes indexed refs is here e to mode =
     let format = eq-eqb (mode_of_kind e.kind) (format_of current.at.inode) mode in
     ap (list_any (fits_mode e)) here.is ∙ any_right (fits_mode e) here.front (current.at ∷ []) (any_head (fits_mode e) current.at [] (λ i. number i && format i))
 
+-- a directory without links is there where it is the last inode
+pub gone_there : (last : Option Current) (dir : ℕ) (inodes : List InodeAt) (indexed : List Entry) (refs : List NameRef) → LastMet last inodes indexed refs
+    → is_gone dir last ≡ true → IsGone inodes dir
+gone_there None dir inodes indexed refs nothing is = absurd (true≢false (sym is))
+gone_there (Some current) dir inodes indexed refs here is =
+    let test : InodeAt → Bool = λ at. (at.number == dir) && is_unlinked at in
+    ap (list_any test) here.is ∙ any_right test here.front (current.at ∷ []) (any_head test current.at [] is)
+
 -- inodes without links
 inserted_by : (o : Ordering) (x : ℕ) (xs : List ℕ) (k n : ℕ) → (IsIn xs n → IsIn (insert_key nat_cmp xs k) n) → IsIn (x ∷ xs) n → IsIn (match_ordering o (k ∷ x ∷ xs) (x ∷ xs) (x ∷ insert_key nat_cmp xs k)) n
 inserted_by Less x xs k n rest h = inr h
@@ -235,3 +243,37 @@ all_settled inodes h =
     let one = both (not inodes.is_wrong && (length inodes.unlinked == 0)) (last_counted inodes.last) h in
     let two = both (not inodes.is_wrong) (length inodes.unlinked == 0) one.0 in
     record { right = is_not inodes.is_wrong two.0; counted = one.1; none = λ n is. nothing_in inodes.unlinked n two.1 is }
+
+-- a directory without links is being removed where none waits for an orphan item
+pub kept_removed : (unlinked orphans : List ℕ) (at : InodeAt) → ((number : ℕ) → IsIn unlinked number → ⊥) → IsKept unlinked orphans at → is_unlinked at ≡ true
+    → is_removed orphans at ≡ true
+kept_removed unlinked orphans at none (inl linked) is = absurd (true≢false (sym (both (format_of at.inode == 0o040000) (at.inode.nlink == 0) is).1 ∙ linked))
+kept_removed unlinked orphans at none (inr (inl waits)) is = absurd (none at.number waits)
+kept_removed unlinked orphans at none (inr (inr named)) is = λ i. is i && named i
+
+-- a directory without links that is there is the first inode, or one behind it
+removed_either : (unlinked orphans : List ℕ) (at : InodeAt) (inodes : List InodeAt) (dir : ℕ) → ((number : ℕ) → IsIn unlinked number → ⊥)
+    → IsKept unlinked orphans at → (IsGone inodes dir → is_among (removed_dirs orphans inodes) dir ≡ true)
+    → (b : Bool) → ((at.number == dir) && is_unlinked at) ≡ b → (b || list_any (λ (one : InodeAt). (one.number == dir) && is_unlinked one) inodes) ≡ true
+    → ((at.number ≡ dir) × (is_removed orphans at ≡ true)) ⊎ (is_among (removed_dirs orphans inodes) dir ≡ true)
+removed_either unlinked orphans at inodes dir none kept behind true it rest =
+    let two = both (at.number == dir) (is_unlinked at) it in
+    inl (eqb-true at.number dir two.0, kept_removed unlinked orphans at none kept two.1)
+removed_either unlinked orphans at inodes dir none kept behind false it rest = inr (behind rest)
+
+removed_first : (orphans : List ℕ) (at : InodeAt) (inodes : List InodeAt) (dir : ℕ) (b : Bool) → is_removed orphans at ≡ b
+    → ((at.number ≡ dir) × (is_removed orphans at ≡ true)) ⊎ (is_among (removed_dirs orphans inodes) dir ≡ true)
+    → is_among (map (λ (one : InodeAt). one.number) (cond b (at ∷ filter (is_removed orphans) inodes) (filter (is_removed orphans) inodes))) dir ≡ true
+removed_first orphans at inodes dir true is (inl it) = ap (λ c. c || is_among (removed_dirs orphans inodes) dir) (eq-eqb dir at.number (sym it.0))
+removed_first orphans at inodes dir true is (inr rest) = any_right (λ number. dir == number) (at.number ∷ []) (removed_dirs orphans inodes) rest
+removed_first orphans at inodes dir false is (inl it) = absurd (true≢false (sym it.1 ∙ is))
+removed_first orphans at inodes dir false is (inr rest) = rest
+
+-- .. and so it is among those that are being removed
+pub all_removed : (unlinked orphans : List ℕ) (inodes : List InodeAt) (dir : ℕ) → ((number : ℕ) → IsIn unlinked number → ⊥)
+    → AllByRecursion (IsKept unlinked orphans) inodes → IsGone inodes dir → is_among (removed_dirs orphans inodes) dir ≡ true
+all_removed unlinked orphans [] dir none kept gone = gone
+all_removed unlinked orphans (at ∷ inodes) dir none kept gone =
+    removed_first orphans at inodes dir (is_removed orphans at) refl
+    (removed_either unlinked orphans at inodes dir none kept.0 (all_removed unlinked orphans inodes dir none kept.1)
+    ((at.number == dir) && is_unlinked at) refl gone)

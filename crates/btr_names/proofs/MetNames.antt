@@ -1,5 +1,5 @@
 -- Where all names of a tree have met their counterparts, nothing is wrong with them.
-use Rattle.std.proofs.Common.{◌≡◌, ℕ, Bool, true, false, not, if◌then◌else◌, ◌==◌, ◌&&◌, ◌||◌, List, [], ◌∷◌, ◌++◌, map, filter, filter_map, fold, All, Option, None, inl, inr, refl, sym, ap, ◌∙◌, subst, append_assoc, append-nil}
+use Rattle.std.proofs.Common.{◌≡◌, ℕ, Bool, true, false, not, if◌then◌else◌, ◌==◌, ◌&&◌, ◌||◌, List, [], ◌∷◌, ◌++◌, map, filter, filter_map, fold, All, Option, None, ◌⊎◌, inl, inr, refl, sym, ap, ◌∙◌, subst, true≢false, append_assoc, append-nil}
 use Rattle.std.proofs.lemmas.List.Elements.{All-nil, All-weaker, recursion_from_All, filter-append}
 use Rattle.std.specs.List.{AllByRecursion, cons_option, list_any}
 use Rattle.btr_base.specs.declared.key.Key.{Key}
@@ -10,22 +10,22 @@ use Rattle.btr_names.specs.declared.claim.Claim.{Claim}
 use Rattle.btr_names.specs.declared.inode_at.InodeAt.{InodeAt}
 use Rattle.btr_names.specs.declared.unpaired.Unpaired.{Unpaired}
 use Rattle.btr_names.specs.Entry.{Entry, NameRef}
-use Rattle.btr_names.specs.Inodes.{last_format, may_follow, is_last, are_settled}
+use Rattle.btr_names.specs.Inodes.{last_format, may_follow, is_gone, is_last, are_settled}
 use Rattle.btr_names.specs.Items.{inodes_in, indexed_in, hashed_in, refs_in, orphans_in}
-use Rattle.btr_names.specs.Names.{Names, no_names, names_in, names_with, names_step, names_findings, entry_item, entry_index, entry_ref, ref_entry, entry_mode, link_count, dir_size, orphan, is_entry, is_free, leads_to_inode, ref_to, same_ref, asked, fits_mode, format_of, links_of, names_size, under_hash}
+use Rattle.btr_names.specs.Names.{Names, no_names, names_in, names_with, names_step, names_findings, entry_item, entry_index, entry_ref, ref_entry, entry_mode, link_count, dir_size, orphan, has_links, has_size, is_among, is_entry, is_removed, is_unlinked, is_free, leads_to_inode, mode_kept, ref_kept, ref_to, removed_dirs, same_ref, asked, fits_mode, links_of, names_size, under_hash}
 use Rattle.btr_names.specs.Pairs.{Pairs, met, met_fits, waiting_at, entry_claim, link_claim, ref_claim, are_met}
 use Rattle.btr_names.specs.Subvolumes.{leads_to_root}
-use Rattle.btr_names.specs.Unpaired.{nothing_unpaired, link_met, with_inode, with_indexed, with_hashed, with_ref, with_orphan, unpaired_with, unpaired_step, are_paired, UnpairedLaw}
+use Rattle.btr_names.specs.Unpaired.{nothing_unpaired, index_met, hash_met, link_met, with_inode, with_indexed, with_hashed, with_ref, with_orphan, unpaired_with, unpaired_step, are_paired, UnpairedLaw}
 use Rattle.btr_names.proofs.Meeting as meeting
-use Rattle.btr_names.proofs.MetEntries.{EntriesMet, LinksMet, IsAsked, IsMet, no_entries, no_links, indexed_more, hashed_more, inode_more, entry_aside, entry_more, ref_free, ref_more}
-use Rattle.btr_names.proofs.MetInodes.{IsCounted, IsKept, LastMet, no_last, inode_comes, ref_comes, name_comes, all_counted, last_fits, kept_more, orphan_comes, AreSettled, all_settled}
-use Rattle.btr_names.proofs.Pairing.{Item as Arrival, Came as HasCome, neither, holds_not, both, other_came, AreMet, met_all}
+use Rattle.btr_names.proofs.MetEntries.{EntriesMet, LinksMet, IsAsked, IsFirst, IsGone, IsMet, IsSecond, no_entries, no_links, entries_after, indexed_aside, indexed_more, hashed_aside, hashed_more, inode_more, entry_aside, entry_more, ref_free, ref_more}
+use Rattle.btr_names.proofs.MetInodes.{IsCounted, IsKept, LastMet, no_last, all_removed, gone_there, kept_removed, inode_comes, ref_comes, name_comes, all_counted, last_fits, kept_more, orphan_comes, AreSettled, all_settled}
+use Rattle.btr_names.proofs.Pairing.{Item as Arrival, Came as HasCome, neither, holds_not, is_not, both, other_came, AreMet, met_all}
 
 -- what is kept of some names, where nothing differs
 pub record Follows (u : Unpaired) (names : Names) : Type 0 where
   pub entries_came : List Arrival
   pub links_came : List Arrival
-  pub entries : EntriesMet u.entries entries_came names.indexed names.hashed
+  pub entries : EntriesMet u.entries entries_came names.inodes names.indexed names.hashed
   pub links : LinksMet names.dirid u.links links_came names.inodes names.indexed names.refs
   pub last : LastMet u.inodes.last names.inodes names.indexed names.refs
   pub kept : All (IsKept u.inodes.unlinked names.orphans) names.inodes
@@ -66,46 +66,99 @@ inode_holds u n at h = record {
       record {
         entries_came = f.entries_came;
         links_came = f.links_came;
-        entries = f.entries;
+        entries = entries_after u.entries f.entries_came n.inodes n.indexed n.hashed f.entries at;
         links = inode_more n.dirid u.links f.links_came n.inodes n.indexed n.refs f.links at;
         last = inode_comes u.inodes.last at n.inodes n.indexed n.refs (holds_not (may_follow u.inodes.last at.number) right.1) f.last;
         kept = kept_more at u.inodes.unlinked n.orphans n.inodes f.kept;
       };
 }
 
--- an entry's inode is asked for, if it leads to one
+-- an entry meets another one, if its directory has links
+record Meets (pairs : Pairs) (inodes : List InodeAt) (indexed hashed : List Entry) : Type 0 where
+  came : List Arrival
+  met : EntriesMet pairs came inodes indexed hashed
+
+module _ (pairs : Pairs) (came : List Arrival) (inodes : List InodeAt) (indexed hashed : List Entry) (entry : Entry) (before : EntriesMet pairs came inodes indexed hashed) where
+  index_if : (b : Bool) → (b ≡ true → IsGone inodes entry.dir) → (index_met b pairs entry).differ ≡ false
+      → Meets (index_met b pairs entry) inodes (indexed ++ entry ∷ []) hashed
+  index_if true gone same = record { came = came; met = indexed_aside pairs came inodes indexed hashed entry before (gone refl) }
+  index_if false gone same =
+      let two = neither pairs.differ (not (met_fits (waiting_at pairs.waiting (entry_claim (under_hash entry))) true entry.name)) same in
+      record {
+        came = record { is_first = true; claim = entry_claim (under_hash entry); name = entry.name } ∷ came;
+        met = indexed_more pairs came inodes indexed hashed entry before
+            (holds_not (met_fits (waiting_at pairs.waiting (entry_claim (under_hash entry))) true entry.name) two.1);
+      }
+
+  hash_if : (b : Bool) → (b ≡ true → IsGone inodes entry.dir) → (hash_met b pairs entry).differ ≡ false
+      → Meets (hash_met b pairs entry) inodes indexed (hashed ++ entry ∷ [])
+  hash_if true gone same = record { came = came; met = hashed_aside pairs came inodes indexed hashed entry before (gone refl) }
+  hash_if false gone same =
+      let two = neither pairs.differ (not (met_fits (waiting_at pairs.waiting (entry_claim entry)) false entry.name)) same in
+      record {
+        came = record { is_first = false; claim = entry_claim entry; name = entry.name } ∷ came;
+        met = hashed_more pairs came inodes indexed hashed entry before
+            (holds_not (met_fits (waiting_at pairs.waiting (entry_claim entry)) false entry.name) two.1);
+      }
+
+-- an entry's inode is asked for, if it leads to one and the entry's directory has links
 pub record Asks (dirid : ℕ) (links : Pairs) (inodes : List InodeAt) (indexed : List Entry) (refs : List NameRef) : Type 0 where
   pub came : List Arrival
   pub met : LinksMet dirid links came inodes indexed refs
 
-asks_if : (dirid : ℕ) (links : Pairs) (came : List Arrival) (inodes : List InodeAt) (indexed : List Entry) (refs : List NameRef) (entry : Entry) (b : Bool) → leads_to_inode entry ≡ b → LinksMet dirid links came inodes indexed refs
-    → (if b then met links (link_claim entry) true entry.name else links).differ ≡ false → Asks dirid (if b then met links (link_claim entry) true entry.name else links) inodes (indexed ++ entry ∷ []) refs
-asks_if dirid links came inodes indexed refs entry true leads before same =
-    let two = neither links.differ (not (met_fits (waiting_at links.waiting (link_claim entry)) true entry.name)) same in
-    record {
-      came = record { is_first = true; claim = link_claim entry; name = entry.name } ∷ came;
-      met = entry_more dirid links came inodes indexed refs before entry leads (holds_not (met_fits (waiting_at links.waiting (link_claim entry)) true entry.name) two.1);
-    }
-asks_if dirid links came inodes indexed refs entry false leads before same = record { came = came; met = entry_aside dirid links came inodes indexed refs before entry leads }
+nothing_asked : (gone leads : Bool) → (gone || not leads) ≡ true → (gone ≡ true) ⊎ (leads ≡ false)
+nothing_asked true leads is = inl refl
+nothing_asked false leads is = inr (is_not leads is)
+
+something_asked : (gone leads : Bool) → (gone || not leads) ≡ false → leads ≡ true
+something_asked true leads is = absurd (true≢false is)
+something_asked false leads is = holds_not leads is
+
+module _ (dirid : ℕ) (links : Pairs) (came : List Arrival) (inodes : List InodeAt) (indexed : List Entry) (refs : List NameRef) (entry : Entry) (gone : Bool) (before : LinksMet dirid links came inodes indexed refs) where
+  aside_if : (gone ≡ true → IsGone inodes entry.dir) → (gone ≡ true) ⊎ (leads_to_inode entry ≡ false) → IsGone inodes entry.dir ⊎ (leads_to_inode entry ≡ false)
+  aside_if there (inl is) = inl (there is)
+  aside_if there (inr leads) = inr leads
+
+  asks_if : (gone ≡ true → IsGone inodes entry.dir) → (b : Bool) → (gone || not (leads_to_inode entry)) ≡ b
+      → (if b then links else met links (link_claim entry) true entry.name).differ ≡ false
+      → Asks dirid (if b then links else met links (link_claim entry) true entry.name) inodes (indexed ++ entry ∷ []) refs
+  asks_if there true is same =
+      let aside = aside_if there (nothing_asked gone (leads_to_inode entry) is) in
+      record { came = came; met = entry_aside dirid links came inodes indexed refs before entry aside }
+  asks_if there false is same =
+      let two = neither links.differ (not (met_fits (waiting_at links.waiting (link_claim entry)) true entry.name)) same in
+      record {
+        came = record { is_first = true; claim = link_claim entry; name = entry.name } ∷ came;
+        met = entry_more dirid links came inodes indexed refs before entry (something_asked gone (leads_to_inode entry) is)
+            (holds_not (met_fits (waiting_at links.waiting (link_claim entry)) true entry.name) two.1);
+      }
 
 -- where nothing differs then, nothing differed before
-differs_if : (links : Pairs) (entry : Entry) (b : Bool) → (if b then met links (link_claim entry) true entry.name else links).differ ≡ false → links.differ ≡ false
-differs_if links entry true same = (neither links.differ (not (met_fits (waiting_at links.waiting (link_claim entry)) true entry.name)) same).0
-differs_if links entry false same = same
+differs_if : (pairs : Pairs) (claim : Claim) (first : Bool) (name : List ℕ) (b : Bool) → (if b then pairs else met pairs claim first name).differ ≡ false
+    → pairs.differ ≡ false
+differs_if pairs claim first name true same = same
+differs_if pairs claim first name false same = (neither pairs.differ (not (met_fits (waiting_at pairs.waiting claim) first name)) same).0
 
 indexed_holds : (u : Unpaired) (n : Names) (entry : Entry) → Holds u n → Holds (with_indexed u entry) (add_indexed n (entry ∷ []))
 indexed_holds u n entry h = record {
   dirid = h.dirid;
   subvolumes = ap (λ l. l ++ filter leads_to_root (entry ∷ [])) h.subvolumes ∙ sym (filter-append leads_to_root n.indexed (entry ∷ []));
   follows = λ fine.
+      let gone = is_gone entry.dir u.inodes.last in
+      let asks = gone || not (leads_to_inode entry) in
       let right = neither u.inodes.is_wrong (not (is_last entry.dir u.inodes.last)) fine.inodes in
-      let same = neither u.entries.differ (not (met_fits (waiting_at u.entries.waiting (entry_claim (under_hash entry))) true entry.name)) fine.entries in
-      let f = h.follows (record { inodes = right.0; entries = same.0; links = differs_if u.links entry (leads_to_inode entry) fine.links }) in
-      let links = asks_if n.dirid u.links f.links_came n.inodes n.indexed n.refs entry (leads_to_inode entry) refl f.links fine.links in
+      let f = h.follows (record {
+        inodes = right.0;
+        entries = differs_if u.entries (entry_claim (under_hash entry)) true entry.name gone fine.entries;
+        links = differs_if u.links (link_claim entry) true entry.name asks fine.links;
+      }) in
+      let there = gone_there u.inodes.last entry.dir n.inodes n.indexed n.refs f.last in
+      let entries = index_if u.entries f.entries_came n.inodes n.indexed n.hashed entry f.entries gone there fine.entries in
+      let links = asks_if n.dirid u.links f.links_came n.inodes n.indexed n.refs entry gone f.links there asks refl fine.links in
       record {
-        entries_came = record { is_first = true; claim = entry_claim (under_hash entry); name = entry.name } ∷ f.entries_came;
+        entries_came = entries.came;
         links_came = links.came;
-        entries = indexed_more u.entries f.entries_came n.indexed n.hashed entry f.entries (holds_not (met_fits (waiting_at u.entries.waiting (entry_claim (under_hash entry))) true entry.name) same.1);
+        entries = entries.met;
         links = links.met;
         last = name_comes u.inodes.last entry n.inodes n.indexed n.refs (holds_not (is_last entry.dir u.inodes.last) right.1) f.last;
         kept = f.kept;
@@ -117,12 +170,15 @@ hashed_holds u n entry h = record {
   dirid = h.dirid;
   subvolumes = h.subvolumes;
   follows = λ fine.
-      let same = neither u.entries.differ (not (met_fits (waiting_at u.entries.waiting (entry_claim entry)) false entry.name)) fine.entries in
-      let f = h.follows (record { inodes = fine.inodes; entries = same.0; links = fine.links }) in
+      let gone = is_gone entry.dir u.inodes.last in
+      let same = differs_if u.entries (entry_claim entry) false entry.name gone fine.entries in
+      let f = h.follows (record { inodes = fine.inodes; entries = same; links = fine.links }) in
+      let entries = hash_if u.entries f.entries_came n.inodes n.indexed n.hashed entry f.entries gone
+      (gone_there u.inodes.last entry.dir n.inodes n.indexed n.refs f.last) fine.entries in
       record {
-        entries_came = record { is_first = false; claim = entry_claim entry; name = entry.name } ∷ f.entries_came;
+        entries_came = entries.came;
         links_came = f.links_came;
-        entries = hashed_more u.entries f.entries_came n.indexed n.hashed entry f.entries (holds_not (met_fits (waiting_at u.entries.waiting (entry_claim entry)) false entry.name) same.1);
+        entries = entries.met;
         links = f.links;
         last = f.last;
         kept = f.kept;
@@ -280,35 +336,66 @@ paired_all u h =
     record { settled = all_settled u.inodes two.0; entries = met_all u.entries two.1; links = met_all u.links one.1 }
 
 module _ (u : Unpaired) (names : Names) (paired : ArePaired u) (f : Follows u names) where
-  items_kept : filter_map (entry_item names.tree names.hashed) names.indexed ≡ []
-  items_kept = none_found (entry_item names.tree names.hashed) names.indexed
-      (All-weaker (λ e. HasCome f.entries_came true (entry_claim (under_hash e)) e.name) (λ e. entry_item names.tree names.hashed e ≡ None)
-      (λ e came. kept_rule (list_any (is_entry (under_hash e)) names.hashed) (found 15 (names.tree ∷ e.dir ∷ e.offset ∷ []))
-      (f.entries.of_seconds (under_hash e) (other_came u.entries f.entries_came paired.entries f.entries.paired true (entry_claim (under_hash e)) e.name came)))
+  abbrev removed : List ℕ
+  removed = removed_dirs names.orphans names.inodes
+
+  -- the entries of a directory without links aren't spoken of
+  removed_kept : (dir : ℕ) (b : Bool) → IsGone names.inodes dir → (is_among removed dir || b) ≡ true
+  removed_kept dir b gone =
+      or_left (is_among removed dir) b
+      (all_removed u.inodes.unlinked names.orphans names.inodes dir paired.settled.none
+      (recursion_from_All (IsKept u.inodes.unlinked names.orphans) names.inodes f.kept) gone)
+
+  item_there : (e : Entry) → IsFirst names.inodes f.entries_came e → (is_among removed e.dir || list_any (is_entry (under_hash e)) names.hashed) ≡ true
+  item_there e (inl gone) = removed_kept e.dir (list_any (is_entry (under_hash e)) names.hashed) gone
+  item_there e (inr came) =
+      or_right (is_among removed e.dir) (list_any (is_entry (under_hash e)) names.hashed)
+      (f.entries.of_seconds (under_hash e) (other_came u.entries f.entries_came paired.entries f.entries.paired true (entry_claim (under_hash e)) e.name came))
+
+  items_kept : filter_map (entry_item names.tree removed names.hashed) names.indexed ≡ []
+  items_kept = none_found (entry_item names.tree removed names.hashed) names.indexed
+      (All-weaker (IsFirst names.inodes f.entries_came) (λ e. entry_item names.tree removed names.hashed e ≡ None)
+      (λ e came. kept_rule (is_among removed e.dir || list_any (is_entry (under_hash e)) names.hashed)
+      (found 15 (names.tree ∷ e.dir ∷ e.offset ∷ [])) (item_there e came))
       names.indexed f.entries.firsts)
 
-  indexes_kept : filter_map (entry_index names.tree names.indexed) names.hashed ≡ []
-  indexes_kept = none_found (entry_index names.tree names.indexed) names.hashed
-      (All-weaker (λ e. HasCome f.entries_came false (entry_claim e) e.name) (λ e. entry_index names.tree names.indexed e ≡ None)
-      (λ e came. kept_rule (list_any (is_entry e) (map under_hash names.indexed)) (found 16 (names.tree ∷ e.dir ∷ e.offset ∷ []))
-      (f.entries.of_firsts e (other_came u.entries f.entries_came paired.entries f.entries.paired false (entry_claim e) e.name came)))
+  index_there : (e : Entry) → IsSecond names.inodes f.entries_came e → (is_among removed e.dir || list_any (is_entry e) (map under_hash names.indexed)) ≡ true
+  index_there e (inl gone) = removed_kept e.dir (list_any (is_entry e) (map under_hash names.indexed)) gone
+  index_there e (inr came) =
+      or_right (is_among removed e.dir) (list_any (is_entry e) (map under_hash names.indexed))
+      (f.entries.of_firsts e (other_came u.entries f.entries_came paired.entries f.entries.paired false (entry_claim e) e.name came))
+
+  indexes_kept : filter_map (entry_index names.tree removed names.indexed) names.hashed ≡ []
+  indexes_kept = none_found (entry_index names.tree removed names.indexed) names.hashed
+      (All-weaker (IsSecond names.inodes f.entries_came) (λ e. entry_index names.tree removed names.indexed e ≡ None)
+      (λ e came. kept_rule (is_among removed e.dir || list_any (is_entry e) (map under_hash names.indexed))
+      (found 16 (names.tree ∷ e.dir ∷ e.offset ∷ [])) (index_there e came))
       names.hashed f.entries.seconds)
 
   -- what an entry asks of an inode is there, if it asks
-  asked_there : (e : Entry) → IsAsked f.links_came e → (b : Bool) → leads_to_inode e ≡ b → (not b || list_any (same_ref (ref_to e)) names.refs ≡ true) × (not b || list_any (fits_mode e) names.inodes ≡ true)
+  asked_there : (e : Entry) → (leads_to_inode e ≡ true → HasCome f.links_came true (link_claim e) e.name) → (b : Bool) → leads_to_inode e ≡ b
+      → (not b || list_any (same_ref (ref_to e)) names.refs ≡ true) × (not b || list_any (fits_mode e) names.inodes ≡ true)
   asked_there e asked true leads = f.links.of_seconds e (other_came u.links f.links_came paired.links f.links.paired true (link_claim e) e.name (asked leads))
   asked_there e asked false leads = (refl, refl)
 
-  refs_kept : filter_map (entry_ref names.tree names.refs) names.indexed ≡ []
-  refs_kept = none_found (entry_ref names.tree names.refs) names.indexed
-      (All-weaker (IsAsked f.links_came) (λ e. entry_ref names.tree names.refs e ≡ None)
-      (λ e asked. kept_rule (not (leads_to_inode e) || list_any (same_ref (ref_to e)) names.refs) (found 17 (names.tree ∷ e.dir ∷ e.offset ∷ [])) (asked_there e asked (leads_to_inode e) refl).0)
+  ref_there : (e : Entry) → IsAsked names.inodes f.links_came e → (is_among removed e.dir || ref_kept names.refs e) ≡ true
+  ref_there e (inl gone) = removed_kept e.dir (ref_kept names.refs e) gone
+  ref_there e (inr asked) = or_right (is_among removed e.dir) (ref_kept names.refs e) (asked_there e asked (leads_to_inode e) refl).0
+
+  refs_kept : filter_map (entry_ref names.tree removed names.refs) names.indexed ≡ []
+  refs_kept = none_found (entry_ref names.tree removed names.refs) names.indexed
+      (All-weaker (IsAsked names.inodes f.links_came) (λ e. entry_ref names.tree removed names.refs e ≡ None)
+      (λ e asked. kept_rule (is_among removed e.dir || ref_kept names.refs e) (found 17 (names.tree ∷ e.dir ∷ e.offset ∷ [])) (ref_there e asked))
       names.indexed f.links.firsts)
 
-  modes_kept : filter_map (entry_mode names.tree names.inodes) names.indexed ≡ []
-  modes_kept = none_found (entry_mode names.tree names.inodes) names.indexed
-      (All-weaker (IsAsked f.links_came) (λ e. entry_mode names.tree names.inodes e ≡ None)
-      (λ e asked. kept_rule (not (leads_to_inode e) || list_any (fits_mode e) names.inodes) (found 19 (names.tree ∷ e.dir ∷ e.offset ∷ [])) (asked_there e asked (leads_to_inode e) refl).1)
+  mode_there : (e : Entry) → IsAsked names.inodes f.links_came e → (is_among removed e.dir || mode_kept names.inodes e) ≡ true
+  mode_there e (inl gone) = removed_kept e.dir (mode_kept names.inodes e) gone
+  mode_there e (inr asked) = or_right (is_among removed e.dir) (mode_kept names.inodes e) (asked_there e asked (leads_to_inode e) refl).1
+
+  modes_kept : filter_map (entry_mode names.tree removed names.inodes) names.indexed ≡ []
+  modes_kept = none_found (entry_mode names.tree removed names.inodes) names.indexed
+      (All-weaker (IsAsked names.inodes f.links_came) (λ e. entry_mode names.tree removed names.inodes e ≡ None)
+      (λ e asked. kept_rule (is_among removed e.dir || mode_kept names.inodes e) (found 19 (names.tree ∷ e.dir ∷ e.offset ∷ [])) (mode_there e asked))
       names.indexed f.links.firsts)
 
   met_there : (r : NameRef) → IsMet names.dirid f.links_came r → (is_free names.dirid r || list_any (same_ref r) (asked names.indexed)) ≡ true
@@ -327,16 +414,28 @@ module _ (u : Unpaired) (names : Names) (paired : ArePaired u) (f : Follows u na
   links_kept : filter_map (link_count names.tree names.refs) names.inodes ≡ []
   links_kept = none_found (link_count names.tree names.refs) names.inodes
       (All-weaker (IsCounted names.indexed names.refs) (λ at. link_count names.tree names.refs at ≡ None)
-      (λ at is. kept_rule (at.inode.nlink == links_of names.refs at.number) (found 20 (names.tree ∷ at.number ∷ at.inode.nlink ∷ shown_sum (links_of names.refs at.number) ∷ []))
-      (both (at.inode.nlink == links_of names.refs at.number) (not (format_of at.inode == 0o040000) || (at.inode.size == names_size names.indexed at.number)) is).0)
+      (λ at is. kept_rule (has_links at (links_of names.refs at.number))
+      (found 20 (names.tree ∷ at.number ∷ at.inode.nlink ∷ shown_sum (links_of names.refs at.number) ∷ []))
+      (both (has_links at (links_of names.refs at.number)) (is_unlinked at || has_size at (names_size names.indexed at.number)) is).0)
       names.inodes counted)
 
-  sizes_kept : filter_map (dir_size names.tree names.indexed) names.inodes ≡ []
-  sizes_kept = none_found (dir_size names.tree names.indexed) names.inodes
-      (All-weaker (IsCounted names.indexed names.refs) (λ at. dir_size names.tree names.indexed at ≡ None)
-      (λ at is. kept_rule (not (format_of at.inode == 0o040000) || (at.inode.size == names_size names.indexed at.number)) (found 21 (names.tree ∷ at.number ∷ at.inode.size ∷ shown_sum (names_size names.indexed at.number) ∷ []))
-      (both (at.inode.nlink == links_of names.refs at.number) (not (format_of at.inode == 0o040000) || (at.inode.size == names_size names.indexed at.number)) is).1)
-      names.inodes counted)
+  size_there : (at : InodeAt) → IsKept u.inodes.unlinked names.orphans at → (b : Bool) → is_unlinked at ≡ b
+      → (b || has_size at (names_size names.indexed at.number)) ≡ true
+      → (is_removed names.orphans at || has_size at (names_size names.indexed at.number)) ≡ true
+  size_there at kept true is h =
+      or_left (is_removed names.orphans at) (has_size at (names_size names.indexed at.number))
+      (kept_removed u.inodes.unlinked names.orphans at paired.settled.none kept is)
+  size_there at kept false is h = or_right (is_removed names.orphans at) (has_size at (names_size names.indexed at.number)) h
+
+  sizes_kept : filter_map (dir_size names.tree names.orphans names.indexed) names.inodes ≡ []
+  sizes_kept = none_found (dir_size names.tree names.orphans names.indexed) names.inodes
+      (All-weaker (λ at. IsCounted names.indexed names.refs at × IsKept u.inodes.unlinked names.orphans at)
+      (λ at. dir_size names.tree names.orphans names.indexed at ≡ None)
+      (λ at is. kept_rule (is_removed names.orphans at || has_size at (names_size names.indexed at.number))
+      (found 21 (names.tree ∷ at.number ∷ at.inode.size ∷ shown_sum (names_size names.indexed at.number) ∷ []))
+      (size_there at is.1 (is_unlinked at) refl
+      (both (has_links at (links_of names.refs at.number)) (is_unlinked at || has_size at (names_size names.indexed at.number)) is.0).1))
+      names.inodes (λ k d below. (counted k d below, f.kept k d below)))
 
   named_there : (at : InodeAt) → IsKept u.inodes.unlinked names.orphans at → (not (at.inode.nlink == 0) || list_any (λ number. at.number == number) names.orphans) ≡ true
   named_there at (inl linked) = or_left (not (at.inode.nlink == 0)) (list_any (λ number. at.number == number) names.orphans) (ap not linked)

@@ -6,7 +6,7 @@ use Rattle.std.specs.Ordering.{nat_cmp}
 use Rattle.std.specs.Set.{remove_key}
 use Rattle.btr_names.specs.declared.current.Current.{Current}
 use Rattle.btr_names.specs.declared.inode_at.InodeAt.{InodeAt}
-use Rattle.btr_names.specs.Names.{format_of}
+use Rattle.btr_names.specs.Names.{format_of, has_links, has_size, is_unlinked}
 
 -- the inode whose items come; whether one states something else than what was counted, or an item isn't that of the inode before it; and
 -- the inodes without links that no orphan item has named yet
@@ -22,9 +22,9 @@ no_inodes = record { last = None; is_wrong = false; unlinked = [] }
 abbrev pub begun_with : InodeAt → Current
 begun_with at = record { at = at; links = 0; names = 0 }
 
--- an inode states how many references it has, and, of a directory, how long the names in it are, each counted twice
+-- an inode states how many references it has, and, of a directory with links, how long the names in it are, each counted twice
 abbrev pub is_counted : Current → Bool
-is_counted current = (current.at.inode.nlink == current.links) && (not (format_of current.at.inode == 0o040000) || (current.at.inode.size == current.names))
+is_counted current = has_links current.at current.links && (is_unlinked current.at || has_size current.at current.names)
 
 abbrev pub last_counted : Option Current → Bool
 last_counted None = true
@@ -42,6 +42,11 @@ may_follow (Some current) number = not (nat_le number current.at.number) && is_c
 abbrev pub is_last : ℕ → Option Current → Bool
 is_last number None = false
 is_last number (Some current) = current.at.number == number
+
+-- the last inode is a directory of this number, without links
+abbrev pub is_gone : ℕ → Option Current → Bool
+is_gone dir None = false
+is_gone dir (Some current) = (current.at.number == dir) && is_unlinked current.at
 
 -- one reference more, and one name more
 abbrev pub one_link : Current → Current

@@ -1,5 +1,5 @@
 -- Kinds 15 to 22: the names, inodes and entries of one tree of files.
-use Rattle.std.specs.Prelude.{◌≡◌, ℕ, ◌*◌, ◌==◌, ◌&&◌, ◌||◌, not, Bool, bit_and, List, [], ◌∷◌, ◌++◌, length, map, filter, filter_map, flat_map, fold, sum_by, count_by, cond, Option, if◌then◌else◌}
+use Rattle.std.specs.Prelude.{◌≡◌, ℕ, ◌*◌, ◌-◌, ◌^◌, ◌==◌, ◌&&◌, ◌||◌, not, Bool, bit_and, List, [], ◌∷◌, ◌++◌, length, map, filter, filter_map, flat_map, fold, sum_by, count_by, cond, Option, if◌then◌else◌}
 use Rattle.std.specs.List.{list_any}
 use Rattle.std.specs.Str.{bytes_eq}
 use Rattle.btr_base.specs.Crc.{hash_of}
@@ -128,52 +128,83 @@ ref_kept refs entry = not (leads_to_inode entry) || list_any (same_ref (ref_to e
 abbrev pub mode_kept : List InodeAt → Entry → Bool
 mode_kept inodes entry = not (leads_to_inode entry) || list_any (fits_mode entry) inodes
 
+-- a number is one of these
+abbrev pub is_among : List ℕ → ℕ → Bool
+is_among numbers one = list_any (λ number. one == number) numbers
+
 -- an inode has links, or is an orphan
 abbrev pub orphan_kept : List ℕ → InodeAt → Bool
-orphan_kept orphans at = not (at.inode.nlink == 0) || list_any (λ number. at.number == number) orphans
+orphan_kept orphans at = not (at.inode.nlink == 0) || is_among orphans at.number
 
+-- a directory without links
+abbrev pub is_unlinked : InodeAt → Bool
+is_unlinked at = (format_of at.inode == 0o040000) && (at.inode.nlink == 0)
+
+-- a directory that is being removed: it has no links, and an orphan item names it
+abbrev pub is_removed : List ℕ → InodeAt → Bool
+is_removed orphans at = is_unlinked at && is_among orphans at.number
+
+-- the numbers of such directories
+abbrev pub removed_dirs : List ℕ → List InodeAt → List ℕ
+removed_dirs orphans inodes = map (λ (at : InodeAt). at.number) (filter (is_removed orphans) inodes)
+
+-- an inode states this many references; minus 12 is the number of the old inode cache, which is no inode
+abbrev pub has_links : InodeAt → ℕ → Bool
+has_links at links = (at.number == 2 ^ 64 - 12) || (at.inode.nlink == links)
+
+-- a directory has this size
+abbrev pub has_size : InodeAt → ℕ → Bool
+has_size at size = not (format_of at.inode == 0o040000) || (at.inode.size == size)
+
+-- 15 to 17 and 19 don't speak of entries of the directories that are being removed, which their list of numbers has; that of 21 and 22 has the orphans.
 module _ (tree : ℕ) where
   -- 15: the directory has the entry under its name's hash too
-  abbrev pub entry_item : List Entry → Entry → Option Finding
-  entry_item hashed entry = unless (list_any (is_entry (under_hash entry)) hashed) (found 15 (tree ∷ entry.dir ∷ entry.offset ∷ []))
+  abbrev pub entry_item : List ℕ → List Entry → Entry → Option Finding
+  entry_item removed hashed entry =
+      unless (is_among removed entry.dir || list_any (is_entry (under_hash entry)) hashed) (found 15 (tree ∷ entry.dir ∷ entry.offset ∷ []))
 
   -- 16: an entry stands as one at an index is to, under its name's hash
-  abbrev pub entry_index : List Entry → Entry → Option Finding
-  entry_index indexed entry = unless (list_any (is_entry entry) (map under_hash indexed)) (found 16 (tree ∷ entry.dir ∷ entry.offset ∷ []))
+  abbrev pub entry_index : List ℕ → List Entry → Entry → Option Finding
+  entry_index removed indexed entry =
+      unless (is_among removed entry.dir || list_any (is_entry entry) (map under_hash indexed)) (found 16 (tree ∷ entry.dir ∷ entry.offset ∷ []))
 
   -- 17: the inode that an entry leads to has its reference
-  abbrev pub entry_ref : List NameRef → Entry → Option Finding
-  entry_ref refs entry = unless (ref_kept refs entry) (found 17 (tree ∷ entry.dir ∷ entry.offset ∷ []))
+  abbrev pub entry_ref : List ℕ → List NameRef → Entry → Option Finding
+  entry_ref removed refs entry = unless (is_among removed entry.dir || ref_kept refs entry) (found 17 (tree ∷ entry.dir ∷ entry.offset ∷ []))
 
   -- 18: a reference has its entry
   abbrev pub ref_entry : ℕ → List Entry → NameRef → Option Finding
   ref_entry dirid indexed ref = unless (is_free dirid ref || list_any (same_ref ref) (asked indexed)) (found 18 (tree ∷ ref.inode ∷ ref.parent ∷ ref.index ∷ []))
 
   -- 19: the inode that an entry leads to is there, and of the entry's kind
-  abbrev pub entry_mode : List InodeAt → Entry → Option Finding
-  entry_mode inodes entry = unless (mode_kept inodes entry) (found 19 (tree ∷ entry.dir ∷ entry.offset ∷ []))
+  abbrev pub entry_mode : List ℕ → List InodeAt → Entry → Option Finding
+  entry_mode removed inodes entry = unless (is_among removed entry.dir || mode_kept inodes entry) (found 19 (tree ∷ entry.dir ∷ entry.offset ∷ []))
 
   -- 20: an inode states how many references it has
   abbrev pub link_count : List NameRef → InodeAt → Option Finding
-  link_count refs at = unless (at.inode.nlink == links_of refs at.number) (found 20 (tree ∷ at.number ∷ at.inode.nlink ∷ shown_sum (links_of refs at.number) ∷ []))
+  link_count refs at = unless (has_links at (links_of refs at.number)) (found 20 (tree ∷ at.number ∷ at.inode.nlink ∷ shown_sum (links_of refs at.number) ∷ []))
 
-  -- 21: a directory is as large as the names in it, twice
-  abbrev pub dir_size : List Entry → InodeAt → Option Finding
-  dir_size indexed at =
-      unless (not (format_of at.inode == 0o040000) || (at.inode.size == names_size indexed at.number))
+  -- 21: a directory is as large as the names in it, twice, unless it is being removed
+  abbrev pub dir_size : List ℕ → List Entry → InodeAt → Option Finding
+  dir_size orphans indexed at =
+      unless (is_removed orphans at || has_size at (names_size indexed at.number))
       (found 21 (tree ∷ at.number ∷ at.inode.size ∷ shown_sum (names_size indexed at.number) ∷ []))
 
   -- 22: an inode without links is an orphan
   abbrev pub orphan : List ℕ → InodeAt → Option Finding
   orphan orphans at = unless (orphan_kept orphans at) (found 22 (tree ∷ at.number ∷ []))
 
-abbrev pub names_findings : Names → List Finding
-names_findings names =
-    filter_map (entry_item names.tree names.hashed) names.indexed
-    ++ filter_map (entry_index names.tree names.indexed) names.hashed
-    ++ filter_map (entry_ref names.tree names.refs) names.indexed
+-- what is wrong with names, where these directories are being removed
+abbrev pub findings_but : List ℕ → Names → List Finding
+findings_but removed names =
+    filter_map (entry_item names.tree removed names.hashed) names.indexed
+    ++ filter_map (entry_index names.tree removed names.indexed) names.hashed
+    ++ filter_map (entry_ref names.tree removed names.refs) names.indexed
     ++ filter_map (ref_entry names.tree names.dirid names.indexed) names.refs
-    ++ filter_map (entry_mode names.tree names.inodes) names.indexed
+    ++ filter_map (entry_mode names.tree removed names.inodes) names.indexed
     ++ filter_map (link_count names.tree names.refs) names.inodes
-    ++ filter_map (dir_size names.tree names.indexed) names.inodes
+    ++ filter_map (dir_size names.tree names.orphans names.indexed) names.inodes
     ++ filter_map (orphan names.tree names.orphans) names.inodes
+
+abbrev pub names_findings : Names → List Finding
+names_findings names = findings_but (removed_dirs names.orphans names.inodes) names

@@ -8,14 +8,14 @@ use Rattle.std.specs.Cmp.Lexicographic.{slice_cmp}
 use Rattle.std.specs.declared.cmp.Ordering.{Ordering}
 use Rattle.btr_refs.specs.declared.finding.Finding.{Finding}
 use Rattle.btr_refs.specs.Differences.{is_row}
-use Rattle.btr_refs.specs.Findings.{has}
+use Rattle.btr_refs.specs.Findings.{has, FoundSet}
 use Rattle.btr_names.specs.declared.dir_entry.DirEntry.{DirEntry}
 use Rattle.btr_names.specs.declared.dir_entry.Target.{Target}
 use Rattle.btr_names.specs.declared.inode_at.InodeAt.{InodeAt}
 use Rattle.btr_names.specs.declared.link_name.LinkName.{LinkName}
 use Rattle.btr_names.specs.declared.mode_at.ModeAt.{ModeAt}
 use Rattle.btr_names.specs.Entry.{Entry, NameRef, entry_of, ref_of}
-use Rattle.btr_names.specs.Names.{is_entry, same_ref, format_of}
+use Rattle.btr_names.specs.Names.{is_among, is_entry, same_ref, format_of}
 
 -- entries, references and modes are ordered field by field
 abbrev pub target_cmp : Target → Target → Ordering
@@ -48,7 +48,7 @@ HasModes inodes set = (one : ModeAt) → contains mode_cmp set one ≡ list_any 
 
 -- .. the numbers of a list
 abbrev pub HasNumbers : List ℕ → BTreeSet ℕ → Type 0
-HasNumbers numbers set = (one : ℕ) → contains nat_cmp set one ≡ list_any (λ number. one == number) numbers
+HasNumbers numbers set = (one : ℕ) → contains nat_cmp set one ≡ is_among numbers one
 
 -- a map has these sums at all numbers; where it has none the sum is 0
 abbrev pub sum_in : BTreeMap ℕ ℕ → ℕ → ℕ
@@ -58,5 +58,5 @@ abbrev pub HasSums : (ℕ → ℕ) → BTreeMap ℕ ℕ → Type 0
 HasSums sum sums = (number : ℕ) → sum_in sums number ≡ sum number
 
 -- a set of findings has just what it had, and what a rule finds on some things
-abbrev pub AddsBy : {X : Type 0} → (X → Option Finding) → List X → BTreeSet Finding → BTreeSet Finding → Type 0
+abbrev pub AddsBy : {X : Type 0} → (X → Option Finding) → List X → FoundSet → FoundSet → Type 0
 AddsBy rule xs old new = (one : Finding) → has new one ≡ (list_any (is_row rule one) xs || has old one)

@@ -1,11 +1,11 @@
 -- What of the names in a tree of files has not met its counterpart yet, one item after another.
-use Rattle.std.specs.Prelude.{◌≡◌, ℕ, Bool, true, false, ◌&&◌, List, [], ◌∷◌, ◌++◌, fold, filter, if◌then◌else◌}
+use Rattle.std.specs.Prelude.{◌≡◌, ℕ, Bool, true, false, ◌&&◌, ◌||◌, not, List, [], ◌∷◌, ◌++◌, fold, filter, if◌then◌else◌}
 use Rattle.btr_base.specs.declared.key.Key.{Key}
 use Rattle.btr_tour.specs.Tour.{Mark, Block, Child, Item, Left, items_met}
 use Rattle.btr_names.specs.declared.inode_at.InodeAt.{InodeAt}
 use Rattle.btr_names.specs.declared.unpaired.Unpaired.{Unpaired}
 use Rattle.btr_names.specs.Entry.{Entry, NameRef}
-use Rattle.btr_names.specs.Inodes.{no_inodes, begun, linked, named, released, last_format, are_settled}
+use Rattle.btr_names.specs.Inodes.{no_inodes, begun, linked, named, released, is_gone, last_format, are_settled}
 use Rattle.btr_names.specs.Items.{inodes_in, indexed_in, hashed_in, refs_in, orphans_in}
 use Rattle.btr_names.specs.Names.{names_in, names_findings, leads_to_inode, is_free, under_hash}
 use Rattle.btr_names.specs.Pairs.{Pairs, no_pairs, met, entry_claim, link_claim, ref_claim, are_met}
@@ -19,22 +19,34 @@ nothing_unpaired dirid = record { dirid = dirid; inodes = no_inodes; entries = n
 abbrev pub with_inode : Unpaired → InodeAt → Unpaired
 with_inode u at = record { dirid = u.dirid; inodes = begun u.inodes at; entries = u.entries; links = u.links; subvolumes = u.subvolumes }
 
--- an entry at an index asks for one under its name's hash, and for a reference of the inode that it leads to
-abbrev pub link_asked : Pairs → Entry → Pairs
-link_asked links entry = if leads_to_inode entry then met links (link_claim entry) true entry.name else links
+-- an entry at an index asks for one under its name's hash, and for a reference of the inode that it leads to, unless its directory has no links
+abbrev pub index_met : Bool → Pairs → Entry → Pairs
+index_met gone entries entry = if gone then entries else met entries (entry_claim (under_hash entry)) true entry.name
+
+abbrev pub link_asked : Bool → Pairs → Entry → Pairs
+link_asked gone links entry = if gone || not (leads_to_inode entry) then links else met links (link_claim entry) true entry.name
 
 abbrev pub with_indexed : Unpaired → Entry → Unpaired
 with_indexed u entry = record {
   dirid = u.dirid;
   inodes = named u.inodes entry.dir entry.name;
-  entries = met u.entries (entry_claim (under_hash entry)) true entry.name;
-  links = link_asked u.links entry;
+  entries = index_met (is_gone entry.dir u.inodes.last) u.entries entry;
+  links = link_asked (is_gone entry.dir u.inodes.last) u.links entry;
   subvolumes = u.subvolumes ++ filter leads_to_root (entry ∷ []);
 }
 
 -- an entry under a hash
+abbrev pub hash_met : Bool → Pairs → Entry → Pairs
+hash_met gone entries entry = if gone then entries else met entries (entry_claim entry) false entry.name
+
 abbrev pub with_hashed : Unpaired → Entry → Unpaired
-with_hashed u entry = record { dirid = u.dirid; inodes = u.inodes; entries = met u.entries (entry_claim entry) false entry.name; links = u.links; subvolumes = u.subvolumes }
+with_hashed u entry = record {
+  dirid = u.dirid;
+  inodes = u.inodes;
+  entries = hash_met (is_gone entry.dir u.inodes.last) u.entries entry;
+  links = u.links;
+  subvolumes = u.subvolumes;
+}
 
 -- a reference of the inode whose items come
 abbrev pub link_met : ℕ → ℕ → Pairs → NameRef → Pairs

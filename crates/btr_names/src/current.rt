@@ -3,7 +3,6 @@ ghost use Rattle.std.specs.Prelude.{◌≡◌, ◌+◌, ◌*◌, OnOk};
 ghost use Rattle.btr_names.specs.Inodes.{begun_with, is_counted};
 
 use crate::InodeAt;
-use crate::mode_at::{DIRECTORY, format_of};
 use btr_base::Memory;
 
 /// The inode whose items come, and what was counted of them.
@@ -32,9 +31,7 @@ impl Current {
     pub(crate) fn is_counted(&self) -> bool
         ensures { result ≡ is_counted self.now }
     {
-        let inode = &self.at.inode;
-        u128::from(inode.nlink) == self.links
-            && (format_of(inode) != DIRECTORY || u128::from(inode.size) == self.names)
+        self.at.has_links(self.links) && (self.at.is_unlinked() || self.at.has_size(self.names))
     }
 }
 

@@ -50,6 +50,16 @@ impl InodeRun {
         }
     }
 
+    /// Whether the inode whose items come is a directory of this number, without links.
+    pub(crate) fn is_gone(&self, dir: u64) -> bool
+        ensures { result ≡ words.is_gone dir self.now.last }
+    {
+        match &self.last {
+            None => false,
+            Some(current) => current.at.number == dir && current.at.is_unlinked(),
+        }
+    }
+
     /// The next inode begins. `Memory`: there is no memory for it; then nothing is said of the inodes.
     pub(crate) fn begin(&mut self, at: InodeAt) -> Result<(), Memory>
         ensures { OnOk result (self.new ≡ begun self.old at) }

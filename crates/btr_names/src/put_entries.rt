@@ -7,45 +7,52 @@ ghost use Rattle.btr_names.specs.Names as words;
 ghost use Rattle.btr_names.specs.Sets.{HasRefs, AddsBy};
 
 use crate::findings::of_entry;
-use crate::sets::{entries_of, entries_under_hashes, link_to, refs_asked, refs_of, under_hash};
+use crate::sets::{
+    entries_of, entries_under_hashes, link_to, numbers_of, refs_asked, refs_of, under_hash,
+};
 use crate::{DirEntry, EntryList, LinkList, LinkName};
 use btr_base::Memory;
 use btr_items::item;
-use btr_refs::{Finding, put_unless};
+use btr_refs::{Finding, Found, put_unless};
 use std::alloc::Global;
 use std::collections::BTreeSet;
 
-/// Kind 15: the entries at indexes that stand under no hash. `Memory`: there is no memory.
+/// Kind 15: the entries at indexes that stand under no hash, but for those of the directories in `removed`. `Memory`: there is no memory.
 pub(crate) fn put_entry_items(
     alloc: Global,
-    found: &mut BTreeSet<Finding>,
+    found: &mut Found,
     tree: u64,
+    removed: &[u64],
     indexed: &EntryList,
     hashed: &EntryList,
 ) -> Result<(), Memory>
-    ensures { OnOk result (AddsBy (entry_item tree hashed.now) indexed.now found.old found.new) }
+    ensures { OnOk result (AddsBy (entry_item tree removed.now hashed.now) indexed.now found.old found.new) }
 {
+    let numbers = numbers_of(alloc, removed)?;
     let stands = entries_of(alloc, hashed)?;
     for entry in indexed.iter() {
-        let kept = stands.contains(&under_hash(&entry));
+        let kept = numbers.contains(&entry.dir) || stands.contains(&under_hash(&entry));
         put_unless(found, kept, of_entry(15, tree, &entry))?;
     }
     Ok(())
 }
 
-/// Kind 16: the entries under hashes that aren't as one at an index is to stand there. `Memory`: there is no memory.
+/// Kind 16: the entries under hashes that aren't as one at an index is to stand there, but for those of the directories in `removed`.
+/// `Memory`: there is no memory.
 pub(crate) fn put_entry_indexes(
     alloc: Global,
-    found: &mut BTreeSet<Finding>,
+    found: &mut Found,
     tree: u64,
+    removed: &[u64],
     indexed: &EntryList,
     hashed: &EntryList,
 ) -> Result<(), Memory>
-    ensures { OnOk result (AddsBy (entry_index tree indexed.now) hashed.now found.old found.new) }
+    ensures { OnOk result (AddsBy (entry_index tree removed.now indexed.now) hashed.now found.old found.new) }
 {
+    let numbers = numbers_of(alloc, removed)?;
     let stands = entries_under_hashes(alloc, indexed)?;
     for entry in hashed.iter() {
-        let kept = stands.contains(&entry);
+        let kept = numbers.contains(&entry.dir) || stands.contains(&entry);
         put_unless(found, kept, of_entry(16, tree, &entry))?;
     }
     Ok(())
@@ -58,19 +65,21 @@ fn has_ref<'a>(refs: &BTreeSet<LinkName<'a>>, entry: &DirEntry<'a>) -> bool
     entry.target.kind != item::INODE_ITEM || refs.contains(&link_to(entry))
 }
 
-/// Kind 17: the entries that lead to inodes without the reference. `Memory`: there is no memory.
+/// Kind 17: the entries that lead to inodes without the reference, but for those of the directories in `removed`. `Memory`: there is no memory.
 pub(crate) fn put_entry_refs(
     alloc: Global,
-    found: &mut BTreeSet<Finding>,
+    found: &mut Found,
     tree: u64,
+    removed: &[u64],
     indexed: &EntryList,
     refs: &LinkList,
 ) -> Result<(), Memory>
-    ensures { OnOk result (AddsBy (entry_ref tree refs.now) indexed.now found.old found.new) }
+    ensures { OnOk result (AddsBy (entry_ref tree removed.now refs.now) indexed.now found.old found.new) }
 {
+    let numbers = numbers_of(alloc, removed)?;
     let stands = refs_of(alloc, refs)?;
     for entry in indexed.iter() {
-        let kept = has_ref(&stands, &entry);
+        let kept = numbers.contains(&entry.dir) || has_ref(&stands, &entry);
         put_unless(found, kept, of_entry(17, tree, &entry))?;
     }
     Ok(())
@@ -96,7 +105,7 @@ fn of_link(tree: u64, link: &LinkName<'_>) -> Finding
 /// Kind 18: the references that no entry asks for. `Memory`: there is no memory.
 pub(crate) fn put_ref_entries(
     alloc: Global,
-    found: &mut BTreeSet<Finding>,
+    found: &mut Found,
     tree: u64,
     dirid: u64,
     indexed: &EntryList,

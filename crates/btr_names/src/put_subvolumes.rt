@@ -6,7 +6,7 @@ ghost use Rattle.btr_names.specs.Standing.{PutsNames};
 
 use crate::{SubvolumeList, SubvolumeName, SubvolumeNames};
 use btr_base::Memory;
-use btr_refs::{Finding, put_unless};
+use btr_refs::{Finding, Found, put_unless};
 use std::alloc::Global;
 use std::collections::BTreeSet;
 
@@ -44,7 +44,7 @@ fn of_name(name: &SubvolumeName<'_>) -> Finding
 
 // The names of a list that don't stand everywhere.
 fn put_names<'a>(
-    found: &mut BTreeSet<Finding>,
+    found: &mut Found,
     list: &'a SubvolumeList,
     standing: &Standing<'a>,
 ) -> Result<(), Memory>
@@ -63,7 +63,7 @@ fn put_names<'a>(
 /// names and its logarithm. `Memory`: there is no memory; then nothing is said of the set.
 pub fn put_subvolume_findings(
     alloc: Global,
-    found: &mut BTreeSet<Finding>,
+    found: &mut Found,
     names: &SubvolumeNames,
 ) -> Result<(), Memory>
     ensures { OnOk result (Adds (subvolume_findings names.now) found.old found.new) }

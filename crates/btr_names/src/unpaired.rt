@@ -1,8 +1,10 @@
 // What of the names in a tree of files has not met its counterpart yet.
 ghost use Rattle.std.specs.Prelude.{◌≡◌, ◌∷◌, ◌++◌, [], filter, OnOk};
 ghost use Rattle.btr_names.specs.Entry.{entry_of, ref_of};
+ghost use Rattle.btr_names.specs.Names as words;
+ghost use Rattle.btr_names.specs.Pairs.{entry_claim};
 ghost use Rattle.btr_names.specs.Subvolumes.{leads_to_root};
-ghost use Rattle.btr_names.specs.Unpaired.{link_asked, link_met, UnpairedLaw};
+ghost use Rattle.btr_names.specs.Unpaired.{hash_met, index_met, link_asked, link_met, UnpairedLaw};
 
 use crate::claim::Claim;
 use crate::inode_run::InodeRun;
@@ -17,8 +19,9 @@ use btr_tour::{Met, Visitor};
 use std::alloc::Global;
 
 /// What of the names in a tree of files has not met its counterpart yet: each entry at an index is to meet one under its name's hash, and
-/// a reference of the inode that it leads to. It is a visitor of the tree that keeps little where the names are sound: what has met
-/// is let go, of the inodes only the last one is kept, and of the entries those that lead to subvolumes.
+/// a reference of the inode that it leads to, but for those of directories without links, which are to be orphans. It is a visitor of the tree
+/// that keeps little where the names are sound: what has met is let go, of the inodes only the last one is kept, and the numbers of those
+/// that wait for an orphan item, and of the entries those that lead to subvolumes.
 #[derive(Drop)]
 pub struct Unpaired {
     pub(crate) dirid: u64,
@@ -80,10 +83,10 @@ impl Unpaired {
     fn put_indexed(&mut self, entry: &DirEntry<'_>) -> Result<(), Memory>
         ensures { OnOk result (self.new ≡ with_indexed self.old (entry_of entry.now)) }
     {
+        let is_gone = self.inodes.is_gone(entry.dir);
         self.inodes.name(entry.dir, entry.name)?;
-        self.entries
-            .meet(Claim::of_entry(&under_hash(entry)), true, entry.name)?;
-        ask_link(&mut self.links, entry)?;
+        meet_index(&mut self.entries, is_gone, entry)?;
+        ask_link(&mut self.links, is_gone, entry)?;
         keep_root(&mut self.subvolumes, entry)
     }
 
@@ -91,7 +94,8 @@ impl Unpaired {
     fn put_hashed(&mut self, entry: &DirEntry<'_>) -> Result<(), Memory>
         ensures { OnOk result (self.new ≡ with_hashed self.old (entry_of entry.now)) }
     {
-        self.entries.meet(Claim::of_entry(entry), false, entry.name)
+        let is_gone = self.inodes.is_gone(entry.dir);
+        meet_hash(&mut self.entries, is_gone, entry)
     }
 
     // Takes a reference.
@@ -202,11 +206,38 @@ impl Unpaired {
     }
 }
 
-// An entry asks for the reference of the inode that it leads to, if it leads to one.
-fn ask_link(links: &mut Pairs, entry: &DirEntry<'_>) -> Result<(), Memory>
-    ensures { OnOk result (links.new ≡ link_asked links.old (entry_of entry.now)) }
+// What an entry at an index says of the one under its name's hash.
+fn claim_under_hash(entry: &DirEntry<'_>) -> Claim
+    ensures { result ≡ entry_claim (words.under_hash (entry_of entry.now)) }
 {
-    if entry.target.kind != item::INODE_ITEM {
+    Claim::of_entry(&under_hash(entry))
+}
+
+// An entry at an index meets the one under its name's hash, unless its directory has no links.
+fn meet_index(entries: &mut Pairs, is_gone: bool, entry: &DirEntry<'_>) -> Result<(), Memory>
+    ensures { OnOk result (entries.new ≡ index_met is_gone entries.old (entry_of entry.now)) }
+{
+    if is_gone {
+        return Ok(());
+    }
+    entries.meet(claim_under_hash(entry), true, entry.name)
+}
+
+// An entry under a hash meets the one at an index, unless its directory has no links.
+fn meet_hash(entries: &mut Pairs, is_gone: bool, entry: &DirEntry<'_>) -> Result<(), Memory>
+    ensures { OnOk result (entries.new ≡ hash_met is_gone entries.old (entry_of entry.now)) }
+{
+    if is_gone {
+        return Ok(());
+    }
+    entries.meet(Claim::of_entry(entry), false, entry.name)
+}
+
+// An entry asks for the reference of the inode that it leads to, if it leads to one and its directory has links.
+fn ask_link(links: &mut Pairs, is_gone: bool, entry: &DirEntry<'_>) -> Result<(), Memory>
+    ensures { OnOk result (links.new ≡ link_asked is_gone links.old (entry_of entry.now)) }
+{
+    if is_gone || entry.target.kind != item::INODE_ITEM {
         return Ok(());
     }
     links.meet(Claim::of_link(entry), true, entry.name)

@@ -1,16 +1,15 @@
 // What is wrong with the names of small trees of files.
 use super::files::{HASH_G, tree_with};
 use btr_names::{TreeNames, put_name_findings};
-use btr_refs::{Finding, listed};
+use btr_refs::{Finding, Found};
 use std::alloc::Global;
-use std::collections::BTreeSet;
 use std::test::Fail;
 
-// The findings on the names of a tree.
-fn findings(alloc: Global, names: &TreeNames) -> Result<Vec<Finding>, Fail> {
-    let mut found = BTreeSet::new(alloc);
+/// The findings on the names of a tree.
+pub(super) fn findings(alloc: Global, names: &TreeNames) -> Result<Vec<Finding>, Fail> {
+    let mut found = Found::new(alloc);
     put_name_findings(alloc, &mut found, names)?;
-    Ok(listed(alloc, &found)?)
+    Ok(found.list(alloc)?.to_vec(alloc)?)
 }
 
 #[test]

@@ -2,9 +2,8 @@
 use super::trees::{entry, key, meet, root_ref};
 use btr_items::item;
 use btr_names::{SubvolumeNames, TreeNames, put_subvolume_findings};
-use btr_refs::{Finding, listed};
+use btr_refs::{Finding, Found};
 use std::alloc::Global;
-use std::collections::BTreeSet;
 use std::test::Fail;
 
 // The entry of tree 5 that leads to tree 256.
@@ -34,9 +33,9 @@ fn findings(
     if in_entry {
         names.take_entries(&entry_of_subvolume(alloc)?)?;
     }
-    let mut found = BTreeSet::new(alloc);
+    let mut found = Found::new(alloc);
     put_subvolume_findings(alloc, &mut found, &names)?;
-    Ok(listed(alloc, &found)?)
+    Ok(found.list(alloc)?.to_vec(alloc)?)
 }
 
 #[test]

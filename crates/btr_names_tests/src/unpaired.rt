@@ -1,7 +1,6 @@
 // Names that meet their counterparts.
 use super::files::unpaired_with;
 use super::trees::{entry, inode, inode_ref, key, meet};
-use btr_blocks::Body;
 use btr_items::item;
 use btr_names::Unpaired;
 use std::test::Fail;
@@ -25,27 +24,19 @@ fn each_kind_is_noticed(rt: HostRuntime) -> Result<(), Fail> {
 #[test]
 fn references_come_first(rt: HostRuntime) -> Result<(), Fail> {
     let alloc = rt.alloc();
-    let mut names = Unpaired::new(alloc, 256);
+    let mut names = Unpaired::new(alloc, 300);
     let sub = inode(alloc, 0, 1, DIRECTORY)?;
     meet(&mut names, key(257, item::INODE_ITEM, 0), &sub)?;
     let name = inode_ref(alloc, 3, b"sub")?;
     meet(&mut names, key(257, item::INODE_REF, 300), &name)?;
-    let parent = inode(alloc, 6, 0, DIRECTORY)?;
+    let parent = inode(alloc, 6, 1, DIRECTORY)?;
     meet(&mut names, key(300, item::INODE_ITEM, 0), &parent)?;
+    let itself = inode_ref(alloc, 0, b"..")?;
+    meet(&mut names, key(300, item::INODE_REF, 300), &itself)?;
     let entry = entry(alloc, key(257, item::INODE_ITEM, 0), 2, b"sub")?;
     meet(&mut names, key(300, item::DIR_ITEM, HASH_SUB), &entry)?;
     let before = names.are_paired();
     meet(&mut names, key(300, item::DIR_INDEX, 3), &entry)?;
-    let unlinked = names.are_paired();
-    let empty = Body::new(alloc);
-    meet(
-        &mut names,
-        key(u64::MAX - 4, item::ORPHAN_ITEM, 300),
-        &empty,
-    )?;
-    assert_eq!(rt;
-        (before, unlinked, names.are_paired()),
-        (false, false, true)
-    );
+    assert_eq!(rt; (before, names.are_paired()), (false, true));
     Ok(())
 }

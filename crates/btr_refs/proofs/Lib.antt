@@ -7,3 +7,7 @@ pub mod Used
 mod Using
 pub mod Totals
 pub mod Packed
+mod Onces
+mod SectorRuns
+pub mod Setting
+mod Taking

@@ -1,5 +1,5 @@
 -- Sets as lists in ascending order.
-use Rattle.std.proofs.Common.{◌≡◌, Bool, true, false, ◌||◌, List, [], ◌∷◌, refl, sym, ap, ◌∙◌}
+use Rattle.std.proofs.Common.{◌≡◌, suc, ◌≤◌, Bool, true, false, ◌||◌, List, [], ◌∷◌, length, refl, sym, ap, ◌∙◌, arith}
 use Rattle.std.proofs.lemmas.Bool.{true≢false, false≢true}
 use Rattle.std.proofs.lemmas.Cmp.{alike_right, then_total, on_total, nat_cmp_total}
 use Rattle.std.proofs.lemmas.Map.Lookups.{CmpEqualImpliesEq, exact_unsigned, exact_bytes, btree_set_from_contains}
@@ -12,9 +12,9 @@ use Rattle.std.specs.Cmp.Lexicographic.{slice_cmp, nat_list_cmp_total}
 use Rattle.std.specs.declared.cmp.Ordering.{Ordering}
 use Rattle.std.specs.declared.cmp.Ordering.TheVariants.{Less, Equal, Greater}
 use Rattle.btr_refs.specs.declared.finding.Finding.{Finding}
-use Rattle.btr_refs.specs.Findings.{finding_cmp, in_order, is_one_of, HasJust}
+use Rattle.btr_refs.specs.Findings.{finding_cmp, in_order, is_one_of}
 
-all-insert : {K : Type 0} (P : K → Type 0) (R : K → K → Ordering) (k : K) (xs : List K) → P k → AllByRecursion P xs → AllByRecursion P (insert_key R xs k)
+pub all-insert : {K : Type 0} (P : K → Type 0) (R : K → K → Ordering) (k : K) (xs : List K) → P k → AllByRecursion P xs → AllByRecursion P (insert_key R xs k)
 all-insert P R k [] p all = (p, tt)
 all-insert P R k (x ∷ xs) p all = by (R k x) (all-insert P R k xs p all.1)
   where
@@ -23,7 +23,7 @@ all-insert P R k (x ∷ xs) p all = by (R k x) (all-insert P R k xs p all.1)
     by Equal rest = all
     by Greater rest = (all.0, rest)
 
-all-weaker : {K : Type 0} (P Q : K → Type 0) (weaker : (k : K) → P k → Q k) (xs : List K) → AllByRecursion P xs → AllByRecursion Q xs
+pub all-weaker : {K : Type 0} (P Q : K → Type 0) (weaker : (k : K) → P k → Q k) (xs : List K) → AllByRecursion P xs → AllByRecursion Q xs
 all-weaker P Q weaker [] all = tt
 all-weaker P Q weaker (x ∷ xs) all = (weaker x all.0, all-weaker P Q weaker xs all.1)
 
@@ -39,7 +39,7 @@ module _ {K : Type 0} (R : K → K → Ordering) (o : IsTotalOrder R) where
       by Equal is rest = s
       by Greater is rest = (all-insert (λ y. R x y ≡ Less) R k xs (o.antisymm x k ∙ ap ordering_reverse is) s.0, rest)
 
-  or_swap : (a b c : Bool) → (a || (b || c)) ≡ (b || (a || c))
+  pub or_swap : (a b c : Bool) → (a || (b || c)) ≡ (b || (a || c))
   or_swap true true c = refl
   or_swap true false c = refl
   or_swap false true c = refl
@@ -99,8 +99,31 @@ same_findings xs ys same =
     btree_set_from_contains finding_total (set_of (in_order xs)) (set_of (in_order ys)) (sorted-in_order xs) (sorted-in_order ys)
     (λ one. any-in_order xs one ∙ same one ∙ sym (any-in_order ys one)) finding_exact
 
--- a set that has just some findings is their set
-pub set_is : (findings : List Finding) (set : BTreeSet Finding) → IsStrictlySortedBy finding_cmp set.keys → HasJust findings set → set.keys ≡ in_order findings
-unfolding set_of
-set_is findings set sorted just =
-    btree_set_from_contains finding_total set (set_of (in_order findings)) sorted (sorted-in_order findings) (λ one. just one ∙ sym (any-in_order findings one)) finding_exact
+-- what comes before all others is the first
+first_is : (first : Finding) (rest : List Finding) → AllByRecursion (λ y. finding_cmp first y ≡ Less) rest → insert_key finding_cmp rest first ≡ first ∷ rest
+first_is first [] below = refl
+first_is first (one ∷ rest) below = ap (λ r. match_ordering r (first ∷ one ∷ rest) (one ∷ rest) (one ∷ insert_key finding_cmp rest first)) below.0
+
+all-in_order : (P : Finding → Type 0) (findings : List Finding) → AllByRecursion P findings → AllByRecursion P (in_order findings)
+all-in_order P [] all = tt
+all-in_order P (finding ∷ findings) all = all-insert P finding_cmp finding (in_order findings) all.0 (all-in_order P findings all.1)
+
+pub first_in_order : (first : Finding) (rest : List Finding) → AllByRecursion (λ y. finding_cmp first y ≡ Less) rest → in_order (first ∷ rest) ≡ first ∷ in_order rest
+first_in_order first rest below = first_is first (in_order rest) (all-in_order (λ y. finding_cmp first y ≡ Less) rest below)
+
+-- there are no more of them in order
+length-insert : (k : Finding) (xs : List Finding) → length (insert_key finding_cmp xs k) ≤ suc (length xs)
+length-insert k [] = omega arith
+length-insert k (x ∷ xs) = by (finding_cmp k x) (length-insert k xs)
+  where
+    by : (r : Ordering) → length (insert_key finding_cmp xs k) ≤ suc (length xs) → length (match_ordering r (k ∷ x ∷ xs) (x ∷ xs) (x ∷ insert_key finding_cmp xs k)) ≤ suc (length (x ∷ xs))
+    by Less rest = omega arith
+    by Equal rest = omega arith
+    by Greater rest = omega (arith, rest)
+
+pub length-in_order : (findings : List Finding) → length (in_order findings) ≤ length findings
+length-in_order [] = omega arith
+length-in_order (finding ∷ findings) =
+    let rest : length (in_order findings) ≤ length findings = length-in_order findings in
+    let here : length (insert_key finding_cmp (in_order findings) finding) ≤ suc (length (in_order findings)) = length-insert finding (in_order findings) in
+    omega (arith, rest, here)

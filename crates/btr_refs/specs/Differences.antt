@@ -5,8 +5,6 @@ use Rattle.std.specs.BTreeSet.{BTreeSet, contains}
 use Rattle.std.specs.List.{list_any}
 use Rattle.std.specs.Map.{keys_of}
 use Rattle.std.specs.Ordering.{nat_cmp}
-use Rattle.std.specs.declared.alloc.Global.{Global}
-use Rattle.std.specs.declared.vec.Vec.{Vec}
 use Rattle.btr_base.specs.declared.memory.Memory.{Memory}
 use Rattle.btr_refs.specs.declared.extent.Extent.{Extent}
 use Rattle.btr_refs.specs.declared.finding.Finding.{Finding}
@@ -14,7 +12,7 @@ use Rattle.btr_refs.specs.declared.ref_key.RefKey.{RefKey}
 use Rattle.btr_refs.specs.Counts.{RefCounts, count_in}
 use Rattle.btr_refs.specs.Extents.{Kept}
 use Rattle.btr_refs.specs.Forward.{Uses}
-use Rattle.btr_refs.specs.Findings.{found, has, unless, shown_sum, is_same, in_order}
+use Rattle.btr_refs.specs.Findings.{found, has, unless, shown_sum, is_same, in_order, FoundSet}
 
 -- a reference as it is printed
 abbrev pub key_numbers : RefKey → List ℕ
@@ -66,13 +64,13 @@ abbrev pub is_row : {X : Type 0} → (X → Option Finding) → Finding → X �
 is_row rule one x = is_shown one (rule x)
 
 -- a set has just what it had, and the finding of a rule on something, on some things, or on the references of a map
-abbrev pub PutsRow : {X : Type 0} → (X → Option Finding) → X → BTreeSet Finding → BTreeSet Finding → Type 0
+abbrev pub PutsRow : {X : Type 0} → (X → Option Finding) → X → FoundSet → FoundSet → Type 0
 PutsRow rule x old new = (one : Finding) → has new one ≡ (is_row rule one x || has old one)
 
-abbrev pub PutsRows : {X : Type 0} → (X → Option Finding) → List X → BTreeSet Finding → BTreeSet Finding → Type 0
+abbrev pub PutsRows : {X : Type 0} → (X → Option Finding) → List X → FoundSet → FoundSet → Type 0
 PutsRows rule xs old new = (one : Finding) → has new one ≡ (list_any (is_row rule one) xs || has old one)
 
-abbrev pub PutsRefs : (RefKey → Option Finding) → BTreeMap RefKey ℕ → BTreeSet Finding → BTreeSet Finding → Type 0
+abbrev pub PutsRefs : (RefKey → Option Finding) → BTreeMap RefKey ℕ → FoundSet → FoundSet → Type 0
 PutsRefs rule refs old new = PutsRows rule (keys_of refs.entries) old new
 
 -- a set has the addresses of extents
@@ -80,9 +78,9 @@ abbrev pub Addresses : List Extent → BTreeSet ℕ → Type 0
 Addresses extents addresses = (addr : ℕ) → contains nat_cmp addresses addr ≡ has_extent extents addr
 
 -- by such a set, the findings of references where there is no extent were put
-abbrev pub PutsAlone : BTreeMap RefKey ℕ → BTreeSet ℕ → BTreeSet Finding → BTreeSet Finding → Result (Unit {0}) Memory → Type 0
+abbrev pub PutsAlone : BTreeMap RefKey ℕ → BTreeSet ℕ → FoundSet → FoundSet → Result (Unit {0}) Memory → Type 0
 PutsAlone refs addresses old new result = (extents : List Extent) → Addresses extents addresses → OnOk result (PutsRefs (ref_alone extents refs.entries) refs old new)
 
 -- what was counted and what is stored differ by just these findings
-abbrev pub ListsDifferences : Uses → Kept → Result (Vec Finding Global) Memory → Type 0
-ListsDifferences forward stored result = IfOk result (λ findings. findings.items ≡ differences forward.refs stored.extents stored.refs)
+abbrev pub ListsDifferences : Uses → Kept → Result (List Finding) Memory → Type 0
+ListsDifferences forward stored result = IfOk result (λ findings. findings ≡ differences forward.refs stored.extents stored.refs)

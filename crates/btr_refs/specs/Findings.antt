@@ -1,16 +1,14 @@
 -- Findings, and the order that they are printed in.
-use Rattle.std.specs.Prelude.{◌≡◌, ℕ, ◌^◌, ◌-◌, min, Bool, List, [], ◌∷◌, ◌||◌, ◌++◌, take, replicate, Option, Some, None, Result, IfOk, if◌then◌else◌}
-use Rattle.std.specs.BTreeSet.{BTreeSet, insert_key, contains}
+use Rattle.std.specs.Prelude.{◌≡◌, ℕ, ◌^◌, ◌-◌, min, Bool, List, [], ◌∷◌, ◌||◌, ◌++◌, take, replicate, Option, Some, None, Result, IfOk, MatchOption, if◌then◌else◌}
+use Rattle.std.specs.BTreeSet.{insert_key}
 use Rattle.std.specs.List.{list_any}
 use Rattle.std.specs.Ordering.{is_eq, nat_cmp, on, then_cmp}
 use Rattle.std.specs.declared.cmp.Ordering.{Ordering}
 use Rattle.std.specs.Cmp.Lexicographic.{slice_cmp}
-use Rattle.std.specs.declared.alloc.Global.{Global}
-use Rattle.std.specs.declared.vec.Vec.{Vec}
 use Rattle.btr_base.specs.declared.memory.Memory.{Memory}
 use Rattle.btr_refs.specs.declared.finding.Finding.{Finding}
 
--- a finding of a kind with these numbers, and zeros behind them
+-- a finding of a kind with these numbers
 abbrev pub found : ℕ → List ℕ → Finding
 found kind numbers = record { kind = kind; n = take 7 (numbers ++ replicate 7 0) }
 
@@ -38,22 +36,29 @@ in_order (finding ∷ findings) = insert_key finding_cmp (in_order findings) fin
 abbrev pub is_one_of : List Finding → Finding → Bool
 is_one_of findings one = list_any (is_same one) findings
 
--- whether a set has it
-abbrev pub has : BTreeSet Finding → Finding → Bool
-has set one = contains finding_cmp set one
+-- what was found: findings in any order, of which it only counts whether they are there
+abbrev pub FoundSet : Type 0
+FoundSet = List Finding
+
+abbrev pub has : FoundSet → Finding → Bool
+has set one = is_one_of set one
 
 -- a set has just these findings
-abbrev pub HasJust : List Finding → BTreeSet Finding → Type 0
+abbrev pub HasJust : List Finding → FoundSet → Type 0
 HasJust findings set = (one : Finding) → has set one ≡ is_one_of findings one
 
 -- a list is the set of findings, in ascending order
-abbrev pub ListsSet : BTreeSet Finding → Result (Vec Finding Global) Memory → Type 0
-ListsSet set result = (findings : List Finding) → HasJust findings set → IfOk result (λ list. list.items ≡ in_order findings)
+abbrev pub ListsSet : FoundSet → Result (List Finding) Memory → Type 0
+ListsSet set result = (findings : List Finding) → HasJust findings set → IfOk result (λ list. list ≡ in_order findings)
+
+-- the first of some findings is taken from them, where there is one
+abbrev pub TakesFirst : List Finding → List Finding → Option Finding → Type 0
+TakesFirst old new first = MatchOption first ((old ≡ []) × (new ≡ [])) (λ finding. old ≡ finding ∷ new)
 
 -- which findings are in a list says what their set is
 abbrev pub SetLaw : Type 0
 SetLaw = (xs ys : List Finding) → ((one : Finding) → is_one_of xs one ≡ is_one_of ys one) → in_order xs ≡ in_order ys
 
 -- a set has just what it had, and some findings
-abbrev pub Adds : List Finding → BTreeSet Finding → BTreeSet Finding → Type 0
+abbrev pub Adds : List Finding → FoundSet → FoundSet → Type 0
 Adds findings old new = (one : Finding) → has new one ≡ (is_one_of findings one || has old one)

@@ -5,3 +5,5 @@ pub mod Forward
 pub mod Findings
 pub mod Differences
 pub mod Collecting
+pub mod Runs
+pub mod Sectors

@@ -1,12 +1,13 @@
 // Where the references that are counted and those that are stored differ.
 ghost use Rattle.std.specs.Prelude.{◌≡◌, ◌+◌, ◌==◌, cond, OnOk, IfOk};
-ghost use Rattle.btr_refs.specs.Findings.{shown_sum, Adds};
+ghost use Rattle.btr_refs.specs.Findings.{Adds};
 ghost use Rattle.btr_refs.specs.Differences.{ref_count, ref_total, count_findings, total_findings, Addresses, ListsDifferences, PutsAlone, PutsRow, PutsRows, PutsRefs};
 ghost use Rattle.btr_refs.specs.Differences as rows;
 
 use crate::counts::count_in;
-use crate::found::{insert, listed};
-use crate::{Extent, Finding, Forward, RefKey, Stored};
+use crate::found::{Found, insert};
+use crate::showing::shown;
+use crate::{Extent, Finding, Findings, Forward, RefKey, Stored};
 use btr_base::Memory;
 use std::alloc::Global;
 use std::collections::btree_map::Range;
@@ -14,7 +15,7 @@ use std::collections::{BTreeMap, BTreeSet};
 
 // A reference that is counted and stored differently.
 fn put_ref_count(
-    found: &mut BTreeSet<Finding>,
+    found: &mut Found,
     key: &RefKey,
     forward: &BTreeMap<RefKey, u64>,
     stored: &BTreeMap<RefKey, u64>,
@@ -40,7 +41,7 @@ fn put_ref_count(
 
 // The references of a map that are counted and stored differently.
 fn put_ref_counts(
-    found: &mut BTreeSet<Finding>,
+    found: &mut Found,
     refs: &BTreeMap<RefKey, u64>,
     forward: &BTreeMap<RefKey, u64>,
     stored: &BTreeMap<RefKey, u64>,
@@ -51,16 +52,6 @@ fn put_ref_counts(
         put_ref_count(found, key, forward, stored)?;
     }
     Ok(())
-}
-
-// A sum as it is printed.
-fn shown(sum: u128) -> u64
-    ensures { result ≡ shown_sum sum }
-{
-    match u64::try_from(sum) {
-        Ok(sum) => sum,
-        Err(_) => u64::MAX,
-    }
 }
 
 // The references to the extent at an address, and maybe others.
@@ -131,7 +122,7 @@ fn ref_total(addr: u64, refs: u64, sum: u128) -> Finding
 
 // An extent that states another sum than the one of the stored references.
 fn put_ref_total(
-    found: &mut BTreeSet<Finding>,
+    found: &mut Found,
     extent: &Extent,
     refs: &BTreeMap<RefKey, u64>,
 ) -> Result<(), Memory>
@@ -146,7 +137,7 @@ fn put_ref_total(
 
 // The extents that do.
 fn put_ref_totals(
-    found: &mut BTreeSet<Finding>,
+    found: &mut Found,
     extents: &[Extent],
     refs: &BTreeMap<RefKey, u64>,
 ) -> Result<(), Memory>
@@ -160,7 +151,7 @@ fn put_ref_totals(
 
 // The references that are stored where there is no extent.
 fn put_ref_alone(
-    found: &mut BTreeSet<Finding>,
+    found: &mut Found,
     refs: &BTreeMap<RefKey, u64>,
     addresses: &BTreeSet<u64>,
 ) -> Result<(), Memory>
@@ -178,7 +169,7 @@ fn put_ref_alone(
 /// Puts the findings on references into a set, kind 7: a reference that is counted and stored differently. `Memory`: there is no memory;
 /// then nothing is said of the set.
 pub fn put_count_findings(
-    found: &mut BTreeSet<Finding>,
+    found: &mut Found,
     forward: &Forward,
     stored: &BTreeMap<RefKey, u64>,
 ) -> Result<(), Memory>
@@ -192,11 +183,7 @@ pub fn put_count_findings(
 /// Puts the findings on sums of references into a set, kind 8: an extent that states another sum than that of the references to its
 /// address that are stored; and an address that has such references, be it 0 times, and no extent. `Memory`: there is no memory; then
 /// nothing is said of the set.
-pub fn put_total_findings(
-    alloc: Global,
-    found: &mut BTreeSet<Finding>,
-    stored: &Stored,
-) -> Result<(), Memory>
+pub fn put_total_findings(alloc: Global, found: &mut Found, stored: &Stored) -> Result<(), Memory>
     ensures { OnOk result (Adds (total_findings stored.now.extents stored.now.refs) found.old found.new) }
 {
     let refs = stored.refs();
@@ -209,15 +196,11 @@ pub fn put_total_findings(
 /// The findings on references, kinds 7 and 8, in ascending order and each once: a reference that is counted and stored
 /// differently; an extent that states another sum than that of the references to its address that are stored; and an address
 /// that has such references, be it 0 times, and no extent. `Memory`: there is no memory for them.
-pub fn differences(
-    alloc: Global,
-    forward: &Forward,
-    stored: &Stored,
-) -> Result<Vec<Finding>, Memory>
+pub fn differences(alloc: Global, forward: &Forward, stored: &Stored) -> Result<Findings, Memory>
     ensures { ListsDifferences forward.now stored.now result }
 {
-    let mut found = BTreeSet::new(alloc);
+    let mut found = Found::new(alloc);
     put_count_findings(&mut found, forward, stored.refs())?;
     put_total_findings(alloc, &mut found, stored)?;
-    listed(alloc, &found)
+    found.list(alloc)
 }

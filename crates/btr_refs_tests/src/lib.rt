@@ -6,6 +6,8 @@ mod collects;
 #[cfg(test)]
 mod rows;
 #[cfg(test)]
+mod sectors;
+#[cfg(test)]
 mod stores;
 #[cfg(test)]
 mod uses;

@@ -40,7 +40,7 @@ fn finds(
     stored: &Stored,
     wanted: &[Finding],
 ) -> Result<(), Fail> {
-    let found = differences(alloc, &used_by(alloc, inodes)?, stored)?;
+    let found = differences(alloc, &used_by(alloc, inodes)?, stored)?.to_vec(alloc)?;
     assert_eq!(rt; found.len(), wanted.len());
     for (one, other) in found.iter().zip(wanted) {
         assert_eq!(rt; one, other);

@@ -1,7 +1,7 @@
 // What items of an extent tree store.
 use btr_base::{Key, Memory};
 use btr_blocks::Body;
-use btr_items::{ExtentItem, Link, item};
+use btr_items::{ExtentFlags, Link, item};
 use btr_refs::{RefKey, Stored, count_in};
 use btr_walk::{Folder, Found, Took};
 use std::alloc::{AllocError, Global};
@@ -33,7 +33,7 @@ pub(super) fn extent(alloc: Global, refs: u64) -> Result<Body, AllocError> {
     Body::new(alloc)
         .u64(refs)?
         .u64(8)?
-        .u64(ExtentItem::DATA)?
+        .u64(ExtentFlags::DATA.0)?
         .u8(item::EXTENT_DATA_REF)?
         .u64(5)?
         .u64(260)?

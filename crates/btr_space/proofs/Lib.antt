@@ -1,8 +1,9 @@
 pub mod Collecting
-mod Elements
+pub mod Elements
 mod Found
 mod Nexts
 pub mod Prefixes
 pub mod Put
 mod Reaching
+pub mod Standing
 mod Summing

@@ -7,7 +7,7 @@ use Rattle.std.specs.Ordering.{is_eq}
 use Rattle.std.specs.declared.cmp.Ordering.{Ordering}
 use Rattle.btr_refs.proofs.Adding.{adds_as, adds_more}
 use Rattle.btr_refs.specs.declared.finding.Finding.{Finding}
-use Rattle.btr_refs.specs.Findings.{Adds, unless}
+use Rattle.btr_refs.specs.Findings.{Adds, unless, FoundSet}
 use Rattle.btr_space.specs.Orders.{KeysOf}
 
 -- the same test and the same finding
@@ -15,7 +15,7 @@ pub unless_same : (a b : Bool) (x y : Finding) → a ≡ b → x ≡ y → unles
 unless_same a b x y tests rows = ap (λ k. unless k x) tests ∙ ap (unless b) rows
 
 -- the rule of one more thing
-pub adds_row : {X : Type 0} (rule : X → Option Finding) (xs : List X) (i : ℕ) (d : X) (old now new : BTreeSet Finding) (row : Option Finding) → i < length xs → row ≡ rule (get_or xs i d)
+pub adds_row : {X : Type 0} (rule : X → Option Finding) (xs : List X) (i : ℕ) (d : X) (old now new : FoundSet) (row : Option Finding) → i < length xs → row ≡ rule (get_or xs i d)
     → Adds (filter_map rule (take i xs)) old now → Adds (option_to_list row) now new → Adds (filter_map rule (take (i + 1) xs)) old new
 adds_row rule xs i d old now new row below is before here =
     adds_more rule xs i d old now new below before (adds_as (option_to_list row) (option_to_list (rule (get_or xs i d))) now new (ap option_to_list is) here)

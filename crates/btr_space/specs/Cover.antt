@@ -1,7 +1,8 @@
 -- Ranges of addresses, and whether one of them holds another range.
-use Rattle.std.specs.Prelude.{◌≡◌, ℕ, ◌+◌, ◌-◌, ◌&&◌, max, Bool, nat_le, List}
+use Rattle.std.specs.Prelude.{◌≡◌, ℕ, ◌+◌, ◌-◌, ◌^◌, ◌<◌, ◌≤◌, ◌==◌, ◌&&◌, max, Bool, nat_le, nat_lt, List, length, slice_index_or, if◌then◌else◌}
 use Rattle.std.specs.List.{list_any}
 use Rattle.std.specs.List.Sorted.{IsNonDecreasingBy}
+use Rattle.btr_space.specs.declared.cover.Reach.{Reach}
 use Rattle.btr_space.specs.declared.cover.Stretch.{Stretch}
 
 -- the address behind a range
@@ -24,3 +25,23 @@ pub record IsCover (stretches : List Stretch) : Type 0 where
 -- a range as far as it or an earlier one reaches
 abbrev pub lengthened : Stretch → Stretch → Stretch
 lengthened earlier stretch = record { start = stretch.start; len = max stretch.len (earlier.len - (stretch.start - earlier.start)) }
+
+-- no range
+abbrev pub no_stretch : Stretch
+no_stretch = record { start = 0; len = 0 }
+
+-- where the last of the first ranges ends, and where the one behind them begins
+abbrev pub end_before : List Stretch → ℕ → ℕ
+end_before stretches begun = if begun == 0 then 0 else end_of (slice_index_or stretches (begun - 1) no_stretch)
+
+abbrev pub start_behind : List Stretch → ℕ → ℕ
+start_behind stretches begun = if nat_lt begun (length stretches) then (slice_index_or stretches begun no_stretch).start else 2 ^ 128 - 1
+
+-- one of some ranges holds so many addresses from one on
+abbrev pub is_held_from : ℕ → List Stretch → ℕ → Bool
+is_held_from len stretches at = list_any (is_held at (at + len)) stretches
+
+-- a test comes out the same from an address up to before another
+pub record Reaches (test : ℕ → Bool) (start : ℕ) (reach : Reach) : Type 0 where
+  pub some : start < reach.until
+  pub same : (at : ℕ) → start ≤ at → at < reach.until → test at ≡ reach.held

@@ -4,8 +4,7 @@ use Rattle.std.specs.BTreeMap.{BTreeMap, get}
 use Rattle.std.specs.BTreeSet.{BTreeSet, contains}
 use Rattle.std.specs.Ordering.{nat_cmp}
 use Rattle.btr_base.specs.declared.memory.Memory.{Memory}
-use Rattle.btr_refs.specs.declared.finding.Finding.{Finding}
-use Rattle.btr_refs.specs.Findings.{Adds}
+use Rattle.btr_refs.specs.Findings.{Adds, FoundSet}
 use Rattle.btr_space.specs.declared.device_extent.DeviceExtent.{DeviceExtent}
 use Rattle.btr_space.specs.declared.stated_device.StatedDevice.{StatedDevice}
 use Rattle.btr_space.specs.Devices.{device_used, given_of, has_device, unstated_used}
@@ -22,9 +21,9 @@ abbrev pub Devids : List StatedDevice → BTreeSet ℕ → Type 0
 Devids devices devids = (devid : ℕ) → contains nat_cmp devids devid ≡ has_device devices devid
 
 -- by these, kind 29 was put: devices that state other bytes, and those of device extents that state none
-abbrev pub PutsUsed : List StatedDevice → BTreeMap ℕ ℕ → BTreeSet Finding → BTreeSet Finding → Result (Unit {0}) Memory → Type 0
+abbrev pub PutsUsed : List StatedDevice → BTreeMap ℕ ℕ → FoundSet → FoundSet → Result (Unit {0}) Memory → Type 0
 PutsUsed devices given old new result = (extents : List DeviceExtent) → Given extents given → OnOk result (Adds (filter_map (device_used extents) devices) old new)
 
-abbrev pub PutsUnstated : List DeviceExtent → BTreeSet ℕ → BTreeMap ℕ ℕ → BTreeSet Finding → BTreeSet Finding → Result (Unit {0}) Memory → Type 0
+abbrev pub PutsUnstated : List DeviceExtent → BTreeSet ℕ → BTreeMap ℕ ℕ → FoundSet → FoundSet → Result (Unit {0}) Memory → Type 0
 PutsUnstated extents devids given old new result =
     (devices : List StatedDevice) → Devids devices devids → Given extents given → OnOk result (Adds (filter_map (unstated_used devices extents) extents) old new)

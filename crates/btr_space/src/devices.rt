@@ -11,18 +11,18 @@ ghost use Rattle.btr_space.specs.Given.{Given, Devids, PutsUnstated, PutsUsed, g
 use crate::chunks::ranges_of;
 use crate::growing::put_key;
 use crate::keys::{extent_places, extent_set};
-use crate::rows::{row, shown};
+use crate::rows::row;
 use crate::{DeviceExtent, StatedDevice};
 use btr_base::Memory;
 use btr_chunk::{ChunkTable, StripePlace};
-use btr_refs::{Finding, put_unless};
+use btr_refs::{Finding, Found, put_unless, shown};
 use std::alloc::Global;
 use std::collections::{BTreeMap, BTreeSet};
 
 // 26: ranges of chunks without a device extent.
 fn put_chunk_devices(
     alloc: Global,
-    found: &mut BTreeSet<Finding>,
+    found: &mut Found,
     ranges: &[DeviceExtent],
     extents: &[DeviceExtent],
 ) -> Result<(), Memory>
@@ -43,7 +43,7 @@ fn put_chunk_devices(
 // 27: device extents without a stripe.
 fn put_device_chunks(
     alloc: Global,
-    found: &mut BTreeSet<Finding>,
+    found: &mut Found,
     ranges: &[DeviceExtent],
     extents: &[DeviceExtent],
 ) -> Result<(), Memory>
@@ -108,7 +108,7 @@ fn devids_of(alloc: Global, devices: &[StatedDevice]) -> Result<BTreeSet<u64>, M
 
 // 29: devices that state another number of bytes.
 fn put_device_used(
-    found: &mut BTreeSet<Finding>,
+    found: &mut Found,
     given: &BTreeMap<u64, u128>,
     devices: &[StatedDevice],
 ) -> Result<(), Memory>
@@ -135,7 +135,7 @@ fn is_free(devids: &BTreeSet<u64>, devid: u64, sum: u128) -> bool
 
 // 29: device extents of a device without an item, which states 0.
 fn put_unstated_used(
-    found: &mut BTreeSet<Finding>,
+    found: &mut Found,
     given: &BTreeMap<u64, u128>,
     devids: &BTreeSet<u64>,
     extents: &[DeviceExtent],
@@ -155,7 +155,7 @@ fn put_unstated_used(
 /// there is no memory for this.
 pub fn put_device_findings(
     alloc: Global,
-    found: &mut BTreeSet<Finding>,
+    found: &mut Found,
     chunks: &ChunkTable,
     extents: &[DeviceExtent],
     devices: &[StatedDevice],

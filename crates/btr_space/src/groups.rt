@@ -8,14 +8,13 @@ ghost use Rattle.btr_space.specs.Groups.{outside_group, neighbours, overlap, chu
 use crate::begins::{self, sum_within};
 use crate::chunks::spans_of;
 use crate::keys::{group_spans, span_ranges};
-use crate::rows::{row, shown};
+use crate::rows::row;
 use crate::span::{Range, Span};
 use crate::{Cover, Group, Stretch};
 use btr_base::Memory;
 use btr_chunk::ChunkTable;
-use btr_refs::{Extent, Finding, push, put_unless, with_room};
+use btr_refs::{Extent, Finding, Found, push, put_unless, shown, with_room};
 use std::alloc::Global;
-use std::collections::BTreeSet;
 
 // The ranges of block groups.
 fn cover_of(alloc: Global, groups: &[Group]) -> Result<Cover, Memory>
@@ -35,7 +34,7 @@ fn cover_of(alloc: Global, groups: &[Group]) -> Result<Cover, Memory>
 // 5: extents that lie in no block group.
 fn put_outside(
     alloc: Global,
-    found: &mut BTreeSet<Finding>,
+    found: &mut Found,
     extents: &[Extent],
     groups: &[Group],
 ) -> Result<(), Memory>
@@ -58,7 +57,7 @@ fn ends_by(extent: &Extent, addr: u64) -> bool
 }
 
 // 6: extents that begin before the end of the one before them.
-fn put_overlaps(found: &mut BTreeSet<Finding>, extents: &[Extent]) -> Result<(), Memory>
+fn put_overlaps(found: &mut Found, extents: &[Extent]) -> Result<(), Memory>
     ensures { OnOk result (Adds (filter_map overlap (neighbours extents.now)) found.old found.new) }
 {
     let Some((mut earlier, rest)) = extents.split_first() else {
@@ -75,7 +74,7 @@ fn put_overlaps(found: &mut BTreeSet<Finding>, extents: &[Extent]) -> Result<(),
 // 24: chunks without a block group.
 fn put_chunk_groups(
     alloc: Global,
-    found: &mut BTreeSet<Finding>,
+    found: &mut Found,
     chunks: &[Span],
     groups: &[Group],
 ) -> Result<(), Memory>
@@ -91,7 +90,7 @@ fn put_chunk_groups(
 // 25: block groups without a chunk.
 fn put_group_chunks(
     alloc: Global,
-    found: &mut BTreeSet<Finding>,
+    found: &mut Found,
     chunks: &[Span],
     groups: &[Group],
 ) -> Result<(), Memory>
@@ -111,7 +110,7 @@ fn put_group_chunks(
 // 28: block groups that state another number of bytes in extents.
 fn put_group_used(
     alloc: Global,
-    found: &mut BTreeSet<Finding>,
+    found: &mut Found,
     extents: &[Extent],
     groups: &[Group],
 ) -> Result<(), Memory>
@@ -147,11 +146,7 @@ fn stated_in(groups: &[Group]) -> Result<u128, Memory>
 }
 
 // 30: another sum of these in the superblock.
-fn put_total_used(
-    found: &mut BTreeSet<Finding>,
-    stated: u64,
-    groups: &[Group],
-) -> Result<(), Memory>
+fn put_total_used(found: &mut Found, stated: u64, groups: &[Group]) -> Result<(), Memory>
     ensures { OnOk result (Adds (option_to_list (total_used stated groups.now)) found.old found.new) }
 {
     let sum = stated_in(groups)?;
@@ -168,7 +163,7 @@ fn put_total_used(
 /// for this.
 pub fn put_group_findings(
     alloc: Global,
-    found: &mut BTreeSet<Finding>,
+    found: &mut Found,
     chunks: &ChunkTable,
     extents: &[Extent],
     groups: &[Group],

@@ -28,7 +28,7 @@ mod rows;
 mod span;
 mod stated_device;
 
-pub use cover::{Cover, Stretch};
+pub use cover::{Cover, Reach, Stretch};
 pub use device_extent::DeviceExtent;
 pub use devices::put_device_findings;
 pub use devices_met::Devices;

@@ -1,6 +1,5 @@
 // Findings as they are printed.
 ghost use Rattle.std.specs.Prelude.{◌≡◌, [], ◌∷◌};
-ghost use Rattle.btr_refs.specs.Findings.{shown_sum};
 ghost use Rattle.btr_refs.specs.Findings as rows;
 
 use btr_refs::Finding;
@@ -12,15 +11,5 @@ pub(crate) fn row(kind: u8, a: u64, b: u64, c: u64) -> Finding
     Finding {
         kind,
         n: [a, b, c, 0, 0, 0, 0],
-    }
-}
-
-// A sum as it is printed.
-pub(crate) fn shown(sum: u128) -> u64
-    ensures { result ≡ shown_sum sum }
-{
-    match u64::try_from(sum) {
-        Ok(sum) => sum,
-        Err(_) => u64::MAX,
     }
 }

@@ -5,10 +5,9 @@ ghost use Rattle.btr_chunk.specs.Chunk.{IsChunk};
 use btr_base::Memory;
 use btr_blocks::Body;
 use btr_chunk::{Chunk, ChunkFault, ChunkTable};
-use btr_refs::{Extent, Finding, listed};
+use btr_refs::{Extent, Finding, Found};
 use btr_space::{DeviceExtent, Group, StatedDevice, put_device_findings, put_group_findings};
 use std::alloc::{AllocError, Global};
-use std::collections::BTreeSet;
 use std::process::Abort;
 use std::test::Fail;
 
@@ -130,7 +129,7 @@ fn chunks(alloc: Global) -> Result<ChunkTable, Fail> {
 
 fn put_all(
     alloc: Global,
-    found: &mut BTreeSet<Finding>,
+    found: &mut Found,
     chunks: &ChunkTable,
     space: &Space,
 ) -> Result<(), Memory> {
@@ -152,9 +151,9 @@ pub(super) fn finds(
     space: &Space,
     wanted: &[(u8, u64, u64, u64)],
 ) -> Result<(), Fail> {
-    let mut found = BTreeSet::new(alloc);
+    let mut found = Found::new(alloc);
     put_all(alloc, &mut found, &chunks(alloc)?, space)?;
-    let list = listed(alloc, &found)?;
+    let list = found.list(alloc)?.to_vec(alloc)?;
     assert_eq!(rt; list.len(), wanted.len());
     for (finding, (kind, a, b, c)) in list.iter().zip(wanted) {
         assert_eq!(rt; finding.kind, *kind);

@@ -1,13 +1,17 @@
 -- How many runs cover a sector.
-use Rattle.std.proofs.Common.{◌≡◌, ℕ, ◌+◌, ◌*◌, ◌≤◌, true, false, ◌&&◌, List, [], ◌∷◌, map, cond, length, take, sum_by, count_by, leb, ltb, refl, sym, ap, ◌∙◌, arith}
+use Rattle.std.proofs.Common.{◌≡◌, ℕ, ◌+◌, ◌*◌, ◌-◌, ◌^◌, ◌<◌, ◌≤◌, true, false, ◌&&◌, ◌⊎◌, inl, inr, List, [], ◌∷◌, map, cond, get_or, length, take, sum_by, count_by, leb, ltb, refl, sym, ap, ◌∙◌, arith}
+use Rattle.std.proofs.lemmas.Bool.{cases_lt}
 use Rattle.std.proofs.lemmas.Bool.Decides.{nat_tests}
 use Rattle.std.proofs.lemmas.List.{length-take}
 use Rattle.std.proofs.lemmas.List.Folds.{fold-map}
 use Rattle.std.proofs.lemmas.List.Sorted.{sum_by-IsPermutation}
 use Rattle.std.proofs.lemmas.List.Sums.{sum_by-cons}
-use Rattle.std.specs.List.Sorted.{IsPermutation, IsPartitionPoint}
+use Rattle.std.specs.List.Sorted.{IsNonDecreasingBy, IsPermutation, IsPartitionPoint}
 use Rattle.btr_items.specs.declared.sum_run.SumRun.{SumRun}
 use Rattle.btr_space.proofs.Prefixes.{sum_front, sum_both}
+use Rattle.btr_space.proofs.Elements.{default_free}
+use Rattle.btr_space.proofs.Standing.{Parted, parted_behind, still_parted}
+use Rattle.btr_sums.specs.Broken.{RankReaches, number_or_last}
 use Rattle.btr_sums.specs.Ranks.{rank, run_start, run_end, Bounds}
 use Rattle.btr_sums.specs.Sums.{covers}
 
@@ -51,3 +55,26 @@ summed_once sector runs starts ends bounds =
     let last : rank ends sector ≡ count_by (λ run. leb (run_end run) sector) runs = rank_same (map run_end runs) ends sector bounds.of_ends.same ∙ rank_map run_end runs sector in
     let all : count_by (covers sector) runs + rank ends sector ≡ rank starts sector = ap (λ n. count_by (covers sector) runs + n) last ∙ begun sector runs ∙ sym first in
     at_most_one (rank starts sector) (rank ends sector) (count_by (covers sector) runs) all
+
+-- up to before the next number, as many are at most one
+pub rank_stays : (numbers : List ℕ) (at place until : ℕ) → IsNonDecreasingBy (λ n. n) numbers → place ≤ length numbers → Parted (λ n. n) numbers at place → at < 2 ^ 127 → until ≡ number_or_last numbers place
+    → RankReaches numbers at (record { rank = place; until = until })
+rank_stays numbers at place until up within point small is = by (cases_lt place (length numbers))
+  where
+    by : (place < length numbers) ⊎ (length numbers ≤ place) → RankReaches numbers at (record { rank = place; until = until })
+    by (inl below) =
+        let tests : ltb place (length numbers) ≡ true = grind (arith, nat_tests) in
+        let next : until ≡ get_or numbers place 0 = is ∙ ap (λ b. cond b (get_or numbers place 0) (2 ^ 128 - 1)) tests in
+        record {
+          some = let behind : at < get_or numbers place 0 = parted_behind (λ n. n) numbers place at 0 point below in omega (arith, behind, next);
+          same = λ other from before. sym (rank_is numbers other place within (still_parted (λ n. n) numbers up place at other point from (λ d inside.
+              let here : get_or numbers place 0 ≡ get_or numbers place d = default_free numbers place 0 d inside in
+              omega (arith, before, next, here))));
+        }
+    by (inr none) =
+        let tests : ltb place (length numbers) ≡ false = grind (arith, nat_tests) in
+        let last : until ≡ 2 ^ 128 - 1 = is ∙ ap (λ b. cond b (get_or numbers place 0) (2 ^ 128 - 1)) tests in
+        record {
+          some = omega (arith, small, last);
+          same = λ other from before. sym (rank_is numbers other place within (still_parted (λ n. n) numbers up place at other point from (λ d inside. absurd (omega (arith, inside, none)))));
+        }

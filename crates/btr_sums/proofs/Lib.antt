@@ -1,3 +1,4 @@
+mod Breaking
 mod Counts
 mod Covered
 mod Keeping

@@ -1,3 +1,4 @@
+pub mod Broken
 pub mod Sums
 pub mod Ranks
 pub mod Items

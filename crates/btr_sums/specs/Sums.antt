@@ -1,17 +1,16 @@
 -- Kinds 12, 13 and 14: checksums of data.
-use Rattle.std.specs.Prelude.{ℕ, ◌+◌, ◌*◌, ◌/◌, ◌==◌, ◌&&◌, Bool, nat_le, nat_lt, List, [], ◌∷◌, ◌++◌, map, filter, filter_map, flat_map, count_by, Option, if◌then◌else◌}
-use Rattle.std.specs.List.{list_any, range_with_len}
+use Rattle.std.specs.Prelude.{ℕ, ◌+◌, ◌-◌, ◌*◌, ◌/◌, ◌==◌, ◌&&◌, Bool, nat_le, nat_lt, min, List, [], ◌∷◌, ◌++◌, filter, filter_map, flat_map, count_by, Option, Some, None, if◌then◌else◌}
+use Rattle.std.specs.List.{list_any}
+use Rattle.btr_chunk.specs.Table.{chunk_at}
+use Rattle.btr_chunk.specs.declared.chunk.Chunk.{Chunk}
 use Rattle.btr_items.specs.ExtentItem.{is_data}
 use Rattle.btr_items.specs.declared.sum_run.SumRun.{SumRun}
 use Rattle.btr_refs.specs.declared.finding.Finding.{Finding}
 use Rattle.btr_refs.specs.Findings.{found, unless, shown_sum}
+use Rattle.btr_refs.specs.Sectors.{sectors}
 use Rattle.btr_refs.specs.declared.extent.Extent.{Extent}
 use Rattle.btr_space.specs.declared.cover.Stretch.{Stretch}
 use Rattle.btr_sums.specs.declared.used_range.UsedRange.{UsedRange}
-
--- consecutive sectors, of 4096 bytes each, by their addresses
-abbrev pub sectors : ℕ → ℕ → List ℕ
-sectors start count = map (λ i. start + i * 4096) (range_with_len 0 count)
 
 -- the sectors that a run has checksums of
 abbrev pub run_sectors : SumRun → List ℕ
@@ -28,22 +27,31 @@ summed runs = flat_map run_sectors runs
 abbrev pub sum_missing : List SumRun → ℕ → ℕ → ℕ → Option Finding
 sum_missing runs tree inode sector = unless (list_any (covers sector) runs) (found 12 (tree ∷ inode ∷ shown_sum sector ∷ []))
 
--- the sectors of a range that a file uses
-abbrev pub used_sectors : UsedRange → List ℕ
-used_sectors range = sectors (range.addr + range.skip) (range.len / 4096)
+-- how many bytes there are from an address up to the end of a chunk
+abbrev pub left_in : ℕ → Option Chunk → ℕ
+left_in from None = 0
+left_in from (Some chunk) = chunk.start + chunk.length - from
 
--- the findings on these
-abbrev pub used_missing : List SumRun → ℕ → UsedRange → List Finding
-used_missing runs tree range = filter_map (sum_missing runs tree range.inode) (used_sectors range)
+-- how many bytes of a range lie in the chunk that holds the extent's address
+abbrev pub len_in_chunk : List Chunk → UsedRange → ℕ
+len_in_chunk chunks range = min range.len (left_in (range.addr + range.skip) (chunk_at chunks range.addr))
 
--- unless the file has no checksums
-abbrev pub range_missing : List SumRun → ℕ → List ℕ → UsedRange → List Finding
-range_missing runs tree loose range =
-    if list_any (λ inode. inode == range.inode) loose then [] else used_missing runs tree range
+-- the sectors of a range that a file uses, but for those that lie outside that chunk
+abbrev pub used_sectors : List Chunk → UsedRange → List ℕ
+used_sectors chunks range = sectors (range.addr + range.skip) (len_in_chunk chunks range / 4096)
 
--- the findings on a tree of files
-abbrev pub tree_missing : List SumRun → ℕ → List ℕ → List UsedRange → List Finding
-tree_missing runs tree loose used = flat_map (range_missing runs tree loose) used
+module _ (chunks : List Chunk) (runs : List SumRun) (tree : ℕ) where
+  -- the findings on these
+  abbrev pub used_missing : UsedRange → List Finding
+  used_missing range = filter_map (sum_missing runs tree range.inode) (used_sectors chunks range)
+
+  -- unless the file has no checksums
+  abbrev pub range_missing : List ℕ → UsedRange → List Finding
+  range_missing loose range = if list_any (λ inode. inode == range.inode) loose then [] else used_missing range
+
+  -- the findings on a tree of files
+  abbrev pub tree_missing : List ℕ → List UsedRange → List Finding
+  tree_missing loose used = flat_map (range_missing loose) used
 
 -- 13: a sector has no more than one checksum
 abbrev pub sum_overlap : List SumRun → ℕ → Option Finding

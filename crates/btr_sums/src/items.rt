@@ -4,8 +4,9 @@ ghost use Rattle.btr_sums.specs.Items as words;
 ghost use Rattle.btr_walk.specs.Showing.{item_of};
 
 use crate::UsedRange;
+use bitflags::Flags;
 use btr_base::SumKind;
-use btr_items::{FileExtent, Inode, Shape, SumRun, item};
+use btr_items::{FileExtent, Inode, InodeFlags, Shape, SumRun, item};
 use btr_walk::Found;
 
 // The run of checksums that an item has, if it does.
@@ -23,7 +24,7 @@ pub(crate) fn loose_in(found: &Found<'_>) -> Option<u64>
         return None;
     }
     match Inode::read(found.body) {
-        Ok(inode) if inode.flags & 1 != 0 => Some(found.key.objectid),
+        Ok(inode) if inode.flags().intersects(InodeFlags::NODATASUM) => Some(found.key.objectid),
         _ => None,
     }
 }

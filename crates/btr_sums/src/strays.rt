@@ -5,13 +5,13 @@ ghost use Rattle.btr_space.specs.Cover.{HoldSame};
 ghost use Rattle.btr_sums.specs.Putting.{PutsStrays};
 ghost use Rattle.btr_sums.specs.Sums.{data_extents, extent_stretch, sum_stray, summed};
 
-use crate::rows::{row, shown};
+use crate::sector_test::{SectorTest, put_broken};
+use bitflags::Flags;
 use btr_base::Memory;
-use btr_items::{ExtentItem, SumRun};
-use btr_refs::{Extent, Finding, push, put_unless, with_room};
-use btr_space::{Cover, Stretch};
+use btr_items::{ExtentFlags, SumRun};
+use btr_refs::{Extent, Found, SectorRule, push, with_room};
+use btr_space::{Cover, Reach, Stretch};
 use std::alloc::Global;
-use std::collections::BTreeSet;
 
 // The ranges of addresses of data extents.
 fn data_cover(alloc: Global, extents: &[Extent]) -> Result<Cover, Memory>
@@ -19,7 +19,7 @@ fn data_cover(alloc: Global, extents: &[Extent]) -> Result<Cover, Memory>
 {
     let mut stretches = with_room(alloc, extents.len())?;
     for extent in extents {
-        if extent.flags & ExtentItem::DATA != 0 {
+        if extent.flags().intersects(ExtentFlags::DATA) {
             let stretch = Stretch {
                 start: extent.addr,
                 len: extent.len,
@@ -30,22 +30,32 @@ fn data_cover(alloc: Global, extents: &[Extent]) -> Result<Cover, Memory>
     Ok(Cover::new(stretches))
 }
 
+// Whether sectors lie in a data extent.
+#[derive(Drop)]
+struct InData<'a>(&'a Cover);
+
+impl SectorTest for InData<'_> {
+    ghost use Rattle.btr_space.specs.Cover.{is_held_from};
+
+    ghost keeps = { λ within sector. is_held_from 4096 within.0.now sector };
+
+    fn reach(&self, sector: u128) -> Reach {
+        self.0.reach(sector, 4096)
+    }
+}
+
 // 14: the sectors of a run that lie in no data extent.
-fn put_run(found: &mut BTreeSet<Finding>, run: &SumRun, cover: &Cover) -> Result<(), Memory>
+fn put_run(found: &mut Found, run: &SumRun, cover: &Cover) -> Result<(), Memory>
     ensures { PutsStrays run.now cover.now found.old found.new result }
 {
-    for i in 0..run.count {
-        let sector = u128::from(run.start) + u128::from(i) * 4096;
-        let is_kept = cover.holds(sector, sector + 4096);
-        put_unless(found, is_kept, row(14, shown(sector), 0, 0))?;
-    }
-    Ok(())
+    let start = u128::from(run.start);
+    put_broken(found, SectorRule::Stray, start, run.count, &InData(cover))
 }
 
 // 14: all sectors that have a checksum and lie in no data extent.
 pub(crate) fn put_strays(
     alloc: Global,
-    found: &mut BTreeSet<Finding>,
+    found: &mut Found,
     runs: &[SumRun],
     extents: &[Extent],
 ) -> Result<(), Memory>

@@ -7,15 +7,14 @@ use crate::overlaps::put_overlaps;
 use crate::strays::put_strays;
 use btr_base::Memory;
 use btr_items::SumRun;
-use btr_refs::{Extent, Finding};
+use btr_refs::{Extent, Found};
 use std::alloc::Global;
-use std::collections::BTreeSet;
 
 /// Puts the findings on checksums, kinds 13 and 14: each sector that has more than one, and each that has one and lies in no
 /// data extent. `Memory`: there is no memory for them.
 pub fn put_sum_findings(
     alloc: Global,
-    found: &mut BTreeSet<Finding>,
+    found: &mut Found,
     runs: &[SumRun],
     extents: &[Extent],
 ) -> Result<(), Memory>

@@ -1,7 +1,5 @@
 use Rattle.std.proofs.Common.{◌≡◌, true, false, None, Some, Ok, Err, refl, ◌∙◌}
-use Rattle.std.specs.BTreeSet.{BTreeSet}
-use Rattle.btr_refs.specs.declared.finding.Finding.{Finding}
-use Rattle.btr_refs.specs.Findings.{HasJust}
+use Rattle.btr_refs.specs.Findings.{HasJust, FoundSet}
 use Rattle.btr_volume.specs.declared.stop.Stop.TheVariants.{Memory as NoMemory}
 use Rattle.btr_check.specs.Before.{refusal}
 use Rattle.btr_check.specs.Findings.{all_findings, findings}
@@ -30,25 +28,25 @@ returns-in-Err-find_all g c =
     let trees = c.in-Ok.trees in
     let stop = c.in-Err-find_all.stop in
     record {
-      ran = ran_stop {A = BTreeSet Finding} (λ fs. is_outside stop ≡ false → refusal fs ≡ Some stop) (λ fs. is_outside stop ≡ false → refusal fs ≡ Some stop) x z stop
-          (ran_then {C = BTreeSet Finding} (λ fs. (refusal fs ≡ None) × (trees.items ≡ listed fs.sup fs.blocks)) (λ fs. Lists c.deref.result.now fs → is_outside stop ≡ true) (λ fs. is_outside stop ≡ false → refusal fs ≡ Some stop) x y z trees (Err stop) c.in-Ok.ensures.ran c.in-Err-find_all.ensures.ran
+      ran = ran_stop {A = FoundSet} (λ fs. is_outside stop ≡ false → refusal fs ≡ Some stop) (λ fs. is_outside stop ≡ false → refusal fs ≡ Some stop) x z stop
+          (ran_then {C = FoundSet} (λ fs. (refusal fs ≡ None) × (trees.items ≡ listed fs.sup fs.blocks)) (λ fs. Lists c.deref.result.now fs → is_outside stop ≡ true) (λ fs. is_outside stop ≡ false → refusal fs ≡ Some stop) x y z trees (Err stop) c.in-Ok.ensures.ran c.in-Err-find_all.ensures.ran
           (λ B p q inside. outside_only (is_outside stop) _ (q (c.deref.ensures.value ∙ p.1)) inside))
           (λ B h. h);
     }
 
-pub returns-in-Ok-listed : goal.returns-in-Ok-listed
-returns-in-Ok-listed g c =
+pub returns-in-Ok-list : goal.returns-in-Ok-list
+returns-in-Ok-list g c =
     let x = world (g.R.Rack.seen c.args.rack.now) c.args.vol.now in
     let y = world (g.R.Rack.seen c.read_trees.new.rack) c.read_trees.new.vol in
     let z = world (g.R.Rack.seen c.find_all.new.rack) c.find_all.new.vol in
     let trees = c.in-Ok.trees in
     let found = c.in-Ok-find_all.found in
-    let all = c.in-Ok-listed.all in
+    let all = c.in-Ok-list.all in
     let both = ran_then (λ fs. (refusal fs ≡ None) × (trees.items ≡ listed fs.sup fs.blocks)) (λ fs. Lists c.deref.result.now fs → HasJust (all_findings c.args.read_data fs) found)
     (λ fs. (refusal fs ≡ None) × HasJust (all_findings c.args.read_data fs) found) x y z trees (Ok found) c.in-Ok.ensures.ran c.in-Ok-find_all.ensures.ran (λ B p q. (p.0, q (c.deref.ensures.value ∙ p.1))) in
     record {
-      ran = ran_value (λ fs. (refusal fs ≡ None) × HasJust (all_findings c.args.read_data fs) found) (λ fs. (refusal fs ≡ None) × (all.items ≡ findings c.args.read_data fs)) x z found all both
-          (λ B h. (h.0, findings_are c.args.read_data (filesystem c.args.vol.now B) all.items (c.in-Ok-listed.ensures (all_findings c.args.read_data (filesystem c.args.vol.now B)) h.1)));
+      ran = ran_value (λ fs. (refusal fs ≡ None) × HasJust (all_findings c.args.read_data fs) found) (λ fs. (refusal fs ≡ None) × (all ≡ findings c.args.read_data fs)) x z found all both
+          (λ B h. (h.0, findings_are c.args.read_data (filesystem c.args.vol.now B) all (c.in-Ok-list.ensures (all_findings c.args.read_data (filesystem c.args.vol.now B)) h.1)));
     }
 
 pub returns : goal.returns

@@ -1,7 +1,6 @@
-use Rattle.std.proofs.Common.{◌≡◌, true, Ok, Err, refl, sym, ap, ◌∙◌}
+use Rattle.std.proofs.Common.{◌≡◌, true, Ok, Err, refl, sym, ◌∙◌}
 use Rattle.std.specs.Bool.{⊤}
-use Rattle.std.specs.List.{list_any}
-use Rattle.btr_refs.specs.Findings.{Adds, HasJust, is_same}
+use Rattle.btr_refs.specs.Findings.{Adds, HasJust}
 use Rattle.btr_volume.specs.declared.stop.Stop.TheVariants.{Memory as NoMemory}
 use Rattle.btr_check.specs.Findings.{all_findings, rule_findings}
 use Rattle.btr_check.specs.Passes.{IsWalked, Lists}
@@ -57,7 +56,7 @@ returns-in-Ok-put_rules g c =
     let fs = filesystem c.args.vol.now B in
     let are = c.as_slice-trees.ensures.value ∙ c.in-Ok.ensures in
     let known = is_walked fs c.args.listed.now trees lists are walk p (sym c.is_sound.ensures ∙ c.if-is_sound.true) in
-    rules_just fs c.args.listed.now trees lists are c.args.read_data walk c.new-found.result found (λ one. ap (list_any (is_same one)) c.new-found.ensures.empty) known (q known)) in
+    rules_just fs c.args.listed.now trees lists are c.args.read_data walk c.new-found.result found c.new-found.ensures known (q known)) in
     record { ran = ran_value {A = Unit {0}} (λ fs. Lists c.args.listed.now fs → HasJust (all_findings c.args.read_data fs) found) (λ fs. Lists c.args.listed.now fs → HasJust (all_findings c.args.read_data fs) found) x z tt found both (λ B h. h) }
 
 pub returns-in-Ok-put_walk_findings : goal.returns-in-Ok-put_walk_findings
@@ -69,7 +68,7 @@ returns-in-Ok-put_walk_findings g c =
     let found = c.put_walk_findings.new.found in
     record {
       ran = ran_value (λ fs. IsWalkOf fs trees walk) (λ fs. Lists c.args.listed.now fs → HasJust (all_findings c.args.read_data fs) found) x y walk found c.in-Ok-walk_trees.ensures.ran
-          (λ B p lists. walk_just (filesystem c.args.vol.now B) c.args.listed.now trees lists (c.as_slice-trees.ensures.value ∙ c.in-Ok.ensures) c.args.read_data walk c.new-found.result found (λ one. ap (list_any (is_same one)) c.new-found.ensures.empty) p
+          (λ B p lists. walk_just (filesystem c.args.vol.now B) c.args.listed.now trees lists (c.as_slice-trees.ensures.value ∙ c.in-Ok.ensures) c.args.read_data walk c.new-found.result found c.new-found.ensures p
           (sym c.is_sound.ensures ∙ c.if-is_sound.false) c.in-Ok-put_walk_findings.ensures);
     }
 

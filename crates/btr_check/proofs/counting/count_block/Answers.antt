@@ -1,14 +1,60 @@
-use Rattle.std.proofs.Common.{Ok, Err, refl}
-use Rattle.btr_read.specs.Fetch.{AnswersOf}
+use Rattle.std.proofs.Common.{◌≡◌, ℕ, List, Ok, Err, true, refl, sym, ap, subst, ◌∙◌}
+use Rattle.btr_rack.specs.Rack.{Seen}
+use Rattle.btr_read.specs.Fetch.{AnswersOf, FitsFetch}
+use Rattle.btr_read.specs.Layout.{Layout}
+use Rattle.btr_read.specs.Store.{Blocks}
+use Rattle.btr_read.specs.declared.fault.ReadFault.{ReadFault}
+use Rattle.btr_read.specs.declared.fault.ReadFault.TheVariants as read
 use Rattle.btr_read.specs.declared.want.Want.{Want}
 use Rattle.btr_read.specs.declared.want.Want.TheVariants.{Tree}
+use Rattle.btr_walk.specs.Reading.{Map, tree_fault}
+use Rattle.btr_walk.specs.declared.fault.TreeFault.{TreeFault}
 use Rattle.btr_walk.proofs.Joined.{drawn}
 use Rattle.btr_walk.proofs.Lending.{given_back, served_back}
 use Rattle.btr_walk.proofs.Turns.{same_room}
+use Rattle.btr_volume.specs.declared.stop.Stop.TheVariants as stop
 use Rattle.btr_volume.specs.declared.stop.Stop.TheVariants.{Memory}
 use Rattle.btr_check.specs.Counting.{BlockCounts}
+use Rattle.btr_check.specs.Running.{FaultUnread, is_unread}
 use Rattle.btr_check.proofs.Counts.{block_counted}
 use Rattle.btr_check.proofs.counting.count_block.Goals as goal
+
+-- a block that is there fails for no other reason than that it could not be read
+fails_unread : (B : Map) (want : Want) (store : Blocks) (f : ReadFault) (t : TreeFault) → t ≡ tree_fault f → AnswersOf want store (Err f) B
+    → (block : List ℕ) → B want ≡ Ok block → is_unread t ≡ true
+fails_unread B want store (read.Lost a) t e came block there = absurd (cc (sym came ∙ there))
+fails_unread B want store (read.Unread a slot) t e came block there = ap is_unread e
+fails_unread B want store (read.Unmapped a) t e came block there = absurd (cc (sym came ∙ there))
+fails_unread B want store (read.Crosses a) t e came block there = absurd (cc (sym came ∙ there))
+
+-- and then that has its cause
+has_cause : (layout : Layout) (old new : Seen) (want : Want) (store : Blocks) (f : ReadFault) (t : TreeFault) → t ≡ tree_fault f
+    → FitsFetch layout want old new store (Err f) → FaultUnread layout old new t
+has_cause layout old new want store (read.Lost a) t e fits = subst (FaultUnread layout old new) (sym e) tt
+has_cause layout old new want store (read.Unread a slot) t e fits = subst (FaultUnread layout old new) (sym e) (want, fits)
+has_cause layout old new want store (read.Unmapped a) t e fits = subst (FaultUnread layout old new) (sym e) tt
+has_cause layout old new want store (read.Crosses a) t e fits = subst (FaultUnread layout old new) (sym e) tt
+
+pub returns-in-Err : goal.returns-in-Err
+returns-in-Err g c =
+    let place = c.args.place.now in
+    let want : Want = Tree place.addr place.generation place.level in
+    let vol = c.args.vol.now in
+    let layout = vol.store.layout in
+    let e = c.in-Err.ensures in
+    record {
+      ran = record {
+        reads = e.reads;
+        volume = record { sup = refl; store = e.refused };
+        ready = record { serves = e.serves; room = same_room vol.store c.fetch.new.store e.refused c.requires.ready.room };
+        cause = has_cause layout (g.R.Rack.seen c.args.rack.now) (g.R.Rack.seen c.fetch.new.rack) want c.fetch.new.store c.in-Err.fault c.from.result c.from.ensures e.answer;
+        quiet = tt;
+        told = drawn layout (AnswersOf want c.fetch.new.store (Err c.in-Err.fault))
+            (λ B. BlockCounts B place c.args.by_address c.args.forward.now c.args.forward.now (Err (stop.Tree c.from.result)))
+            (λ B came block there. fails_unread B want c.fetch.new.store c.in-Err.fault c.from.result c.from.ensures came block there)
+            (record { calls = e.calls tt });
+      };
+    }
 
 pub returns-in-Ok-counted : goal.returns-in-Ok-counted
 returns-in-Ok-counted g c =

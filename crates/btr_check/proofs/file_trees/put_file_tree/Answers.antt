@@ -1,4 +1,8 @@
-use Rattle.std.proofs.Common.{◌≡◌, true, false, [], ◌∷◌, fold, Some, refl, sym, ap, ◌∙◌}
+use Rattle.std.proofs.Common.{◌≡◌, true, List, [], ◌∷◌, fold, Some, refl, sym, ap, ◌∙◌, subst}
+use Rattle.btr_chunk.specs.declared.chunk.Chunk.{Chunk}
+use Rattle.btr_read.specs.Layout.{Layout}
+use Rattle.btr_refs.specs.Findings.{Adds}
+use Rattle.btr_sums.specs.Sums.{tree_missing}
 use Rattle.btr_volume.specs.declared.stop.Stop.TheVariants.{Memory as NoMemory}
 use Rattle.btr_check.specs.Counting.{Unless}
 use Rattle.btr_check.specs.Data.{sum_runs}
@@ -39,11 +43,14 @@ returns-then-paired g c =
     let names' = c.put_met.new.subvolumes in
     let put = c.in-Ok-put_met.ensures in
     record {
-      ran = ran_value {A = FileTree} {C = Unit {0}} (λ fs. met ≡ fold file_step c.new.result (marks_if fs.blocks (Some tree))) (λ fs. IsCoverOf fs c.args.sums.now → Treats fs.blocks (sum_runs fs) (tree ∷ []) c.args.found.now found' names names') x y met tt c.in-Ok.ensures.ran
+      ran = ran_value {A = FileTree} {C = Unit {0}} (λ fs. met ≡ fold file_step c.new.result (marks_if fs.blocks (Some tree))) (λ fs. IsCoverOf fs c.args.sums.now → Treats fs.blocks fs.chunks (sum_runs fs) (tree ∷ []) c.args.found.now found' names names') x y met tt c.in-Ok.ensures.ran
           (λ B h same.
           let runs = sum_runs (filesystem c.args.vol.now B) in
+          let chunks = c.args.vol.now.store.layout.chunks in
+          let are : c.chunks-chunks.result.now ≡ chunks = c.chunks-chunks.ensures ∙ ap (λ (l : Layout). l.chunks) c.in-Ok.ensures.ran.volume.store.layout in
+          let missing = subst (λ (l : List Chunk). Adds (tree_missing l runs tree.id met.uses.loose met.uses.used) c.args.found.now found') are (put.found runs same) in
           let is = file_tree_met B c.unpaired_law.ensures c.keeps_law.ensures.uses tree c.new.result met c.new.ensures h in
-          treats_paired B runs tree met c.args.found.now found' names names' is (sym put.paired ∙ c.if-paired.true) (put.found runs same) (put.entries ∙ ap (λ b. entries_if b tree.id met.names.subvolumes names) c.if-paired.true));
+          treats_paired B chunks runs tree met c.args.found.now found' names names' is (sym put.paired ∙ c.if-paired.true) missing (put.entries ∙ ap (λ b. entries_if b tree.id met.names.subvolumes names) c.if-paired.true));
     }
 
 pub returns-else-paired : goal.returns-else-paired
@@ -61,10 +68,13 @@ returns-else-paired g c =
     let put = c.in-Ok-put_met.ensures in
     record {
       ran = ran_then {A = FileTree} {C = Unit {0}} (λ fs. met ≡ fold file_step c.new.result (marks_if fs.blocks (Some tree))) (λ fs. Unless (λ u. TreatsNames fs.blocks tree found' found'' names' names'') c.put_names.result)
-          (λ fs. IsCoverOf fs c.args.sums.now → Unless (λ u. Treats fs.blocks (sum_runs fs) (tree ∷ []) c.args.found.now found'' names names'') c.put_names.result) x y z met c.put_names.result c.in-Ok.ensures.ran c.put_names.ensures.ran
+          (λ fs. IsCoverOf fs c.args.sums.now → Unless (λ u. Treats fs.blocks fs.chunks (sum_runs fs) (tree ∷ []) c.args.found.now found'' names names'') c.put_names.result) x y z met c.put_names.result c.in-Ok.ensures.ran c.put_names.ensures.ran
           (λ B h q same.
           let runs = sum_runs (filesystem c.args.vol.now B) in
+          let chunks = c.args.vol.now.store.layout.chunks in
+          let are : c.chunks-chunks.result.now ≡ chunks = c.chunks-chunks.ensures ∙ ap (λ (l : Layout). l.chunks) c.in-Ok.ensures.ran.volume.store.layout in
+          let missing = subst (λ (l : List Chunk). Adds (tree_missing l runs tree.id met.uses.loose met.uses.used) c.args.found.now found') are (put.found runs same) in
           let is = file_tree_met B c.unpaired_law.ensures c.keeps_law.ensures.uses tree c.new.result met c.new.ensures h in
-          unless_more (λ u. TreatsNames B tree found' found'' names' names'') (λ u. Treats B runs (tree ∷ []) c.args.found.now found'' names names'') c.put_names.result
-          (λ u treats. treats_looked B runs tree met c.args.found.now found' found'' names names' names'' is (put.found runs same) (put.entries ∙ ap (λ b. entries_if b tree.id met.names.subvolumes names) c.if-paired.false) treats) q);
+          unless_more (λ u. TreatsNames B tree found' found'' names' names'') (λ u. Treats B chunks runs (tree ∷ []) c.args.found.now found'' names names'') c.put_names.result
+          (λ u treats. treats_looked B chunks runs tree met c.args.found.now found' found'' names names' names'' is missing (put.entries ∙ ap (λ b. entries_if b tree.id met.names.subvolumes names) c.if-paired.false) treats) q);
     }

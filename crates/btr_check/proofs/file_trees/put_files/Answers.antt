@@ -51,11 +51,11 @@ returns g c =
     let files = c.deref.result.now in
     let found = c.args.found.now in
     let found' = c.put_file_trees.new.found in
-    let both = ran_then {C = Unit {0}} (λ fs. names ≡ subvolumes_in (root_items fs) []) (λ fs. IsCoverOf fs c.args.sums.now → Treats fs.blocks (sum_runs fs) files found found' names names')
-    (λ fs. (names ≡ subvolumes_in (root_items fs) []) × (IsCoverOf fs c.args.sums.now → Treats fs.blocks (sum_runs fs) files found found' names names'))
+    let both = ran_then {C = Unit {0}} (λ fs. names ≡ subvolumes_in (root_items fs) []) (λ fs. IsCoverOf fs c.args.sums.now → Treats fs.blocks fs.chunks (sum_runs fs) files found found' names names')
+    (λ fs. (names ≡ subvolumes_in (root_items fs) []) × (IsCoverOf fs c.args.sums.now → Treats fs.blocks fs.chunks (sum_runs fs) files found found' names names'))
     x y z names (Ok tt) c.in-Ok-read_subvolumes.ensures.ran c.in-Ok-put_file_trees.ensures.ran (λ B p q. (p, q)) in
     record {
-      ran = ran_put {A = Unit {0}} (λ fs. (names ≡ subvolumes_in (root_items fs) []) × (IsCoverOf fs c.args.sums.now → Treats fs.blocks (sum_runs fs) files found found' names names')) (λ fs. Lists c.args.listed.now fs × IsCoverOf fs c.args.sums.now)
+      ran = ran_put {A = Unit {0}} (λ fs. (names ≡ subvolumes_in (root_items fs) []) × (IsCoverOf fs c.args.sums.now → Treats fs.blocks fs.chunks (sum_runs fs) files found found' names names')) (λ fs. Lists c.args.listed.now fs × IsCoverOf fs c.args.sums.now)
           (λ fs. Adds (found_on_files fs) found c.put_subvolume_findings.new.found) x z tt c.put_subvolume_findings.result c.or_memory.result both c.or_memory.ensures
           (λ B p known. on_done (Adds (subvolume_findings names') found' c.put_subvolume_findings.new.found) (Adds (found_on_files (filesystem c.args.vol.now B)) found c.put_subvolume_findings.new.found) c.put_subvolume_findings.result
           (files_put (filesystem c.args.vol.now B) c.args.listed.now files found found' c.put_subvolume_findings.new.found names names' known.0 (c.deref.ensures.value ∙ c.in-Ok.ensures) p.0 (p.1 known.1))

@@ -1,7 +1,7 @@
-use Rattle.std.proofs.Common.{◌≡◌, Bool, true, Option, Err, refl}
+use Rattle.std.proofs.Common.{◌≡◌, [], ◌∷◌, Bool, true, Option, Err, refl}
 use Rattle.std.specs.Option.{option_to_list}
 use Rattle.btr_files.specs.Sums.{tree_behind}
-use Rattle.btr_refs.specs.Findings.{Adds}
+use Rattle.btr_refs.specs.Findings.{Adds, found}
 use Rattle.btr_volume.specs.declared.root.TreeRoot.{TreeRoot}
 use Rattle.btr_volume.specs.declared.stop.Stop.TheVariants.{Memory}
 use Rattle.btr_check.specs.Counting.{Unless}
@@ -21,18 +21,18 @@ returns-in-Err g c =
           (world (g.R.Rack.seen c.args.rack.now) c.args.vol.now) (world (g.R.Rack.seen c.is_readable.new.rack) c.is_readable.new.vol) c.in-Err.stop c.in-Err.ensures.ran (λ B h. h);
     }
 
-pub returns-in-Ok-put_unless : goal.returns-in-Ok-put_unless
-returns-in-Ok-put_unless g c =
+pub returns-in-Ok-put_lost : goal.returns-in-Ok-put_lost
+returns-in-Ok-put_lost g c =
     let sums : Option TreeRoot = tree_behind c.args.sums in
     record {
       ahead = c.in-Ok.ensures.ahead;
-      ran = ran_value (λ fs. KeepsSums fs sums c.args.ahead.now c.is_readable.new.ahead (c.in-Ok.readable ≡ is_readable fs sums c.args.sector.addr)) (λ fs. KeepsSums fs sums c.args.ahead.now c.is_readable.new.ahead (Adds (option_to_list (data_lost fs sums c.args.sector.addr)) c.args.found.now c.put_unless.new.found))
+      ran = ran_value (λ fs. KeepsSums fs sums c.args.ahead.now c.is_readable.new.ahead (c.in-Ok.readable ≡ is_readable fs sums c.args.sector.addr)) (λ fs. KeepsSums fs sums c.args.ahead.now c.is_readable.new.ahead (Adds (option_to_list (data_lost fs sums c.args.sector.addr)) c.args.found.now c.put_lost.new.found))
           (world (g.R.Rack.seen c.args.rack.now) c.args.vol.now) (world (g.R.Rack.seen c.is_readable.new.rack) c.is_readable.new.vol) c.in-Ok.readable tt c.in-Ok.ensures.ran
-          (λ B h summed. ((h summed).0, sector_adds (filesystem c.args.vol.now B) sums c.args.sector.addr c.in-Ok.readable c.row.result c.args.found.now c.put_unless.new.found c.row.ensures c.in-Ok-put_unless.ensures (h summed).1));
+          (λ B h summed. ((h summed).0, sector_adds (filesystem c.args.vol.now B) sums c.args.sector.addr c.in-Ok.readable (found 31 (c.args.sector.addr ∷ [])) c.args.found.now c.put_lost.new.found refl c.in-Ok-put_lost.ensures (h summed).1));
     }
 
-pub returns-in-Err-put_unless : goal.returns-in-Err-put_unless
-returns-in-Err-put_unless g c =
+pub returns-in-Err-put_lost : goal.returns-in-Err-put_lost
+returns-in-Err-put_lost g c =
     let sums : Option TreeRoot = tree_behind c.args.sums in
     record {
       ahead = c.in-Ok.ensures.ahead;

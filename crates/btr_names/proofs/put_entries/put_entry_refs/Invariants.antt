@@ -8,4 +8,4 @@ use Rattle.btr_names.proofs.put_entries.put_entry_refs.Given as goal
 
 -- what was found, and what is left to be judged, are all
 abbrev pub invariant-loop-entry : goal.invariant-loop-entry
-invariant-loop-entry l = (one : Finding) → (list_any (is_row (entry_ref l.tree l.refs) one) l.entry-iterator || has l.found one) ≡ (list_any (is_row (entry_ref l.tree l.refs) one) l.indexed || has l.fn.found one)
+invariant-loop-entry l = (one : Finding) → (list_any (is_row (entry_ref l.tree l.fn.removed l.refs) one) l.entry-iterator || has l.found one) ≡ (list_any (is_row (entry_ref l.tree l.fn.removed l.refs) one) l.indexed || has l.fn.found one)

@@ -8,4 +8,4 @@ use Rattle.btr_names.proofs.put_inodes.put_dir_sizes.Given as goal
 
 -- what was found on those so far
 abbrev pub invariant-loop-at : goal.invariant-loop-at
-invariant-loop-at l = (one : Finding) → has l.found one ≡ (list_any (is_row (dir_size l.tree l.indexed) one) (take l.at-index l.inodes) || has l.fn.found one)
+invariant-loop-at l = (one : Finding) → has l.found one ≡ (list_any (is_row (dir_size l.tree l.orphans l.indexed) one) (take l.at-index l.inodes) || has l.fn.found one)

@@ -16,6 +16,6 @@ returns c =
     let none = c.new-found.result in
     let some = c.put_count_findings.new.found in
     let first = subst (λ (refs : RefCounts). Adds (count_findings forward refs) none some) c.refs.ensures c.in_ok-put_count_findings.ensures in
-    c.listed.ensures (counts ++ totals)
-    (adds_just (counts ++ totals) none c.put_total_findings.new.found (λ one. ap (list_any (is_same one)) c.new-found.ensures.empty)
+    c.list.ensures (counts ++ totals)
+    (adds_just (counts ++ totals) none c.put_total_findings.new.found c.new-found.ensures
     (adds_then counts totals none some c.put_total_findings.new.found first c.in_ok-put_total_findings.ensures))

@@ -1,8 +1,15 @@
-use Rattle.std.proofs.Common.{ap, ◌∙◌}
-use Rattle.std.specs.List.{list_any}
-use Rattle.btr_refs.specs.Findings.{finding_cmp, is_same}
-use Rattle.btr_refs.proofs.Sets.{finding_total, any-insert}
+use Rattle.std.proofs.Common.{◌≡◌, ◌||◌, ◌++◌, List, subst}
+use Rattle.std.proofs.lemmas.Result.{on_ok_weaker}
+use Rattle.btr_refs.specs.declared.finding.Finding.{Finding}
+use Rattle.btr_refs.specs.Findings.{FoundSet, has, is_same}
+use Rattle.btr_refs.specs.Runs.{found_set}
+use Rattle.btr_refs.proofs.Setting.{single_put}
 use Rattle.btr_refs.proofs.found.insert.Goals as goal
 
-pub returns-in-Ok-clause-ok : goal.returns-in-Ok-clause-ok
-returns-in-Ok-clause-ok c = λ one. ap (list_any (is_same one)) c.in-Ok.ensures.keys ∙ any-insert finding_cmp finding_total one c.args.found.now.keys c.args.finding
+pub returns : goal.returns
+returns c =
+    let runs = c.found.inside.runs.items in
+    on_ok_weaker c.insert_single.result
+    (λ keys. subst (λ (set : FoundSet). (one : Finding) → has (found_set c.insert_single.new.single runs) one ≡ (is_same one c.args.finding || has set one)) c.found.view_is
+    (single_put c.found.inside.single c.insert_single.new.single runs c.args.finding keys))
+    c.insert_single.ensures

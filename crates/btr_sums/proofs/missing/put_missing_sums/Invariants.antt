@@ -7,5 +7,5 @@ use Rattle.btr_sums.proofs.missing.put_missing_sums.Given as goal
 
 -- the findings of the ranges so far
 abbrev pub invariant-loop-range : goal.invariant-loop-range
-invariant-loop-range l = (runs : List SumRun) → HoldSame (map run_stretch runs) l.sums
-    → Adds (flat_map (range_missing runs l.tree l.fn.loose) (take l.range-index l.used)) l.fn.found l.found
+invariant-loop-range l = (runs : List SumRun) → HoldSame (map run_stretch runs) l.places.sums.now
+    → Adds (flat_map (range_missing l.places.chunks.now runs l.tree l.fn.loose) (take l.range-index l.used)) l.fn.found l.found

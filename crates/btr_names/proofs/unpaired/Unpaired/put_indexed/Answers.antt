@@ -1,15 +1,14 @@
-use Rattle.std.proofs.Common.{◌≡◌, true, ap, ◌∙◌}
+use Rattle.std.proofs.Common.{Bool, ap, ◌∙◌}
 use Rattle.std.proofs.lemmas.Result.{on_ok_weaker}
-use Rattle.btr_names.specs.declared.claim.Claim.{Claim}
 use Rattle.btr_names.specs.Entry.{entry_of}
-use Rattle.btr_names.specs.Names.{under_hash}
-use Rattle.btr_names.specs.Pairs.{met, entry_claim}
+use Rattle.btr_names.specs.Unpaired.{index_met, link_asked}
 use Rattle.btr_names.proofs.unpaired.Unpaired.put_indexed.Goals as goal
 
 pub returns : goal.returns
 returns c =
     let entry = entry_of c.args.entry.now in
     let old = c.args.self.now in
-    let entries : c.meet.new.self ≡ met old.entries (entry_claim (under_hash (entry_of c.args.entry.now))) true (entry_of c.args.entry.now).name =
-    c.in_ok-meet.ensures ∙ ap (λ (k : Claim). met old.entries k true c.args.entry.now.name.now) (c.of_entry.ensures ∙ ap entry_claim c.under_hash.ensures) in
-    on_ok_weaker c.keep_root.result (λ kept. λ i. record { dirid = old.dirid; inodes = c.in_ok-name.ensures i; entries = entries i; links = c.in_ok-ask_link.ensures i; subvolumes = kept i }) c.keep_root.ensures
+    let gone = c.is_gone-is_gone.ensures in
+    let entries = c.in_ok-meet_index.ensures ∙ ap (λ (b : Bool). index_met b old.entries (entry_of c.args.entry.now)) gone in
+    let links = c.in_ok-ask_link.ensures ∙ ap (λ (b : Bool). link_asked b old.links (entry_of c.args.entry.now)) gone in
+    on_ok_weaker c.keep_root.result (λ kept. λ i. record { dirid = old.dirid; inodes = c.in_ok-name.ensures i; entries = entries i; links = links i; subvolumes = kept i }) c.keep_root.ensures
