@@ -1,12 +1,13 @@
 -- Reads and writes one after another.
-use Rattle.std.proofs.Common.{◌≡◌, ◌⊎◌, ℕ, Bool, List, [], ◌∷◌, ◌++◌, All, IsSomeAnd, Option, Some, None, Result, Ok, Err, get_or, refl, sym, ap, ◌∙◌, subst, inl, inr, arith, append_assoc, append-nil}
+use Rattle.std.proofs.Common.{◌≡◌, ◌⊎◌, ℕ, Bool, List, [], ◌∷◌, ◌++◌, All, IfSome, IsSomeAnd, Option, Some, None, Result, Ok, Err, get_or, refl, sym, ap, ◌∙◌, subst, inl, inr, arith, append_assoc, append-nil}
 use Rattle.std.specs.Prelude.{fold}
 use Rattle.std.proofs.lemmas.List.Elements.{All-append, All-nil}
 use Rattle.btr_rack.specs.Rack.{NoneFailed, OnlyReads, Seen}
 use Rattle.btr_rack.specs.declared.place.Place.{Place as Range}
 use Rattle.btr_read.proofs.Keeping.{none_more, one_after}
 use Rattle.btr_read.proofs.ReadsOn.{same_held, same_sure}
-use Rattle.btr_mend.specs.Writes.{AccountsMend, Does, FailsAt, Images, IsMarked, IsStopped, IsTorn, Leaves, Marks, OnlyWrites, Write, write_on}
+use Rattle.btr_read.proofs.Ones.{in_either, in_left, in_right}
+use Rattle.btr_mend.specs.Writes.{AccountsMend, AreAmong, Does, FailsAt, Images, In, IsMarked, IsStopped, IsTorn, Leaves, Marks, OnlyWrites, Write, ranges_of, write_on}
 use Rattle.btr_mend.specs.declared.mended.MendFault.{MendFault}
 use Rattle.btr_mend.specs.declared.mended.MendFault.TheVariants.{Image, Memory}
 
@@ -84,6 +85,39 @@ leaves_failed : (A : Type 0) (f : Images → List Write) (a b : Option Images) (
 leaves_failed A f None b x e = e
 leaves_failed A f (Some images) b x e = subst (λ o. IsSomeAnd o (IsStopped (f images) images)) (sym e) (stopped_first (f images) images)
 
+-- ---- the ranges of writes
+
+pub ranges-append : (ws vs : List Write) → ranges_of (ws ++ vs) ≡ ranges_of ws ++ ranges_of vs
+ranges-append [] vs = refl
+ranges-append (w ∷ ws) vs = ap (λ rs. w.range ∷ rs) (ranges-append ws vs)
+
+-- a range of the first writes, and one of those behind them, is one of all
+pub range_before : (ws vs : List Write) (range : Range) → In range (ranges_of ws) → In range (ranges_of (ws ++ vs))
+range_before ws vs range i = subst (In range) (sym (ranges-append ws vs)) (in_left range (ranges_of ws) (ranges_of vs) i)
+
+pub range_behind : (ws vs : List Write) (range : Range) → In range (ranges_of vs) → In range (ranges_of (ws ++ vs))
+range_behind ws vs range i = subst (In range) (sym (ranges-append ws vs)) (in_right range (ranges_of ws) (ranges_of vs) i)
+
+-- no range is among any
+pub own_none : (held : Option Images) (f : Images → List Write) → IfSome held (λ images. AreAmong {X = Range} [] (ranges_of (f images)))
+own_none None f = tt
+own_none (Some images) f = λ range i. absurd i
+
+own_then : {U : Type 0} (ws vs : List Write) (rs qs : List Range) (a b : Option Images) (u : U) → Leaves {A = U} {E = MendFault} (λ i. ws) a b (Ok u) → IfSome a (λ i. AreAmong rs (ranges_of ws)) → IfSome b (λ i. AreAmong qs (ranges_of vs)) → IfSome a (λ i. AreAmong (rs ++ qs) (ranges_of (ws ++ vs)))
+own_then ws vs rs qs None b u left h g = tt
+own_then ws vs rs qs (Some images) b u left h g = λ range i. elim (in_either range rs qs i) [
+  | inl j ↦ range_before ws vs range (h range j)
+  | inr j ↦ range_behind ws vs range (subst (λ o. IfSome o (λ i. AreAmong qs (ranges_of vs))) left g range j)
+]
+
+own_halt : (ws vs : List Write) (rs : List Range) (a : Option Images) → IfSome a (λ i. AreAmong rs (ranges_of ws)) → IfSome a (λ i. AreAmong rs (ranges_of (ws ++ vs)))
+own_halt ws vs rs None h = tt
+own_halt ws vs rs (Some images) h = λ range i. range_before ws vs range (h range i)
+
+own_as : (f g : Images → List Write) (rs : List Range) (a : Option Images) → ((images : Images) → a ≡ Some images → f images ≡ g images) → IfSome a (λ i. AreAmong rs (ranges_of (f i))) → IfSome a (λ i. AreAmong rs (ranges_of (g i)))
+own_as f g rs None e h = tt
+own_as f g rs (Some images) e h = subst (λ ws. AreAmong rs (ranges_of ws)) (e images refl) h
+
 -- ---- racks
 
 only_then : {a b c : Seen} (rs qs : List Range) → OnlyWrites rs a b → OnlyWrites qs b c → OnlyWrites (rs ++ qs) a c
@@ -138,16 +172,21 @@ module _ (P : Range → Type 0) where
   does_reads marks a b x reads none = record {
     ranges = [];
     only = only_reads reads;
+    own = own_none a.held (λ i. []);
     marked = marks_none marks;
     held = leaves_none a.held b.held x (ap (λ (s : Seen). s.held) reads.same);
     account = none;
   }
+
+  pub does_nothing : (marks : List Bool) (a : Seen) → Does {A = Unit {0}} P (λ i. []) marks marks a a (Ok tt)
+  does_nothing marks a = does_reads marks a a tt (record { same = refl; later = omega arith; same_shut = refl }) (record { faults = refl; fresh = refl; missed = refl; last = refl; opening = refl; shut = refl })
 
   -- a read failed
   pub does_failed : (A B : Type 0) (f : Images → List Write) (marks : List Bool) (a b : Seen) (x : MendFault) → OnlyReads a b → AccountsMend {A = B} P a b (Err x) → Does {A = A} P f marks marks a b (Err x)
   does_failed A B f marks a b x reads account = record {
     ranges = [];
     only = only_reads reads;
+    own = own_none a.held f;
     marked = marks_none marks;
     held = leaves_failed A f a.held b.held x (ap (λ (s : Seen). s.held) reads.same);
     account = account_halt B A P a b x account;
@@ -157,6 +196,7 @@ module _ (P : Range → Type 0) where
   does_then A U ws vs m n o a b c u r h g = record {
     ranges = h.ranges ++ g.ranges;
     only = only_then h.ranges g.ranges h.only g.only;
+    own = own_then ws vs h.ranges g.ranges a.held b.held u h.held h.own g.own;
     marked = marks_then h.ranges g.ranges m n o h.marked g.marked;
     held = leaves_then A U ws vs a.held b.held c.held u r h.held g.held;
     account = account_then P a b c r (only_sure h.ranges h.only) h.account g.account;
@@ -166,6 +206,7 @@ module _ (P : Range → Type 0) where
   does_halt A B ws vs m n a b e h = record {
     ranges = h.ranges;
     only = h.only;
+    own = own_halt ws vs h.ranges a.held h.own;
     marked = h.marked;
     held = leaves_halt A B ws vs a.held b.held e h.held;
     account = account_halt A B P a b e h.account;
@@ -173,16 +214,17 @@ module _ (P : Range → Type 0) where
 
   -- the same writes, said otherwise
   pub does_as : {A B : Type 0} (f g : Images → List Write) (m n : List Bool) (a b : Seen) (x : A) (y : B) → ((images : Images) → a.held ≡ Some images → f images ≡ g images) → Does P f m n a b (Ok x) → Does P g m n a b (Ok y)
-  does_as f g m n a b x y e h = record { ranges = h.ranges; only = h.only; marked = h.marked; held = leaves_as f g a.held b.held x y e h.held; account = h.account }
+  does_as f g m n a b x y e h = record { ranges = h.ranges; only = h.only; own = own_as f g h.ranges a.held e h.own; marked = h.marked; held = leaves_as f g a.held b.held x y e h.held; account = h.account }
 
   pub does_as_halt : (A B : Type 0) (f g : Images → List Write) (m n : List Bool) (a b : Seen) (x : MendFault) → ((images : Images) → a.held ≡ Some images → f images ≡ g images) → Does {A = A} P f m n a b (Err x) → Does {A = B} P g m n a b (Err x)
-  does_as_halt A B f g m n a b x e h = record { ranges = h.ranges; only = h.only; marked = h.marked; held = leaves_as_halt A B f g a.held b.held x e h.held; account = account_halt A B P a b x h.account }
+  does_as_halt A B f g m n a b x e h = record { ranges = h.ranges; only = h.only; own = own_as f g h.ranges a.held e h.own; marked = h.marked; held = leaves_as_halt A B f g a.held b.held x e h.held; account = account_halt A B P a b x h.account }
 
   -- reads before
   pub does_behind : {A : Type 0} (f : Images → List Write) (m n : List Bool) (a b c : Seen) (r : Result A MendFault) → OnlyReads a b → NoneFailed a.account b.account → Does P f m n b c r → Does P f m n a c r
   does_behind f m n a b c r reads none h = record {
     ranges = h.ranges;
     only = only_then [] h.ranges (only_reads reads) h.only;
+    own = subst (λ o. IfSome o (λ images. AreAmong h.ranges (ranges_of (f images)))) (same_held reads) h.own;
     marked = h.marked;
     held = subst (λ o. Leaves f o c.held r) (same_held reads) h.held;
     account = account_then P a b c r (same_sure reads) none h.account;

@@ -7,6 +7,7 @@ use Rattle.btr_chunk.specs.declared.place.Part.TheVariants.{Mirror}
 use Rattle.btr_rack.specs.Rack.{NoneFailed, OnlyReads, Seen}
 use Rattle.btr_rack.proofs.Reading.{reads_more}
 use Rattle.btr_read.specs.Candidates.{Target, element, range_of}
+use Rattle.btr_read.specs.Fate.{passing}
 use Rattle.btr_read.specs.Mirror.{HasMirror}
 use Rattle.btr_read.specs.Store.{Blocks, IsLentBy, IsLiveIn, Lent, SameLoans, block_of, loan_in, with_loan, without_kept}
 use Rattle.btr_read.specs.Layout.{AreOpen, HaveOwnSlots, Layout}
@@ -16,7 +17,7 @@ use Rattle.btr_read.proofs.Lent.{given_back}
 use Rattle.btr_read.proofs.Serving.{serves_anew, serving}
 use Rattle.btr_read.proofs.Trials.{told}
 use Rattle.btr_read.proofs.ReadsOn.{same_held}
-use Rattle.btr_mend.specs.Blocks.{block_writes, copy_writes, is_good}
+use Rattle.btr_mend.specs.Blocks.{block_writes, copy_writes}
 use Rattle.btr_mend.specs.Mending.{AreBad, Counts, IsFirst, IsOfCopy, Mends, Overwrites, flagged, mended_of}
 use Rattle.btr_mend.specs.Writes.{AccountsMend, Does, Images, writes_if}
 use Rattle.btr_mend.specs.declared.mended.MendFault.{MendFault}
@@ -48,7 +49,7 @@ module _ (t : Target) (write : Bool) (marks : List Bool) (a b : Seen) (reads : O
 
     module _ (n : ℕ) (has : mirrors t.chunk ≡ Some n) (stand : (k : ℕ) → HasMirror k t → IsSome (range_of t (Mirror k))) where
       -- no copy passes
-      pub mends_lost : ((images : Images) → a.held ≡ Some images → (k : ℕ) → k < n → is_good images t (Mirror k) ≡ false) → Mends t write marks marks a b (Ok (record { bad = n; repaired = 0; lost = true }))
+      pub mends_lost : ((images : Images) → a.held ≡ Some images → passing images t ≡ []) → Mends t write marks marks a b (Ok (record { bad = n; repaired = 0; lost = true }))
       mends_lost h = unwritten (record { bad = n; repaired = 0; lost = true }) (λ images e. none_written images t n has stand write (h images e)) (λ images e. counted_lost images t n has stand write (h images e))
 
       module _ (m : ℕ) (lt : m < n) (flags : List Bool) (count : ℕ) (first : (images : Images) → a.held ≡ Some images → IsFirst images t m) (bad : (images : Images) → a.held ≡ Some images → AreBad images t n flags count) where

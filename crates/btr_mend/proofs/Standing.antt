@@ -1,5 +1,5 @@
 -- Where a copy lies, and a write over it.
-use Rattle.std.proofs.Common.{◌≡◌, ℕ, ◌+◌, ◌<◌, ◌≤◌, Bool, true, false, cond, List, [], ◌∷◌, ◌++◌, length, get_or, set, Option, Some, None, IsSome, IsSomeAnd, is_some, Ok, Err, leb, le-leb, refl, sym, ap, ◌∙◌, subst, inl, inr, arith}
+use Rattle.std.proofs.Common.{◌≡◌, ℕ, ◌+◌, ◌<◌, ◌≤◌, Bool, true, false, cond, List, [], ◌∷◌, ◌++◌, length, get_or, set, Option, Some, None, IfSome, IsSome, IsSomeAnd, is_some, Ok, Err, leb, le-leb, refl, sym, ap, ◌∙◌, subst, inl, inr, arith}
 use Rattle.std.proofs.lemmas.Bool.{cases_eq, leb-true}
 use Rattle.std.proofs.lemmas.List.{get_or-set_other, get_or-set_same}
 use Rattle.std.proofs.lemmas.List.Elements.{All-cons, All-nil}
@@ -23,7 +23,7 @@ use Rattle.btr_read.specs.declared.want.Want.{Want}
 use Rattle.btr_read.proofs.Fates.{sought_of}
 use Rattle.btr_mend.specs.Blocks.{copy_writes}
 use Rattle.btr_mend.specs.Mending.{IsOfCopy, Overwrites}
-use Rattle.btr_mend.specs.Writes.{Does, Images, IsMarked, IsStopped, Leaves, Marks, Write}
+use Rattle.btr_mend.specs.Writes.{AreAmong, Does, Images, IsMarked, IsStopped, Leaves, Marks, Write, ranges_of}
 use Rattle.btr_mend.specs.declared.mended.MendFault.{MendFault}
 use Rattle.btr_mend.specs.declared.mended.MendFault.TheVariants.{Image, Memory}
 
@@ -74,6 +74,10 @@ module _ (t : Target) (m : ℕ) (bytes : List ℕ) (place : Range) (marks : List
   is_range : range_in place.slot place.off (length bytes) ≡ place
   is_range = ap (range_in place.slot place.off) (sym len)
 
+  own_one : (held : Option Images) → IfSome held (λ images. AreAmong (place ∷ []) (ranges_of (the_write ∷ [])))
+  own_one None = tt
+  own_one (Some images) = λ range i. i
+
   of_copy : IsOfCopy t place
   of_copy = record {
     mirror = m;
@@ -109,6 +113,7 @@ module _ (t : Target) (m : ℕ) (bytes : List ℕ) (place : Range) (marks : List
       wrote x y held account = subst (λ ws. Does (IsOfCopy t) (λ i. ws) marks (set marks place.slot true) a b (Ok y)) (sym one_write) (record {
         ranges = place ∷ [];
         only = record { same = same_place; later = omega (arith, account.faults); same_shut = account.shut };
+        own = own_one a.held;
         marked = marked;
         held = leaves_ok a.held b.held x y held;
         account = account;
@@ -119,6 +124,7 @@ module _ (t : Target) (m : ℕ) (bytes : List ℕ) (place : Range) (marks : List
       wrote_not held account unsure = subst (λ ws. Does {A = A} (IsOfCopy t) (λ i. ws) marks (set marks place.slot true) a b (Err (Image place.slot))) (sym one_write) (record {
         ranges = place ∷ [];
         only = record { same = same_place; later = account.0.faults.0; same_shut = account.2 };
+        own = own_one a.held;
         marked = marked;
         held = leaves_err a.held b.held error.Failed (Image place.slot) held;
         account = record {
@@ -134,6 +140,7 @@ module _ (t : Target) (m : ℕ) (bytes : List ℕ) (place : Range) (marks : List
       wrote_memory held account = subst (λ ws. Does {A = A} (IsOfCopy t) (λ i. ws) marks (set marks place.slot true) a b (Err Memory)) (sym one_write) (record {
         ranges = place ∷ [];
         only = record { same = same_place; later = omega (arith, account.faults); same_shut = account.shut };
+        own = own_one a.held;
         marked = marked;
         held = leaves_err a.held b.held error.Memory Memory held;
         account = account;

@@ -1,7 +1,8 @@
 -- One checked block: its own places, what is accepted for it, and the writes that mend it.
-use Rattle.std.specs.Prelude.{ℕ, Bool, not, List, [], ◌∷◌, map, Option, slice_get, is_none}
+use Rattle.std.specs.Prelude.{ℕ, Bool, false, not, ◌&&◌, List, [], ◌∷◌, map, Option, slice_get, is_none}
 use Rattle.std.specs.List.{filter, filter_map, range_with_len}
 use Rattle.std.specs.Option.{option_map, option_map_or}
+use Rattle.std.specs.Str.{bytes_eq}
 use Rattle.btr_chunk.specs.Chunk.{mirrors}
 use Rattle.btr_chunk.specs.declared.place.Part.{Part}
 use Rattle.btr_chunk.specs.declared.place.Part.TheVariants.{Mirror, Slice}
@@ -23,13 +24,22 @@ module _ (images : List (List ℕ)) where
   abbrev pub is_good : Target → Part → Bool
   is_good t part = passes t.setting t.want (element images t part)
 
-  -- those of its own places where it doesn't
-  abbrev pub bad_parts : Target → List Part
-  bad_parts t = filter (λ part. not (is_good t part)) (own_parts t)
-
   -- what is accepted for it: the bytes of its first candidate that passes
   abbrev pub accepted : Target → Option (List ℕ)
   accepted t = slice_get (passing images t) 0
+
+  -- bytes are those that are accepted
+  abbrev pub are_accepted : Target → List ℕ → Bool
+  are_accepted t bytes = option_map_or (bytes_eq bytes) (accepted t) false
+
+  -- a place of its own is sound: the block passes there, and a copy has the bytes that are accepted
+  abbrev pub is_sound : Target → Part → Bool
+  is_sound t (Mirror copy) = is_good t (Mirror copy) && are_accepted t (element images t (Mirror copy))
+  is_sound t part = is_good t part
+
+  -- those of its own places that are bad: they aren't sound
+  abbrev pub bad_parts : Target → List Part
+  bad_parts t = filter (λ part. not (is_sound t part)) (own_parts t)
 
   -- it is lost: no candidate passes
   abbrev pub is_lost : Target → Bool

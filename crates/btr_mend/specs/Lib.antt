@@ -1,3 +1,5 @@
 pub mod Blocks
 pub mod Writes
+pub mod Syncing
+pub mod Turns
 pub mod Mending

@@ -1,5 +1,5 @@
 -- What mending a block by its copies did.
-use Rattle.std.specs.Prelude.{◌≡◌, ◌<◌, ℕ, Bool, true, false, not, List, length, map, slice_index_or, Option, Some, None, IfSome, IsSome, Result, Ok, Err}
+use Rattle.std.specs.Prelude.{◌≡◌, ◌<◌, ℕ, Bool, true, false, not, List, [], length, map, slice_index_or, Option, Some, None, IfSome, IsSome, Result, Ok, Err}
 use Rattle.std.specs.List.{filter, range_with_len}
 use Rattle.btr_chunk.specs.Chunk.{mirrors}
 use Rattle.btr_chunk.specs.declared.place.Part.{Part}
@@ -8,11 +8,11 @@ use Rattle.btr_rack.specs.Rack.{OnlyReads, Seen}
 use Rattle.btr_rack.specs.declared.place.Place.{Place as Range}
 use Rattle.btr_read.specs.Candidates.{Target, element, range_of}
 use Rattle.btr_read.specs.Cause.{IsOf}
-use Rattle.btr_read.specs.Fate.{sought}
+use Rattle.btr_read.specs.Fate.{passing, sought}
 use Rattle.btr_read.specs.Layout.{Layout}
 use Rattle.btr_read.specs.declared.want.Want.{Want}
 use Rattle.btr_read.specs.Mirror.{HasMirror, mirror_candidate}
-use Rattle.btr_mend.specs.Blocks.{bad_parts, block_writes, copy_writes, is_good, is_lost}
+use Rattle.btr_mend.specs.Blocks.{accepted, bad_parts, block_writes, copy_writes, is_good, is_lost, is_sound}
 use Rattle.btr_mend.specs.Writes.{AccountsMend, Does, Images, writes_if}
 use Rattle.btr_read.specs.Store.{Blocks, IsLentBy, Lent, SameLoans, block_of}
 use Rattle.btr_mend.specs.declared.finding.First.{First}
@@ -56,15 +56,15 @@ pub record Mends (t : Target) (write : Bool) (marks marks' : List Bool) (old new
   pub counts : Counts old.held t write result
   pub unwritten : write ≡ false → OnlyReads old new
 
--- a copy is the first that passes
+-- a copy passes, and its bytes are those that are accepted
 pub record IsFirst (images : Images) (t : Target) (mirror : ℕ) : Type 0 where
   pub good : is_good images t (Mirror mirror) ≡ true
-  pub before : (k : ℕ) → k < mirror → is_good images t (Mirror k) ≡ false
+  pub accepts : accepted images t ≡ Some (element images t (Mirror mirror))
 
 -- which copies are bad, and how many, of the first n
 pub record AreBad (images : Images) (t : Target) (n : ℕ) (bad : List Bool) (number : ℕ) : Type 0 where
-  pub flags : (k : ℕ) → k < n → slice_index_or bad k false ≡ not (is_good images t (Mirror k))
-  pub count : number ≡ length (filter (λ part. not (is_good images t part)) (map Mirror (range_with_len 0 n)))
+  pub flags : (k : ℕ) → k < n → slice_index_or bad k false ≡ not (is_sound images t (Mirror k))
+  pub count : number ≡ length (filter (λ part. not (is_sound images t part)) (map Mirror (range_with_len 0 n)))
 
 -- the first copy that passes is lent, if one does, and nothing else
 abbrev pub LendsFirst : Want → Blocks → Blocks → Result (Option First) MendFault → Type 0
@@ -72,11 +72,15 @@ LendsFirst want old new (Ok (Some first)) = IsLentBy old new want first.loan
 LendsFirst want old new (Ok None) = SameLoans old new
 LendsFirst want old new (Err fault) = SameLoans old new
 
--- its bytes are lent, or none of n copies passes
-abbrev pub FindsFirst : Images → Target → ℕ → Blocks → Result (Option First) MendFault → Type 0
-FindsFirst images t n store (Ok (Some first)) = IsFirst images t first.mirror × (block_of store first.loan ≡ Some (element images t (Mirror first.mirror)))
-FindsFirst images t n store (Ok None) = (k : ℕ) → k < n → is_good images t (Mirror k) ≡ false
-FindsFirst images t n store (Err fault) = Unit {0}
+-- a copy is the first that passes, and its bytes are lent
+abbrev pub HasFirst : Images → Target → Blocks → First → Type 0
+HasFirst images t store first = IsFirst images t first.mirror × (block_of store first.loan ≡ Some (element images t (Mirror first.mirror)))
+
+-- the first copy that passes was found, or none passes
+abbrev pub FindsFirst : Images → Target → Blocks → Result (Option First) MendFault → Type 0
+FindsFirst images t store (Ok (Some first)) = HasFirst images t store first
+FindsFirst images t store (Ok None) = passing images t ≡ []
+FindsFirst images t store (Err fault) = Unit {0}
 
 -- those of the first n copies that have a flag
 abbrev pub flagged : List Bool → ℕ → List Part
@@ -85,10 +89,6 @@ flagged flags n = map Mirror (filter (λ k. slice_index_or flags k false) (range
 -- bytes are written over copies
 abbrev pub Overwrites : {A : Type 0} → Target → List ℕ → List Part → List Bool → List Bool → Seen → Seen → Result A MendFault → Type 0
 Overwrites t bytes parts marks marks' old new result = Does (IsOfCopy t) (λ images. copy_writes t bytes parts) marks marks' old new result
-
--- a loan has the bytes of a copy
-abbrev pub LendsCopy : Blocks → Lent → Images → Target → ℕ → Type 0
-LendsCopy store loan images t mirror = block_of store loan ≡ Some (element images t (Mirror mirror))
 
 -- ---- a wanted block, by its position
 

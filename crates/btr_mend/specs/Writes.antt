@@ -1,18 +1,32 @@
 -- Writes to the images, and what is left where one of them fails.
-use Rattle.std.specs.Prelude.{◌≡◌, ◌⊎◌, ℕ, ◌≤◌, Bool, true, false, List, [], ◌∷◌, ◌++◌, length, fold, slice_index_or, All, Option, Some, None, IsSomeAnd, Result, Ok, Err, if◌then◌else◌}
+use Rattle.std.specs.Prelude.{◌≡◌, ◌⊎◌, ℕ, ◌≤◌, Bool, true, false, List, [], ◌∷◌, ◌++◌, length, map, fold, slice_index_or, All, Option, Some, None, IfSome, IsSomeAnd, Result, Ok, Err, if◌then◌else◌}
 use Rattle.btr_rack.specs.Rack.{NoneFailed, Seen, Slot, written}
 use Rattle.btr_rack.specs.declared.place.Place.{Place as Range}
 use Rattle.btr_read.specs.Cause.{ReadFailed}
 use Rattle.btr_mend.specs.declared.mended.MendFault.{MendFault}
 use Rattle.btr_mend.specs.declared.mended.MendFault.TheVariants.{Image, Memory}
 
+-- the bytes of all images
 abbrev pub Images : Type 0
 Images = List (List ℕ)
+
+-- x is one of a list
+abbrev pub In : {X : Type 0} → X → List X → Type 0
+In x [] = ⊥
+In x (y ∷ ys) = (y ≡ x) ⊎ In x ys
+
+-- each of a list is one of another
+abbrev pub AreAmong : {X : Type 0} → List X → List X → Type 0
+AreAmong {X = X} xs ys = (x : X) → In x xs → In x ys
 
 -- a write: where, and which bytes
 pub record Write : Type 0 where
   pub range : Range
   pub bytes : List ℕ
+
+-- the ranges of writes
+abbrev pub ranges_of : List Write → List Range
+ranges_of writes = map (λ (write : Write). write.range) writes
 
 -- one write
 abbrev pub write_on : Images → Write → Images
@@ -73,10 +87,12 @@ AccountsMend P old new (Ok a) = NoneFailed old.account new.account
 AccountsMend P old new (Err (Image slot)) = FailsAt P slot old new
 AccountsMend P old new (Err Memory) = NoneFailed old.account new.account
 
--- Images were read and written: exactly the writes that follow from what they held, or those up to one that failed. What was written is marked by its slot.
+-- Images were read and written: exactly the writes that follow from what they held, or those up to one that failed. Ranges of these writes wait for a sync,
+-- and are marked by their slots.
 pub record Does {A : Type 0} (P : Range → Type 0) (writes : Images → List Write) (marks marks' : List Bool) (old new : Seen) (result : Result A MendFault) : Type 0 where
   pub ranges : List Range
   pub only : OnlyWrites ranges old new
+  pub own : IfSome old.held (λ images. AreAmong ranges (ranges_of (writes images)))
   pub marked : Marks ranges marks marks'
   pub held : Leaves writes old.held new.held result
   pub account : AccountsMend P old new result

@@ -1,8 +1,11 @@
 //! Mending one block by its copies.
 //!
-//! A block of a chunk with copies (single, DUP, RAID0, RAID1 in its three forms, RAID10) is read copy by copy, and each copy that doesn't pass is
-//! written over with the bytes of the first that does. The layer above is promised exactly those writes, one call each, or those up to one that failed.
-//! `specs/Blocks.antt` says which copies are bad and what is written for them, `specs/Writes.antt` what writes leave, and `specs/Mending.antt` what a call did.
+//! A block of a chunk with copies (single, DUP, RAID0, RAID1 in its three forms, RAID10) is read copy by copy, and each copy that doesn't pass, or isn't
+//! the bytes of the first that does, is written over with these. The layer above is promised exactly those writes, one call each, or those up to one
+//! that failed. The images that were written are marked, and synced by `sync_marked`.
+//!
+//! `specs/Blocks.antt` says which copies are bad and what is written for them, `specs/Writes.antt` what writes leave, `specs/Mending.antt` what a call
+//! did, `specs/Syncing.antt` what waits behind syncs, and `specs/Turns.antt` what writes with a sync between them leave wherever they are stopped.
 #![tactic(auto)]
 
 mod copies;
@@ -10,8 +13,10 @@ mod finding;
 mod mended;
 mod mending;
 mod overwriting;
+mod syncing;
 #[cfg(test)]
 mod tests;
 
 pub use mended::{MendFault, Mended};
 pub use mending::mend_copies;
+pub use syncing::{sync_if, sync_marked};

@@ -6,7 +6,7 @@ ghost use Rattle.btr_read.specs.Fate.{sought};
 ghost use Rattle.btr_read.specs.Serves.{Serves};
 ghost use Rattle.btr_read.specs.Store.{IsLiveIn, SameLoans, free_count};
 ghost use Rattle.btr_read.specs.Want.{len_of};
-ghost use Rattle.btr_mend.specs.Mending.{InTold, IsCopied, IsFirst, LendsCopy, MendsWant};
+ghost use Rattle.btr_mend.specs.Mending.{HasFirst, InTold, IsCopied, MendsWant};
 ghost use Rattle.btr_mend.specs.Writes.{AreWritable};
 
 use crate::copies::copies_of;
@@ -14,15 +14,14 @@ use crate::finding::{First, bad_copies, first_good};
 use crate::overwriting::write_over;
 use crate::{MendFault, Mended};
 use btr_rack::Rack;
-use btr_read::{Loan, Store, Want};
+use btr_read::{Store, Want};
 
 // Mends a block whose first copy that passes is lent.
 fn mend_others<R: Rack>(
     want: &Want,
     write: bool,
-    first: u32,
     copies: u32,
-    loan: &Loan,
+    first: &First,
     rack: &mut R,
     store: &mut Store,
     marks: &mut [bool],
@@ -33,18 +32,16 @@ fn mend_others<R: Rack>(
     requires slots { length (R.seen rack.old).slots ≤ length marks.old }
     requires copied { IsCopied store.old.layout want.now }
     requires few { copies ≤ 4 }
-    requires below { first < copies }
+    requires below { first.now.mirror < copies }
     requires copies { (t : Target) → sought store.old.layout want.now ≡ Ok t → mirrors t.chunk ≡ Some copies }
-    requires first { InTold store.old want.now (R.seen rack.old) (λ images t. IsFirst images t first) }
-    requires live { IsLiveIn store.old loan.now }
-    requires len { loan.now.len ≡ len_of store.old.layout.setting want.now }
-    requires bytes { InTold store.old want.now (R.seen rack.old)
-        (λ images t. LendsCopy store.old loan.now images t first) }
+    requires live { IsLiveIn store.old first.now.loan }
+    requires len { first.now.loan.len ≡ len_of store.old.layout.setting want.now }
+    requires first { InTold store.old want.now (R.seen rack.old) (λ images t. HasFirst images t store.old first.now) }
     ensures serves { Serves (R.seen rack.new) store.new }
     ensures loans { SameLoans store.old store.new }
     ensures mends { MendsWant store.old want.now write marks.old marks.new (R.seen rack.old) (R.seen rack.new) result }
 {
-    let bad = match bad_copies(want, first, copies, rack, store) {
+    let bad = match bad_copies(want, copies, first, rack, store) {
         Ok(bad) => bad,
         Err(fault) => return Err(fault),
     };
@@ -56,7 +53,7 @@ fn mend_others<R: Rack>(
         });
     }
     store.forget_kept();
-    match write_over(want, &bad, copies, loan, rack, store, marks) {
+    match write_over(want, &bad, copies, &first.loan, rack, store, marks) {
         Ok(()) => Ok(Mended {
             bad: bad.count,
             repaired: bad.count,
@@ -66,8 +63,9 @@ fn mend_others<R: Rack>(
     }
 }
 
-/// Mends a block by its copies: each copy that doesn't pass is written over with the bytes of the first that does, by one write each, in ascending
-/// order. Where none passes, or it is only to be read, nothing is written. The slots that were written are marked; a mark is never taken away.
+/// Mends a block by its copies: each copy that is bad, as it doesn't pass or isn't the bytes of the first that does, is written over with these, by one
+/// write each, in the order of the copies. The first is by the order of the candidates: copies on older images come last. Where none passes all are bad,
+/// and nothing is written, nor where it is only to be read. The slots that were written are marked; a mark is never taken away.
 ///
 /// The block lies in a chunk with copies, all of which stand, and two slots are free. Where it is to be written, each image was opened for writing.
 ///
@@ -97,8 +95,8 @@ pub fn mend_copies<R: Rack>(
             lost: true,
         }),
         Ok(Some(first)) => {
-            let First { mirror, loan } = first;
-            let mended = mend_others(want, write, mirror, copies, &loan, rack, store, marks);
+            let mended = mend_others(want, write, copies, &first, rack, store, marks);
+            let First { mirror: _, loan } = first;
             store.give(loan);
             mended
         }

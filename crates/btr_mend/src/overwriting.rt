@@ -74,7 +74,7 @@ fn overwrite_if<R: Rack>(
     overwrite(want, mirror, loan, rack, store, marks)
 }
 
-// Writes a loan's bytes over the copies that don't pass, and marks their slots.
+// Writes a loan's bytes over the bad copies, and marks their slots.
 pub(crate) fn write_over<R: Rack>(
     want: &Want,
     bad: &Bad,

@@ -83,7 +83,7 @@ fn store_over(alloc: Global, rack: &MemRack) -> Result<Store, Fail>
     let mut table = ChunkTable::new(alloc);
     table.add(Chunk::read(alloc, 17 * MIB, item(alloc)?.as_slice())?)?;
     let mut store = Store::new(alloc, SumKind::Crc32c, [0; 16], NODE, table)?;
-    store.add_device(1, 0, rack.len(0))?;
+    store.add_device(1, 0, rack.len(0), false)?;
     Ok(store)
 }
 

@@ -1,5 +1,5 @@
 -- All writes of a row, put together.
-use Rattle.std.proofs.Common.{◌≡◌, ◌≢◌, ℕ, ◌+◌, List, [], ◌∷◌, ◌++◌, length, Option, Some, None, IfSome, refl, sym, ap, ◌∙◌, subst, inl, inr, arith}
+use Rattle.std.proofs.Common.{◌≡◌, ◌≢◌, ◌⊎◌, ℕ, ◌+◌, List, [], ◌∷◌, ◌++◌, length, Option, Some, None, IfSome, refl, sym, ap, ◌∙◌, subst, inl, inr, arith}
 use Rattle.std.specs.List.{flat_map, sum_by}
 use Rattle.std.proofs.lemmas.List.Concat.{flat_map-cons, length-flat_map}
 use Rattle.std.proofs.lemmas.List.Sums.{sum_by-cons}
@@ -12,8 +12,9 @@ use Rattle.btr_read.specs.Layout.{Layout}
 use Rattle.btr_read.proofs.Trials.{told}
 use Rattle.btr_mend.specs.Blocks.{block_writes}
 use Rattle.btr_mend.specs.Writes.{Images, Write}
-use Rattle.btr_row.specs.Rows.{Row, parities, parity_writes}
-use Rattle.btr_row.specs.Preparing.{IsPrepared, TellsRow}
+use Rattle.btr_row.specs.Mending.{parity_count}
+use Rattle.btr_row.specs.Rows.{Row, parities, parities_writes, parity_writes, rebuilt_writes}
+use Rattle.btr_row.specs.Preparing.{HasOneTurn, IsPrepared, TellsRow}
 use Rattle.btr_row.specs.Memory.{HoldsRow}
 use Rattle.btr_row.specs.Judging.{AreJudged}
 use Rattle.btr_row.specs.Writing.{KnowsParity, Tells, TellsParity, told_writes}
@@ -90,6 +91,21 @@ pub no_writes : (images : Images) (layout : Layout) (row : Row) (judged : Judged
 no_writes images layout row judged buffer is none = by (flat_map (block_writes images) row.blocks) (length-flat_map (block_writes images) row.blocks ∙ sym is.blocks.rebuilt ∙ none)
   where
     by : (ws : List Write) → length ws ≡ 0 → [] ≡ ws
+    by [] e = refl
+    by (w ∷ ws) e = absurd (omega (arith, e))
+
+-- where there is nothing to be written in one of the turns, nothing is told in one
+pub one_turn : (layout : Layout) (row : Row) (judged : Judged) (buffer : RowBuffer) (told : Option Images) → IfSome told (λ images. IsPrepared images layout row judged buffer)
+    → ((images : Images) → IsPrepared images layout row judged buffer → HasOneTurn images layout row)
+    → (told_writes (λ images. rebuilt_writes images layout row) told ≡ []) ⊎ (told_writes (λ images. parities_writes images layout row) told ≡ [])
+one_turn layout row judged buffer None known h = inl refl
+one_turn layout row judged buffer (Some images) known h = h images known
+
+-- where none of their sectors is wrong, no parity is to be written
+pub no_parities : (images : Images) (layout : Layout) (row : Row) → parity_count images layout row ≡ 0 → parities_writes images layout row ≡ []
+no_parities images layout row none = by (parities_writes images layout row) (length-flat_map (parity_writes images layout row) (parities row.chunk.profile) ∙ none)
+  where
+    by : (ws : List Write) → length ws ≡ 0 → ws ≡ []
     by [] e = refl
     by (w ∷ ws) e = absurd (omega (arith, e))
 

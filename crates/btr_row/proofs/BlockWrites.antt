@@ -1,7 +1,6 @@
 -- The write that mends a block, as it is made from the bytes in memory.
-use Rattle.std.proofs.Common.{◌≡◌, ℕ, ◌+◌, ◌^◌, ◌<◌, ◌≤◌, Bool, false, not, cond, List, [], ◌∷◌, length, take, Some, None, Ok, IsNone, refl, sym, ap, ◌∙◌, subst, arith, length-take}
+use Rattle.std.proofs.Common.{◌≡◌, ℕ, ◌+◌, ◌^◌, ◌<◌, ◌≤◌, Bool, true, false, not, cond, List, [], ◌∷◌, length, take, Some, None, Ok, IsNone, refl, sym, ap, ◌∙◌, subst, arith, length-take}
 use Rattle.std.specs.Option.{option_map_or}
-use Rattle.std.proofs.lemmas.Bool.{eq-eqb, ne_eqb}
 use Rattle.btr_chunk.specs.Chunk.{mirrors}
 use Rattle.btr_chunk.specs.Mapping.{HasPart}
 use Rattle.btr_chunk.specs.declared.place.Part.TheVariants.{Slice}
@@ -70,13 +69,12 @@ module _ (layout : Layout) (stripe : FullStripe) (row : Row) (of : IsStripeOf la
         (is_of_row layout stripe.chunk stripe.number row (good layout stripe row of) (Slice t.at.index) has l spot.rest n (omega (arith, long, p.rest, p.len, p.inside))))
 
     -- one write, where another candidate than the block's own place is accepted
-    pub writes_it : (images : Images) (block : List ℕ) (k : ℕ) → size_of t ≤ length block → (k ≡ 0 → ⊥) → IsAccepted images t block k → write_at element.slot (element.off + spot.rest) (take spot.len block) ∷ [] ≡ block_writes images t
-    writes_it images block k long ne a =
+    pub writes_it : (images : Images) (block : List ℕ) → size_of t ≤ length block → IsAccepted images t block false → write_at element.slot (element.off + spot.rest) (take spot.len block) ∷ [] ≡ block_writes images t
+    writes_it images block long a =
         let at = is_at layout stripe.chunk stripe.number row (good layout stripe row of) (Slice t.at.index) has l element is' in
         let devices = sought_of layout want t e in
         let stands : range_of t (Slice t.at.index) ≡ Some (range_in l.slot (l.off + t.at.rest) (size_of t)) = block_lies layout stripe.chunk stripe.number row (good layout stripe row of) (Slice t.at.index) has l t on devices.devices_is p.position p.inside in
         let bytes = take (size_of t) block in
-        let bad : is_good images t (Slice t.at.index) ≡ false = a.good ∙ ne_eqb k 0 ne in
         let size : length bytes ≡ size_of t = omega (arith, length-take (size_of t) block, long) in
         ap (λ n. write_at element.slot (element.off + spot.rest) (take n block) ∷ []) p.len
         ∙ ap (λ s. write_at s (element.off + spot.rest) bytes ∷ []) at.slot
@@ -86,18 +84,18 @@ module _ (layout : Layout) (stripe : FullStripe) (row : Row) (of : IsStripeOf la
         ∙ sym (
         writes_one images t no_copies (range_in l.slot (l.off + t.at.rest) (size_of t)) stands
         ∙ ap (λ o. option_map_or (λ bytes. cond (not (is_good images t (Slice t.at.index))) (written_at (range_in l.slot (l.off + t.at.rest) (size_of t)) bytes ∷ []) []) o []) a.bytes
-        ∙ ap (λ b. cond (not b) (written_at (range_in l.slot (l.off + t.at.rest) (size_of t)) bytes ∷ []) []) bad)
+        ∙ ap (λ b. cond (not b) (written_at (range_in l.slot (l.off + t.at.rest) (size_of t)) bytes ∷ []) []) a.good)
 
   -- no write
   module _ (images : Images) where
     stands' : range_of t (Slice t.at.index) ≡ Some (range_in l.slot (l.off + t.at.rest) (size_of t))
     stands' = let devices = sought_of layout want t e in block_lies layout stripe.chunk stripe.number row (good layout stripe row of) (Slice t.at.index) has l t on devices.devices_is p.position p.inside
 
-    pub writes_no_good : (block : List ℕ) (k : ℕ) → k ≡ 0 → IsAccepted images t block k → [] ≡ block_writes images t
-    writes_no_good block k z a = sym (
+    pub writes_no_good : (block : List ℕ) → IsAccepted images t block true → [] ≡ block_writes images t
+    writes_no_good block a = sym (
         writes_one images t no_copies (range_in l.slot (l.off + t.at.rest) (size_of t)) stands'
         ∙ ap (λ o. option_map_or (λ bytes. cond (not (is_good images t (Slice t.at.index))) (written_at (range_in l.slot (l.off + t.at.rest) (size_of t)) bytes ∷ []) []) o []) a.bytes
-        ∙ ap (λ b. cond (not b) (written_at (range_in l.slot (l.off + t.at.rest) (size_of t)) (take (size_of t) block) ∷ []) []) (a.good ∙ eq-eqb k 0 z))
+        ∙ ap (λ b. cond (not b) (written_at (range_in l.slot (l.off + t.at.rest) (size_of t)) (take (size_of t) block) ∷ []) []) a.good)
 
     pub writes_no_gone : IsGone images t → [] ≡ block_writes images t
     writes_no_gone a = sym (

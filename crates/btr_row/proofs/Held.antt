@@ -1,5 +1,5 @@
 -- A row in memory has all that the candidates of its blocks read.
-use Rattle.std.proofs.Common.{◌≡◌, ℕ, ◌+◌, ◌*◌, ◌<◌, ◌≤◌, List, length, slice_range, Ok, None, IsNone, IsSome, Result, refl, sym, ap, ◌∙◌, subst, arith}
+use Rattle.std.proofs.Common.{◌≡◌, ℕ, ◌+◌, ◌*◌, ◌<◌, ◌≤◌, List, length, slice_range, Ok, IsNone, IsSome, Result, refl, sym, ap, ◌∙◌, subst, arith}
 use Rattle.std.proofs.lemmas.Option.{same_Some}
 use Rattle.btr_chunk.specs.Chunk.{data_count, mirrors}
 use Rattle.btr_chunk.specs.Mapping.{HasPart}
@@ -15,7 +15,7 @@ use Rattle.btr_read.proofs.Fates.{sought_of}
 use Rattle.btr_mend.specs.Writes.{Images}
 use Rattle.btr_row.specs.Rows.{Row, element, parities, slice_count}
 use Rattle.btr_row.specs.Mending.{IsOn}
-use Rattle.btr_row.specs.Memory.{FitsIn, HoldsRow, IsHeld, IsStripeOf, element_count, part_at, piece_in}
+use Rattle.btr_row.specs.Memory.{FitsIn, HoldsRow, IsHeld, IsSited, IsStripeOf, element_count, part_at, piece_in}
 use Rattle.btr_row.specs.Judging.{IsIn, IsPlaced}
 use Rattle.btr_row.specs.declared.spot.Spot.{Spot}
 use Rattle.btr_row.specs.declared.stripe.FullStripe.{FullStripe}
@@ -69,23 +69,31 @@ module _ (layout : Layout) (stripe : FullStripe) (row : Row) (of : IsStripeOf la
       ∙ ap (λ xs. slice_range xs t.at.rest (t.at.rest + size_of t)) (holds.elements n lt ∙ ap (element images layout row) is)
       ∙ sym (block_bytes layout stripe.chunk stripe.number row (good layout stripe row of) q has images (where_it q has) t on devices_are p.position p.inside)
 
+  -- its place in the row
+  pub sited : IsSited spot t
+  sited = record {
+    place = record {
+      slices = spot_slices ∙ slices_are;
+      profile = ap (λ s. s.profile) p.shape_is ∙ of.shape.profile ∙ ap (λ c. c.profile) (sym on.chunk);
+      index = p.index;
+      rest = p.rest;
+      len = p.len;
+    };
+    keeps_rule = p.keeps_rule;
+    position = p.position;
+    parity = ap mirrors on.chunk ∙ of.is.parity;
+  }
+
   pub held : (images : Images) (bytes : List ℕ) → HoldsRow images layout row bytes → IsHeld images t spot bytes
   held images bytes holds =
       let count = row_counted row of.is.parity of.keeps_rule in
-      let none : mirrors t.chunk ≡ None = ap mirrors on.chunk ∙ of.is.parity in
       let no_copies : IsNone (mirrors row.chunk) = subst IsNone (sym of.is.parity) refl in
       record {
-        place = record {
-          slices = spot_slices ∙ slices_are;
-          profile = ap (λ s. s.profile) p.shape_is ∙ of.shape.profile ∙ ap (λ c. c.profile) (sym on.chunk);
-          index = p.index;
-          rest = p.rest;
-          len = p.len;
-        };
+        place = sited.place;
         block = record {
           keeps_rule = p.keeps_rule;
           position = p.position;
-          parity = none;
+          parity = sited.parity;
           stand = block_stands;
           slices = λ i lt.
               let below : i < slice_count row = omega (arith, lt, slices_are) in

@@ -16,7 +16,7 @@ use Rattle.btr_read.specs.Candidates.{Target, range_of, size_of}
 use Rattle.btr_read.specs.Fate.{sought}
 use Rattle.btr_read.specs.Layout.{Layout}
 use Rattle.btr_read.specs.declared.want.Want.{Want}
-use Rattle.btr_mend.specs.Blocks.{accepted, bad_parts, block_writes, copy_writes, is_good, is_lost, own_parts, written_over}
+use Rattle.btr_mend.specs.Blocks.{accepted, bad_parts, block_writes, copy_writes, is_good, is_lost, is_sound, own_parts, written_over}
 use Rattle.btr_mend.specs.Writes.{Images, Write}
 use Rattle.btr_row.specs.Rows.{Row, element, meets, slice_count, with_block}
 use Rattle.btr_row.specs.Mending.{IsFullStripe, IsOn, IsRowOf, is_at}
@@ -39,7 +39,7 @@ module _ (images : Images) (t : Target) (none : mirrors t.chunk ≡ None) where
   own = ap (λ o. option_map_or (λ copies. map Mirror (range_with_len 0 copies)) o (Slice t.at.index ∷ [])) none
 
   pub bad_are : bad_parts images t ≡ cond (not (is_good images t (Slice t.at.index))) (Slice t.at.index ∷ []) []
-  bad_are = ap (filter (λ part. not (is_good images t part))) own
+  bad_are = ap (filter (λ part. not (is_sound images t part))) own
 
   by_cond : (b : Bool) → length (cond b (Slice t.at.index ∷ []) []) ≡ cond b 1 0
   by_cond true = refl

@@ -48,7 +48,7 @@ pub put_is : (xs ys : List ℕ) (a k : ℕ) → length ys ≡ k → put_mid a k 
 put_is xs ys a k e = ap (λ zs. take a xs ++ (ys ++ zs)) (drop-drop k a xs ∙ ap (λ m. drop (a + m) xs) (sym e)) ∙ sym (append_assoc (take a xs) ys (drop (a + length ys) xs))
 
 -- a byte of a range
-at_range : (xs : List ℕ) (a n i d : ℕ) → i < n → get_or (slice_range xs a (a + n)) i d ≡ get_or xs (a + i) d
+pub at_range : (xs : List ℕ) (a n i d : ℕ) → i < n → get_or (slice_range xs a (a + n)) i d ≡ get_or xs (a + i) d
 at_range xs a n i d lt = get_or-take (a + n - a) (drop a xs) i d (omega (arith, lt)) ∙ get_or-drop a xs i d
 
 pub length-range : (xs : List ℕ) (a n : ℕ) → a + n ≤ length xs → length (slice_range xs a (a + n)) ≡ n

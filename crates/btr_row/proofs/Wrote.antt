@@ -1,5 +1,5 @@
 -- One write into an element, and writes one after another.
-use Rattle.std.proofs.Common.{◌≡◌, ℕ, ◌+◌, ◌<◌, Bool, true, false, List, [], ◌∷◌, ◌++◌, length, take, drop, get_or, set, append-nil, Option, Some, None, IsSomeAnd, Result, Ok, Err, refl, sym, ap, ◌∙◌, subst, inl, inr, arith}
+use Rattle.std.proofs.Common.{◌≡◌, ℕ, ◌+◌, ◌<◌, Bool, true, false, List, [], ◌∷◌, ◌++◌, length, take, drop, get_or, set, append-nil, Option, Some, None, IfSome, IsSomeAnd, Result, Ok, Err, refl, sym, ap, ◌∙◌, subst, inl, inr, arith}
 use Rattle.std.proofs.lemmas.Bool.{cases_eq}
 use Rattle.std.specs.List.{flat_map}
 use Rattle.std.proofs.lemmas.Grind.{flat_map-append}
@@ -9,7 +9,7 @@ use Rattle.btr_rack.specs.Rack.{Accounts, Seen, Unsyncs, Writes, range_in}
 use Rattle.btr_rack.specs.declared.error.RackError.{RackError}
 use Rattle.btr_rack.specs.declared.error.RackError.TheVariants as error
 use Rattle.btr_rack.specs.declared.place.Place.{Place as Range}
-use Rattle.btr_mend.specs.Writes.{Does, Images, IsMarked, IsStopped, Leaves, Marks, Write}
+use Rattle.btr_mend.specs.Writes.{AreAmong, Does, Images, IsMarked, IsStopped, Leaves, Marks, Write, ranges_of}
 use Rattle.btr_mend.proofs.Doing.{does_halt, does_then}
 use Rattle.btr_mend.specs.declared.mended.MendFault.{MendFault}
 use Rattle.btr_mend.specs.declared.mended.MendFault.TheVariants.{Image, Memory}
@@ -30,6 +30,10 @@ module _ (P : Range → Type 0) (slot off : ℕ) (bytes : List ℕ) (marks : Lis
     ];
   }
 
+  own_one : (held : Option Images) → IfSome held (λ images. AreAmong (place ∷ []) (ranges_of (write_at slot off bytes ∷ [])))
+  own_one None = tt
+  own_one (Some images) = λ range i. i
+
   module _ (A : Type 0) where
     leaves_ok : (held left : Option Images) (x : Unit {0}) (y : A) → Writes {T = Unit {0}} slot off bytes held left (Ok x) → Leaves {A = A} {E = MendFault} (λ i. write_at slot off bytes ∷ []) held left (Ok y)
     leaves_ok None left x y h = h
@@ -46,6 +50,7 @@ module _ (P : Range → Type 0) (slot off : ℕ) (bytes : List ℕ) (marks : Lis
       wrote x y held account = record {
         ranges = place ∷ [];
         only = record { same = unsyncs; later = omega (arith, account.faults); same_shut = account.shut };
+        own = own_one a.held;
         marked = marked;
         held = leaves_ok a.held b.held x y held;
         account = account;
@@ -56,6 +61,7 @@ module _ (P : Range → Type 0) (slot off : ℕ) (bytes : List ℕ) (marks : Lis
       wrote_not held account unsure = record {
         ranges = place ∷ [];
         only = record { same = unsyncs; later = account.0.faults.0; same_shut = account.2 };
+        own = own_one a.held;
         marked = marked;
         held = leaves_err a.held b.held error.Failed (Image slot) held;
         account = record {
@@ -71,6 +77,7 @@ module _ (P : Range → Type 0) (slot off : ℕ) (bytes : List ℕ) (marks : Lis
       wrote_memory held account = record {
         ranges = place ∷ [];
         only = record { same = unsyncs; later = omega (arith, account.faults); same_shut = account.shut };
+        own = own_one a.held;
         marked = marked;
         held = leaves_err a.held b.held error.Memory Memory held;
         account = account;
@@ -83,11 +90,19 @@ pub does_untold : {A : Type 0} (P : Range → Type 0) (f g : Images → List Wri
 does_untold P f g marks marks' a b r none h = record {
   ranges = h.ranges;
   only = h.only;
+  own = no_own a.held none;
   marked = h.marked;
   held = untold a.held b.held none h.held;
   account = h.account;
 }
   where
+    no_own : (o : Option Images) → o ≡ None → IfSome o (λ images. AreAmong h.ranges (ranges_of (g images)))
+    no_own None e = tt
+    no_own (Some images) e = absurd (some_none images e)
+      where
+        some_none : (x : Images) → Some x ≡ None → ⊥
+        some_none x e = cc
+
     untold : (old new : Option Images) → old ≡ None → Leaves f old new r → Leaves g old new r
     untold None new e h = h
     untold (Some images) new e h = absurd (some_none images e)

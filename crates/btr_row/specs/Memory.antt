@@ -1,6 +1,6 @@
 -- A row's bytes in memory, element by element: the slices, P, and Q; and a block of it.
 use Rattle.std.specs.List.{All, range_with_len}
-use Rattle.std.specs.Prelude.{◌≡◌, ℕ, ◌+◌, ◌*◌, ◌<◌, ◌≤◌, ◌==◌, false, List, length, map, nat_lt, take, Option, Some, None, IfSome, IsSome, Result, Ok, slice_get, slice_range, if◌then◌else◌}
+use Rattle.std.specs.Prelude.{◌≡◌, ℕ, ◌+◌, ◌*◌, ◌<◌, ◌≤◌, ◌==◌, Bool, false, List, length, map, nat_lt, take, Option, Some, None, IfSome, IsSome, Result, Ok, slice_get, slice_range, if◌then◌else◌}
 use Rattle.btr_chunk.specs.Chunk.{IsChunk, mirrors}
 use Rattle.btr_chunk.specs.Mapping.{HasPart, IsPosition}
 use Rattle.btr_chunk.specs.declared.place.Part.{Part}
@@ -108,6 +108,13 @@ pub record IsSpot (t : Target) (spot : Spot) : Type 0 where
   pub rest : spot.rest ≡ t.at.rest
   pub len : spot.len ≡ size_of t
 
+-- .. of a chunk that keeps the rule, and has parity
+pub record IsSited (spot : Spot) (t : Target) : Type 0 where
+  pub place : IsSpot t spot
+  pub keeps_rule : IsChunk t.chunk
+  pub position : IsPosition t.chunk t.at
+  pub parity : mirrors t.chunk ≡ None
+
 -- a place that lies in the elements in memory
 pub record FitsIn (bytes : List ℕ) (spot : Spot) : Type 0 where
   pub few : spot.shape.slices ≤ 63
@@ -178,14 +185,14 @@ Gathers spot bytes c p sum = (images : Images) (t : Target) → IsHeld images t 
 abbrev pub Computes : Spot → List ℕ → Candidate → List ℕ → Type 0
 Computes spot bytes c block = (images : Images) (t : Target) → IsHeld images t spot bytes → value_of images t c ≡ take spot.len block
 
--- a candidate for slice i is the one at a place in their order, of so many slices
+-- a candidate for slice i is the way of a number, of so many slices
 abbrev pub IsCandidate : Profile → ℕ → ℕ → ℕ → Candidate → Type 0
 IsCandidate profile slices i k c = slice_get (rebuilt profile slices i) k ≡ Some c
 
--- the number of the first candidate that passes, and what is accepted for the block, in the front of a buffer
-pub record IsAccepted (images : Images) (t : Target) (block : List ℕ) (n : ℕ) : Type 0 where
+-- what is accepted for the block is in the front of a buffer, and whether the block passes at its own place
+pub record IsAccepted (images : Images) (t : Target) (block : List ℕ) (own : Bool) : Type 0 where
   pub bytes : accepted images t ≡ Some (take (size_of t) block)
-  pub good : is_good images t (Slice t.at.index) ≡ (n == 0)
+  pub good : is_good images t (Slice t.at.index) ≡ own
 
 -- no candidate passes
 pub record IsGone (images : Images) (t : Target) : Type 0 where
@@ -193,11 +200,11 @@ pub record IsGone (images : Images) (t : Target) : Type 0 where
   pub good : is_good images t (Slice t.at.index) ≡ false
 
 -- what is accepted for a block
-abbrev pub Accepts : Images → Target → List ℕ → Option ℕ → Type 0
-Accepts images t block (Some n) = IsAccepted images t block n
+abbrev pub Accepts : Images → Target → List ℕ → Option Bool → Type 0
+Accepts images t block (Some own) = IsAccepted images t block own
 Accepts images t block None = IsGone images t
 
 -- the same for a wanted block
-abbrev pub AcceptsWant : Layout → Want → Spot → List ℕ → List ℕ → Option ℕ → Type 0
-AcceptsWant layout want spot bytes block number =
-    (images : Images) (t : Target) → sought layout want ≡ Ok t → IsHeld images t spot bytes → Accepts images t block number
+abbrev pub AcceptsWant : Layout → Want → Spot → List ℕ → List ℕ → Option Bool → Type 0
+AcceptsWant layout want spot bytes block own =
+    (images : Images) (t : Target) → sought layout want ≡ Ok t → IsHeld images t spot bytes → Accepts images t block own

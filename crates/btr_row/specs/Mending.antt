@@ -1,5 +1,5 @@
 -- What mending a full stripe did.
-use Rattle.std.specs.Prelude.{◌≡◌, ℕ, ◌+◌, ◌*◌, ◌≤◌, Bool, List, false, length, map, Option, None, IfSome, IsSome, IsSomeAnd, Some, Result, Ok, Err, if◌then◌else◌, count_by}
+use Rattle.std.specs.Prelude.{◌≡◌, ℕ, ◌+◌, ◌*◌, ◌≤◌, Bool, List, [], false, length, map, Option, None, IfSome, IsSome, IsSomeAnd, Some, Result, Ok, Err, if◌then◌else◌, count_by}
 use Rattle.std.specs.List.{All, sum_by}
 use Rattle.btr_chunk.specs.Chunk.{mirrors, stripe_length}
 use Rattle.btr_chunk.specs.Mapping.{HasPart}
@@ -13,9 +13,11 @@ use Rattle.btr_read.specs.Fate.{Fault, sought}
 use Rattle.btr_read.specs.Layout.{Layout}
 use Rattle.btr_read.specs.declared.want.Want.{Want}
 use Rattle.btr_mend.specs.Blocks.{bad_parts, block_writes, is_lost}
+use Rattle.btr_mend.specs.Syncing.{AreMarked, IsSyncOr, Strands, plain}
+use Rattle.btr_mend.specs.Turns.{WaitsInTurn}
 use Rattle.btr_mend.specs.Writes.{Does, Images, writes_if}
 use Rattle.btr_mend.specs.declared.mended.MendFault.{MendFault}
-use Rattle.btr_row.specs.Rows.{Row, parities, parity_writes, range_in_element, row_writes}
+use Rattle.btr_row.specs.Rows.{Row, parities, parities_writes, parity_writes, range_in_element, rebuilt_writes, row_writes}
 use Rattle.btr_row.specs.declared.buffer.RowBuffer.{RowBuffer}
 use Rattle.btr_row.specs.declared.mended.MendedRow.{MendedRow}
 
@@ -89,9 +91,12 @@ abbrev pub CountsRow : Option Images → Layout → Row → Bool → Result Mend
 CountsRow held layout row write (Ok mended) = IfSome held (λ images. mended ≡ mended_row images layout row write)
 CountsRow held layout row write (Err fault) = Unit {0}
 
--- A row was read, and written where it is to be mended: exactly the writes that mend it, or those up to one that failed. What was written is marked by its slot.
--- Where it was only to be read, it was.
+-- A row was read, and written where it is to be mended: exactly the writes that mend it, or those up to a call that failed. Its parities are written in a turn
+-- of their own, behind its blocks. Where all that waited for a sync was marked, it is. Where the row was only to be read, it was.
 pub record MendsRow (layout : Layout) (row : Row) (write : Bool) (marks marks' : List Bool) (old new : Seen) (result : Result MendedRow MendFault) : Type 0 where
-  pub does : Does (IsOfRow layout row) (λ images. writes_if write (row_writes images layout row)) marks marks' old new result
+  pub does : Does (IsSyncOr (IsOfRow layout row)) (λ images. writes_if write (row_writes images layout row)) [] [] (plain old) (plain new) result
+  pub waits : IfSome old.held (λ images. WaitsInTurn (writes_if write (rebuilt_writes images layout row)) (writes_if write (parities_writes images layout row)) images old new)
+  pub marked : AreMarked marks old.unsynced → AreMarked marks' new.unsynced
+  pub stranded : Strands old.never_synced new.never_synced result
   pub counts : CountsRow old.held layout row write result
   pub unwritten : write ≡ false → OnlyReads old new

@@ -1,12 +1,13 @@
 -- A row that was read and judged, and whose parities were made.
-use Rattle.std.specs.Prelude.{◌≡◌, Bool, List, Option, None, Some, IfSome, Result}
+use Rattle.std.specs.Prelude.{◌≡◌, ◌⊎◌, Bool, List, [], Option, None, Some, IfSome, Result}
 use Rattle.btr_chunk.specs.declared.profile.Profile.TheVariants.{Raid6}
 use Rattle.btr_rack.specs.Rack.{Seen}
 use Rattle.btr_read.specs.Layout.{Layout}
 use Rattle.btr_read.specs.declared.want.Want.{Want}
+use Rattle.btr_mend.specs.Turns.{TakesTurns}
 use Rattle.btr_mend.specs.Writes.{Does, Images, Write}
 use Rattle.btr_mend.specs.declared.mended.MendFault.{MendFault}
-use Rattle.btr_row.specs.Rows.{Row}
+use Rattle.btr_row.specs.Rows.{Row, parities_writes, rebuilt_writes}
 use Rattle.btr_row.specs.Mending.{IsOfRow, IsRowOf}
 use Rattle.btr_row.specs.Memory.{HoldsRow, IsStripeOf}
 use Rattle.btr_row.specs.Judging.{AreJudged}
@@ -53,3 +54,14 @@ abbrev pub WritesWanted : {A : Type 0} → Layout → FullStripe → List Want �
 WritesWanted layout stripe wants judged buffer writes marks marks' old new result =
     (told : Option Images) (row : Row) → IsStripeOf layout stripe row → IsRowOf layout stripe.chunk stripe.number wants row → TellsRow layout row judged buffer told old.held
     → Does (IsOfRow layout row) (λ images. told_writes (λ images. writes images row) told) marks marks' old new result
+
+-- no block is to be written, or no parity
+abbrev pub HasOneTurn : Images → Layout → Row → Type 0
+HasOneTurn images layout row = (rebuilt_writes images layout row ≡ []) ⊎ (parities_writes images layout row ≡ [])
+
+-- the blocks of the row of wanted blocks were written as it follows from what was prepared, and behind them its parities
+abbrev pub WritesInTurn : {A : Type 0} → Layout → FullStripe → List Want → Judged → RowBuffer → List Bool → List Bool → Seen → Seen → Result A MendFault → Type 0
+WritesInTurn layout stripe wants judged buffer marks marks' old new result =
+    (told : Option Images) (row : Row) → IsStripeOf layout stripe row → IsRowOf layout stripe.chunk stripe.number wants row → TellsRow layout row judged buffer told old.held
+    → TakesTurns (IsOfRow layout row) (told_writes (λ images. rebuilt_writes images layout row) told) (told_writes (λ images. parities_writes images layout row) told)
+    marks marks' old new result

@@ -94,6 +94,14 @@ module _ (images : List (List ℕ)) (layout : Layout) where
   abbrev pub parity_writes : Row → Part → List Write
   parity_writes row part = filter_map (sector_write row part) (differing row part)
 
-  -- the writes that mend the row: the blocks, ascending, then P, then Q
+  -- the writes that mend the blocks of the row, ascending
+  abbrev pub rebuilt_writes : Row → List Write
+  rebuilt_writes row = flat_map (block_writes images) row.blocks
+
+  -- the writes that mend its parities: P, then Q
+  abbrev pub parities_writes : Row → List Write
+  parities_writes row = flat_map (parity_writes row) (parities row.chunk.profile)
+
+  -- the writes that mend the row: the blocks, and behind them the parities
   abbrev pub row_writes : Row → List Write
-  row_writes row = flat_map (block_writes images) row.blocks ++ flat_map (parity_writes row) (parities row.chunk.profile)
+  row_writes row = rebuilt_writes row ++ parities_writes row

@@ -1,13 +1,13 @@
 // Writing all that mends a row.
-ghost use Rattle.std.specs.Prelude.{◌≡◌, ℕ, ◌≤◌, length};
+ghost use Rattle.std.specs.Prelude.{◌≡◌, ℕ, ◌≤◌, length, IsFalse};
 ghost use Rattle.std.specs.List.{flat_map};
 ghost use Rattle.btr_read.specs.Layout.{AreOpen};
 ghost use Rattle.btr_mend.specs.Blocks.{block_writes};
 ghost use Rattle.btr_mend.specs.Writes.{AreWritable};
-ghost use Rattle.btr_row.specs.Rows.{parities, parity_writes, row_writes};
+ghost use Rattle.btr_row.specs.Rows.{parities, parity_writes};
 ghost use Rattle.btr_row.specs.Mending.{HasRoom, IsRow, parity_count};
 ghost use Rattle.btr_row.specs.Memory.{IsStripe, OfRow};
-ghost use Rattle.btr_row.specs.Preparing.{StaysPrepared, WherePrepared, WritesPrepared, WritesWanted};
+ghost use Rattle.btr_row.specs.Preparing.{HasOneTurn, StaysPrepared, WherePrepared, WritesInTurn, WritesPrepared, WritesWanted};
 
 use crate::RowBuffer;
 use crate::blocks::write_blocks;
@@ -16,7 +16,7 @@ use crate::parity::Parity;
 use crate::sectors::{count_wrong, write_parity};
 use crate::stripe::FullStripe;
 use btr_chunk::Profile;
-use btr_mend::MendFault;
+use btr_mend::{MendFault, sync_if};
 use btr_rack::Rack;
 use btr_read::{Store, Want};
 
@@ -131,7 +131,18 @@ fn write_rebuilt<R: Rack>(
     )
 }
 
-// Writes all that mends a row: the blocks, P, and Q.
+// Whether blocks are to be written, and parities too.
+fn has_both(stripe: &FullStripe, judged: &Judged, store: &Store, buffer: &RowBuffer) -> bool
+    requires stripe { IsStripe store.now.layout stripe.now }
+    requires room { OfRow store.now.layout stripe.now (λ row. HasRoom buffer.now (length row.chunk.stripes)) }
+    ensures { IsFalse result → WherePrepared store.now.layout stripe.now judged.now buffer.now
+        (λ images row. HasOneTurn images store.now.layout row) }
+{
+    judged.rebuilt > 0 && count_parities(stripe, judged, store, buffer) > 0
+}
+
+// Writes all that mends a row: the blocks, and behind them P and Q. Where there is something to be written of both, what was written until then is synced
+// between them: else a parity could be stored before the blocks that are rebuilt by it.
 pub(crate) fn write_row<R: Rack>(
     wants: &[Want],
     stripe: &FullStripe,
@@ -143,19 +154,24 @@ pub(crate) fn write_row<R: Rack>(
 ) -> Result<(), MendFault>
     requires open { AreOpen (R.seen rack.old).slots store.now.layout.devices }
     requires writable { AreWritable (R.seen rack.old).slots }
-    requires slots { length (R.seen rack.old).slots ≤ length marks.old }
+    requires slots { length marks.old ≡ length (R.seen rack.old).slots }
     requires row { IsRow store.now.layout stripe.now.chunk stripe.now.number wants.now }
     requires stripe { IsStripe store.now.layout stripe.now }
     requires room { OfRow store.now.layout stripe.now (λ row. HasRoom buffer.old (length row.chunk.stripes)) }
     ensures slots { (R.seen rack.new).slots ≡ (R.seen rack.old).slots }
     ensures room { (elements : ℕ) → HasRoom buffer.old elements → HasRoom buffer.new elements }
     ensures prepared { StaysPrepared store.now.layout judged.now buffer.old buffer.new }
-    ensures writes { WritesWanted store.now.layout stripe.now wants.now judged.now buffer.old
-        (λ images row. row_writes images store.now.layout row)
+    ensures writes { WritesInTurn store.now.layout stripe.now wants.now judged.now buffer.old
         marks.old marks.new (R.seen rack.old) (R.seen rack.new) result }
 {
+    let both = has_both(stripe, judged, store, buffer);
     match write_rebuilt(wants, stripe, judged, rack, store, buffer, marks) {
-        Ok(()) => write_parities(stripe, judged, rack, store, buffer, marks),
-        Err(fault) => Err(fault),
+        Ok(()) => {}
+        Err(fault) => return Err(fault),
     }
+    match sync_if(both, rack, marks) {
+        Ok(()) => {}
+        Err(fault) => return Err(fault),
+    }
+    write_parities(stripe, judged, rack, store, buffer, marks)
 }

@@ -44,8 +44,8 @@ fn write_block<R: Rack>(
     let spot = spot_of(want, stripe, store);
     match accept(want, &spot, store, old, block, spare) {
         None => Ok(()),
-        Some(k) => {
-            if k == 0 {
+        Some(good) => {
+            if good {
                 return Ok(());
             }
             let element = place_of_part(stripe, Part::Slice(spot.index), store);

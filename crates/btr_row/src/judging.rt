@@ -86,11 +86,11 @@ pub(crate) fn judge_block(
 {
     let spot = spot_of(want, stripe, store);
     match accept(want, &spot, store, old, block, spare) {
-        Some(k) => {
+        Some(good) => {
             paste(new, spot.start(spot.index), block, spot.len);
             Verdict {
                 spot,
-                good: k == 0,
+                good,
                 lost: false,
             }
         }

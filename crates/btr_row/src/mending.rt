@@ -17,15 +17,18 @@ use btr_read::{Store, Want};
 /// Mends a full stripe (`docs/FORMAT.md`, "Full stripes"). The row is read whole, one call for each element, and every choice is made from
 /// those bytes. Each checked block that doesn't pass at its own place is written over with the bytes of its first candidate that passes, in the order
 /// of the wants, and then each sector of P, and of Q, that differs from that of the new data, in the columns of 4096 bytes that meet a checked block
-/// and none that is lost; one write each. Where the row is only to be read, nothing is written. The slots that were written are marked; a mark is never
-/// taken away.
+/// and none that is lost; one write each. Where there are both, the marked images are synced between them, by ascending slot, and their marks taken away: so
+/// wherever the writes are stopped, or power fails, nothing of a parity is stored before all blocks are. Where the row is only to be read, nothing is
+/// written. The slots that were written are marked.
 ///
 /// The chunk has parity, the row is one of it, and each of its elements stands on a device that is given. The wants are blocks of the row, its node size is
 /// that of the store, and the buffer has room for as many elements as the chunk has stripes. Where the row is to be written, each image was opened for
 /// writing. Nothing is lent, and no slot need be free.
 ///
-/// `Image`: a read or a write of an image failed, and nothing was tried behind it; no byte is written before all is read. `Memory`: a write wanted
-/// memory.
+/// There is a mark for each slot, and it is taken away by that sync alone.
+///
+/// `Image`: a read, a write or a sync of an image failed, and nothing was tried behind it; no byte is written before all is read. `Memory`: a write
+/// wanted memory.
 pub fn mend_row<R: Rack>(
     at: RowAt,
     wants: &[Want],
@@ -37,7 +40,7 @@ pub fn mend_row<R: Rack>(
 ) -> Result<MendedRow, MendFault>
     requires serves { Serves (R.seen rack.old) store.old }
     requires writable { IsTrue write → AreWritable (R.seen rack.old).slots }
-    requires slots { length (R.seen rack.old).slots ≤ length marks.old }
+    requires slots { length marks.old ≡ length (R.seen rack.old).slots }
     requires nodesize { at.nodesize ≡ store.old.layout.setting.nodesize }
     requires row { IsRow store.old.layout at.chunk at.number wants.now }
     requires room { HasRoomFor store.old.layout at.chunk at.number wants.now buffer.old }

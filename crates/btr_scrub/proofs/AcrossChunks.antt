@@ -23,6 +23,7 @@ use Rattle.btr_read.specs.declared.device.Device.{Device}
 use Rattle.btr_read.specs.declared.want.Want.{Want}
 use Rattle.btr_read.proofs.Ones.{in_below}
 use Rattle.btr_mend.specs.Blocks.{accepted, bad_parts, block_writes, is_lost}
+use Rattle.btr_mend.proofs.Syncs.{passing_filter}
 use Rattle.btr_mend.specs.Writes.{Images, Write, write_on, writes_if}
 use Rattle.btr_mend.proofs.Copied.{has_mirror}
 use Rattle.btr_row.specs.Rows.{Row, parities, parity_writes, range_in_element, row_writes}
@@ -44,7 +45,7 @@ use Rattle.btr_scrub.proofs.RowAgreeing.{RowAlike, flat_same, fold_same, row_wri
 use Rattle.btr_scrub.proofs.RowWrites.{IsBlockOf, IsRowIn, row_short, row_stays, written_row}
 use Rattle.btr_scrub.proofs.Scrubbing.{IsUnmoved}
 use Rattle.btr_scrub.proofs.Shorts.{Short, block_short, shorts_keep_if}
-use Rattle.btr_scrub.proofs.Writes.{any_flat, any_map, passing_filter}
+use Rattle.btr_scrub.proofs.Writes.{any_flat, any_map}
 
 -- ---- which chunk a byte of a device is of
 

@@ -1,16 +1,18 @@
 -- What hangs on some bytes of the images stays where they do.
-use Rattle.std.proofs.Common.{◌≡◌, ℕ, ◌<◌, Bool, not, cond, List, [], ◌∷◌, map, slice_get, Option, Some, None, refl, ap, ◌∙◌, subst, inl, inr}
+use Rattle.std.proofs.Common.{◌≡◌, ℕ, ◌<◌, ◌&&◌, Bool, false, not, cond, List, [], ◌∷◌, map, slice_get, Option, Some, None, refl, ap, ◌∙◌, subst, inl, inr}
 use Rattle.std.specs.List.{cons_option, filter, filter_map, range_with_len}
 use Rattle.std.specs.Option.{option_map_or}
+use Rattle.std.specs.Str.{bytes_eq}
 use Rattle.btr_chunk.specs.Chunk.{mirrors}
 use Rattle.btr_chunk.specs.declared.place.Part.{Part}
 use Rattle.btr_chunk.specs.declared.place.Part.TheVariants.{Mirror, Slice}
-use Rattle.btr_read.specs.Candidates.{Target, candidates, copies, element, reading, rebuilt, slice_count, stands}
+use Rattle.btr_read.specs.Candidates.{Target, candidates, element, reading, stands}
 use Rattle.btr_read.specs.Want.{passes}
 use Rattle.btr_read.specs.declared.candidate.Candidate.{Candidate}
 use Rattle.btr_read.specs.declared.candidate.Candidate.TheVariants.{Read}
 use Rattle.btr_read.proofs.Ones.{in_below}
-use Rattle.btr_mend.specs.Blocks.{accepted, bad_parts, block_writes, copy_writes, is_good, own_parts}
+use Rattle.btr_read.proofs.Order.{in_ways, with_copies}
+use Rattle.btr_mend.specs.Blocks.{accepted, are_accepted, bad_parts, block_writes, copy_writes, is_good, is_sound, own_parts}
 use Rattle.btr_mend.specs.Writes.{Images}
 use Rattle.btr_scrub.specs.Glue.{In}
 
@@ -46,28 +48,30 @@ module _ (images images' : Images) (t : Target) (n : ℕ) (has : mirrors t.chunk
   own : own_parts t ≡ map Mirror (range_with_len 0 n)
   own = ap (λ o. option_map_or (λ copies. map Mirror (range_with_len 0 copies)) o (Slice t.at.index ∷ [])) has
 
-  all : candidates t ≡ copies n
-  all = ap (λ o. option_map_or copies o (rebuilt t.chunk.profile (slice_count t) t.at.index)) has
-
-  good : (k : ℕ) → k < n → is_good images' t (Mirror k) ≡ is_good images t (Mirror k)
-  good k lt = ap (passes t.setting t.want) (same k lt)
-
   read : (k : ℕ) → k < n → reading images' t (Read (Mirror k)) ≡ reading images t (Read (Mirror k))
   read k lt = ap (λ bytes. cond (stands t (Read (Mirror k))) (Some bytes) None) (same k lt)
 
-  bads : (part : Part) → In part (own_parts t) → not (is_good images' t part) ≡ not (is_good images t part)
-  bads part i =
-      let r = of_mapped Mirror part (range_with_len 0 n) (subst (In part) own i) in
-      subst (λ p. not (is_good images' t p) ≡ not (is_good images t p)) r.2 (ap not (good r.0 (in_below n r.0 r.1)))
-
   reads : (c : Candidate) → In c (candidates t) → reading images' t c ≡ reading images t c
   reads c i =
-      let r = of_mapped (λ k. Read (Mirror k)) c (range_with_len 0 n) (subst (In c) all i) in
+      let r = of_mapped (λ k. Read (Mirror k)) c (range_with_len 0 n) (subst (In c) (with_copies t n has) (in_ways t c i)) in
       subst (λ d. reading images' t d ≡ reading images t d) r.2 (read r.0 (in_below n r.0 r.1))
+
+  accepts : accepted images' t ≡ accepted images t
+  accepts = ap (λ xs. slice_get (filter (passes t.setting t.want) xs) 0) (filter_map_same (reading images' t) (reading images t) (candidates t) reads)
+
+  sound : (k : ℕ) → k < n → is_sound images' t (Mirror k) ≡ is_sound images t (Mirror k)
+  sound k lt =
+      ap (λ bytes. passes t.setting t.want bytes && are_accepted images' t bytes) (same k lt)
+      ∙ ap (λ o. is_good images t (Mirror k) && option_map_or (bytes_eq (element images t (Mirror k))) o false) accepts
+
+  bads : (part : Part) → In part (own_parts t) → not (is_sound images' t part) ≡ not (is_sound images t part)
+  bads part i =
+      let r = of_mapped Mirror part (range_with_len 0 n) (subst (In part) own i) in
+      subst (λ p. not (is_sound images' t p) ≡ not (is_sound images t p)) r.2 (ap not (sound r.0 (in_below n r.0 r.1)))
 
   -- a block whose copies are the same
   pub copies_alike : Alike images images' t
   copies_alike = record {
-    bad = filter_same (λ part. not (is_good images' t part)) (λ part. not (is_good images t part)) (own_parts t) bads;
-    accepted = ap (λ xs. slice_get (filter (passes t.setting t.want) xs) 0) (filter_map_same (reading images' t) (reading images t) (candidates t) reads);
+    bad = filter_same (λ part. not (is_sound images' t part)) (λ part. not (is_sound images t part)) (own_parts t) bads;
+    accepted = accepts;
   }

@@ -12,15 +12,17 @@ use Rattle.btr_chunk.specs.declared.place.Part.{Part}
 use Rattle.btr_chunk.specs.declared.place.Part.TheVariants.{Mirror, Slice}
 use Rattle.btr_rack.specs.Rack.{bytes_of, image_of, range_in}
 use Rattle.btr_rack.specs.declared.place.Place.{Place as Range}
-use Rattle.btr_read.specs.Candidates.{Target, candidates, copies, element, range_of, reading, rebuilt, size_of, slice_count}
+use Rattle.btr_read.specs.Candidates.{Target, candidates, element, range_of, reading, size_of}
 use Rattle.btr_read.specs.Layout.{HaveOwnSlots, Layout, device_in}
 use Rattle.btr_read.specs.Want.{addr_of, passes}
 use Rattle.btr_read.specs.declared.candidate.Candidate.{Candidate}
 use Rattle.btr_read.specs.declared.candidate.Candidate.TheVariants.{Read}
 use Rattle.btr_read.specs.declared.device.Device.{Device}
 use Rattle.btr_read.proofs.Ones.{in_below}
+use Rattle.btr_read.proofs.Order.{in_ways, with_copies}
 use Rattle.btr_read.proofs.Pieces.{length-slice_range}
-use Rattle.btr_mend.specs.Blocks.{accepted, bad_parts, block_writes, copy_writes, is_good, own_parts, written_over}
+use Rattle.btr_mend.specs.Blocks.{accepted, bad_parts, block_writes, copy_writes, is_sound, own_parts, written_over}
+use Rattle.btr_mend.proofs.Syncs.{passing_filter}
 use Rattle.btr_mend.specs.Writes.{Images, Write}
 use Rattle.btr_mend.proofs.Copied.{has_mirror}
 use Rattle.btr_scrub.specs.Devices.{HaveLengths}
@@ -32,7 +34,7 @@ use Rattle.btr_scrub.proofs.Agreeing.{Alike, copies_alike, of_mapped}
 use Rattle.btr_row.proofs.Elements.{range_stands, stands_on}
 use Rattle.btr_scrub.proofs.Positions.{IsCopyByte, of_range, shares}
 use Rattle.btr_scrub.proofs.Staying.{covered, range_same}
-use Rattle.btr_scrub.proofs.Writes.{any_filter_map, any_flat, any_map, mapped, passing_filter}
+use Rattle.btr_scrub.proofs.Writes.{any_filter_map, any_flat, any_map, mapped}
 
 -- ---- a range that stands
 
@@ -57,7 +59,7 @@ is_there images layout t part range lengths is e =
     }
 
 -- its bytes
-element_is : (images : Images) (t : Target) (part : Part) (range : Range) → range_of t part ≡ Some range → element images t part ≡ bytes_of images range.slot range.off range.len
+pub element_is : (images : Images) (t : Target) (part : Part) (range : Range) → range_of t part ≡ Some range → element images t part ≡ bytes_of images range.slot range.off range.len
 element_is images t part range e = ap (λ (o : Option Range). option_map_or (λ range. bytes_of images range.slot range.off range.len) o []) e
 
 long_bytes : (images : Images) (slot off len : ℕ) → off + len ≤ length (image_of images slot) → length (bytes_of images slot off len) ≡ len
@@ -112,9 +114,6 @@ first_of images t (c ∷ cs) bytes e = by (reading images t c) refl e (first_of 
 
 module _ (images : Images) (layout : Layout) (lengths : HaveLengths images layout) where
   module _ (t : Target) (is : IsSought layout t) (n : ℕ) (has : mirrors t.chunk ≡ Some n) where
-    all : candidates t ≡ copies n
-    all = ap (λ o. option_map_or copies o (rebuilt t.chunk.profile (slice_count t) t.at.index)) has
-
     own : own_parts t ≡ map Mirror (range_with_len 0 n)
     own = ap (λ o. option_map_or (λ copies. map Mirror (range_with_len 0 copies)) o (Slice t.at.index ∷ [])) has
 
@@ -128,7 +127,7 @@ module _ (images : Images) (layout : Layout) (lengths : HaveLengths images layou
     long_accepted : (bytes : List ℕ) → accepted images t ≡ Some bytes → length bytes ≡ size_of t
     long_accepted bytes e =
         let f = first_of images t (candidates t) bytes e in
-        let m = of_mapped (λ k. Read (Mirror k)) f.0 (range_with_len 0 n) (subst (In f.0) all f.1) in
+        let m = of_mapped (λ k. Read (Mirror k)) f.0 (range_with_len 0 n) (subst (In f.0) (with_copies t n has) (in_ways t f.0 f.1)) in
         long_reading m.0 bytes (ap (reading images t) m.2 ∙ f.2)
 
     -- the writes over copies fit
@@ -162,7 +161,7 @@ module _ (images : Images) (layout : Layout) (lengths : HaveLengths images layou
         by None h = absurd (false≢true h)
         by (Some bytes) h =
             let f = any_filter_map (λ (w : Write). covers slot off w.range) (λ part. option_map (λ (range : Range). record { range = range; bytes = bytes }) (range_of t part)) (bad_parts images t) h in
-            let bad = passing_filter (λ part. not (is_good images t part)) f.0 (own_parts t) f.1 in
+            let bad = passing_filter (λ part. not (is_sound images t part)) f.0 (own_parts t) f.1 in
             let k = of_mapped Mirror f.0 (range_with_len 0 n) (subst (In f.0) own bad.0) in
             let w = f.2.0 in
             let m = mapped (λ (range : Range). record { range = range; bytes = bytes }) (range_of t f.0) w f.2.1 in

@@ -15,10 +15,10 @@ use Rattle.btr_rack.specs.declared.place.Place.{Place as Range}
 use Rattle.btr_read.specs.Candidates.{Target, element, range_of, size_of}
 use Rattle.btr_read.specs.Cause.{LiesIn}
 use Rattle.btr_read.specs.Layout.{HaveOwnSlots, Layout}
-use Rattle.btr_read.specs.Want.{passes}
 use Rattle.btr_read.specs.declared.want.Want.{Want}
 use Rattle.btr_read.proofs.Ones.{in_below}
-use Rattle.btr_mend.specs.Blocks.{accepted, bad_parts, block_writes, is_good, own_parts, written_over}
+use Rattle.btr_mend.specs.Blocks.{accepted, bad_parts, block_writes, is_sound, own_parts, written_over}
+use Rattle.btr_mend.proofs.Syncs.{passing_filter}
 use Rattle.btr_mend.specs.Writes.{Images, Write}
 use Rattle.btr_row.specs.Rows.{Row, column_of, differing, differs, element_with, is_decided, parities, parity_writes, range_in_element, row_writes, sector_write}
 use Rattle.btr_scrub.specs.Devices.{HaveLengths}
@@ -35,11 +35,11 @@ use Rattle.btr_scrub.proofs.Elements.{has_ranges}
 use Rattle.btr_scrub.proofs.Lists.{any_in, at_in, of_flat}
 use Rattle.btr_scrub.proofs.RowAgreeing.{parity_has}
 use Rattle.btr_scrub.proofs.RowWrites.{sector_inside}
-use Rattle.btr_scrub.proofs.SoundRows.{CanBeHad, right_there, sound_row}
-use Rattle.btr_scrub.proofs.Writes.{mapped, passing_filter}
+use Rattle.btr_scrub.proofs.SoundRows.{CanBeHad, right_is_sound, right_there, sound_row}
+use Rattle.btr_scrub.proofs.Writes.{mapped}
 use Rattle.btr_scrub.proofs.Wrong.{bad_block_is_wrong, differing_parity_is_wrong}
 
-of_filter_map : {X Y : Type 0} (g : X → Option Y) (y : Y) (xs : List X) → In y (filter_map g xs) → (x : X) × In x xs × (g x ≡ Some y)
+pub of_filter_map : {X Y : Type 0} (g : X → Option Y) (y : Y) (xs : List X) → In y (filter_map g xs) → (x : X) × In x xs × (g x ≡ Some y)
 of_filter_map g y [] i = absurd i
 of_filter_map g y (x ∷ xs) i = by (g x) refl i (of_filter_map g y xs)
   where
@@ -56,17 +56,25 @@ is_parity : (q : Part) → (q ≡ part.P) ⊎ (q ≡ part.Q) → IsParity q
 is_parity q (inl e) = subst IsParity (sym e) tt
 is_parity q (inr e) = subst IsParity (sym e) tt
 
--- what a write over a part of a block is
-over_part : (images : Images) (t : Target) (w : Write) → In w (block_writes images t) → (q : Part) × In q (own_parts t) × (is_good images t q ≡ false) × (range_of t q ≡ Some w.range)
-over_part images t w i = by (accepted images t) i
+-- what a write for a block is: something is accepted, and it lies over a part that isn't sound
+record IsOver (images : Images) (t : Target) (w : Write) : Type 0 where
+  bytes : List ℕ
+  accepts : accepted images t ≡ Some bytes
+  part : Part
+  own : In part (own_parts t)
+  unsound : is_sound images t part ≡ false
+  range : range_of t part ≡ Some w.range
+
+over_part : (images : Images) (t : Target) (w : Write) → In w (block_writes images t) → IsOver images t w
+over_part images t w i = by (accepted images t) refl i
   where
-    by : (o : Option (List ℕ)) → In w (option_map_or (written_over images t) o []) → (q : Part) × In q (own_parts t) × (is_good images t q ≡ false) × (range_of t q ≡ Some w.range)
-    by None i = absurd i
-    by (Some bytes) i =
+    by : (o : Option (List ℕ)) → accepted images t ≡ o → In w (option_map_or (written_over images t) o []) → IsOver images t w
+    by None e i = absurd i
+    by (Some bytes) e i =
         let f = of_filter_map (λ q. option_map (λ (range : Range). record { range = range; bytes = bytes }) (range_of t q)) w (bad_parts images t) i in
-        let bad = passing_filter (λ q. not (is_good images t q)) f.0 (own_parts t) f.1 in
+        let bad = passing_filter (λ q. not (is_sound images t q)) f.0 (own_parts t) f.1 in
         let m = mapped (λ (range : Range). record { range = range; bytes = bytes }) (range_of t f.0) w f.2 in
-        (f.0, bad.0, not_bad (is_good images t f.0) bad.1, m.1 ∙ ap Some (ap (λ (v : Write). v.range) m.2))
+        record { bytes = bytes; accepts = e; part = f.0; own = bad.0; unsound = not_bad (is_sound images t f.0) bad.1; range = m.1 ∙ ap Some (ap (λ (v : Write). v.range) m.2) }
 
 module _ (images : Images) (layout : Layout) (C : Committed) (wants : List Want) (table : IsTable layout.chunks) (own : HaveOwnSlots layout.devices) (none : first_missing layout ≡ None) (lengths : HaveLengths images layout)
     (had : CanBeHad images layout C wants) (apart : AreApart layout 0 wants) where
@@ -74,12 +82,12 @@ module _ (images : Images) (layout : Layout) (C : Committed) (wants : List Want)
   ts = targets layout wants
 
   -- a copy that is written isn't the committed one
-  wrong_copy : (t : Target) → IsSought layout t → (w : Write) → In w (block_writes images t) → IsOfWrongCopy images C w.range t
-  wrong_copy t is w i =
+  wrong_copy : (t : Target) → In t ts → IsSought layout t → (w : Write) → In w (block_writes images t) → IsOfWrongCopy images C w.range t
+  wrong_copy t among is w i =
       let o = over_part images t w i in
-      any_in (λ q. (range_of t q ≡ Some w.range) × ((C t.want ≡ Some (element images t q)) → ⊥)) (own_parts t) o.0 o.1 (
-        o.3,
-        λ right. false≢true (sym o.2 ∙ ap (λ s. passes s t.want (element images t o.0)) is.setting ∙ subst (λ c. IfSome c (λ bytes. passes layout.setting t.want bytes ≡ true)) right (had.pass t.want)),
+      any_in (λ q. (range_of t q ≡ Some w.range) × ((C t.want ≡ Some (element images t q)) → ⊥)) (own_parts t) o.part o.own (
+        o.range,
+        λ right. false≢true (sym o.unsound ∙ right_is_sound images layout C wants table own none lengths had t among is o.part o.bytes o.accepts right),
       )
 
   -- ---- a full stripe
@@ -100,16 +108,16 @@ module _ (images : Images) (layout : Layout) (C : Committed) (wants : List Want)
         let sound = sound_row images layout C wants table own none lengths had apart number chunk there r parity inside in
         let block = sound.blocks t among in
         let o = over_part images t w i in
-        let slice = own_slice t o.0 block.in_row.parity o.1 in
+        let slice = own_slice t o.part block.in_row.parity o.own in
         let mine : HasPart t.chunk.profile (length t.chunk.stripes) (part.Slice t.at.index) = (subst IsNone (sym block.in_row.parity) refl, block.in_row.position.index) in
         let has : HasPart chunk.profile (length chunk.stripes) (part.Slice t.at.index) = subst (λ c. HasPart c.profile (length c.stripes) (part.Slice t.at.index)) block.lies.chunk mine in
         let e = has_ranges images layout row t (part.Slice t.at.index) block.in_row block.lies mine (sound.stand (part.Slice t.at.index) has) in
-        let same : w.range ≡ range_in e.slot (e.off + t.at.rest) (size_of t) = same_Some w.range (range_in e.slot (e.off + t.at.rest) (size_of t)) (sym o.3 ∙ ap (range_of t) (sym slice) ∙ e.block) in
+        let same : w.range ≡ range_in e.slot (e.off + t.at.rest) (size_of t) = same_Some w.range (range_in e.slot (e.off + t.at.rest) (size_of t)) (sym o.range ∙ ap (range_of t) (sym slice) ∙ e.block) in
         let off : w.range.off ≡ e.off + t.at.rest = ap (λ (x : Range). x.off) same in
         let len : w.range.len ≡ size_of t = ap (λ (x : Range). x.len) same in (
           part.Slice t.at.index,
           has,
-          bad_block_is_wrong images layout C row t sound among (right_there images layout C wants table own none lengths had apart number chunk there r parity inside t among).0 (ap (is_good images t) slice ∙ o.2),
+          bad_block_is_wrong images layout C row t sound among (right_there images layout C wants table own none lengths had apart number chunk there r parity inside t among).0 (ap (is_sound images t) slice ∙ o.unsound),
           subst (λ x. IfSome x (LiesIn w.range)) (sym e.element) (record { slot = ap (λ (x : Range). x.slot) same; from = omega (arith, off); to = omega (arith, off, len, block.lies.inside) }),
         )
 
@@ -157,7 +165,8 @@ module _ (images : Images) (layout : Layout) (C : Committed) (wants : List Want)
       by (Some n) copies i =
           let f = of_flat (block_writes images) w (blocks_in layout chunk wants) i in
           let of = of_chunk layout table own none number chunk there wants f.0 f.1 in
-          inr (f.0, (passing_filter (is_in_chunk chunk) f.0 ts f.1).0, wrong_copy f.0 of.is w f.2)
+          let among = (passing_filter (is_in_chunk chunk) f.0 ts f.1).0 in
+          inr (f.0, among, wrong_copy f.0 among of.is w f.2)
 
   pub range_is_wrong : (range : Range) → In range (map (λ (w : Write). w.range) (all_writes_for layout layout.chunks wants images)) → IsWrong range
   range_is_wrong range i =

@@ -26,7 +26,6 @@ pub mod Blockwise
 pub mod RowAgreeing
 pub mod Shorts
 pub mod RowWrites
-pub mod Syncs
 pub mod AcrossChunks
 pub mod Working
 pub mod Placing
@@ -43,6 +42,7 @@ pub mod Outside
 pub mod SoundRows
 pub mod Outliving
 pub mod InWrong
+pub mod Keeping
 pub mod Safe
 pub mod Sums
 pub mod Tallying

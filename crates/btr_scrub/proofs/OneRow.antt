@@ -1,5 +1,5 @@
 -- One full stripe of the table, as it was mended.
-use Rattle.std.proofs.Common.{◌≡◌, ℕ, ◌+◌, ◌*◌, Bool, true, false, leb, cond, List, length, slice_get, Option, Some, None, IfSome, IsSomeAnd, is_some, Result, Ok, Err, refl, sym, ap, ◌∙◌, subst, arith}
+use Rattle.std.proofs.Common.{◌≡◌, ℕ, ◌+◌, ◌*◌, Bool, true, false, leb, cond, List, [], length, slice_get, Option, Some, None, IfSome, IsSomeAnd, is_some, Result, Ok, Err, refl, sym, ap, ◌∙◌, subst, inl, inr, arith}
 use Rattle.std.proofs.lemmas.List.{length-map}
 use Rattle.std.proofs.lemmas.Option.{same_Some, slice_get_within}
 use Rattle.std.specs.List.{Any}
@@ -22,15 +22,17 @@ use Rattle.btr_read.specs.Fate.{Fault, sought, sought_at, sought_in}
 use Rattle.btr_read.specs.Layout.{Layout, device_in}
 use Rattle.btr_read.specs.Want.{addr_of, len_of}
 use Rattle.btr_read.specs.declared.want.Want.{Want}
-use Rattle.btr_mend.specs.Writes.{writes_if}
+use Rattle.btr_mend.specs.Syncing.{IsSyncOr, plain}
+use Rattle.btr_mend.specs.Writes.{Images, Write, writes_if}
 use Rattle.btr_mend.specs.declared.mended.MendFault.{MendFault}
 use Rattle.btr_row.specs.Mending.{HasRoom, IsFullStripe, IsOfRow, IsRowOf, MendsRow, is_at, mended_row}
 use Rattle.btr_row.specs.Rows.{Row, range_in_element, row_writes}
 use Rattle.btr_row.specs.declared.buffer.RowBuffer.{RowBuffer}
 use Rattle.btr_row.specs.declared.mended.MendedRow.{MendedRow}
 use Rattle.btr_scrub.specs.Leaves.{LiesInStripe}
-use Rattle.btr_scrub.specs.Scrubbing.{HasRooms, Scrubs, counted_row}
+use Rattle.btr_scrub.specs.Scrubbing.{HasRooms, IsOfScrub, Scrubs, counted_row}
 use Rattle.btr_scrub.specs.declared.tally.Tally.{Tally}
+use Rattle.btr_mend.proofs.Turning.{strands_same}
 use Rattle.btr_row.proofs.Elements.{range_stands, stands_on}
 use Rattle.btr_scrub.proofs.Positions.{find_at}
 use Rattle.btr_scrub.proofs.Scrubbing.{does_fault, does_value, does_weaker, tell, told}
@@ -82,23 +84,33 @@ row_in_stripe layout start number row range table is of = by (range_in_element l
         (any_at (λ (stripe : Stripe). IfSome (range_on stripe.offset (stripe_length row.chunk) (device_in layout.devices stripe.devid)) (LiesIn range)) row.chunk.stripes k p.stripe (slice_get_within row.chunk.stripes k p.stripe p.there) p.there whole)
 
 -- it was mended, and counted
-pub scrubs_row : (layout : Layout) (write : Bool) (row : Row) (m n : List Bool) (a b : Seen) (tally tally' : Tally) (mended : MendedRow) → ((range : Range) → IsOfRow layout row range → LiesInStripe layout range)
-    → MendsRow layout row write m n a b (Ok mended) → tally' ≡ counted_row tally (length row.blocks) mended
-    → Scrubs {A = Unit {0}} layout write (λ images. row_writes images layout row) (λ images tally. counted_row tally (length row.blocks) (mended_row images layout row write)) m n a b tally tally' (Ok (tt {0}))
-scrubs_row layout write row m n a b tally tally' mended in_stripe h e = record {
-  does = does_value (LiesInStripe layout) (λ images. writes_if write (row_writes images layout row)) m n a b mended tt (does_weaker (IsOfRow layout row) (LiesInStripe layout) (λ images. writes_if write (row_writes images layout row)) m n a b (Ok mended) in_stripe h.does);
-  counts = tell a.held (λ images. tally' ≡ counted_row tally (length row.blocks) (mended_row images layout row write)) (λ images held. e ∙ ap (counted_row tally (length row.blocks)) (told a.held (λ images. mended ≡ mended_row images layout row write) images held h.counts));
-  unwritten = h.unwritten;
-}
+module _ (layout : Layout) (write : Bool) (row : Row) (m n : List Bool) (a b : Seen) (in_stripe : (range : Range) → IsOfRow layout row range → LiesInStripe layout range) where
+  abbrev the_writes : Images → List Write
+  the_writes images = writes_if write (row_writes images layout row)
 
-pub scrubs_row_not : (layout : Layout) (write : Bool) (row : Row) (m n : List Bool) (a b : Seen) (tally : Tally) (fault : MendFault) → ((range : Range) → IsOfRow layout row range → LiesInStripe layout range)
-    → MendsRow layout row write m n a b (Err fault)
-    → Scrubs {A = Unit {0}} layout write (λ images. row_writes images layout row) (λ images tally. counted_row tally (length row.blocks) (mended_row images layout row write)) m n a b tally tally (Err fault)
-scrubs_row_not layout write row m n a b tally fault in_stripe h = record {
-  does = does_fault {A = MendedRow} {B = Unit {0}} (LiesInStripe layout) (λ images. writes_if write (row_writes images layout row)) m n a b fault (does_weaker {A = MendedRow} (IsOfRow layout row) (LiesInStripe layout) (λ images. writes_if write (row_writes images layout row)) m n a b (Err fault) in_stripe h.does);
-  counts = tt;
-  unwritten = h.unwritten;
-}
+  in_scrub : (range : Range) → IsSyncOr (IsOfRow layout row) range → IsOfScrub layout range
+  in_scrub range (inl sync) = inl sync
+  in_scrub range (inr of) = inr (in_stripe range of)
+
+  pub scrubs_row : (tally tally' : Tally) (mended : MendedRow) → MendsRow layout row write m n a b (Ok mended) → tally' ≡ counted_row tally (length row.blocks) mended
+      → Scrubs {A = Unit {0}} layout write (λ images. row_writes images layout row) (λ images tally. counted_row tally (length row.blocks) (mended_row images layout row write)) m n a b tally tally' (Ok (tt {0}))
+  scrubs_row tally tally' mended h e = record {
+    does = does_value (IsOfScrub layout) the_writes [] [] (plain a) (plain b) mended tt (does_weaker (IsSyncOr (IsOfRow layout row)) (IsOfScrub layout) the_writes [] [] (plain a) (plain b) (Ok mended) in_scrub h.does);
+    marked = h.marked;
+    stranded = h.stranded;
+    counts = tell a.held (λ images. tally' ≡ counted_row tally (length row.blocks) (mended_row images layout row write)) (λ images held. e ∙ ap (counted_row tally (length row.blocks)) (told a.held (λ images. mended ≡ mended_row images layout row write) images held h.counts));
+    unwritten = h.unwritten;
+  }
+
+  pub scrubs_row_not : (tally : Tally) (fault : MendFault) → MendsRow layout row write m n a b (Err fault)
+      → Scrubs {A = Unit {0}} layout write (λ images. row_writes images layout row) (λ images tally. counted_row tally (length row.blocks) (mended_row images layout row write)) m n a b tally tally (Err fault)
+  scrubs_row_not tally fault h = record {
+    does = does_fault {A = MendedRow} {B = Unit {0}} (IsOfScrub layout) the_writes [] [] (plain a) (plain b) fault (does_weaker {A = MendedRow} (IsSyncOr (IsOfRow layout row)) (IsOfScrub layout) the_writes [] [] (plain a) (plain b) (Err fault) in_scrub h.does);
+    marked = h.marked;
+    stranded = strands_same MendedRow (Unit {0}) fault a.never_synced b.never_synced h.stranded;
+    counts = tt;
+    unwritten = h.unwritten;
+  }
 
 -- the chunk of what is sought is the one that holds the address
 pub chunk_of : (layout : Layout) (w : Want) (t : Target) → sought layout w ≡ Ok t → chunk_at layout.chunks (addr_of w) ≡ Some t.chunk

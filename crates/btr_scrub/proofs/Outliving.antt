@@ -1,5 +1,5 @@
 -- Whatever stands in the ranges of the writes, each checked block can be had.
-use Rattle.std.proofs.Common.{◌≡◌, ◌≢◌, ◌⊎◌, ℕ, zero, suc, ◌+◌, ◌*◌, ◌/◌, ◌<◌, ◌≤◌, Bool, true, false, not, cond, ◌&&◌, eqb, List, [], ◌∷◌, map, slice_get, Option, Some, None, is_none, is_some, IfSome, IsSomeAnd, refl, sym, ap, ◌∙◌, subst, inl, inr, arith, Result, Ok, Err}
+use Rattle.std.proofs.Common.{◌≡◌, ◌≢◌, ◌⊎◌, ℕ, zero, suc, ◌+◌, ◌*◌, ◌/◌, ◌<◌, ◌≤◌, Bool, true, false, not, cond, ◌&&◌, eqb, List, [], ◌∷◌, map, slice_get, Option, Some, None, is_none, is_some, IsSomeAnd, refl, sym, ap, ◌∙◌, subst, inl, inr, arith, Result, Ok, Err}
 use Rattle.std.proofs.lemmas.Bool.{false≢true, and_from, cases_lt, eq-eqb}
 use Rattle.std.proofs.lemmas.Option.{same_Some}
 use Rattle.std.specs.List.{cons_option, list_any, range_with_len}
@@ -13,15 +13,17 @@ use Rattle.btr_chunk.specs.declared.place.Part.TheVariants.{Mirror, Slice}
 use Rattle.btr_chunk.specs.declared.position.Elements.{Elements}
 use Rattle.btr_chunk.proofs.Apart.{copies_apart}
 use Rattle.btr_rack.specs.declared.place.Place.{Place as Range}
-use Rattle.btr_read.specs.Candidates.{Target, candidates, copies, element, range_of, rebuilt, size_of, slice_count, stands, value_of}
+use Rattle.btr_read.specs.Candidates.{Target, candidates, element, range_of, size_of, stands, value_of}
 use Rattle.btr_read.specs.Fate.{Fault, sought}
 use Rattle.btr_read.specs.Layout.{HaveOwnSlots, Layout}
-use Rattle.btr_read.specs.Want.{addr_of, len_of, passes}
+use Rattle.btr_read.specs.Want.{addr_of, len_of}
 use Rattle.btr_read.specs.declared.candidate.Candidate.TheVariants.{Read}
 use Rattle.btr_read.specs.declared.want.Want.{Want}
 use Rattle.btr_read.proofs.Fates.{sought_of}
 use Rattle.btr_read.proofs.Ones.{in_below}
-use Rattle.btr_mend.specs.Blocks.{accepted, bad_parts, block_writes, is_good, own_parts, written_over}
+use Rattle.btr_read.proofs.Order.{in_candidates, with_copies}
+use Rattle.btr_mend.specs.Blocks.{accepted, bad_parts, block_writes, is_sound, own_parts, written_over}
+use Rattle.btr_mend.proofs.Syncs.{passing_filter}
 use Rattle.btr_mend.specs.Writes.{Images, Write}
 use Rattle.btr_mend.proofs.Copied.{has_mirror}
 use Rattle.btr_row.specs.Rows.{row_writes}
@@ -41,10 +43,10 @@ use Rattle.btr_scrub.proofs.Lists.{any_in, at_in, in_any, in_map}
 use Rattle.btr_scrub.proofs.Positions.{IsCopyByte, copy_of_range, is_of_copy, is_sought, of_range, shares}
 use Rattle.btr_scrub.proofs.RowWrites.{written_row}
 use Rattle.btr_scrub.proofs.RowNumbers.{row_fits}
-use Rattle.btr_scrub.proofs.SoundRows.{CanBeHad, is_row, right_there, sound_row}
+use Rattle.btr_scrub.proofs.SoundRows.{CanBeHad, is_row, right_is_sound, right_there, sound_row}
 use Rattle.btr_scrub.proofs.Staying.{row_outlives_writes}
 use Rattle.btr_scrub.proofs.Survival.{in_filter, some_of}
-use Rattle.btr_scrub.proofs.Writes.{any_filter_map, any_flat, any_map, mapped, passing_filter, row_writes_are_wrong}
+use Rattle.btr_scrub.proofs.Writes.{any_filter_map, any_flat, any_map, mapped, row_writes_are_wrong}
 
 -- blocks that are apart and have an address in common are the same
 pub same_block : (layout : Layout) (wants : List Want) (end : ℕ) (t u : Target) (one other : ℕ) → AreApart layout end wants → In t (targets layout wants) → In u (targets layout wants)
@@ -212,9 +214,6 @@ module _ (images : Images) (layout : Layout) (C : Committed) (wants : List Want)
     own_are = ap (λ o. option_map_or (λ copies. map Mirror (range_with_len 0 copies)) o (Slice t.at.index ∷ [])) has
 
     module _ (k : ℕ) (lt : k < n) (right : C t.want ≡ Some (element images t (Mirror k))) (range : Range) (whole : range_of t (Mirror k) ≡ Some range) where
-      good : is_good images t (Mirror k) ≡ true
-      good = ap (λ s. passes s t.want (element images t (Mirror k))) is.setting ∙ subst (λ o. IfSome o (λ bytes. passes layout.setting t.want bytes ≡ true)) right (had.pass t.want)
-
       abbrev byte : (slot off : ℕ) → covers slot off range ≡ true → IsCopyByte layout t slot off
       byte slot off c = of_range layout t k slot off range is (has_mirror t n k has lt) whole c
 
@@ -224,13 +223,13 @@ module _ (images : Images) (layout : Layout) (C : Committed) (wants : List Want)
 
       -- the block's own writes aren't over a right copy
       not_own : (slot off : ℕ) → covers slot off range ≡ true → list_any (covered_at slot off) (block_writes images t) ≡ true → ⊥
-      not_own slot off c written = by (accepted images t) written
+      not_own slot off c written = by (accepted images t) refl written
         where
-          by : (o : Option (List ℕ)) → list_any (covered_at slot off) (option_map_or (written_over images t) o []) ≡ true → ⊥
-          by None h = false≢true h
-          by (Some bytes) h =
+          by : (o : Option (List ℕ)) → accepted images t ≡ o → list_any (covered_at slot off) (option_map_or (written_over images t) o []) ≡ true → ⊥
+          by None e h = false≢true h
+          by (Some bytes) e h =
               let f = any_filter_map (covered_at slot off) (λ part. option_map (λ (range : Range). record { range = range; bytes = bytes }) (range_of t part)) (bad_parts images t) h in
-              let bad = passing_filter (λ part. not (is_good images t part)) f.0 (own_parts t) f.1 in
+              let bad = passing_filter (λ part. not (is_sound images t part)) f.0 (own_parts t) f.1 in
               let j = of_mapped Mirror f.0 (range_with_len 0 n) (subst (In f.0) own_are bad.0) in
               let m = mapped (λ (range : Range). record { range = range; bytes = bytes }) (range_of t f.0) f.2.0 f.2.1 in
               let mirror = has_mirror t n j.0 has (in_below n j.0 j.1) in
@@ -240,7 +239,7 @@ module _ (images : Images) (layout : Layout) (C : Committed) (wants : List Want)
               sym (copy_of_range layout t j.0 slot off m.0 is mirror there cover)
               ∙ same_copy layout t slot off table own is (of_range layout t j.0 slot off m.0 is mirror there cover) (byte slot off c)
               ∙ copy_of_range layout t k slot off range is (has_mirror t n k has lt) whole c in
-              not_bad (is_good images t f.0) bad.1 (ap (is_good images t) (sym j.2 ∙ ap Mirror same) ∙ good)
+              not_bad (is_sound images t f.0) bad.1 (ap (is_sound images t) (sym j.2 ∙ ap Mirror same) ∙ right_is_sound images layout C wants table own none lengths had t among is (Mirror k) bytes e right)
 
       -- nor those of any other
       not_written : (slot off : ℕ) → covers slot off range ≡ true → ForCopies slot off ⊎ ForRow slot off → ⊥
@@ -273,8 +272,7 @@ module _ (images : Images) (layout : Layout) (C : Committed) (wants : List Want)
         let right : C t.want ≡ Some (element images t (Mirror j.0)) = a.2 ∙ ap (λ part. Some (element images t part)) (sym j.2) in
         let given = part_is_given layout t (Mirror j.0) table is (has_mirror t n j.0 has lt) none in
         let r = some_of (range_of t (Mirror j.0)) given in
-        let all : candidates t ≡ copies n = ap (λ o. option_map_or copies o (rebuilt t.chunk.profile (slice_count t) t.at.index)) has in
-        any_in (λ c. (stands t c ≡ true) × (C t.want ≡ Some (value_of left t c))) (candidates t) (Read (Mirror j.0)) (subst (In (Read (Mirror j.0))) (sym all) (in_map (λ copy. Read (Mirror copy)) j.0 (range_with_len 0 n) j.1))
+        any_in (λ c. (stands t c ≡ true) × (C t.want ≡ Some (value_of left t c))) (candidates t) (Read (Mirror j.0)) (in_candidates t (Read (Mirror j.0)) (subst (In (Read (Mirror j.0))) (sym (with_copies t n has)) (in_map (λ copy. Read (Mirror copy)) j.0 (range_with_len 0 n) j.1)))
         (ap (λ b. b && true) given, right ∙ ap Some (sym (stays j.0 lt right r.0 r.1 left keeps)))
 
   -- ---- all blocks

@@ -14,12 +14,12 @@ use Rattle.btr_scrub.proofs.Lists.{at_in}
 use Rattle.btr_scrub.proofs.Shorts.{Short, one_short, shorts_keep, shorts_keep_if}
 use Rattle.std.proofs.lemmas.Bool.{false≢true}
 
-left_short : (images : Images) (xs ys : List Write) → All (Short images) (xs ++ ys) → All (Short images) xs
+pub left_short : (images : Images) (xs ys : List Write) → All (Short images) (xs ++ ys) → All (Short images) xs
 left_short images [] ys all i d below = absurd (omega (arith, below))
 left_short images (x ∷ xs) ys all zero d below = all 0 d (omega arith)
 left_short images (x ∷ xs) ys all (suc i) d below = left_short images xs ys (λ j e lt. all (suc j) e (omega (arith, lt))) i d (omega (arith, below))
 
-right_short : (images : Images) (xs ys : List Write) → All (Short images) (xs ++ ys) → All (Short images) ys
+pub right_short : (images : Images) (xs ys : List Write) → All (Short images) (xs ++ ys) → All (Short images) ys
 right_short images [] ys all = all
 right_short images (x ∷ xs) ys all = right_short images xs ys (λ j e lt. all (suc j) e (omega (arith, lt)))
 
@@ -56,7 +56,7 @@ torn_keeps images left before (w ∷ behind) all t =
           one.bytes slot off (first_false (covers slot off w.range) (list_any (covers slot off) (ranges behind)) apart.1) ∙ done.bytes slot off apart.0;
     }
 
-stopped_keeps : (images left : Images) (ws : List Write) → All (Short images) ws → IsStopped ws images left → KeepsOutside (ranges ws) images left
+pub stopped_keeps : (images left : Images) (ws : List Write) → All (Short images) ws → IsStopped ws images left → KeepsOutside (ranges ws) images left
 stopped_keeps images left ws all s =
     let shorts = subst (All (Short images)) s.place all in
     subst (λ vs. KeepsOutside (ranges vs) images left) (sym s.place) (elim s.stands [

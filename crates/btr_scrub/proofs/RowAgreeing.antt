@@ -13,14 +13,15 @@ use Rattle.btr_chunk.proofs.Rows.{without_copies}
 use Rattle.btr_parity.specs.Slices.{parity_p, parity_q}
 use Rattle.btr_rack.specs.Rack.{pasted}
 use Rattle.btr_rack.specs.declared.place.Place.{Place as Range}
-use Rattle.btr_read.specs.Candidates.{Target, candidates, copies, element, others, reading, rebuilt, size_of, slice_count, slices, stands, value_of}
+use Rattle.btr_read.specs.Candidates.{Target, candidates, copies, element, others, reading, rebuilt, size_of, slice_count, slices, stands, value_of, ways}
 use Rattle.btr_read.specs.Layout.{Layout}
 use Rattle.btr_read.specs.Solution.{byte_lists, the_one}
 use Rattle.btr_read.specs.Want.{passes}
 use Rattle.btr_read.specs.declared.candidate.Candidate.{Candidate}
 use Rattle.btr_read.specs.declared.candidate.Candidate.TheVariants.{Read, ByP, ByQ, ByBoth}
 use Rattle.btr_read.proofs.Ones.{in_below}
-use Rattle.btr_mend.specs.Blocks.{accepted, block_writes, is_good, own_parts}
+use Rattle.btr_read.proofs.Order.{in_ways}
+use Rattle.btr_mend.specs.Blocks.{accepted, block_writes, is_sound, own_parts}
 use Rattle.btr_mend.specs.Writes.{Images}
 use Rattle.btr_row.specs.Rows as rows
 use Rattle.btr_row.specs.Rows.{Row, blocks_at, column_of, differing, differs, element_with, is_decided, meets, parities, parity_writes, range_in_element, row_writes, sector_write, slice_with, slices_with, with_block}
@@ -85,7 +86,7 @@ module _ (images images' : Images) (t : Target) (none : mirrors t.chunk ≡ None
         ∙ ap (λ p. the_one (size_of t) (λ X. list_any (λ Y. bytes_eq (parity_p (size_of t) (set (set (slices images t) j Y) t.at.index X)) p && bytes_eq (parity_q (size_of t) (set (set (slices images t) j Y) t.at.index X)) (element images' t part.Q)) (byte_lists (size_of t)))) same_p
         ∙ ap (λ q. the_one (size_of t) (λ X. list_any (λ Y. bytes_eq (parity_p (size_of t) (set (set (slices images t) j Y) t.at.index X)) (element images t part.P) && bytes_eq (parity_q (size_of t) (set (set (slices images t) j Y) t.at.index X)) q) (byte_lists (size_of t)))) same_q)
 
-  all : (o : Option ℕ) → mirrors t.chunk ≡ o → candidates t ≡ option_map_or copies o (rebuilt t.chunk.profile (slice_count t) t.at.index)
+  all : (o : Option ℕ) → mirrors t.chunk ≡ o → ways t ≡ option_map_or copies o (rebuilt t.chunk.profile (slice_count t) t.at.index)
   all o e = ap (λ o. option_map_or copies o (rebuilt t.chunk.profile (slice_count t) t.at.index)) e
 
   with_five : t.chunk.profile ≡ Raid5 → (c : Candidate) → In c (rebuilt Raid5 (slice_count t) t.at.index) → reading images' t c ≡ reading images t c
@@ -103,21 +104,21 @@ module _ (images images' : Images) (t : Target) (none : mirrors t.chunk ≡ None
 
   reads : (c : Candidate) → In c (candidates t) → reading images' t c ≡ reading images t c
   reads c i = elim (without_copies t.chunk.profile (length t.chunk.stripes) none) [
-    | inl five ↦ with_five five c (subst (λ p. In c (rebuilt p (slice_count t) t.at.index)) five (subst (In c) (all None none) i))
-    | inr six ↦ with_six six c (subst (λ p. In c (rebuilt p (slice_count t) t.at.index)) six (subst (In c) (all None none) i))
+    | inl five ↦ with_five five c (subst (λ p. In c (rebuilt p (slice_count t) t.at.index)) five (subst (In c) (all None none) (in_ways t c i)))
+    | inr six ↦ with_six six c (subst (λ p. In c (rebuilt p (slice_count t) t.at.index)) six (subst (In c) (all None none) (in_ways t c i)))
   ]
 
   own : own_parts t ≡ part.Slice t.at.index ∷ []
   own = ap (λ o. option_map_or (λ copies. map part.Mirror (range_with_len 0 copies)) o (part.Slice t.at.index ∷ [])) none
 
-  bads : (q : Part) → In q (part.Slice t.at.index ∷ []) → not (is_good images' t q) ≡ not (is_good images t q)
-  bads q (inl e) = subst (λ q. not (is_good images' t q) ≡ not (is_good images t q)) e (ap (λ bytes. not (passes t.setting t.want bytes)) (same (part.Slice t.at.index) (slice_has t.at.index index)))
+  bads : (q : Part) → In q (part.Slice t.at.index ∷ []) → not (is_sound images' t q) ≡ not (is_sound images t q)
+  bads q (inl e) = subst (λ q. not (is_sound images' t q) ≡ not (is_sound images t q)) e (ap (λ bytes. not (passes t.setting t.want bytes)) (same (part.Slice t.at.index) (slice_has t.at.index index)))
   bads q (inr i) = absurd i
 
   -- a block whose slices and parities are the same
   pub parity_alike : Alike images images' t
   parity_alike = record {
-    bad = filter_same (λ q. not (is_good images' t q)) (λ q. not (is_good images t q)) (own_parts t) (λ q i. bads q (subst (In q) own i));
+    bad = filter_same (λ q. not (is_sound images' t q)) (λ q. not (is_sound images t q)) (own_parts t) (λ q i. bads q (subst (In q) own i));
     accepted = ap (λ xs. slice_get (filter (passes t.setting t.want) xs) 0) (filter_map_same (reading images' t) (reading images t) (candidates t) reads);
   }
 

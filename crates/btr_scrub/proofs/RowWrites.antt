@@ -22,7 +22,8 @@ use Rattle.btr_read.specs.Layout.{Layout, device_in}
 use Rattle.btr_read.specs.Want.{addr_of}
 use Rattle.btr_read.specs.declared.device.Device.{Device}
 use Rattle.btr_read.proofs.Ones.{in_below}
-use Rattle.btr_mend.specs.Blocks.{accepted, bad_parts, block_writes, is_good, own_parts, written_over}
+use Rattle.btr_mend.specs.Blocks.{accepted, bad_parts, block_writes, is_sound, own_parts, written_over}
+use Rattle.btr_mend.proofs.Syncs.{passing_filter}
 use Rattle.btr_mend.specs.Writes.{Images, Write}
 use Rattle.btr_row.specs.Rows as rows
 use Rattle.btr_row.specs.Rows.{Row, column_of, differing, differs, element_with, is_decided, parities, parity_writes, range_in_element, row_writes, sector_write}
@@ -40,7 +41,7 @@ use Rattle.btr_scrub.proofs.Positions.{striped_fits, striped_position}
 use Rattle.btr_scrub.proofs.RowAgreeing.{RowAlike, parity_alike, parity_has, row_alike}
 use Rattle.btr_scrub.proofs.Shorts.{Short, block_short}
 use Rattle.btr_scrub.proofs.Staying.{covered, range_same}
-use Rattle.btr_scrub.proofs.Writes.{any_append, any_filter_map, any_flat, mapped, passing_filter}
+use Rattle.btr_scrub.proofs.Writes.{any_append, any_filter_map, any_flat, mapped}
 
 -- a full stripe of the table, all of whose elements stand
 pub record IsRowIn (layout : Layout) (row : Row) : Type 0 where
@@ -126,7 +127,7 @@ module _ (layout : Layout) (row : Row) (table : IsTable layout.chunks) (is_row :
 
   -- ---- blocks of the row
 
-  has_own : (t : Target) → IsBlockOf layout row t → HasPart row.chunk.profile (length row.chunk.stripes) (part.Slice t.at.index)
+  pub has_own : (t : Target) → IsBlockOf layout row t → HasPart row.chunk.profile (length row.chunk.stripes) (part.Slice t.at.index)
   has_own t of =
       let position : IsPosition t.chunk t.at = subst (IsPosition t.chunk) (sym of.is.at) (IsPosition-position t.chunk (addr_of t.want) (table.sound of.is.number t.chunk of.is.there).0 of.is.held) in
       (subst IsNone (sym is_row.parity) refl, (subst (λ c. IsPosition c t.at) of.chunk position).index)
@@ -156,7 +157,7 @@ module _ (layout : Layout) (row : Row) (table : IsTable layout.chunks) (is_row :
   -- ---- what is written
 
   -- a byte that is written for a block
-  written_block : (images : Images) (t : Target) (slot off : ℕ) → IsBlockOf layout row t → list_any (λ (w : Write). covers slot off w.range) (block_writes images t) ≡ true → IsOfElement layout row (part.Slice t.at.index) slot off
+  pub written_block : (images : Images) (t : Target) (slot off : ℕ) → IsBlockOf layout row t → list_any (λ (w : Write). covers slot off w.range) (block_writes images t) ≡ true → IsOfElement layout row (part.Slice t.at.index) slot off
   written_block images t slot off of h = by (accepted images t) h
     where
       own : own_parts t ≡ part.Slice t.at.index ∷ []
@@ -170,7 +171,7 @@ module _ (layout : Layout) (row : Row) (table : IsTable layout.chunks) (is_row :
       by None h = absurd (false≢true h)
       by (Some bytes) h =
           let f = any_filter_map (λ (w : Write). covers slot off w.range) (λ q. option_map (λ (range : Range). record { range = range; bytes = bytes }) (range_of t q)) (bad_parts images t) h in
-          let bad = passing_filter (λ q. not (is_good images t q)) f.0 (own_parts t) f.1 in
+          let bad = passing_filter (λ q. not (is_sound images t q)) f.0 (own_parts t) f.1 in
           let q : part.Slice t.at.index ≡ f.0 = only f.0 (subst (In f.0) own bad.0) in
           let m = mapped (λ (range : Range). record { range = range; bytes = bytes }) (range_of t f.0) f.2.0 f.2.1 in
           let cover : covers slot off m.0 ≡ true = ap (λ (w : Write). covers slot off w.range) m.2 ∙ f.2.2 in
@@ -192,7 +193,7 @@ module _ (layout : Layout) (row : Row) (table : IsTable layout.chunks) (is_row :
       subst (λ o. IfSome o (LiesIn range)) (sym b.whole) (record { slot = ap (λ (r : Range). r.slot) same; from = omega (arith, off, l.offset); to = omega (arith, off, len, l.offset, few) })
 
   -- .. for a parity
-  written_parity : (images : Images) (q : Part) (slot off : ℕ) → HasPart row.chunk.profile (length row.chunk.stripes) q → list_any (λ (w : Write). covers slot off w.range) (parity_writes images layout row q) ≡ true → IsOfElement layout row q slot off
+  pub written_parity : (images : Images) (q : Part) (slot off : ℕ) → HasPart row.chunk.profile (length row.chunk.stripes) q → list_any (λ (w : Write). covers slot off w.range) (parity_writes images layout row q) ≡ true → IsOfElement layout row q slot off
   written_parity images q slot off has h =
       let f = any_filter_map (λ (w : Write). covers slot off w.range) (sector_write images layout row q) (differing images layout row q) h in
       let column = f.0 in

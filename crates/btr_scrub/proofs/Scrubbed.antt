@@ -30,7 +30,8 @@ use Rattle.btr_scrub.specs.Leaves.{KeepsOutside}
 use Rattle.btr_scrub.specs.Repair.{Effect, blocks, devid_of, effect, effect_of_ending, effect_unless, first_missing, meeting, stood_tally, stop_of, tally, writes}
 use Rattle.btr_scrub.specs.Right.{AreBytes, Committed, IsRepairable, RangesLieInWrong, RangesMayHoldAnything, StandsFor}
 use Rattle.btr_scrub.specs.Scrubbed.{AnswersAs, Called, HasEffect, IsImageFault, IsLeftBy, IsSafe, IsScrubbed, IsSure, OfImages, ReadsAt}
-use Rattle.btr_scrub.specs.Scrubbing.{IsOfScrub, Works, all_count_for, all_writes_for, plain}
+use Rattle.btr_mend.specs.Syncing.{plain}
+use Rattle.btr_scrub.specs.Scrubbing.{IsOfScrub, Works, all_count_for, all_writes_for}
 use Rattle.btr_scrub.specs.Units.{Met, units_in}
 use Rattle.btr_scrub.specs.Whole.{Goes, Listed, Listing, Refused, ScrubsAll, Stopped, answer_of, first_tally}
 use Rattle.btr_scrub.specs.declared.tally.Tally.{Tally}

@@ -1,5 +1,5 @@
 -- Mending one thing after another.
-use Rattle.std.proofs.Common.{◌≡◌, Bool, true, false, List, [], ◌++◌, length, Option, Some, None, IfSome, OnOk, is_none, is_some, Result, Ok, Err, refl, sym, ap, ◌∙◌, subst, arith}
+use Rattle.std.proofs.Common.{◌≡◌, Bool, true, false, List, [], ◌++◌, length, Option, Some, None, IfSome, OnOk, is_none, is_some, Result, Ok, Err, refl, sym, ap, ◌∙◌, subst, inr, arith}
 use Rattle.std.proofs.lemmas.Bool.{false≢true}
 use Rattle.std.proofs.lemmas.Option.{same_Some}
 use Rattle.std.specs.List.{count_by, fold}
@@ -17,10 +17,12 @@ use Rattle.btr_mend.specs.declared.mended.Mended.{Mended}
 use Rattle.btr_mend.specs.Writes.{AccountsMend, AreWritable, Does, Images, Leaves, Write, writes_if, write_on}
 use Rattle.btr_mend.specs.declared.mended.MendFault.{MendFault}
 use Rattle.btr_mend.specs.declared.mended.MendFault.TheVariants.{Image, Memory}
+use Rattle.btr_mend.specs.Syncing.{Strands, plain}
 use Rattle.btr_mend.proofs.Doing.{does_as, does_as_halt, does_failed, does_halt, does_reads, does_then}
+use Rattle.btr_mend.proofs.Turning.{does_plain, marked_after, same_never, strands_none, strands_same}
 use Rattle.btr_scrub.specs.Leaves.{LiesInStripe}
 use Rattle.btr_scrub.specs.Repair.{first_missing}
-use Rattle.btr_scrub.specs.Scrubbing.{CanMend, Scrubs, count_block, counted}
+use Rattle.btr_scrub.specs.Scrubbing.{CanMend, IsOfScrub, Scrubs, count_block, counted}
 use Rattle.btr_scrub.specs.declared.tally.Tally.{Tally}
 
 none_some : {X : Type 0} (x : X) → None ≡ Some x → ⊥
@@ -42,7 +44,7 @@ account_weaker P Q a b (Err (Image slot)) weak h = record { place = h.place; fai
 account_weaker P Q a b (Err Memory) weak h = h
 
 pub does_weaker : {A : Type 0} (P Q : Range → Type 0) (f : Images → List Write) (m n : List Bool) (a b : Seen) (r : Result A MendFault) → ((range : Range) → P range → Q range) → Does P f m n a b r → Does Q f m n a b r
-does_weaker P Q f m n a b r weak h = record { ranges = h.ranges; only = h.only; marked = h.marked; held = h.held; account = account_weaker P Q a b r weak h.account }
+does_weaker P Q f m n a b r weak h = record { ranges = h.ranges; only = h.only; own = h.own; marked = h.marked; held = h.held; account = account_weaker P Q a b r weak h.account }
 
 account_other : (A B : Type 0) (P : Range → Type 0) (a b : Seen) (f : MendFault) → AccountsMend {A = A} P a b (Err f) → AccountsMend {A = B} P a b (Err f)
 account_other A B P a b (Image slot) h = h
@@ -58,10 +60,10 @@ leaves_value f (Some images) b x y h = h
 
 -- with another value
 pub does_value : {A B : Type 0} (P : Range → Type 0) (f : Images → List Write) (m n : List Bool) (a b : Seen) (x : A) (y : B) → Does P f m n a b (Ok x) → Does P f m n a b (Ok y)
-does_value P f m n a b x y h = record { ranges = h.ranges; only = h.only; marked = h.marked; held = leaves_value f a.held b.held x y h.held; account = h.account }
+does_value P f m n a b x y h = record { ranges = h.ranges; only = h.only; own = h.own; marked = h.marked; held = leaves_value f a.held b.held x y h.held; account = h.account }
 
 pub does_fault : {A B : Type 0} (P : Range → Type 0) (f : Images → List Write) (m n : List Bool) (a b : Seen) (e : MendFault) → Does {A = A} P f m n a b (Err e) → Does {A = B} P f m n a b (Err e)
-does_fault {A = A} {B = B} P f m n a b e h = record { ranges = h.ranges; only = h.only; marked = h.marked; held = leaves_other A B f a.held b.held e h.held; account = account_other A B P a b e h.account }
+does_fault {A = A} {B = B} P f m n a b e h = record { ranges = h.ranges; only = h.only; own = h.own; marked = h.marked; held = leaves_other A B f a.held b.held e h.held; account = account_other A B P a b e h.account }
 
 -- the same writes, said otherwise
 pub recast : {A : Type 0} (P : Range → Type 0) (f g : Images → List Write) (m n : List Bool) (a b : Seen) (r : Result A MendFault) → ((images : Images) → a.held ≡ Some images → f images ≡ g images) → Does P f m n a b r → Does P g m n a b r
@@ -117,7 +119,9 @@ module _ (layout : Layout) (write : Bool) where
   pub scrubs_as : {A : Type 0} (f g : Images → List Write) (c d : Images → Tally → Tally) (m n : List Bool) (a b : Seen) (t u : Tally) (r : Result A MendFault)
       → ((images : Images) → a.held ≡ Some images → (f images ≡ g images) × (c images t ≡ d images t)) → Scrubs layout write f c m n a b t u r → Scrubs layout write g d m n a b t u r
   scrubs_as {A = A} f g c d m n a b t u r same h = record {
-    does = recast (LiesInStripe layout) (λ i. writes_if write (f i)) (λ i. writes_if write (g i)) m n a b r (λ images e. ap (writes_if write) (same images e).0) h.does;
+    does = recast (IsOfScrub layout) (λ i. writes_if write (f i)) (λ i. writes_if write (g i)) [] [] (plain a) (plain b) r (λ images e. ap (writes_if write) (same images e).0) h.does;
+    marked = h.marked;
+    stranded = h.stranded;
     counts = by r h.counts;
     unwritten = h.unwritten;
   }
@@ -133,15 +137,17 @@ module _ (layout : Layout) (write : Bool) where
   pub scrubs_then : (A U : Type 0) (f g : Images → List Write) (c d : Images → Tally → Tally) (m n o : List Bool) (a b z : Seen) (t u v : Tally) (x : U) (r : Result A MendFault)
       → IsUnmoved f g d a.held → Scrubs layout write f c m n a b t u (Ok x) → Scrubs layout write g d n o b z u v r → Scrubs layout write (λ i. f i ++ g i) (λ i y. d i (c i y)) m o a z t v r
   scrubs_then A U f g c d m n o a b z t u v x r same h k = record {
-    does = recast (LiesInStripe layout) (λ i. writes_if write (f i) ++ writes_if write (g i)) (λ i. writes_if write (f i ++ g i)) m o a z r (λ images e. if_append write (f images) (g images))
-        (does_next A U (LiesInStripe layout) (λ i. writes_if write (f i)) (λ i. writes_if write (g i)) m n o a b z x r (λ images e. ap (writes_if write) (same images e).0) h.does k.does);
+    does = recast (IsOfScrub layout) (λ i. writes_if write (f i) ++ writes_if write (g i)) (λ i. writes_if write (f i ++ g i)) [] [] (plain a) (plain z) r (λ images e. if_append write (f images) (g images))
+        (does_next A U (IsOfScrub layout) (λ i. writes_if write (f i)) (λ i. writes_if write (g i)) [] [] [] (plain a) (plain b) (plain z) x r (λ images e. ap (writes_if write) (same images e).0) h.does k.does);
+    marked = λ all. k.marked (h.marked all);
+    stranded = subst (λ never. Strands never z.never_synced r) h.stranded k.stranded;
     counts = by r k.counts;
     unwritten = λ w. reads_more (h.unwritten w) (k.unwritten w);
   }
     where
       by : (r : Result A MendFault) → OnOk r (IfSome b.held (λ images. v ≡ d images u)) → OnOk r (IfSome a.held (λ images. v ≡ d images (c images t)))
       by (Ok y) l = tell a.held (λ images. v ≡ d images (c images t)) (λ images e.
-          let after = held_after (LiesInStripe layout) (λ i. writes_if write (f i)) m n a b x images e h.does in
+          let after = held_after (IsOfScrub layout) (λ i. writes_if write (f i)) [] [] (plain a) (plain b) x images e h.does in
           told b.held (λ images. v ≡ d images u) (fold write_on images (writes_if write (f images))) after l
           ∙ (same images e).1 u ∙ ap (d images) (told a.held (λ images. u ≡ c images t) images e h.counts))
       by (Err y) l = tt
@@ -149,8 +155,10 @@ module _ (layout : Layout) (write : Bool) where
   pub scrubs_cut : (A B : Type 0) (f g : Images → List Write) (c d : Images → Tally → Tally) (m n : List Bool) (a b : Seen) (t u : Tally) (x : MendFault)
       → Scrubs {A = A} layout write f c m n a b t u (Err x) → Scrubs {A = B} layout write (λ i. f i ++ g i) d m n a b t u (Err x)
   scrubs_cut A B f g c d m n a b t u x h = record {
-    does = recast {A = B} (LiesInStripe layout) (λ i. writes_if write (f i) ++ writes_if write (g i)) (λ i. writes_if write (f i ++ g i)) m n a b (Err x) (λ images e. if_append write (f images) (g images))
-        (does_cut A B (LiesInStripe layout) (λ i. writes_if write (f i)) (λ i. writes_if write (g i)) m n a b x h.does);
+    does = recast {A = B} (IsOfScrub layout) (λ i. writes_if write (f i) ++ writes_if write (g i)) (λ i. writes_if write (f i ++ g i)) [] [] (plain a) (plain b) (Err x) (λ images e. if_append write (f images) (g images))
+        (does_cut A B (IsOfScrub layout) (λ i. writes_if write (f i)) (λ i. writes_if write (g i)) [] [] (plain a) (plain b) x h.does);
+    marked = h.marked;
+    stranded = strands_same A B x a.never_synced b.never_synced h.stranded;
     counts = tt;
     unwritten = h.unwritten;
   }
@@ -158,8 +166,10 @@ module _ (layout : Layout) (write : Bool) where
   -- nothing was done
   pub scrubs_none : {A : Type 0} (marks : List Bool) (a : Seen) (t : Tally) (x : A) → Scrubs {A = A} layout write (λ i. []) (λ i y. y) marks marks a a t t (Ok x)
   scrubs_none marks a t x = record {
-    does = recast (LiesInStripe layout) (λ i. []) (λ i. writes_if write []) marks marks a a (Ok x) (λ images e. none write)
-        (does_reads (LiesInStripe layout) marks a a x (record { same = refl; later = omega arith; same_shut = refl }) (record { faults = refl; fresh = refl; missed = refl; last = refl; opening = refl; shut = refl }));
+    does = recast (IsOfScrub layout) (λ i. []) (λ i. writes_if write []) [] [] (plain a) (plain a) (Ok x) (λ images e. none write)
+        (does_reads (IsOfScrub layout) [] (plain a) (plain a) x (record { same = refl; later = omega arith; same_shut = refl }) (record { faults = refl; fresh = refl; missed = refl; last = refl; opening = refl; shut = refl }));
+    marked = λ all. all;
+    stranded = refl;
     counts = tell a.held (λ images. t ≡ t) (λ images e. refl);
     unwritten = λ w. record { same = refl; later = omega arith; same_shut = refl };
   }
@@ -171,7 +181,9 @@ module _ (layout : Layout) (write : Bool) where
 -- nothing was done, as there was no memory
 pub scrubs_nothing : (layout : Layout) (write : Bool) (marks : List Bool) (a : Seen) (t : Tally) → Scrubs {A = Unit {0}} layout write (λ i. []) (λ i y. y) marks marks a a t t (Err Memory)
 scrubs_nothing layout write marks a t = record {
-  does = does_failed (LiesInStripe layout) (Unit {0}) (Unit {0}) (λ i. writes_if write []) marks a a Memory (record { same = refl; later = omega arith; same_shut = refl }) (record { faults = refl; fresh = refl; missed = refl; last = refl; opening = refl; shut = refl });
+  does = does_failed (IsOfScrub layout) (Unit {0}) (Unit {0}) (λ i. writes_if write []) [] (plain a) (plain a) Memory (record { same = refl; later = omega arith; same_shut = refl }) (record { faults = refl; fresh = refl; missed = refl; last = refl; opening = refl; shut = refl });
+  marked = λ all. all;
+  stranded = refl;
   counts = tt;
   unwritten = λ w. record { same = refl; later = omega arith; same_shut = refl };
 }
@@ -179,21 +191,32 @@ scrubs_nothing layout write marks a t = record {
 -- ---- a block
 
 -- what was done for a block by its copies, and counted
-pub scrubs_block : (layout : Layout) (write : Bool) (t : Target) (m n : List Bool) (a b : Seen) (tally tally' : Tally) (mended : Mended) → ((range : Range) → IsOfCopy t range → LiesInStripe layout range)
-    → Mends t write m n a b (Ok mended) → tally' ≡ counted tally mended → Scrubs {A = Unit {0}} layout write (λ images. block_writes images t) (λ images tally. count_block images write tally t) m n a b tally tally' (Ok tt)
-scrubs_block layout write t m n a b tally tally' mended in_stripe h e = record {
-  does = does_value (LiesInStripe layout) (λ images. writes_if write (block_writes images t)) m n a b mended tt (does_weaker (IsOfCopy t) (LiesInStripe layout) (λ images. writes_if write (block_writes images t)) m n a b (Ok mended) in_stripe h.does);
-  counts = tell a.held (λ images. tally' ≡ count_block images write tally t) (λ images held. e ∙ ap (counted tally) (told a.held (λ images. mended ≡ mended_of images t write) images held h.counts));
-  unwritten = h.unwritten;
-}
+module _ (layout : Layout) (write : Bool) (t : Target) (m n : List Bool) (a b : Seen) (in_stripe : (range : Range) → IsOfCopy t range → LiesInStripe layout range) where
+  abbrev the_writes : Images → List Write
+  the_writes images = writes_if write (block_writes images t)
 
-pub scrubs_block_not : (layout : Layout) (write : Bool) (t : Target) (m n : List Bool) (a b : Seen) (tally : Tally) (fault : MendFault) → ((range : Range) → IsOfCopy t range → LiesInStripe layout range)
-    → Mends t write m n a b (Err fault) → Scrubs {A = Unit {0}} layout write (λ images. block_writes images t) (λ images tally. count_block images write tally t) m n a b tally tally (Err fault)
-scrubs_block_not layout write t m n a b tally fault in_stripe h = record {
-  does = does_fault {A = Mended} {B = Unit {0}} (LiesInStripe layout) (λ images. writes_if write (block_writes images t)) m n a b fault (does_weaker {A = Mended} (IsOfCopy t) (LiesInStripe layout) (λ images. writes_if write (block_writes images t)) m n a b (Err fault) in_stripe h.does);
-  counts = tt;
-  unwritten = h.unwritten;
-}
+  abbrev in_scrub : (range : Range) → IsOfCopy t range → IsOfScrub layout range
+  in_scrub range of = inr (in_stripe range of)
+
+  pub scrubs_block : (tally tally' : Tally) (mended : Mended) → Mends t write m n a b (Ok mended) → tally' ≡ counted tally mended
+      → Scrubs {A = Unit {0}} layout write (λ images. block_writes images t) (λ images tally. count_block images write tally t) m n a b tally tally' (Ok tt)
+  scrubs_block tally tally' mended h e = record {
+    does = does_value (IsOfScrub layout) the_writes [] [] (plain a) (plain b) mended tt (does_plain (IsOfCopy t) (IsOfScrub layout) the_writes m n a b (Ok mended) in_scrub h.does);
+    marked = marked_after (IsOfCopy t) the_writes m n a b (Ok mended) h.does;
+    stranded = strands_none {A = Unit {0}} (Ok tt) a.never_synced b.never_synced (same_never (IsOfCopy t) the_writes m n a b (Ok mended) h.does);
+    counts = tell a.held (λ images. tally' ≡ count_block images write tally t) (λ images held. e ∙ ap (counted tally) (told a.held (λ images. mended ≡ mended_of images t write) images held h.counts));
+    unwritten = h.unwritten;
+  }
+
+  pub scrubs_block_not : (tally : Tally) (fault : MendFault) → Mends t write m n a b (Err fault)
+      → Scrubs {A = Unit {0}} layout write (λ images. block_writes images t) (λ images tally. count_block images write tally t) m n a b tally tally (Err fault)
+  scrubs_block_not tally fault h = record {
+    does = does_fault {A = Mended} {B = Unit {0}} (IsOfScrub layout) the_writes [] [] (plain a) (plain b) fault (does_plain {A = Mended} (IsOfCopy t) (IsOfScrub layout) the_writes m n a b (Err fault) in_scrub h.does);
+    marked = marked_after {A = Mended} (IsOfCopy t) the_writes m n a b (Err fault) h.does;
+    stranded = strands_none {A = Unit {0}} (Err fault) a.never_synced b.never_synced (same_never {A = Mended} (IsOfCopy t) the_writes m n a b (Err fault) h.does);
+    counts = tt;
+    unwritten = h.unwritten;
+  }
 
 -- ---- what can be mended can be mended again
 
@@ -202,7 +225,7 @@ can_mend_then write a b store store' m n can slots same serves long = record {
   serves = serves;
   room = omega (arith, can.room, ap (count_by is_none) same.loans);
   writable = λ w. subst AreWritable (sym slots) (can.writable w);
-  slots = omega (arith, can.slots, ap length slots, long);
+  slots = long ∙ can.slots ∙ sym (ap length slots);
   table = subst (λ (l : Layout). IsTable l.chunks) (sym same.layout) can.table;
   given = ap first_missing same.layout ∙ can.given;
 }

@@ -8,18 +8,20 @@ use Rattle.btr_chunk.specs.Chunk.{data_count, is_striped, mirrors, stripe_length
 use Rattle.btr_chunk.specs.Mapping.{IsPosition}
 use Rattle.btr_chunk.specs.Table.{IsTable}
 use Rattle.btr_chunk.specs.declared.chunk.Chunk.{Chunk}
+use Rattle.btr_chunk.specs.declared.place.Part.{Part}
 use Rattle.btr_chunk.specs.declared.position.Elements.{Elements}
 use Rattle.btr_chunk.proofs.Bytes.{IsPosition-position}
 use Rattle.btr_chunk.proofs.Rows.{without_copies}
 use Rattle.btr_parity.specs.Slices.{IsSlice}
-use Rattle.btr_read.specs.Candidates.{Target, size_of}
+use Rattle.btr_read.specs.Candidates.{Target, element, size_of}
 use Rattle.btr_read.specs.Fate.{Fault, passing, passing_for, sought}
 use Rattle.btr_read.specs.Layout.{HaveOwnSlots, Layout}
 use Rattle.btr_read.specs.Want.{addr_of, len_of, passes}
 use Rattle.btr_read.specs.declared.want.Want.{Want}
 use Rattle.btr_read.proofs.Fates.{sought_of}
-use Rattle.btr_mend.specs.Blocks.{accepted}
+use Rattle.btr_mend.specs.Blocks.{accepted, is_good, is_sound}
 use Rattle.btr_mend.specs.Writes.{Images}
+use Rattle.btr_mend.proofs.Firsts.{sound_place}
 use Rattle.btr_row.specs.Rows.{Row, blocks_at}
 use Rattle.btr_scrub.specs.Devices.{HaveLengths}
 use Rattle.btr_scrub.specs.Glue.{In}
@@ -127,6 +129,13 @@ module _ (images : Images) (layout : Layout) (C : Committed) (wants : List Want)
           let all : All (λ other. other ≡ b.0) (passing_for images (sought layout w.0)) = subst (λ o. IfSome o (λ bytes. All (λ other. other ≡ bytes) (passing_for images (sought layout w.0)))) same (had.honest w.0) in
           let mine : All (λ other. other ≡ b.0) (passing images t) = subst (λ r. All (λ other. other ≡ b.0) (passing_for images r)) w.2 all in
           b.1 ∙ ap Some (sym (all_in (λ other. other ≡ b.0) (passing images t) x mine (first_in (passing images t) x e)))
+
+  -- a place of a block that has the committed bytes is sound, where anything is accepted
+  pub right_is_sound : (t : Target) → In t (targets layout wants) → IsSought layout t → (q : Part) (bytes : List ℕ) → accepted images t ≡ Some bytes → C t.want ≡ Some (element images t q) → is_sound images t q ≡ true
+  right_is_sound t among is q bytes e right =
+      let committed : C t.want ≡ Some bytes = subst (λ o. IfSome o (λ bytes. C t.want ≡ Some bytes)) e (accepts_right t among) in
+      let good : is_good images t q ≡ true = subst (λ o. IfSome o (λ bytes. passes t.setting t.want bytes ≡ true)) right (right_passes t is) in
+      sound_place images t q bytes e good (same_Some (element images t q) bytes (sym right ∙ committed))
 
   module _ (apart : AreApart layout 0 wants) (number : ℕ) (chunk : Chunk) (there : slice_get layout.chunks number ≡ Some chunk) (r : ℕ) (parity : mirrors chunk ≡ None) (inside : r * 65536 + 65536 ≤ stripe_length chunk) where
     abbrev row : Row

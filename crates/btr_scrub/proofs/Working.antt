@@ -1,9 +1,9 @@
 -- Chunk after chunk, each with its syncs.
-use Rattle.std.proofs.Common.{◌≡◌, ℕ, zero, suc, ◌+◌, ◌<◌, ◌≤◌, Bool, true, false, cond, ◌&&◌, eqb, leb, ltb, ◌/◌, List, [], ◌∷◌, ◌++◌, length, take, drop, get_or, slice_get, All, Option, Some, None, is_none, IfSome, IsSomeAnd, OnOk, Result, Ok, Err, refl, sym, ap, ◌∙◌, subst, inl, inr, arith, append-nil, append_assoc, add-one}
+use Rattle.std.proofs.Common.{◌≡◌, ℕ, zero, suc, ◌+◌, ◌<◌, ◌≤◌, Bool, true, false, cond, ◌&&◌, eqb, leb, ltb, ◌/◌, List, [], ◌∷◌, ◌++◌, length, take, drop, slice_get, Option, Some, None, is_none, IfSome, IsSomeAnd, OnOk, Result, Ok, Err, refl, sym, ap, ◌∙◌, subst, inl, inr, arith, append-nil, append_assoc, add-one}
 use Rattle.std.proofs.lemmas.Bool.{false≢true, and_parts, cases_lt, cases_order, eqb-true, leb-true, ltb-true}
 use Rattle.std.proofs.lemmas.Grind.{flat_map-append}
-use Rattle.std.proofs.lemmas.List.{get_or_past, take-append-drop}
-use Rattle.std.proofs.lemmas.List.Elements.{All-nil, filter-append, filter_map-append}
+use Rattle.std.proofs.lemmas.List.{take-append-drop}
+use Rattle.std.proofs.lemmas.List.Elements.{filter-append, filter_map-append}
 use Rattle.std.proofs.lemmas.Option.{same_Some}
 use Rattle.std.specs.List.{filter, fold, range_with_len}
 use Rattle.btr_chunk.specs.Chunk.{mirrors, stripe_length}
@@ -11,8 +11,7 @@ use Rattle.btr_chunk.specs.Table.{IsTable}
 use Rattle.btr_chunk.specs.declared.chunk.Chunk.{Chunk}
 use Rattle.btr_chunk.proofs.Bytes.{at-below}
 use Rattle.btr_chunk.proofs.Rule.{facts}
-use Rattle.btr_rack.specs.Rack.{OnlyReads, Seen}
-use Rattle.btr_rack.specs.declared.place.Place.{Place as Range}
+use Rattle.btr_rack.specs.Rack.{Seen, in_slot}
 use Rattle.btr_rack.proofs.Reading.{reads_more}
 use Rattle.btr_read.specs.Candidates.{Target}
 use Rattle.btr_read.specs.Fate.{sought}
@@ -22,88 +21,49 @@ use Rattle.btr_read.specs.declared.want.Want.{Want}
 use Rattle.btr_read.proofs.Fates.{sought_of}
 use Rattle.btr_read.proofs.Serving.{serves_as}
 use Rattle.btr_read.specs.Store.{Blocks}
-use Rattle.btr_mend.specs.Writes.{AccountsMend, AreWritable, Does, Images, IsMarked, Marks, Write, writes_if, write_on}
+use Rattle.btr_mend.specs.Syncing.{AreMarked, OnlySyncs, Strands, SyncsMarked, WaitsBehindAll, plain}
+use Rattle.btr_mend.specs.Writes.{AreWritable, Images, Write, writes_if, write_on}
 use Rattle.btr_mend.specs.declared.mended.MendFault.{MendFault}
 use Rattle.btr_mend.specs.declared.mended.MendFault.TheVariants.{Image, Memory}
 use Rattle.btr_mend.proofs.Doing.{does_failed, does_reads}
+use Rattle.btr_mend.proofs.Syncs.{sync_held, sync_slots}
+use Rattle.btr_mend.proofs.Turning.{does_sync, marked_below}
 use Rattle.btr_scrub.specs.Glue.{In}
 use Rattle.btr_scrub.specs.Leaves.{LiesInStripe}
 use Rattle.btr_scrub.specs.Order.{AreApart, targets}
 use Rattle.btr_scrub.specs.Repair.{is_in_chunk, is_in_row, ok_or_none, row_of, rows_in}
-use Rattle.btr_scrub.specs.Scrubbing.{AreSynced, CanMend, IsOfScrub, IsPastChunk, OnlySyncs, Scrubs, SyncsMarked, Works, all_count_for, all_writes_for, blocks_count, blocks_in, blocks_writes, chunk_count_for, chunk_writes_for, plain, rows_count, rows_writes}
+use Rattle.btr_scrub.specs.Scrubbing.{CanMend, IsOfScrub, IsPastChunk, Scrubs, Works, all_count_for, all_writes_for, blocks_count, blocks_in, blocks_writes, chunk_count_for, chunk_writes_for, rows_count, rows_writes}
 use Rattle.btr_scrub.specs.declared.tally.Tally.{Tally}
 use Rattle.btr_scrub.proofs.Blockwise.{filter_none, fold_append, in_append, ok_of}
 use Rattle.btr_scrub.proofs.Firsts.{drop_one}
 use Rattle.btr_scrub.proofs.Positions.{is_sought}
 use Rattle.btr_scrub.proofs.RowAgreeing.{map_same}
-use Rattle.btr_scrub.proofs.Syncs.{sync_held, sync_slots}
 use Rattle.btr_scrub.proofs.Scrubbing.{IsUnmoved, does_cut, does_next, held_after, if_append, recast, tell, told}
 
--- ---- a rack, whatever waits for a sync
-
-fails_plain : {A : Type 0} (P Q : Range → Type 0) (a b : Seen) (r : Result A MendFault) → ((range : Range) → P range → Q range) → AccountsMend P a b r → AccountsMend Q (plain a) (plain b) r
-fails_plain P Q a b (Ok x) weak h = h
-fails_plain P Q a b (Err (Image slot)) weak h = record {
-  place = h.place;
-  failed = record { one = h.failed.one; read = h.failed.read; shut = h.failed.shut; unsure = h.failed.unsure };
-  on_slot = h.on_slot;
-  lies = weak h.place h.lies;
-}
-fails_plain P Q a b (Err Memory) weak h = h
-
-no_marks : Marks [] [] []
-no_marks = record { added = All-nil (λ (r : Range). IsMarked [] r.slot); kept = λ slot m. m }
-
-does_plain : {A : Type 0} (P Q : Range → Type 0) (f : Images → List Write) (m n : List Bool) (a b : Seen) (r : Result A MendFault) → ((range : Range) → P range → Q range) → Does P f m n a b r → Does Q f [] [] (plain a) (plain b) r
-does_plain P Q f m n a b r weak h = record {
-  ranges = [];
-  only = record { same = ap plain h.only.same; later = h.only.later; same_shut = h.only.same_shut };
-  marked = no_marks;
-  held = h.held;
-  account = fails_plain P Q a b r weak h.account;
-}
-
-sync_reads : (a b : Seen) → OnlySyncs a b → OnlyReads (plain a) (plain b)
-sync_reads a b h = record { same = h.same; later = h.later; same_shut = h.same_shut }
-
-does_sync : (layout : Layout) (m : List Bool) (a b : Seen) (r : Result (Unit {0}) MendFault) → SyncsMarked m a b r → Does (IsOfScrub layout) (λ i. []) [] [] (plain a) (plain b) r
-does_sync layout m a b (Ok x) h = does_reads (IsOfScrub layout) [] (plain a) (plain b) x (sync_reads a b h.only) h.account
-does_sync layout m a b (Err e) h =
-    does_failed (IsOfScrub layout) (Unit {0}) (Unit {0}) (λ i. []) [] (plain a) (plain b) e (sync_reads a b h.only)
-    (fails_plain {A = Unit {0}} (λ (range : Range). range.len ≡ 0) (IsOfScrub layout) a b (Err e) (λ range l. inl l) h.account)
-
 -- ---- one chunk
-
-all_at : {X : Type 0} (P : X → Type 0) (xs : List X) (x : X) → All P xs → In x xs → P x
-all_at P [] x all i = absurd i
-all_at P (y ∷ xs) x all (inl e) = subst P e (all 0 y (omega arith))
-all_at P (y ∷ xs) x all (inr i) = all_at P xs x (λ j d lt. all (suc j) d (omega (arith, lt))) i
 
 nothing : {X : Type 0} (xs : List X) → ((x : X) → In x xs → ⊥) → xs ≡ []
 nothing [] h = refl
 nothing (x ∷ xs) h = absurd (h x (inl refl))
 
-marked_below : (marks : List Bool) (slot : ℕ) → get_or marks slot false ≡ true → slot < length marks
-marked_below marks slot e = elim (cases_lt slot (length marks)) [ inl lt ↦ lt | inr le ↦ absurd (false≢true (sym (get_or_past marks slot false le) ∙ e)) ]
-
 module _ (layout : Layout) (write : Bool) where
-  -- nothing that was written waits behind the syncs
-  none_waits : (f : Images → List Write) (m m' : List Bool) (a b z : Seen) (x : Unit {0}) → Does (LiesInStripe layout) (λ i. writes_if write (f i)) m m' a b (Ok x) → AreSynced m' (length m') b.unsynced z.unsynced → a.unsynced ≡ [] → z.unsynced ≡ []
-  none_waits f m m' a b z x h s none = nothing z.unsynced (λ range i.
-      let among = s.among range i in
-      let waiting : b.unsynced ≡ h.ranges = ap (λ (r : Seen). r.unsynced) h.only.same ∙ ap (λ u. u ++ h.ranges) none in
-      let marked = all_at (λ (r : Range). IsMarked m' r.slot) h.ranges range h.marked.added (subst (In range) waiting among.0) in
-      false≢true (sym (among.1 (marked_below m' range.slot marked)) ∙ marked))
+  -- nothing waits behind the syncs of all images that are marked
+  none_waits : (m n : List Bool) (b z : Seen) (x : Unit {0}) → SyncsMarked m n b z (Ok x) → AreMarked m b.unsynced → z.unsynced ≡ []
+  none_waits m n b z x s all = nothing z.unsynced (λ range i.
+      let among = s.synced.0.among range i in
+      let marked = all range among.0 in
+      false≢true (sym (among.1 (marked_below m range.slot marked)) ∙ marked))
 
   -- a chunk was mended, and its images synced
-  pub works_synced : (f : Images → List Write) (c : Images → Tally → Tally) (m m' : List Bool) (a b z : Seen) (t u : Tally) (x : Unit {0}) (r : Result (Unit {0}) MendFault) → write ≡ true
-      → Scrubs layout write f c m m' a b t u (Ok x) → SyncsMarked m' b z r → Works layout write f c a z t u r
-  works_synced f c m m' a b z t u x r writing h s = record {
+  pub works_synced : (f : Images → List Write) (c : Images → Tally → Tally) (m m' n : List Bool) (a b z : Seen) (t u : Tally) (x : Unit {0}) (r : Result (Unit {0}) MendFault) → write ≡ true
+      → Scrubs layout write f c m m' a b t u (Ok x) → SyncsMarked m' n b z r → Works layout write f c a z t u r
+  works_synced f c m m' n a b z t u x r writing h s = record {
     does = recast (IsOfScrub layout) (λ i. writes_if write (f i) ++ []) (λ i. writes_if write (f i)) [] [] (plain a) (plain z) r (λ images e. append-nil (writes_if write (f images)))
         (does_next (Unit {0}) (Unit {0}) (IsOfScrub layout) (λ i. writes_if write (f i)) (λ i. []) [] [] [] (plain a) (plain b) (plain z) x r (λ images e. refl)
-        (does_plain (LiesInStripe layout) (IsOfScrub layout) (λ i. writes_if write (f i)) m m' a b (Ok x) (λ range l. inr l) h.does) (does_sync layout m' b z r s));
+        h.does (does_sync (LiesInStripe layout) m' n b z r s));
     counts = counted r;
-    synced = waits r s.synced;
+    synced = waits r s;
+    stranded = strands r s.synced;
     unwritten = λ w. absurd (false≢true (sym w ∙ writing));
   }
     where
@@ -111,25 +71,35 @@ module _ (layout : Layout) (write : Bool) where
       counted (Ok y) = h.counts
       counted (Err e) = tt
 
-      waits : (r : Result (Unit {0}) MendFault) → OnOk r (AreSynced m' (length m') b.unsynced z.unsynced) → OnOk r (a.unsynced ≡ [] → z.unsynced ≡ [])
-      waits (Ok y) k = λ none. none_waits f m m' a b z x h.does k none
+      waits : (r : Result (Unit {0}) MendFault) → SyncsMarked m' n b z r → OnOk r (a.unsynced ≡ [] → z.unsynced ≡ [])
+      waits (Ok y) k = λ none. none_waits m' n b z y k (h.marked (λ range i. absurd (subst (In range) none i)))
       waits (Err e) k = tt
+
+      before : b.never_synced ≡ a.never_synced
+      before = h.stranded
+
+      strands : (r : Result (Unit {0}) MendFault) → WaitsBehindAll m' b z r → Strands a.never_synced z.never_synced r
+      strands (Ok y) k = k.1 ∙ before
+      strands (Err (Image slot)) k = (b.unsynced, k.1 ∙ ap (λ never. never ++ in_slot slot b.unsynced) before)
+      strands (Err Memory) k = absurd k
 
   -- .. or only read
   pub works_read : (f : Images → List Write) (c : Images → Tally → Tally) (m m' : List Bool) (a b : Seen) (t u : Tally) (x : Unit {0}) → write ≡ false → Scrubs {A = Unit {0}} layout write f c m m' a b t u (Ok x) → Works {A = Unit {0}} layout write f c a b t u (Ok x)
   works_read f c m m' a b t u x reading h = record {
-    does = does_plain {A = Unit {0}} (LiesInStripe layout) (IsOfScrub layout) (λ i. writes_if write (f i)) m m' a b (Ok x) (λ range l. inr l) h.does;
+    does = h.does;
     counts = h.counts;
     synced = λ none. ap (λ (s : Seen). s.unsynced) (h.unwritten reading).same ∙ none;
+    stranded = ap (λ (s : Seen). s.never_synced) (h.unwritten reading).same;
     unwritten = h.unwritten;
   }
 
   -- .. or came to a halt
   pub works_halted : (f : Images → List Write) (c : Images → Tally → Tally) (m m' : List Bool) (a b : Seen) (t u : Tally) (e : MendFault) → Scrubs {A = Unit {0}} layout write f c m m' a b t u (Err e) → Works {A = Unit {0}} layout write f c a b t u (Err e)
   works_halted f c m m' a b t u e h = record {
-    does = does_plain {A = Unit {0}} (LiesInStripe layout) (IsOfScrub layout) (λ i. writes_if write (f i)) m m' a b (Err e) (λ range l. inr l) h.does;
+    does = h.does;
     counts = tt;
     synced = tt;
+    stranded = h.stranded;
     unwritten = h.unwritten;
   }
 
@@ -141,6 +111,7 @@ module _ (layout : Layout) (write : Bool) where
     does = recast (IsOfScrub layout) (λ i. writes_if write (f i)) (λ i. writes_if write (g i)) [] [] (plain a) (plain b) r (λ images e. ap (writes_if write) (same images e).0) h.does;
     counts = by r h.counts;
     synced = h.synced;
+    stranded = h.stranded;
     unwritten = h.unwritten;
   }
     where
@@ -155,6 +126,7 @@ module _ (layout : Layout) (write : Bool) where
         (does_next (Unit {0}) (Unit {0}) (IsOfScrub layout) (λ i. writes_if write (f i)) (λ i. writes_if write (g i)) [] [] [] (plain a) (plain b) (plain z) x r (λ images e. ap (writes_if write) (same images e).0) h.does k.does);
     counts = by r k.counts;
     synced = waits r k.synced;
+    stranded = subst (λ never. Strands never z.never_synced r) h.stranded k.stranded;
     unwritten = λ w. reads_more (h.unwritten w) (k.unwritten w);
   }
     where
@@ -175,6 +147,7 @@ module _ (layout : Layout) (write : Bool) where
         (does_cut (Unit {0}) (Unit {0}) (IsOfScrub layout) (λ i. writes_if write (f i)) (λ i. writes_if write (g i)) [] [] (plain a) (plain b) x h.does);
     counts = tt;
     synced = tt;
+    stranded = h.stranded;
     unwritten = h.unwritten;
   }
 
@@ -184,6 +157,7 @@ module _ (layout : Layout) (write : Bool) where
         (does_reads (IsOfScrub layout) [] (plain a) (plain a) tt (record { same = refl; later = omega arith; same_shut = refl }) (record { faults = refl; fresh = refl; missed = refl; last = refl; opening = refl; shut = refl }));
     counts = tell a.held (λ images. t ≡ t) (λ images e. refl);
     synced = λ none. none;
+    stranded = refl;
     unwritten = λ w. record { same = refl; later = omega arith; same_shut = refl };
   }
     where
@@ -342,7 +316,7 @@ can_mend_synced write a b store m n can only long =
       serves = serves_as a b store store slots (sync_held a b only) refl refl can.serves;
       room = can.room;
       writable = λ w. subst AreWritable (sym slots) (can.writable w);
-      slots = omega (arith, can.slots, ap length slots, long);
+      slots = long ∙ can.slots ∙ sym (ap length slots);
       table = can.table;
       given = can.given;
     }
@@ -357,5 +331,6 @@ works_nothing layout write f c a t = record {
   does = does_failed (IsOfScrub layout) (Unit {0}) (Unit {0}) (λ i. writes_if write (f i)) [] (plain a) (plain a) Memory (record { same = refl; later = omega arith; same_shut = refl }) (record { faults = refl; fresh = refl; missed = refl; last = refl; opening = refl; shut = refl });
   counts = tt;
   synced = tt;
+  stranded = refl;
   unwritten = λ w. record { same = refl; later = omega arith; same_shut = refl };
 }

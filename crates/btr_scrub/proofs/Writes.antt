@@ -1,8 +1,8 @@
 -- The writes of a full stripe lie in wrong elements.
-use Rattle.std.proofs.Common.{◌≡◌, ◌⊎◌, ℕ, ◌+◌, ◌*◌, ◌<◌, Bool, true, false, not, cond, ◌&&◌, ◌||◌, List, [], ◌∷◌, ◌++◌, map, length, slice_get, Option, Some, None, IsNone, IsSomeAnd, is_some, refl, sym, ap, ◌∙◌, subst, inl, inr, arith}
+use Rattle.std.proofs.Common.{◌≡◌, ◌⊎◌, ℕ, ◌+◌, ◌*◌, ◌<◌, Bool, true, false, not, ◌&&◌, ◌||◌, List, [], ◌∷◌, ◌++◌, map, length, slice_get, Option, Some, None, IsNone, IsSomeAnd, is_some, refl, sym, ap, ◌∙◌, subst, inl, inr, arith}
 use Rattle.std.proofs.lemmas.Bool.{false≢true, and_parts}
 use Rattle.std.proofs.lemmas.Option.{same_Some}
-use Rattle.std.specs.List.{filter, filter_map, cons_option, flat_map, list_any, range_with_len}
+use Rattle.std.specs.List.{filter_map, cons_option, flat_map, list_any, range_with_len}
 use Rattle.std.specs.Option.{option_map, option_map_or}
 use Rattle.btr_chunk.specs.Chunk.{IsChunk, mirror_count, mirrors}
 use Rattle.btr_chunk.specs.Mapping.{HasPart, place_at, place_on}
@@ -20,7 +20,7 @@ use Rattle.btr_rack.specs.declared.place.Place.{Place as Range}
 use Rattle.btr_read.specs.Candidates.{Target, range_of, size_of}
 use Rattle.btr_read.specs.Layout.{Layout, device_in}
 use Rattle.btr_read.proofs.Ones.{in_below}
-use Rattle.btr_mend.specs.Blocks.{accepted, bad_parts, block_writes, is_good, own_parts, written_over}
+use Rattle.btr_mend.specs.Blocks.{accepted, bad_parts, block_writes, is_good, is_sound, own_parts, written_over}
 use Rattle.btr_scrub.specs.Glue.{In}
 use Rattle.btr_scrub.specs.Repair.{covers}
 use Rattle.btr_scrub.specs.Right.{Committed, IsRight}
@@ -32,6 +32,7 @@ use Rattle.btr_scrub.proofs.Elements.{has_ranges}
 use Rattle.btr_scrub.proofs.Places.{covering}
 use Rattle.btr_scrub.proofs.Staying.{covered}
 use Rattle.btr_scrub.proofs.Wrong.{bad_block_is_wrong, differing_parity_is_wrong}
+use Rattle.btr_mend.proofs.Syncs.{passing_filter}
 use Rattle.btr_mend.specs.Writes.{Images, Write}
 
 -- ---- lists
@@ -68,15 +69,6 @@ any_filter_map f g (x ∷ xs) h = by (g x) refl h (any_filter_map f g xs)
             → (z : _) × In z (x ∷ xs) × ((y : _) × (g z ≡ Some y) × (f y ≡ true))
         or true t h rest = (x, inl refl, (y, e, t))
         or false t h rest = let r = rest h in (r.0, inr r.1, r.2)
-
-pub passing_filter : {X : Type 0} (p : X → Bool) (x : X) (xs : List X) → In x (filter p xs) → In x xs × (p x ≡ true)
-passing_filter p x [] h = absurd h
-passing_filter p x (y ∷ xs) h = by (p y) refl h (passing_filter p x xs)
-  where
-    by : (b : Bool) → p y ≡ b → In x (cond b (y ∷ filter p xs) (filter p xs)) → (In x (filter p xs) → In x xs × (p x ≡ true)) → In x (y ∷ xs) × (p x ≡ true)
-    by true e (inl same) rest = (inl same, ap p (sym same) ∙ e)
-    by true e (inr i) rest = let r = rest i in (inr r.0, r.1)
-    by false e i rest = let r = rest i in (inr r.0, r.1)
 
 not_good : (b : Bool) → not b ≡ true → b ≡ false
 not_good true e = absurd (false≢true e)
@@ -124,13 +116,13 @@ module _ (images : Images) (layout : Layout) (C : Committed) (blocks : List Targ
   of_block t None among pass h = absurd (false≢true h)
   of_block t (Some bytes) among pass h =
       let f = any_filter_map (λ (w : Write). covers slot off w.range) (λ q. option_map (λ range. record { range = range; bytes = bytes }) (range_of t q)) (bad_parts images t) h in
-      let bad = passing_filter (λ q. not (is_good images t q)) f.0 (own_parts t) f.1 in
+      let bad = passing_filter (λ q. not (is_sound images t q)) f.0 (own_parts t) f.1 in
       let q : part.Slice t.at.index ≡ f.0 = own_part t f.0 (sound.blocks t among).in_row.parity bad.0 in
       let w = f.2.0 in
       let m = mapped (λ range. record { range = range; bytes = bytes }) (range_of t f.0) w f.2.1 in
       let range : range_of t (part.Slice t.at.index) ≡ Some m.0 = ap (range_of t) q ∙ m.1 in
       let cover : covers slot off m.0 ≡ true = ap (λ (w : Write). covers slot off w.range) m.2 ∙ f.2.2 in
-      let fails : is_good images t (part.Slice t.at.index) ≡ false = ap (is_good images t) q ∙ not_good (is_good images t f.0) bad.1 in
+      let fails : is_good images t (part.Slice t.at.index) ≡ false = ap (is_sound images t) q ∙ not_good (is_sound images t f.0) bad.1 in
       let c = block_covers t m.0 among range cover in
       wrong_at (part.Slice t.at.index) c.0 c.1 (bad_block_is_wrong images layout C row t sound among pass fails)
 

@@ -10,6 +10,7 @@ pub mod Places
 pub mod Pages
 pub mod Listed
 pub mod Staying
+pub mod Keeping
 pub mod Gathering
 pub mod Extents
 pub mod Scanning

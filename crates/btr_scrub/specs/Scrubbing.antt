@@ -1,10 +1,10 @@
 -- Mending block by block and chunk by chunk: what was done, and what is counted.
-use Rattle.std.specs.Prelude.{◌≡◌, ◌⊎◌, ℕ, ◌+◌, ◌<◌, ◌≤◌, Bool, List, [], ◌∷◌, ◌++◌, length, Option, Some, None, is_none, slice_index_or, false, IsSome, IsSomeAnd, IsTrue, IfSome, OnOk, Result, slice_get, if◌then◌else◌}
+use Rattle.std.specs.Prelude.{◌≡◌, ℕ, ◌+◌, ◌<◌, ◌≤◌, Bool, List, [], ◌∷◌, ◌++◌, length, Option, Some, None, is_none, false, IsSome, IsSomeAnd, IsTrue, IfSome, OnOk, Result, slice_get, if◌then◌else◌}
 use Rattle.std.specs.List.{filter, flat_map, fold}
 use Rattle.btr_chunk.specs.Chunk.{mirrors}
 use Rattle.btr_chunk.specs.Table.{IsTable}
 use Rattle.btr_chunk.specs.declared.chunk.Chunk.{Chunk}
-use Rattle.btr_rack.specs.Rack.{OnlyReads, Seen, in_others}
+use Rattle.btr_rack.specs.Rack.{OnlyReads, Seen}
 use Rattle.btr_read.specs.Candidates.{Target}
 use Rattle.btr_read.specs.Layout.{Layout}
 use Rattle.btr_read.specs.Serves.{Serves}
@@ -13,7 +13,8 @@ use Rattle.btr_read.specs.Want.{addr_of}
 use Rattle.btr_read.specs.declared.want.Want.{Want}
 use Rattle.btr_mend.specs.Blocks.{block_writes}
 use Rattle.btr_mend.specs.Mending.{mended_of}
-use Rattle.btr_mend.specs.Writes.{AccountsMend, AreWritable, Does, Images, Write, writes_if}
+use Rattle.btr_mend.specs.Syncing.{AreMarked, IsSyncOr, Strands, plain}
+use Rattle.btr_mend.specs.Writes.{AreWritable, Does, Images, Write, writes_if}
 use Rattle.btr_mend.specs.declared.mended.MendFault.{MendFault}
 use Rattle.btr_mend.specs.declared.mended.Mended.{Mended}
 use Rattle.btr_rack.specs.declared.place.Place.{Place as Range}
@@ -56,13 +57,20 @@ pub record CanMend (write : Bool) (rack : Seen) (store : Blocks) (marks : List B
   pub serves : Serves rack store
   pub room : 2 ≤ free_count store
   pub writable : IsTrue write → AreWritable rack.slots
-  pub slots : length rack.slots ≤ length marks
+  pub slots : length marks ≡ length rack.slots
   pub table : IsTable store.layout.chunks
   pub given : first_missing store.layout ≡ None
 
--- Images were read and written: exactly the writes that follow from what they held, or those up to one that failed. What follows from what they held was counted.
+-- a call is one of scrub's own: a sync, or one in a stripe of a chunk
+abbrev pub IsOfScrub : Layout → Range → Type 0
+IsOfScrub layout = IsSyncOr (LiesInStripe layout)
+
+-- Images were read and written, and synced within a full stripe: exactly the writes that follow from what they held, or those up to a call that failed. What
+-- follows from what they held was counted. Where all that waited for a sync was marked, it is.
 pub record Scrubs {A : Type 0} (layout : Layout) (write : Bool) (writes : Images → List Write) (count : Images → Tally → Tally) (marks marks' : List Bool) (old new : Seen) (tally tally' : Tally) (result : Result A MendFault) : Type 0 where
-  pub does : Does (LiesInStripe layout) (λ images. writes_if write (writes images)) marks marks' old new result
+  pub does : Does (IsOfScrub layout) (λ images. writes_if write (writes images)) [] [] (plain old) (plain new) result
+  pub marked : AreMarked marks old.unsynced → AreMarked marks' new.unsynced
+  pub stranded : Strands old.never_synced new.never_synced result
   pub counts : OnOk result (IfSome old.held (λ images. tally' ≡ count images tally))
   pub unwritten : write ≡ false → OnlyReads old new
 
@@ -155,48 +163,19 @@ all_count_for layout write chunks wants images tally = fold (λ tally chunk. chu
 
 -- ---- with syncs
 
--- a call is one of scrub's own: a sync, or one in a stripe of a chunk
-abbrev pub IsOfScrub : Layout → Range → Type 0
-IsOfScrub layout range = (range.len ≡ 0) ⊎ LiesInStripe layout range
-
--- a rack, whatever waits for a sync
-abbrev pub plain : Seen → Seen
-plain rack = record rack { unsynced = [] }
-
 -- Images were read, written and synced: exactly the writes that follow from what they held, or those up to a call that failed. Where nothing waited for a
 -- sync nothing does.
 pub record Works {A : Type 0} (layout : Layout) (write : Bool) (writes : Images → List Write) (count : Images → Tally → Tally) (old new : Seen) (tally tally' : Tally) (result : Result A MendFault) : Type 0 where
   pub does : Does (IsOfScrub layout) (λ images. writes_if write (writes images)) [] [] (plain old) (plain new) result
   pub counts : OnOk result (IfSome old.held (λ images. tally' ≡ count images tally))
   pub synced : OnOk result (old.unsynced ≡ [] → new.unsynced ≡ [])
+  pub stranded : Strands old.never_synced new.never_synced result
   pub unwritten : write ≡ false → OnlyReads old new
 
 -- the same for the chunk of a number
 abbrev pub WorksChunk : {A : Type 0} → Layout → ℕ → Bool → (Chunk → Images → List Write) → (Chunk → Images → Tally → Tally) → Seen → Seen → Tally → Tally → Result A MendFault → Type 0
 WorksChunk layout number write writes count old new tally tally' result =
     (chunk : Chunk) → slice_get layout.chunks number ≡ Some chunk → Works layout write (writes chunk) (count chunk) old new tally tally' result
-
--- the images of the first n marks are synced: nothing waits for it any more there
-pub record AreSynced (marks : List Bool) (n : ℕ) (ranges left : List Range) : Type 0 where
-  pub among : (range : Range) → In range left → In range ranges × (range.slot < n → slice_index_or marks range.slot false ≡ false)
-
--- images were synced at most
-pub record OnlySyncs (old new : Seen) : Type 0 where
-  pub same : plain new ≡ record (plain old) { account = new.account }
-  pub later : old.account.faults ≤ new.account.faults
-  pub same_shut : new.account.shut ≡ old.account.shut
-
--- an image was synced, if it was to be
-pub record SyncsOne (marked : Bool) (slot : ℕ) (old new : Seen) (result : Result (Unit {0}) MendFault) : Type 0 where
-  pub only : OnlySyncs old new
-  pub account : AccountsMend (λ (range : Range). range.len ≡ 0) old new result
-  pub synced : OnOk result (new.unsynced ≡ (if marked then in_others slot old.unsynced else old.unsynced))
-
--- the marked images were synced, up to one that failed
-pub record SyncsMarked (marks : List Bool) (old new : Seen) (result : Result (Unit {0}) MendFault) : Type 0 where
-  pub only : OnlySyncs old new
-  pub account : AccountsMend (λ (range : Range). range.len ≡ 0) old new result
-  pub synced : OnOk result (AreSynced marks (length marks) old.unsynced new.unsynced)
 
 -- a buffer has room for each full stripe of the table
 abbrev pub HasRooms : Layout → RowBuffer → Type 0

@@ -3,6 +3,7 @@ ghost use Rattle.btr_scrub.specs.Survival.{BadBlockIsWrong, DifferingParityIsWro
 ghost use Rattle.btr_scrub.specs.Places.{ElementsApart};
 ghost use Rattle.btr_scrub.specs.Listed.{FewBytes};
 ghost use Rattle.btr_scrub.specs.Staying.{RightStays, RowOutlivesWrites, RowWritesAreWrong};
+ghost use Rattle.btr_scrub.specs.Keeping.{FirstTurnKeepsBlocks, SecondTurnKeepsBlocks};
 ghost use Rattle.btr_scrub.specs.Leaves.{WritesKeepTheRest};
 ghost use Rattle.btr_scrub.specs.Whole.{ListedCounts, ListedWrites, WorksKeepTheRest};
 ghost use Rattle.btr_scrub.specs.Glue.{SomeCandidateIsRight, BlockOfElement, PartStands, RowGivesBlocks};
@@ -95,4 +96,16 @@ pub fn works_keep_the_rest()
 /// The counts for a list of all checked blocks are the tally of the repair, but that each stands still at its type's end (`docs/FORMAT.md`, "The line of a scrub").
 pub fn listed_counts()
     ensures { ListedCounts }
+{}
+
+/// Where the blocks of a full stripe are being written, and none of that is known to be stored, each block that passes at its own place, or has a way that
+/// reads nothing of what is written, can be had, whatever stands in the ranges that wait for a sync (`docs/FORMAT.md`, "Full stripes").
+pub fn first_turn_keeps_blocks()
+    ensures { FirstTurnKeepsBlocks }
+{}
+
+/// Where they are stored, and the parities are being written, each block that could be had stands at its own place, whatever stands in the ranges that
+/// wait for a sync (`docs/FORMAT.md`, "Full stripes").
+pub fn second_turn_keeps_blocks()
+    ensures { SecondTurnKeepsBlocks }
 {}

@@ -22,7 +22,6 @@ mod reader;
 mod rowed;
 mod run;
 mod sectors;
-mod sync;
 mod tally;
 mod task;
 #[cfg(test)]
@@ -33,9 +32,10 @@ mod whole;
 pub use gathered::Gathered;
 pub use laws::{
     bad_block_is_wrong, block_of_element, differing_parity_is_wrong, elements_apart,
-    elements_are_slices, few_bytes, listed_counts, listed_writes, part_stands, right_stays,
-    row_gives_blocks, row_outlives_writes, row_survives, row_writes_are_wrong,
-    some_candidate_is_right, works_keep_the_rest, writes_keep_the_rest,
+    elements_are_slices, few_bytes, first_turn_keeps_blocks, listed_counts, listed_writes,
+    part_stands, right_stays, row_gives_blocks, row_outlives_writes, row_survives,
+    row_writes_are_wrong, second_turn_keeps_blocks, some_candidate_is_right, works_keep_the_rest,
+    writes_keep_the_rest,
 };
 pub use listed::Listed;
 pub use missing::missing_device;

@@ -8,10 +8,9 @@ ghost use Rattle.btr_scrub.specs.Scrubbing.{CanMend, ComesNext, HasRooms, Passes
 use crate::copied::mend_blocks;
 use crate::reader::Reader;
 use crate::rowed::{RowRoom, mend_rows};
-use crate::sync::sync_marked;
 use crate::tally::Tally;
 use crate::task::ChunkTask;
-use btr_mend::MendFault;
+use btr_mend::{MendFault, sync_marked};
 use btr_rack::Rack;
 use btr_read::Store;
 
@@ -64,12 +63,10 @@ fn mend_and_sync<R: Rack>(
     tally: &mut Tally,
 ) -> Result<(), MendFault>
     requires ready { CanMend task.write (R.seen rack.old) store.old marks.old }
-    requires marks { length marks.old ≡ length (R.seen rack.old).slots }
     requires nodesize { task.nodesize ≡ store.old.layout.setting.nodesize }
     requires rooms { HasRooms store.old.layout room.old.buffer }
     requires chunk { ComesNext store.old.layout task.number blocks.old }
     ensures ready { CanMend task.write (R.seen rack.new) store.new marks.new }
-    ensures slots { length (R.seen rack.new).slots ≡ length (R.seen rack.old).slots }
     ensures loans { SameLoans store.old store.new }
     ensures rooms { HasRooms store.old.layout room.new.buffer }
     ensures past { OnOk result (PassesChunk store.old.layout task.number blocks.old blocks.new) }
@@ -102,7 +99,6 @@ pub(crate) fn mend_all<R: Rack>(
     tally: &mut Tally,
 ) -> Result<(), MendFault>
     requires ready { CanMend write (R.seen rack.old) store.old marks.old }
-    requires marks { length marks.old ≡ length (R.seen rack.old).slots }
     requires nodesize { nodesize ≡ store.old.layout.setting.nodesize }
     requires rooms { HasRooms store.old.layout room.old.buffer }
     requires apart { AreApart store.old.layout 0 blocks.old }

@@ -6,6 +6,8 @@ mod copies;
 #[cfg(test)]
 mod damage;
 #[cfg(test)]
+mod differing;
+#[cfg(test)]
 mod laws;
 #[cfg(test)]
 mod lists;

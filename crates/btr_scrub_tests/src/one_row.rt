@@ -49,7 +49,7 @@ fn row_of_sector(addr: u64, sum: Sum, nodesize: u32, rack: &MemRack, store: &Sto
     }
 }
 
-// Mends the row of the first sector of data in the volume of a rack's open images, of which there are at most eight.
+// Mends the row of the first sector of data in the volume of a rack's open images, of which there are four.
 fn mended(alloc: Global, rack: &mut MemRack) -> Option<MendedRow>
     requires some { 0 < length (slots_of rack.old) }
     requires writable { AreWritable (slots_of rack.old) }
@@ -62,7 +62,7 @@ fn mended(alloc: Global, rack: &mut MemRack) -> Option<MendedRow>
     let Ok(mut buffer) = RowBuffer::new(alloc, 64) else {
         return None;
     };
-    if rack.count() > 8 {
+    if rack.count() != 4 {
         return None;
     }
     let wants = [Want::Sector { addr: ADDR, sum }];
@@ -73,7 +73,7 @@ fn mended(alloc: Global, rack: &mut MemRack) -> Option<MendedRow>
         rack,
         &mut volume.store,
         &mut buffer,
-        &mut [false; 8],
+        &mut [false; 4],
     ) {
         Ok(mended) => Some(mended),
         Err(_) => None,

@@ -2,15 +2,22 @@ use Rattle.std.proofs.Common.{◌≡◌, ◌+◌, cond, sym, ap, ◌∙◌, subs
 use Rattle.btr_rack.proofs.Reading.{reads_more}
 use Rattle.btr_read.specs.Fate.{sought}
 use Rattle.btr_read.proofs.Keeping.{none_more}
+use Rattle.btr_read.proofs.Lent.{stays_same}
 use Rattle.btr_read.proofs.ReadsOn.{same_held}
 use Rattle.btr_mend.specs.Mending.{AreBad}
 use Rattle.btr_mend.proofs.Copied.{same_loans_then}
 use Rattle.btr_mend.proofs.Firsts.{bad_more, cond_few}
+use Rattle.btr_mend.proofs.Outcomes.{same_block}
 use Rattle.btr_mend.proofs.finding.bad_copies.Goals as goal
+
+pub is_bad-requires-clause-live : goal.is_bad-requires-clause-live
+is_bad-requires-clause-live g c = stays_same c.args.store.now c.loop-mirror.store c.args.first.now.loan c.loop-mirror.invariant.same c.requires.live
 
 pub is_bad-requires-clause-first : goal.is_bad-requires-clause-first
 is_bad-requires-clause-first g c t images e told =
-    c.requires.first t images (sym (ap (λ l. sought l c.args.want.now) c.loop-mirror.invariant.same.layout) ∙ e) (sym (same_held c.loop-mirror.invariant.reads) ∙ told)
+    let same = c.loop-mirror.invariant.same in
+    let first = c.requires.first t images (sym (ap (λ l. sought l c.args.want.now) same.layout) ∙ e) (sym (same_held c.loop-mirror.invariant.reads) ∙ told) in
+    (first.0, same_block c.args.store.now c.loop-mirror.store c.args.first.now.loan same.loans ∙ first.1)
 
 pub loop-mirror-preserved : goal.loop-mirror-preserved
 loop-mirror-preserved g c =

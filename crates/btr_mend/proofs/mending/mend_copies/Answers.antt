@@ -15,17 +15,8 @@ pub mend_others-mended-requires-clause-first : goal.mend_others-mended-requires-
 mend_others-mended-requires-clause-first g c t images e told =
     let old = c.args.store.now in
     let lent = subst (λ v. LendsFirst c.args.want.now old c.first_good.new.store (Ok v)) c.in-Ok-Some.field-0-is c.in-Ok-Some.ensures.lent in
-    let found = subst (λ v. FindsFirst images t c.copies_of-copies.result c.first_good.new.store (Ok v)) c.in-Ok-Some.field-0-is
-    (c.in-Ok-Some.ensures.found t images (sym (ap (λ (l : Layout). sought l c.args.want.now) lent.layout) ∙ e) (sym (same_held c.in-Ok-Some.ensures.reads) ∙ told)) in
-    found.0
-
-pub mend_others-mended-requires-clause-bytes : goal.mend_others-mended-requires-clause-bytes
-mend_others-mended-requires-clause-bytes g c t images e told =
-    let old = c.args.store.now in
-    let lent = subst (λ v. LendsFirst c.args.want.now old c.first_good.new.store (Ok v)) c.in-Ok-Some.field-0-is c.in-Ok-Some.ensures.lent in
-    let found = subst (λ v. FindsFirst images t c.copies_of-copies.result c.first_good.new.store (Ok v)) c.in-Ok-Some.field-0-is
-    (c.in-Ok-Some.ensures.found t images (sym (ap (λ (l : Layout). sought l c.args.want.now) lent.layout) ∙ e) (sym (same_held c.in-Ok-Some.ensures.reads) ∙ told)) in
-    found.1
+    subst (λ v. FindsFirst images t c.first_good.new.store (Ok v)) c.in-Ok-Some.field-0-is
+    (c.in-Ok-Some.ensures.found t images (sym (ap (λ (l : Layout). sought l c.args.want.now) lent.layout) ∙ e) (sym (same_held c.in-Ok-Some.ensures.reads) ∙ told))
 
 pub returns-in-Err-clause-mends : goal.returns-in-Err-clause-mends
 returns-in-Err-clause-mends g c t e =
@@ -35,7 +26,7 @@ pub returns-in-Ok-None-clause-mends : goal.returns-in-Ok-None-clause-mends
 returns-in-Ok-None-clause-mends g c t e =
     mends_lost t c.args.write c.args.marks.now (g.R.Rack.seen c.args.rack.now) (g.R.Rack.seen c.first_good.new.rack) c.in-Ok-None.ensures.reads (c.in-Ok-None.ensures.account t e)
     c.copies_of-copies.result (c.copies_of-copies.ensures.copies t e) (λ k has. copy_stands c.args.store.now.layout c.args.want.now t k c.requires.copied e has)
-    (λ images told. subst (λ v. FindsFirst images t c.copies_of-copies.result c.first_good.new.store (Ok v)) c.in-Ok-None.field-0-is (c.in-Ok-None.ensures.found t images e told))
+    (λ images told. subst (λ v. FindsFirst images t c.first_good.new.store (Ok v)) c.in-Ok-None.field-0-is (c.in-Ok-None.ensures.found t images e told))
 
 pub returns-in-Ok-Some-clause-serves : goal.returns-in-Ok-Some-clause-serves
 returns-in-Ok-Some-clause-serves g c =

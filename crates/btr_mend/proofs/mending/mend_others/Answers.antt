@@ -20,8 +20,8 @@ returns-then-not-write-clause-mends g c t e =
     let layout = c.args.store.now.layout in
     let unwritten : c.args.write ≡ false = search rules in
     mends_read t c.args.write c.args.marks.now (g.R.Rack.seen c.args.rack.now) (g.R.Rack.seen c.bad_copies.new.rack) c.in-Ok.ensures.reads (c.in-Ok.ensures.account t e)
-    c.args.copies (c.requires.copies t e) (λ k has. copy_stands layout c.args.want.now t k c.requires.copied e has) c.args.first c.requires.below c.in-Ok.bad.flags c.in-Ok.bad.count
-    (λ images told. c.requires.first t images e told) (λ images told. c.in-Ok.ensures.bad t images e told) unwritten
+    c.args.copies (c.requires.copies t e) (λ k has. copy_stands layout c.args.want.now t k c.requires.copied e has) c.args.first.now.mirror c.requires.below c.in-Ok.bad.flags c.in-Ok.bad.count
+    (λ images told. (c.requires.first t images e told).0) (λ images told. c.in-Ok.ensures.bad t images e told) unwritten
 
 pub write_over-requires-clause-open : goal.write_over-requires-clause-open
 write_over-requires-clause-open g c =
@@ -39,29 +39,29 @@ returns-in-Err-write_over-clause-serves g c =
 pub returns-in-Ok-write_over-clause-mends : goal.returns-in-Ok-write_over-clause-mends
 returns-in-Ok-write_over-clause-mends g c t e =
     let old = c.args.store.now in
-    let loan = c.args.loan.now in
+    let loan = c.args.first.now.loan in
     let written : c.args.write ≡ true = search rules in
     let layout : c.forget_kept.new.self.layout ≡ old.layout = ap (λ (s : Blocks). s.layout) c.forget_kept.ensures ∙ c.in-Ok.ensures.same.layout in
     let loans = ap (λ (s : Blocks). s.loans) c.forget_kept.ensures ∙ c.in-Ok.ensures.same.loans in
     let bytes = has_bytes old loan c.requires.live in
     let block = same_block old c.forget_kept.new.self loan loans ∙ bytes.1 in
     mends_wrote t c.args.write c.args.marks.now (g.R.Rack.seen c.args.rack.now) (g.R.Rack.seen c.bad_copies.new.rack) c.in-Ok.ensures.reads (c.in-Ok.ensures.account t e)
-    c.args.copies (c.requires.copies t e) (λ k has. copy_stands old.layout c.args.want.now t k c.requires.copied e has) c.args.first c.requires.below c.in-Ok.bad.flags c.in-Ok.bad.count
-    (λ images told. c.requires.first t images e told) (λ images told. c.in-Ok.ensures.bad t images e told) written c.write_over.new.marks (g.R.Rack.seen c.write_over.new.rack) bytes.0
-    (λ images told. same_Some bytes.0 (element images t (Mirror c.args.first)) (sym bytes.1 ∙ c.requires.bytes t images e told))
+    c.args.copies (c.requires.copies t e) (λ k has. copy_stands old.layout c.args.want.now t k c.requires.copied e has) c.args.first.now.mirror c.requires.below c.in-Ok.bad.flags c.in-Ok.bad.count
+    (λ images told. (c.requires.first t images e told).0) (λ images told. c.in-Ok.ensures.bad t images e told) written c.write_over.new.marks (g.R.Rack.seen c.write_over.new.rack) bytes.0
+    (λ images told. same_Some bytes.0 (element images t (Mirror c.args.first.now.mirror)) (sym bytes.1 ∙ (c.requires.first t images e told).1))
     (c.in-Ok-write_over.ensures.writes t bytes.0 (ap (λ (l : Layout). sought l c.args.want.now) layout ∙ e) block)
 
 pub returns-in-Err-write_over-clause-mends : goal.returns-in-Err-write_over-clause-mends
 returns-in-Err-write_over-clause-mends g c t e =
     let old = c.args.store.now in
-    let loan = c.args.loan.now in
+    let loan = c.args.first.now.loan in
     let written : c.args.write ≡ true = search rules in
     let layout : c.forget_kept.new.self.layout ≡ old.layout = ap (λ (s : Blocks). s.layout) c.forget_kept.ensures ∙ c.in-Ok.ensures.same.layout in
     let loans = ap (λ (s : Blocks). s.loans) c.forget_kept.ensures ∙ c.in-Ok.ensures.same.loans in
     let bytes = has_bytes old loan c.requires.live in
     let block = same_block old c.forget_kept.new.self loan loans ∙ bytes.1 in
     mends_cut t c.args.write c.args.marks.now (g.R.Rack.seen c.args.rack.now) (g.R.Rack.seen c.bad_copies.new.rack) c.in-Ok.ensures.reads (c.in-Ok.ensures.account t e)
-    c.args.copies (c.requires.copies t e) (λ k has. copy_stands old.layout c.args.want.now t k c.requires.copied e has) c.args.first c.requires.below c.in-Ok.bad.flags c.in-Ok.bad.count
-    (λ images told. c.requires.first t images e told) (λ images told. c.in-Ok.ensures.bad t images e told) written c.write_over.new.marks (g.R.Rack.seen c.write_over.new.rack) bytes.0
-    (λ images told. same_Some bytes.0 (element images t (Mirror c.args.first)) (sym bytes.1 ∙ c.requires.bytes t images e told))
+    c.args.copies (c.requires.copies t e) (λ k has. copy_stands old.layout c.args.want.now t k c.requires.copied e has) c.args.first.now.mirror c.requires.below c.in-Ok.bad.flags c.in-Ok.bad.count
+    (λ images told. (c.requires.first t images e told).0) (λ images told. c.in-Ok.ensures.bad t images e told) written c.write_over.new.marks (g.R.Rack.seen c.write_over.new.rack) bytes.0
+    (λ images told. same_Some bytes.0 (element images t (Mirror c.args.first.now.mirror)) (sym bytes.1 ∙ (c.requires.first t images e told).1))
     c.in-Err-write_over.fault (c.in-Err-write_over.ensures.writes t bytes.0 (ap (λ (l : Layout). sought l c.args.want.now) layout ∙ e) block)

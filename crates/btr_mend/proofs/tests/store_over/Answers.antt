@@ -1,4 +1,4 @@
-use Rattle.std.proofs.Common.{◌≡◌, [], ◌∷◌, ◌++◌, subst, sym, ap, ◌∙◌}
+use Rattle.std.proofs.Common.{false, ◌≡◌, [], ◌∷◌, ◌++◌, subst, sym, ap, ◌∙◌}
 use Rattle.btr_rack.specs.Memory.{seen_of, slots_of}
 use Rattle.btr_read.specs.declared.device.Member.{Member}
 use Rattle.btr_read.specs.Layout.{AreOpen, HaveOwnSlots}
@@ -10,7 +10,7 @@ use Rattle.btr_mend.proofs.tests.store_over.Goals as goal
 pub returns-clause-serves : goal.returns-clause-serves
 returns-clause-serves c =
     let slots = slots_of c.args.rack.now in
-    let member : Member = record { devid = 1; device = record { slot = 0; len = c.len.result } } in
+    let member : Member = record { devid = 1; device = record { slot = 0; len = c.len.result; older = false } } in
     let added = c.in_ok-add_device.ensures.added in
     let devices : c.add_device.new.self.layout.devices ≡ member ∷ [] = ap (λ s. s.layout.devices) added ∙ ap (λ s. s.layout.devices ++ member ∷ []) c.in_ok-store.ensures in
     let are = open_more slots [] member (open_none slots) (record { slot = c.requires; len = sym c.len.ensures.len }) in

@@ -1,4 +1,4 @@
-use Rattle.std.proofs.Common.{◌≡◌, ◌+◌, ◌*◌, length, take, Some, None, IsNone, is_none, refl, sym, ap, ◌∙◌, subst, arith, length-take}
+use Rattle.std.proofs.Common.{◌≡◌, ◌+◌, ◌*◌, length, take, Some, None, IsNone, IsOkAnd, is_none, refl, sym, ap, ◌∙◌, subst, arith, length-take}
 use Rattle.std.proofs.lemmas.Option.{same_Some}
 use Rattle.std.specs.Option.{option_map_or}
 use Rattle.btr_chunk.specs.declared.place.Part.TheVariants.{Slice}
@@ -6,7 +6,8 @@ use Rattle.btr_rack.specs.Rack.{pasted}
 use Rattle.btr_read.specs.Candidates.{size_of}
 use Rattle.btr_read.specs.Want.{len_of}
 use Rattle.btr_read.proofs.Fates.{sought_of}
-use Rattle.btr_row.proofs.Held.{held, on_row}
+use Rattle.btr_row.specs.Memory.{IsSited}
+use Rattle.btr_row.proofs.Held.{held, on_row, sited}
 use Rattle.btr_row.proofs.judging.judge_block.Goals as goal
 
 some_none : {X : Type 0} (x : X) → Some x ≡ None → ⊥
@@ -18,6 +19,12 @@ accept-requires-clause-len c =
     let p = c.spot_of-spot.ensures w.target w.is_sought in
     let is = sought_of c.args.store.now.layout c.args.want.now w.target w.is_sought in
     p.len ∙ ap (λ s. len_of s w.target.want) is.setting_is ∙ ap (len_of c.args.store.now.layout.setting) is.want_is
+
+pub accept-requires-clause-placed : goal.accept-requires-clause-placed
+accept-requires-clause-placed c =
+    let w = c.requires.within in
+    let spot = c.spot_of-spot.result in
+    subst (λ r. IsOkAnd r (IsSited spot)) (sym w.is_sought) (sited c.args.store.now.layout c.args.stripe.now w.row w.of c.args.want.now w.target w.is_sought w.on spot (c.spot_of-spot.ensures w.target w.is_sought))
 
 pub returns-in-Some-clause-verdict : goal.returns-in-Some-clause-verdict
 returns-in-Some-clause-verdict c = λ images row t of holds e.

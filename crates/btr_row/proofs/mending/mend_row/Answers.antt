@@ -1,16 +1,14 @@
-use Rattle.std.proofs.Common.{◌≡◌, length, Option, Some, Ok, Err, refl, sym, ap, ◌∙◌, subst}
+use Rattle.std.proofs.Common.{◌≡◌, length, Some, Ok, Err, refl, sym, ap, ◌∙◌, subst}
 use Rattle.btr_read.specs.Layout.{AreOpen, Layout}
 use Rattle.btr_read.specs.Store.{Blocks}
 use Rattle.btr_read.proofs.ReadsOn.{open_still, same_held, same_slots}
 use Rattle.btr_read.proofs.Serving.{serves_as, serving}
-use Rattle.btr_mend.specs.Writes.{Does, Images}
+use Rattle.btr_mend.specs.Writes.{Images}
 use Rattle.btr_mend.proofs.Outcomes.{serves_forgot}
 use Rattle.std.specs.List.{sum_by}
-use Rattle.btr_row.specs.Rows.{Row, parities, parity_writes, row_writes}
-use Rattle.btr_row.specs.Mending.{IsOfRow, IsRowOf}
+use Rattle.btr_row.specs.Rows.{Row, parities, parity_writes}
 use Rattle.btr_row.specs.Memory.{IsStripeOf}
-use Rattle.btr_row.specs.Preparing.{IsPrepared, TellsRow}
-use Rattle.btr_row.specs.Writing.{told_writes}
+use Rattle.btr_row.specs.Preparing.{IsPrepared, WritesInTurn}
 use Rattle.btr_row.proofs.Outcomes.{mends_cut, mends_failed, mends_read, mends_wrote, room_all, row_of, tells_prepared}
 use Rattle.btr_row.proofs.mending.mend_row.Goals as goal
 
@@ -102,13 +100,13 @@ returns-in-Ok-write_row-clause-mends g c row is =
     let m = c.args.marks.now in
     let m' = c.write_row.new.marks in
     let prepared = λ (images : Images) (e : a.held ≡ Some images). c.in-Ok.ensures.prepared images row e of rows in
-    let writes = subst (λ (l : Layout). (told : Option Images) (row : Row) → IsStripeOf l stripe row → IsRowOf l stripe.chunk stripe.number c.args.wants.now row → TellsRow l row judged buffer told b.held → Does {A = Unit {0}} (IsOfRow l row) (λ i. told_writes (λ images. row_writes images l row) told) m m' b d (Ok tt)) same c.in-Ok-write_row.ensures.writes in
+    let turns = subst (λ (l : Layout). WritesInTurn {A = Unit {0}} l stripe c.args.wants.now judged buffer m m' b d (Ok tt)) same c.in-Ok-write_row.ensures.writes in
     let later = subst (λ (l : Layout). (images : Images) (row : Row) → IsPrepared images l row judged buffer → IsPrepared images l row judged c.write_row.new.buffer) same c.in-Ok-write_row.ensures.prepared in
     let of' : IsStripeOf c.forget_kept.new.self.layout stripe row = subst (λ l. IsStripeOf l stripe row) (sym same) of in
-    mends_wrote layout row c.args.write m a b c.prepare.ensures.reads (c.in-Ok.ensures.account row of) judged buffer prepared c.count_parities-in-Ok-write_row.result
+    mends_wrote layout row c.args.write m a b c.prepare.ensures.reads c.if-not-write.false m' d (c.in-Ok.ensures.account row of) judged buffer prepared c.count_parities-in-Ok-write_row.result
     (λ images e. subst (λ (l : Layout). c.count_parities-in-Ok-write_row.result ≡ sum_by (λ part. length (parity_writes images l row part)) (parities row.chunk.profile)) same
     (c.count_parities-in-Ok-write_row.ensures images row of' (subst (λ (l : Layout). IsPrepared images l row judged c.write_row.new.buffer) (sym same) (later images row (prepared images e)))))
-    c.if-not-write.false m' d (writes a.held row of rows (tells_prepared layout row judged buffer a b c.prepare.ensures.reads prepared))
+    (turns a.held row of rows (tells_prepared layout row judged buffer a b c.prepare.ensures.reads prepared))
 
 pub returns-in-Err-write_row-clause-mends : goal.returns-in-Err-write_row-clause-mends
 returns-in-Err-write_row-clause-mends g c row is =
@@ -126,5 +124,5 @@ returns-in-Err-write_row-clause-mends g c row is =
     let m' = c.write_row.new.marks in
     let prepared = λ (images : Images) (e : a.held ≡ Some images). c.in-Ok.ensures.prepared images row e of rows in
     let fault = c.in-Err-write_row.fault in
-    let writes = subst (λ (l : Layout). (told : Option Images) (row : Row) → IsStripeOf l stripe row → IsRowOf l stripe.chunk stripe.number c.args.wants.now row → TellsRow l row judged buffer told b.held → Does {A = Unit {0}} (IsOfRow l row) (λ i. told_writes (λ images. row_writes images l row) told) m m' b d (Err fault)) same c.in-Err-write_row.ensures.writes in
-    mends_cut layout row c.args.write m a b c.prepare.ensures.reads (c.in-Ok.ensures.account row of) c.if-not-write.false m' d fault (writes a.held row of rows (tells_prepared layout row judged buffer a b c.prepare.ensures.reads prepared))
+    let turns = subst (λ (l : Layout). WritesInTurn {A = Unit {0}} l stripe c.args.wants.now judged buffer m m' b d (Err fault)) same c.in-Err-write_row.ensures.writes in
+    mends_cut layout row c.args.write m a b c.prepare.ensures.reads c.if-not-write.false m' d (c.in-Ok.ensures.account row of) fault (turns a.held row of rows (tells_prepared layout row judged buffer a b c.prepare.ensures.reads prepared))

@@ -13,9 +13,9 @@ returns-in-Ok-clause-scrubs g c t e =
     let layout = c.args.store.now.layout in
     let a = g.R.Rack.seen c.args.rack.now in
     let b = g.R.Rack.seen c.mend_copies.new.rack in
-    scrubs_block layout c.args.write t c.args.marks.now c.mend_copies.new.marks a b c.args.tally.now c.counted.result c.in-Ok.mended
+    scrubs_block layout c.args.write t c.args.marks.now c.mend_copies.new.marks a b
     (λ range of. copy_in_stripe layout t range c.requires.ready.table (is_sought layout c.args.want.now t e) of)
-    (c.in-Ok.ensures.mends t e) c.counted.ensures
+    c.args.tally.now c.counted.result c.in-Ok.mended (c.in-Ok.ensures.mends t e) c.counted.ensures
 
 pub returns-in-Err-clause-ready : goal.returns-in-Err-clause-ready
 returns-in-Err-clause-ready g c =
@@ -27,6 +27,6 @@ returns-in-Err-clause-scrubs g c t e =
     let layout = c.args.store.now.layout in
     let a = g.R.Rack.seen c.args.rack.now in
     let b = g.R.Rack.seen c.mend_copies.new.rack in
-    scrubs_block_not layout c.args.write t c.args.marks.now c.mend_copies.new.marks a b c.args.tally.now c.in-Err.fault
+    scrubs_block_not layout c.args.write t c.args.marks.now c.mend_copies.new.marks a b
     (λ range of. copy_in_stripe layout t range c.requires.ready.table (is_sought layout c.args.want.now t e) of)
-    (c.in-Err.ensures.mends t e)
+    c.args.tally.now c.in-Err.fault (c.in-Err.ensures.mends t e)

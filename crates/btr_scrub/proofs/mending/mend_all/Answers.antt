@@ -14,7 +14,6 @@ use Rattle.btr_scrub.proofs.mending.mend_all.Goals as goal
 pub loop-number-init : goal.loop-number-init
 loop-number-init g c = record {
   ready = c.requires.ready;
-  marks = c.requires.marks;
   loans = record { layout = refl; loans = refl };
   rooms = c.requires.rooms;
   past = chunks_none c.args.store.now.layout c.requires.ready.table c.args.blocks.now c.args.write (g.R.Rack.seen c.args.rack.now) c.args.tally.now c.requires.apart;
@@ -22,9 +21,6 @@ loop-number-init g c = record {
 
 pub mend_and_sync-requires-clause-ready : goal.mend_and_sync-requires-clause-ready
 mend_and_sync-requires-clause-ready g c = c.loop-number.invariant.ready
-
-pub mend_and_sync-requires-clause-marks : goal.mend_and_sync-requires-clause-marks
-mend_and_sync-requires-clause-marks g c = c.loop-number.invariant.marks
 
 pub mend_and_sync-requires-clause-nodesize : goal.mend_and_sync-requires-clause-nodesize
 mend_and_sync-requires-clause-nodesize g c = c.requires.nodesize ∙ ap (λ (l : Layout). l.setting.nodesize) (sym c.loop-number.invariant.loans.layout)
@@ -75,7 +71,6 @@ loop-number-preserved g c =
     let past = subst (λ (l : Layout). (chunk : Chunk) → slice_get l.chunks c.loop-number.number ≡ Some chunk → IsPastChunk l chunk c.loop-number.blocks c.mend_and_sync.new.blocks) inv.loans.layout c.in-Ok.ensures.past at.0 at.1 in
     record {
       ready = c.in-Ok.ensures.ready;
-      marks = c.mend_and_sync.auto.marks ∙ inv.marks ∙ sym c.in-Ok.ensures.slots;
       loans = same_loans_then c.args.store.now c.loop-number.store c.mend_and_sync.new.store inv.loans c.in-Ok.ensures.loans;
       rooms = subst (λ (l : Layout). HasRooms l c.mend_and_sync.new.room.buffer) inv.loans.layout c.in-Ok.ensures.rooms;
       past = chunks_more layout table c.args.blocks.now c.loop-number.number at.0 at.1 c.args.write c.loop-number.blocks c.mend_and_sync.new.blocks a b z c.args.tally.now c.loop-number.tally c.mend_and_sync.new.tally inv.past

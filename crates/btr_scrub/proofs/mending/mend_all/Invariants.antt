@@ -1,4 +1,3 @@
-use Rattle.std.proofs.Common.{◌≡◌, length}
 use Rattle.btr_read.specs.Store.{SameLoans}
 use Rattle.btr_scrub.specs.Scrubbing.{CanMend, HasRooms}
 use Rattle.btr_scrub.proofs.Working.{ChunksPast}
@@ -7,7 +6,6 @@ use Rattle.btr_scrub.proofs.mending.mend_all.Given as goal
 abbrev pub invariant-loop-number : goal.invariant-loop-number
 invariant-loop-number g l = record {
   ready : CanMend l.write (g.R.Rack.seen l.rack) l.store l.marks;
-  marks : length l.marks ≡ length (g.R.Rack.seen l.rack).slots;
   loans : SameLoans l.initial.store l.store;
   rooms : HasRooms l.initial.store.layout l.room.buffer;
   past : ChunksPast l.initial.store.layout l.initial.blocks l.write l.blocks l.number (g.R.Rack.seen l.initial.rack) (g.R.Rack.seen l.rack) l.initial.tally l.tally;

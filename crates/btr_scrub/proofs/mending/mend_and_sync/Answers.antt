@@ -1,24 +1,10 @@
-use Rattle.std.proofs.Common.{◌≡◌, true, false, length, slice_get, sym, ap, ◌∙◌, rules}
-use Rattle.btr_mend.proofs.Doing.{only_slots}
-use Rattle.btr_scrub.specs.Order.{AreApart}
+use Rattle.std.proofs.Common.{◌≡◌, true, false, rules}
 use Rattle.btr_scrub.specs.Scrubbing.{chunk_count_for, chunk_writes_for}
-use Rattle.btr_scrub.proofs.Syncs.{sync_slots}
-use Rattle.btr_scrub.proofs.Working.{can_mend_synced, some_and, works_halted, works_read, works_synced}
+use Rattle.btr_scrub.proofs.Working.{can_mend_synced, works_halted, works_read, works_synced}
 use Rattle.btr_scrub.proofs.mending.mend_and_sync.Goals as goal
 
 pub sync_marked-requires : goal.sync_marked-requires
-sync_marked-requires g c =
-    let layout = c.args.store.now.layout in
-    let at = some_and (slice_get layout.chunks c.args.task.number) (λ chunk. AreApart layout chunk.start c.args.blocks.now) c.requires.chunk in
-    let does = (c.in-Ok.ensures.scrubs at.0 at.1).does in
-    c.mend_chunk.auto.marks ∙ c.requires.marks ∙ sym (ap length (only_slots does.ranges does.only))
-
-pub returns-then-not-task-clause-slots : goal.returns-then-not-task-clause-slots
-returns-then-not-task-clause-slots g c =
-    let layout = c.args.store.now.layout in
-    let at = some_and (slice_get layout.chunks c.args.task.number) (λ chunk. AreApart layout chunk.start c.args.blocks.now) c.requires.chunk in
-    let does = (c.in-Ok.ensures.scrubs at.0 at.1).does in
-    ap length (only_slots does.ranges does.only)
+sync_marked-requires g c = c.in-Ok.ensures.ready.slots
 
 pub returns-then-not-task-clause-works : goal.returns-then-not-task-clause-works
 returns-then-not-task-clause-works g c chunk there =
@@ -31,26 +17,12 @@ pub returns-clause-ready : goal.returns-clause-ready
 returns-clause-ready g c =
     can_mend_synced c.args.task.write (g.R.Rack.seen c.mend_chunk.new.rack) (g.R.Rack.seen c.sync_marked.new.rack) c.mend_chunk.new.store c.mend_chunk.new.marks c.sync_marked.new.marks c.in-Ok.ensures.ready c.sync_marked.ensures.only c.sync_marked.auto.marks
 
-pub returns-clause-slots : goal.returns-clause-slots
-returns-clause-slots g c =
-    let layout = c.args.store.now.layout in
-    let at = some_and (slice_get layout.chunks c.args.task.number) (λ chunk. AreApart layout chunk.start c.args.blocks.now) c.requires.chunk in
-    let does = (c.in-Ok.ensures.scrubs at.0 at.1).does in
-    ap length (sync_slots (g.R.Rack.seen c.mend_chunk.new.rack) (g.R.Rack.seen c.sync_marked.new.rack) c.sync_marked.ensures.only ∙ only_slots does.ranges does.only)
-
 pub returns-clause-works : goal.returns-clause-works
 returns-clause-works g c chunk there =
     let layout = c.args.store.now.layout in
     let written : c.args.task.write ≡ true = search rules in
-    works_synced layout c.args.task.write (chunk_writes_for layout chunk c.args.blocks.now) (chunk_count_for layout c.args.task.write chunk c.args.blocks.now) c.args.marks.now c.mend_chunk.new.marks
+    works_synced layout c.args.task.write (chunk_writes_for layout chunk c.args.blocks.now) (chunk_count_for layout c.args.task.write chunk c.args.blocks.now) c.args.marks.now c.mend_chunk.new.marks c.sync_marked.new.marks
     (g.R.Rack.seen c.args.rack.now) (g.R.Rack.seen c.mend_chunk.new.rack) (g.R.Rack.seen c.sync_marked.new.rack) c.args.tally.now c.mend_chunk.new.tally tt c.sync_marked.result written (c.in-Ok.ensures.scrubs chunk there) c.sync_marked.ensures
-
-pub returns-in-Err-clause-slots : goal.returns-in-Err-clause-slots
-returns-in-Err-clause-slots g c =
-    let layout = c.args.store.now.layout in
-    let at = some_and (slice_get layout.chunks c.args.task.number) (λ chunk. AreApart layout chunk.start c.args.blocks.now) c.requires.chunk in
-    let does = (c.in-Err.ensures.scrubs at.0 at.1).does in
-    ap length (only_slots does.ranges does.only)
 
 pub returns-in-Err-clause-works : goal.returns-in-Err-clause-works
 returns-in-Err-clause-works g c chunk there =

@@ -18,12 +18,12 @@ returns-in-Ok-clause-scrubs g c r is =
     let layout = c.args.store.now.layout in
     let here = subst (λ ws. IsRowOf layout c.args.at.chunk c.args.at.number ws r) (sym c.deref.ensures.value) is in
     let number : c.len.result ≡ length r.blocks = c.len.ensures ∙ sym c.deref.ensures.len ∙ ap length c.deref.ensures.value ∙ as_many layout c.args.at.chunk c.args.at.number c.args.room.now.wants.items r is in
-    scrubs_row layout c.args.write r c.args.marks.now c.mend_row.new.marks (g.R.Rack.seen c.args.rack.now) (g.R.Rack.seen c.mend_row.new.rack) c.args.tally.now c.counted_row.result c.in-Ok.mended
-    (λ range of. row_in_stripe layout c.args.at.chunk c.args.at.number r range c.requires.ready.table is.stripe of) (c.in-Ok.ensures.mends r here) (c.counted_row.ensures ∙ ap (λ n. counted_row c.args.tally.now n c.in-Ok.mended) number)
+    scrubs_row layout c.args.write r c.args.marks.now c.mend_row.new.marks (g.R.Rack.seen c.args.rack.now) (g.R.Rack.seen c.mend_row.new.rack)
+    (λ range of. row_in_stripe layout c.args.at.chunk c.args.at.number r range c.requires.ready.table is.stripe of) c.args.tally.now c.counted_row.result c.in-Ok.mended (c.in-Ok.ensures.mends r here) (c.counted_row.ensures ∙ ap (λ n. counted_row c.args.tally.now n c.in-Ok.mended) number)
 
 pub returns-in-Err-clause-scrubs : goal.returns-in-Err-clause-scrubs
 returns-in-Err-clause-scrubs g c r is =
     let layout = c.args.store.now.layout in
     let here = subst (λ ws. IsRowOf layout c.args.at.chunk c.args.at.number ws r) (sym c.deref.ensures.value) is in
-    scrubs_row_not layout c.args.write r c.args.marks.now c.mend_row.new.marks (g.R.Rack.seen c.args.rack.now) (g.R.Rack.seen c.mend_row.new.rack) c.args.tally.now c.in-Err.fault
-    (λ range of. row_in_stripe layout c.args.at.chunk c.args.at.number r range c.requires.ready.table is.stripe of) (c.in-Err.ensures.mends r here)
+    scrubs_row_not layout c.args.write r c.args.marks.now c.mend_row.new.marks (g.R.Rack.seen c.args.rack.now) (g.R.Rack.seen c.mend_row.new.rack)
+    (λ range of. row_in_stripe layout c.args.at.chunk c.args.at.number r range c.requires.ready.table is.stripe of) c.args.tally.now c.in-Err.fault (c.in-Err.ensures.mends r here)

@@ -1,6 +1,6 @@
 use Rattle.std.proofs.Common.{◌+◌, ◌-◌, arith}
 use Rattle.btr_read.proofs.InOrder.{pair_at, others_below, others_above}
-use Rattle.btr_row.proofs.accepting.candidate_at.Goals as goal
+use Rattle.btr_row.proofs.accepting.way_of.Goals as goal
 
 pub returns-then-other-index-clause-two : goal.returns-then-other-index-clause-two
 returns-then-other-index-clause-two c = λ slices lt below.

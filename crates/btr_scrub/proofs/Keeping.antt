@@ -1,0 +1,486 @@
+-- Wherever the mending of a full stripe is cut short, its blocks can be had.
+use Rattle.std.proofs.Common.{◌≡◌, ◌⊎◌, ℕ, ◌+◌, ◌-◌, ◌*◌, ◌<◌, ◌≤◌, Bool, true, false, not, cond, ◌&&◌, ◌||◌, List, [], ◌∷◌, length, get_or, slice_range, slice_get, All, Option, Some, None, IsSome, is_some, IsNone, IsSomeAnd, refl, sym, ap, ◌∙◌, subst, inl, inr, arith}
+use Rattle.std.proofs.lemmas.Bool.{cases_lt, false≢true}
+use Rattle.std.proofs.lemmas.List.{get_or_past, get_or-set_same}
+use Rattle.std.proofs.lemmas.Option.{same_Some}
+use Rattle.std.specs.List.{Contains, flat_map, fold, list_any}
+use Rattle.std.specs.Option.{option_map_or}
+use Rattle.btr_chunk.specs.Chunk.{data_count, mirrors, stripe_length}
+use Rattle.btr_chunk.specs.Mapping.{IsPosition}
+use Rattle.btr_chunk.specs.declared.chunk.Chunk.{Chunk}
+use Rattle.btr_chunk.specs.declared.place.Part.{Part}
+use Rattle.btr_chunk.specs.declared.place.Part.TheVariants.{Mirror, Slice, P, Q}
+use Rattle.btr_chunk.proofs.Bytes.{IsPosition-position}
+use Rattle.btr_chunk.proofs.Rows.{without_copies}
+use Rattle.btr_rack.specs.Rack.{bytes_of, image_of, pasted, range_in}
+use Rattle.btr_rack.specs.declared.place.Place.{Place as Range}
+use Rattle.btr_read.specs.Candidates.{Target, candidates, copies, element, parts_read, range_of, rebuilt, size_of, slice_count, stands, value_of, ways}
+use Rattle.btr_read.specs.Candidates as read
+use Rattle.btr_read.specs.Fate.{passing}
+use Rattle.btr_read.specs.Layout.{Layout}
+use Rattle.btr_read.specs.Want.{addr_of, passes}
+use Rattle.btr_read.specs.declared.candidate.Candidate.{Candidate}
+use Rattle.btr_read.specs.declared.candidate.Candidate.TheVariants.{Read}
+use Rattle.btr_read.specs.declared.want.Want.{Want}
+use Rattle.btr_read.proofs.Order.{in_candidates}
+use Rattle.btr_read.proofs.Trials.{fails_where_none}
+use Rattle.btr_read.proofs.Values.{value_by_ranges}
+use Rattle.btr_mend.specs.Blocks.{accepted, block_writes, is_good}
+use Rattle.btr_mend.specs.Writes.{AreAmong, Images, IsStopped, Write, ranges_of, write_on}
+use Rattle.btr_mend.proofs.Syncs.{passing_filter}
+use Rattle.btr_row.specs.Rows.{Row, parities, parities_writes, parity_writes, range_in_element, rebuilt_writes}
+use Rattle.btr_row.proofs.Judges.{writes_one, written_at}
+use Rattle.btr_row.proofs.Pasted.{at_range, length-pasted, pasted-within, range_pasted}
+use Rattle.btr_scrub.specs.Devices.{HaveLengths}
+use Rattle.btr_scrub.specs.Glue.{In, IsInRow, LiesInRow}
+use Rattle.btr_scrub.specs.Keeping.{FillsPlace, FirstTurnKeepsBlocks, HasWayBeside, IsHad, IsRowAmong, SecondTurnKeepsBlocks, Withstands}
+use Rattle.btr_scrub.specs.Leaves.{KeepsOutside}
+use Rattle.btr_scrub.specs.Order.{targets}
+use Rattle.btr_scrub.specs.Places.{IsOfElement}
+use Rattle.btr_scrub.specs.Repair.{byte_at, covers, is_in_row}
+use Rattle.btr_scrub.proofs.AcrossChunks.{OfRows, row_is}
+use Rattle.btr_scrub.proofs.Blockwise.{fold_append}
+use Rattle.btr_scrub.proofs.CopyWrites.{element_is, is_there, long_element, same_element}
+use Rattle.btr_scrub.proofs.Elements.{HasRanges, has_ranges}
+use Rattle.btr_scrub.proofs.InWrong.{of_filter_map}
+use Rattle.btr_scrub.proofs.Outliving.{same_block}
+use Rattle.btr_scrub.proofs.Outside.{left_short, right_short, stopped_keeps}
+use Rattle.btr_scrub.proofs.Places.{covering, elements_apart}
+use Rattle.btr_scrub.proofs.RowAgreeing.{parity_has}
+use Rattle.btr_scrub.proofs.RowWrites.{IsBlockOf, block_byte, has_own, in_one_element, row_short, written_parity}
+use Rattle.btr_scrub.proofs.Shorts.{Short, block_short, shorts_keep}
+use Rattle.btr_scrub.proofs.Some.{in_of}
+use Rattle.btr_scrub.proofs.SoundRows.{address_is}
+use Rattle.btr_scrub.proofs.Staying.{covered, range_same}
+use Rattle.btr_scrub.proofs.Survival.{of_filter, some_of}
+use Rattle.btr_scrub.proofs.Writes.{any_flat, any_map}
+
+-- ---- images that differ in ranges
+
+any_is : {X : Type 0} (f : X → Bool) (xs : List X) → list_any f xs ≡ true → (x : X) × In x xs × (f x ≡ true)
+any_is f [] h = absurd (false≢true h)
+any_is f (x ∷ xs) h = by (f x) refl h (any_is f xs)
+  where
+    by : (b : Bool) → f x ≡ b → (b || list_any f xs) ≡ true → (list_any f xs ≡ true → (y : _) × In y xs × (f y ≡ true)) → (y : _) × In y (x ∷ xs) × (f y ≡ true)
+    by true e h rest = (x, inl refl, e)
+    by false e h rest = let r = rest h in (r.0, inr r.1, r.2)
+
+is_any : {X : Type 0} (f : X → Bool) (x : X) (xs : List X) → In x xs → f x ≡ true → list_any f xs ≡ true
+is_any f x [] i e = absurd i
+is_any f x (y ∷ xs) (inl same) e = ap (λ b. b || list_any f xs) (ap f same ∙ e)
+is_any f x (y ∷ xs) (inr i) e = by (f y) (is_any f x xs i e)
+  where
+    by : (b : Bool) → list_any f xs ≡ true → (b || list_any f xs) ≡ true
+    by true h = refl
+    by false h = h
+
+covers_more : (slot off : ℕ) (rs qs : List Range) → AreAmong rs qs → list_any (covers slot off) rs ≡ true → list_any (covers slot off) qs ≡ true
+covers_more slot off rs qs among h = let a = any_is (covers slot off) rs h in is_any (covers slot off) a.0 qs (among a.0 a.1) a.2
+
+none_fewer : (slot off : ℕ) (rs qs : List Range) → AreAmong rs qs → list_any (covers slot off) qs ≡ false → list_any (covers slot off) rs ≡ false
+none_fewer slot off rs qs among none = by (list_any (covers slot off) rs) refl
+  where
+    by : (b : Bool) → list_any (covers slot off) rs ≡ b → list_any (covers slot off) rs ≡ false
+    by false e = e
+    by true e = absurd (false≢true (sym none ∙ covers_more slot off rs qs among e))
+
+-- images that differ in some ranges, and then again
+keeps_then : (rs qs : List Range) (a b c : Images) → AreAmong qs rs → KeepsOutside rs a b → KeepsOutside qs b c → KeepsOutside rs a c
+keeps_then rs qs a b c among one two = record {
+  count = two.count ∙ one.count;
+  lengths = λ slot. two.lengths slot ∙ one.lengths slot;
+  bytes = λ slot off none. two.bytes slot off (none_fewer slot off qs rs among none) ∙ one.bytes slot off none;
+}
+
+lengths_after : (layout : Layout) (rs : List Range) (a b : Images) → KeepsOutside rs a b → HaveLengths a layout → HaveLengths b layout
+lengths_after layout rs a b keeps have devid device e = keeps.lengths device.slot ∙ have devid device e
+
+short_after : (images now : Images) (ws : List Write) → ((slot : ℕ) → length (image_of now slot) ≡ length (image_of images slot)) → All (Short images) ws → All (Short now) ws
+short_after images now ws same all i d lt = let s = all i d lt in record { short = s.short; within = omega (arith, s.within, same (get_or ws i d).range.slot) }
+
+-- ---- a block that can be had
+
+-- a candidate that passes
+had_by : (images : Images) (t : Target) (c : Candidate) → In c (candidates t) → stands t c ≡ true → passes t.setting t.want (value_of images t c) ≡ true → IsHad images t
+had_by images t c i stand pass = by (passing images t) refl
+  where
+    by : (xs : List (List ℕ)) → passing images t ≡ xs → IsSome (slice_get (passing images t) 0)
+    by [] e = absurd (false≢true (sym (fails_where_none images t c e i stand) ∙ pass))
+    by (x ∷ xs) e = ap (λ ys. is_some (slice_get ys 0)) e
+
+head_in : (xs : List (List ℕ)) (x : List ℕ) → slice_get xs 0 ≡ Some x → In x xs
+head_in [] x e = cc
+head_in (y ∷ xs) x e = inl (same_Some y x e)
+
+accepted_passes : (images : Images) (t : Target) (bytes : List ℕ) → accepted images t ≡ Some bytes → passes t.setting t.want bytes ≡ true
+accepted_passes images t bytes e = (passing_filter (passes t.setting t.want) bytes (read.readings images t) (head_in (passing images t) bytes e)).1
+
+-- ---- bytes behind a write
+
+byte_written : (images : Images) (slot off : ℕ) (bytes : List ℕ) (k : ℕ) → off + length bytes ≤ length (image_of images slot) → k < length bytes
+    → byte_at (write_on images (written_at (range_in slot off (length bytes)) bytes)) slot (off + k) ≡ get_or bytes k 0
+byte_written images slot off bytes k fits below = elim (cases_lt slot (length images)) [
+  | inl lt ↦
+      let image = image_of images slot in
+      ap (λ xs. get_or xs (off + k) 0) (get_or-set_same images slot (pasted image off bytes) [] lt)
+      ∙ pasted-within image off bytes fits (off + k) 0 (omega arith) (omega (arith, below))
+      ∙ ap (λ j. get_or bytes j 0) (omega arith)
+  | inr past ↦ absurd (nothing (ap length (get_or_past images slot [] past)))
+]
+  where
+    nothing : length (image_of images slot) ≡ 0 → ⊥
+    nothing none = omega (arith, none, fits, below)
+
+same_address : (one other base base' rest rest' off from from' : ℕ) → one ≡ base + rest → other ≡ base' + rest' → base ≡ base' → from ≡ from' → from + rest ≤ off → from' + rest' ≤ off
+    → one + (off - (from + rest)) ≡ other + (off - (from' + rest'))
+same_address one other base base' rest rest' off from from' a b same begin le le' = omega (arith, a, b, same, begin, le, le')
+
+abbrev index_in : Part → ℕ
+index_in (Mirror i) = i
+index_in (Slice i) = i
+index_in P = 0
+index_in Q = 0
+
+abbrev is_slice : Part → Bool
+is_slice (Mirror i) = false
+is_slice (Slice i) = true
+is_slice P = false
+is_slice Q = false
+
+-- ---- a full stripe
+
+module _ (images : Images) (layout : Layout) (wants : List Want) (row : Row) (here : IsRowAmong images layout wants row) where
+  abbrev ts : List Target
+  ts = targets layout wants
+
+  inside : row.number * 65536 + 65536 ≤ stripe_length row.chunk
+  inside = omega (arith, here.is_row.position.inside)
+
+  of : OfRows layout here.table here.own_slots here.given here.is_row.number row.chunk here.is_row.there wants row
+  of = subst (OfRows layout here.table here.own_slots here.given here.is_row.number row.chunk here.is_row.there wants) (sym here.is_row.made)
+      (row_is layout here.table here.own_slots here.given here.is_row.number row.chunk here.is_row.there wants row.number here.is_row.parity inside)
+
+  among : (t : Target) → In t row.blocks → In t ts
+  among t i = of_filter (is_in_row row.chunk row.number) t ts (subst (λ (r : Row). In t r.blocks) here.is_row.made i)
+
+  rebuilt_short : All (Short images) (rebuilt_writes images layout row)
+  rebuilt_short = left_short images (rebuilt_writes images layout row) (parities_writes images layout row) (row_short layout row here.table of.is images here.lengths of.blocks)
+
+  parities_short : All (Short images) (parities_writes images layout row)
+  parities_short = right_short images (rebuilt_writes images layout row) (parities_writes images layout row) (row_short layout row here.table of.is images here.lengths of.blocks)
+
+  abbrev after : Images
+  after = fold write_on images (rebuilt_writes images layout row)
+
+  rebuilt_keeps : KeepsOutside (ranges_of (rebuilt_writes images layout row)) images after
+  rebuilt_keeps = shorts_keep images (rebuilt_writes images layout row) rebuilt_short
+
+  -- ---- one block, and where it lies
+
+  module _ (t : Target) (i : In t row.blocks) where
+    block : IsBlockOf layout row t
+    block = of.blocks t i
+
+    no_copies : mirrors t.chunk ≡ None
+    no_copies = ap mirrors block.chunk ∙ here.is_row.parity
+
+    in_row : IsInRow t
+    in_row =
+        let rule = (here.table.sound block.is.number t.chunk block.is.there).0 in
+        record { keeps_rule = rule; position = subst (IsPosition t.chunk) (sym block.is.at) (IsPosition-position t.chunk (addr_of t.want) rule block.is.held); parity = no_copies }
+
+    lies : LiesInRow layout row t
+    lies = record { chunk = block.chunk; number = block.number; devices = block.is.devices; inside = in_one_element layout t block.is no_copies }
+
+    own : HasRanges images layout row t (Slice t.at.index)
+    own = has_ranges images layout row t (Slice t.at.index) in_row lies (subst IsNone (sym no_copies) refl, in_row.position.index)
+        (of.is.stand (Slice t.at.index) (has_own layout row here.table of.is t block))
+
+    abbrev place : Range
+    place = range_in own.slot (own.off + t.at.rest) (size_of t)
+
+    place_is : range_of t (Slice t.at.index) ≡ Some place
+    place_is = own.block
+
+    own_stands : IsSome (range_of t (Slice t.at.index))
+    own_stands = ap is_some own.block
+
+    place_within : own.off + t.at.rest + size_of t ≤ length (image_of images own.slot)
+    place_within =
+        let there = is_there images layout t (Slice t.at.index) place here.lengths block.is own.block in
+        let slot : own.slot ≡ there.device.slot = ap (λ (r : Range). r.slot) there.is in
+        let off = ap (λ (r : Range). r.off) there.is in
+        omega (arith, there.within, off, ap (λ s. length (image_of images s)) slot)
+
+    own_candidate : In (Read (Slice t.at.index)) (candidates t)
+    own_candidate = in_candidates t (Read (Slice t.at.index)) (subst (In (Read (Slice t.at.index))) (sym ways_are) (elim (without_copies t.chunk.profile (length t.chunk.stripes) no_copies) [
+      | inl five ↦ subst (λ p. In (Read (Slice t.at.index)) (rebuilt p (slice_count t) t.at.index)) (sym five) (inl refl)
+      | inr six ↦ subst (λ p. In (Read (Slice t.at.index)) (rebuilt p (slice_count t) t.at.index)) (sym six) (inl refl)
+    ]))
+      where
+        ways_are : ways t ≡ rebuilt t.chunk.profile (slice_count t) t.at.index
+        ways_are = ap (λ o. option_map_or copies o (rebuilt t.chunk.profile (slice_count t) t.at.index)) no_copies
+
+    -- a byte of it is of its element
+    own_byte : (slot off : ℕ) → covers slot off place ≡ true → IsOfElement layout row (Slice t.at.index) slot off
+    own_byte slot off c = block_byte layout row here.table of.is t (Slice t.at.index) slot off block (has_own layout row here.table of.is t block)
+        (subst (λ o. IsSomeAnd o (λ range. covers slot off range ≡ true)) (sym own.block) c)
+
+    -- what is written for it
+    writes_are : block_writes images t ≡ option_map_or (λ bytes. cond (not (is_good images t (Slice t.at.index))) (written_at place bytes ∷ []) []) (accepted images t) []
+    writes_are = writes_one images t no_copies place own.block
+
+    -- lies in its place
+    written_there : (slot off : ℕ) → list_any (covers slot off) (ranges_of (block_writes images t)) ≡ true → covers slot off place ≡ true
+    written_there slot off h = by (accepted images t) (not (is_good images t (Slice t.at.index))) (subst (λ ws. list_any (covers slot off) (ranges_of ws) ≡ true) writes_are h)
+      where
+        first : (b : Bool) → (b || false) ≡ true → b ≡ true
+        first true e = refl
+        first false e = e
+
+        by : (o : Option (List ℕ)) (b : Bool) → list_any (covers slot off) (ranges_of (option_map_or (λ bytes. cond b (written_at place bytes ∷ []) []) o [])) ≡ true → covers slot off place ≡ true
+        by None b h = absurd (false≢true h)
+        by (Some bytes) true h = first (covers slot off place) h
+        by (Some bytes) false h = absurd (false≢true h)
+
+    -- where it passes nothing is
+    good_unwritten : is_good images t (Slice t.at.index) ≡ true → block_writes images t ≡ []
+    good_unwritten good = writes_are ∙ ap (λ b. option_map_or (λ bytes. cond (not b) (written_at place bytes ∷ []) []) (accepted images t) []) good ∙ by (accepted images t)
+      where
+        by : (o : Option (List ℕ)) → option_map_or (λ bytes. cond (not true) (written_at place bytes ∷ []) []) o [] ≡ []
+        by None = refl
+        by (Some bytes) = refl
+
+  abbrev base : ℕ → ℕ
+  base index = row.chunk.start + (data_count row.chunk.profile (length row.chunk.stripes) * row.number + index) * 65536
+
+  address : (t : Target) (i : In t row.blocks) → addr_of t.want ≡ base t.at.index + t.at.rest
+  address t i =
+      let b = of.blocks t i in
+      address_is layout t b.is (no_copies t i)
+      ∙ ap (λ (c : Chunk). c.start + (data_count c.profile (length c.stripes) * t.at.row + t.at.index) * 65536 + t.at.rest) b.chunk
+      ∙ ap (λ n. row.chunk.start + (data_count row.chunk.profile (length row.chunk.stripes) * n + t.at.index) * 65536 + t.at.rest) b.number
+
+  -- blocks that have a byte in common are the same
+  shared : (t u : Target) (i : In t row.blocks) (j : In u row.blocks) (slot off : ℕ) → covers slot off (place t i) ≡ true → covers slot off (place u j) ≡ true → t ≡ u
+  shared t u i j slot off c d =
+      let a = covering slot off (place t i) c in
+      let b = covering slot off (place u j) d in
+      let apart = elements_apart layout row row (Slice t.at.index) (Slice u.at.index) slot off here.table here.own_slots (own_byte t i slot off c) (own_byte u j slot off d) in
+      let index : t.at.index ≡ u.at.index = ap index_in apart.2 in
+      let ranges : range_in (own t i).slot (own t i).off 65536 ≡ range_in (own u j).slot (own u j).off 65536 =
+      same_Some (range_in (own t i).slot (own t i).off 65536) (range_in (own u j).slot (own u j).off 65536) (sym (own t i).element ∙ ap (λ k. range_in_element layout row (Slice k) 0 65536) index ∙ (own u j).element) in
+      let begin : (own t i).off ≡ (own u j).off = ap (λ (r : Range). r.off) ranges in
+      same_block layout wants 0 t u (off - ((own t i).off + t.at.rest)) (off - ((own u j).off + u.at.rest)) here.apart (among t i) (among u j)
+      (omega (arith, a.1, a.2)) (omega (arith, b.1, b.2))
+      (same_address (addr_of t.want) (addr_of u.want) (base t.at.index) (base u.at.index) t.at.rest u.at.rest off (own t i).off (own u j).off (address t i) (address u j) (ap base index) begin a.1 b.1)
+
+  -- a byte of a block that is written is written for it alone
+  written_for : (t : Target) (i : In t row.blocks) (slot off : ℕ) → covers slot off (place t i) ≡ true → list_any (covers slot off) (ranges_of (rebuilt_writes images layout row)) ≡ true
+      → list_any (covers slot off) (ranges_of (block_writes images t)) ≡ true
+  written_for t i slot off c h =
+      let any : list_any (λ (w : Write). covers slot off w.range) (rebuilt_writes images layout row) ≡ true = sym (any_map (covers slot off) (λ (w : Write). w.range) (rebuilt_writes images layout row)) ∙ h in
+      let f = any_flat (λ (w : Write). covers slot off w.range) (block_writes images) row.blocks any in
+      let mine : list_any (covers slot off) (ranges_of (block_writes images f.0)) ≡ true = any_map (covers slot off) (λ (w : Write). w.range) (block_writes images f.0) ∙ f.2 in
+      let same = shared t f.0 i f.1 slot off c (written_there f.0 f.1 slot off mine) in
+      subst (λ u. list_any (covers slot off) (ranges_of (block_writes images u)) ≡ true) (sym same) mine
+
+  -- ---- what stands at a block's own place when the blocks are written
+
+  record Final (t : Target) (i : In t row.blocks) : Type 0 where
+    bytes : List ℕ
+    long : length bytes ≡ size_of t
+    pass : passes t.setting t.want bytes ≡ true
+    from : ((block_writes images t ≡ []) × (bytes ≡ element images t (Slice t.at.index))) ⊎ (block_writes images t ≡ written_at (place t i) bytes ∷ [])
+
+  final : (t : Target) (i : In t row.blocks) → IsHad images t → FillsPlace images t → Final t i
+  final t i had fills = by (is_good images t (Slice t.at.index)) refl
+    where
+      some : (bytes : List ℕ) × (accepted images t ≡ Some bytes)
+      some = some_of (accepted images t) had
+
+      by : (b : Bool) → is_good images t (Slice t.at.index) ≡ b → Final t i
+      by true good = record {
+        bytes = element images t (Slice t.at.index);
+        long = long_element images layout t (Slice t.at.index) here.lengths (block t i).is (own_stands t i);
+        pass = good;
+        from = inl (good_unwritten t i good, refl);
+      }
+      by false bad = record {
+        bytes = some.0;
+        long = fills some.0 some.1;
+        pass = accepted_passes images t some.0 some.1;
+        from = inr (writes_are t i
+            ∙ ap (λ b. option_map_or (λ bytes. cond (not b) (written_at (place t i) bytes ∷ []) []) (accepted images t) []) bad
+            ∙ ap (λ o. option_map_or (λ bytes. written_at (place t i) bytes ∷ []) o []) some.1);
+      }
+
+  module _ (t : Target) (i : In t row.blocks) (f : Final t i) where
+    abbrev Holds : Images → Type 0
+    Holds now = (k : ℕ) → k < size_of t → byte_at now (own t i).slot ((own t i).off + t.at.rest + k) ≡ get_or f.bytes k 0
+
+    abbrev SameLengths : Images → Type 0
+    SameLengths now = (slot : ℕ) → length (image_of now slot) ≡ length (image_of images slot)
+
+    covered_there : (k : ℕ) → k < size_of t → covers (own t i).slot ((own t i).off + t.at.rest + k) (place t i) ≡ true
+    covered_there k lt = covered (own t i).slot ((own t i).off + t.at.rest) (size_of t) ((own t i).off + t.at.rest + k) (omega arith) (omega (arith, lt))
+
+    -- its own write brings the bytes
+    own_write : (now : Images) → SameLengths now → block_writes images t ≡ written_at (place t i) f.bytes ∷ [] → Holds (fold write_on now (block_writes images t))
+    own_write now same is k lt =
+        let slot = (own t i).slot in
+        let off = (own t i).off + t.at.rest in
+        ap (λ ws. byte_at (fold write_on now ws) slot (off + k)) is
+        ∙ ap (λ n. byte_at (write_on now (written_at (range_in slot off n) f.bytes)) slot (off + k)) (sym f.long)
+        ∙ byte_written now slot off f.bytes k (omega (arith, place_within t i, same slot, f.long)) (omega (arith, lt, f.long))
+
+    lengths_then : (now : Images) (ws : List Write) → SameLengths now → All (Short images) ws → SameLengths (fold write_on now ws)
+    lengths_then now ws same short slot = (shorts_keep now ws (short_after images now ws same short)).lengths slot ∙ same slot
+
+    short_of : (u : Target) → In u row.blocks → All (Short images) (block_writes images u)
+    short_of u j = block_short images layout here.lengths u (of.blocks u j).is
+
+    -- those of any block leave them
+    one_more : (now : Images) (u : Target) (j : In u row.blocks) → SameLengths now → Holds now → Holds (fold write_on now (block_writes images u))
+    one_more now u j same holds k lt = by (list_any (covers slot (off + k)) (ranges_of (block_writes images u))) refl
+      where
+        slot : ℕ
+        slot = (own t i).slot
+
+        off : ℕ
+        off = (own t i).off + t.at.rest
+
+        keeps : KeepsOutside (ranges_of (block_writes images u)) now (fold write_on now (block_writes images u))
+        keeps = shorts_keep now (block_writes images u) (short_after images now (block_writes images u) same (short_of u j))
+
+        of_itself : t ≡ u → list_any (covers slot (off + k)) (ranges_of (block_writes images u)) ≡ true → ((block_writes images t ≡ []) × (f.bytes ≡ element images t (Slice t.at.index))) ⊎ (block_writes images t ≡ written_at (place t i) f.bytes ∷ [])
+            → byte_at (fold write_on now (block_writes images u)) slot (off + k) ≡ get_or f.bytes k 0
+        of_itself is h (inl none) = absurd (false≢true (subst (λ ws. list_any (covers slot (off + k)) (ranges_of ws) ≡ true) (ap (block_writes images) (sym is) ∙ none.0) h))
+        of_itself is h (inr one) = ap (λ u. byte_at (fold write_on now (block_writes images u)) slot (off + k)) (sym is) ∙ own_write now same one k lt
+
+        by : (b : Bool) → list_any (covers slot (off + k)) (ranges_of (block_writes images u)) ≡ b → byte_at (fold write_on now (block_writes images u)) slot (off + k) ≡ get_or f.bytes k 0
+        by false e = keeps.bytes slot (off + k) e ∙ holds k lt
+        by true e = of_itself (shared t u i j slot (off + k) (covered_there k lt) (written_there u j slot (off + k) e)) e f.from
+
+    all_more : (now : Images) (us : List Target) → ((u : Target) → In u us → In u row.blocks) → SameLengths now → Holds now → Holds (fold write_on now (flat_map (block_writes images) us))
+    all_more now [] each same holds = holds
+    all_more now (u ∷ us) each same holds =
+        let j = each u (inl refl) in
+        let next = fold write_on now (block_writes images u) in
+        subst Holds (sym (fold_append write_on now (block_writes images u) (flat_map (block_writes images) us)))
+        (all_more next us (λ v k. each v (inr k)) (lengths_then now (block_writes images u) same (short_of u j)) (one_more now u j same holds))
+
+    -- so they stand there behind all
+    all_written : (now : Images) (us : List Target) → ((u : Target) → In u us → In u row.blocks) → In t us → SameLengths now → block_writes images t ≡ written_at (place t i) f.bytes ∷ [] → Holds (fold write_on now (flat_map (block_writes images) us))
+    all_written now [] each j same is = absurd j
+    all_written now (u ∷ us) each (inl e) same is =
+        let next = fold write_on now (block_writes images u) in
+        let first : Holds next = subst (λ v. Holds (fold write_on now (block_writes images v))) (sym e) (own_write now same is) in
+        subst Holds (sym (fold_append write_on now (block_writes images u) (flat_map (block_writes images) us)))
+        (all_more next us (λ v k. each v (inr k)) (lengths_then now (block_writes images u) same (short_of u (each u (inl refl)))) first)
+    all_written now (u ∷ us) each (inr j) same is =
+        let next = fold write_on now (block_writes images u) in
+        subst Holds (sym (fold_append write_on now (block_writes images u) (flat_map (block_writes images) us)))
+        (all_written next us (λ v k. each v (inr k)) j (lengths_then now (block_writes images u) same (short_of u (each u (inl refl)))) is)
+
+    stands_first : f.bytes ≡ element images t (Slice t.at.index) → Holds images
+    stands_first is k lt =
+        let slot = (own t i).slot in
+        let off = (own t i).off + t.at.rest in
+        sym (ap (λ xs. get_or xs k 0) (is ∙ element_is images t (Slice t.at.index) (place t i) (own t i).block) ∙ at_range (image_of images slot) off (size_of t) k 0 lt)
+
+    holds : Holds after
+    holds = by f.from
+      where
+        by : ((block_writes images t ≡ []) × (f.bytes ≡ element images t (Slice t.at.index))) ⊎ (block_writes images t ≡ written_at (place t i) f.bytes ∷ []) → Holds after
+        by (inl none) = all_more images row.blocks (λ u j. j) (λ slot. refl) (stands_first none.1)
+        by (inr one) = all_written images row.blocks (λ u j. j) i (λ slot. refl) one
+
+    element_after : element after t (Slice t.at.index) ≡ f.bytes
+    element_after =
+        let slot = (own t i).slot in
+        let off = (own t i).off + t.at.rest in
+        let image = image_of after slot in
+        let fits : off + length f.bytes ≤ length image = omega (arith, place_within t i, rebuilt_keeps.lengths slot, f.long) in
+        element_is after t (Slice t.at.index) (place t i) (own t i).block
+        ∙ ap (λ n. slice_range image off (off + n)) (sym f.long)
+        ∙ range_same image (pasted image off f.bytes) off (off + length f.bytes) fits (length-pasted image off f.bytes fits)
+        (λ k from to. ap (λ j. get_or image j 0) (omega (arith, from)) ∙ holds (k - off) (omega (arith, from, to, f.long)) ∙ sym (pasted-within image off f.bytes fits k 0 from to))
+        ∙ range_pasted image off f.bytes fits
+
+  -- ---- the first turn
+
+  -- what stands at the place of a block that passes there stays
+  good_stays : (stored : Images) (t : Target) (i : In t row.blocks) → KeepsOutside (ranges_of (rebuilt_writes images layout row)) images stored → is_good images t (Slice t.at.index) ≡ true → is_good stored t (Slice t.at.index) ≡ true
+  good_stays stored t i keeps good =
+      ap (passes t.setting t.want) (same_element images stored layout (ranges_of (rebuilt_writes images layout row)) t (Slice t.at.index) here.lengths (block t i).is keeps free) ∙ good
+    where
+      none_there : (slot off : ℕ) → covers slot off (place t i) ≡ true → list_any (covers slot off) (ranges_of (rebuilt_writes images layout row)) ≡ true → ⊥
+      none_there slot off c h = false≢true (subst (λ ws. list_any (covers slot off) (ranges_of ws) ≡ true) (good_unwritten t i good) (written_for t i slot off c h))
+
+      free : (slot off : ℕ) → IsSomeAnd (range_of t (Slice t.at.index)) (λ range. covers slot off range ≡ true) → list_any (covers slot off) (ranges_of (rebuilt_writes images layout row)) ≡ false
+      free slot off c = by (list_any (covers slot off) (ranges_of (rebuilt_writes images layout row))) refl
+        where
+          by : (b : Bool) → list_any (covers slot off) (ranges_of (rebuilt_writes images layout row)) ≡ b → list_any (covers slot off) (ranges_of (rebuilt_writes images layout row)) ≡ false
+          by false e = e
+          by true e = absurd (none_there slot off (subst (λ o. IsSomeAnd o (λ range. covers slot off range ≡ true)) (own t i).block c) e)
+
+  -- a way beside the writes gives the same
+  way_stays : (stored : Images) (t : Target) (i : In t row.blocks) (h : HasWayBeside images layout row t) → KeepsOutside (ranges_of (rebuilt_writes images layout row)) images stored → value_of stored t h.way ≡ value_of images t h.way
+  way_stays stored t i h keeps = value_by_ranges stored images t h.way bytes
+    where
+      bytes : (range : Range) → Contains (read.ranges_of t h.way) range → bytes_of stored range.slot range.off range.len ≡ bytes_of images range.slot range.off range.len
+      bytes range c =
+          let from = of_filter_map (range_of t) range (parts_read (slice_count t) t.at.index h.way) (in_of range (read.ranges_of t h.way) c) in
+          sym (element_is stored t from.0 range from.2)
+          ∙ same_element images stored layout (ranges_of (rebuilt_writes images layout row)) t from.0 here.lengths (block t i).is keeps
+          (λ slot off d. h.beside range slot off c (subst (λ o. IsSomeAnd o (λ range. covers slot off range ≡ true)) from.2 d))
+          ∙ element_is images t from.0 range from.2
+
+  first_keeps : (left stored : Images) (waits : List Range) (t : Target) → IsStopped (rebuilt_writes images layout row) images left → AreAmong waits (ranges_of (rebuilt_writes images layout row)) → KeepsOutside waits left stored
+      → In t row.blocks → Withstands images layout row t → IsHad stored t
+  first_keeps left stored waits t stopped among keeps i w =
+      let all = keeps_then (ranges_of (rebuilt_writes images layout row)) waits images left stored among (stopped_keeps images left (rebuilt_writes images layout row) rebuilt_short stopped) keeps in
+      by all w
+    where
+      by : KeepsOutside (ranges_of (rebuilt_writes images layout row)) images stored → Withstands images layout row t → IsHad stored t
+      by all (inl good) = had_by stored t (Read (Slice t.at.index)) (own_candidate t i) (ap (λ b. b && true) (own_stands t i)) (good_stays stored t i all good)
+      by all (inr h) = had_by stored t h.way h.there h.stand (ap (passes t.setting t.want) (way_stays stored t i h all) ∙ h.pass)
+
+  -- ---- the second turn
+
+  -- no parity is written over a block
+  apart_from_parities : (t : Target) (i : In t row.blocks) (slot off : ℕ) → covers slot off (place t i) ≡ true → list_any (covers slot off) (ranges_of (parities_writes images layout row)) ≡ true → ⊥
+  apart_from_parities t i slot off c h =
+      let any : list_any (λ (w : Write). covers slot off w.range) (parities_writes images layout row) ≡ true = sym (any_map (covers slot off) (λ (w : Write). w.range) (parities_writes images layout row)) ∙ h in
+      let f = any_flat (λ (w : Write). covers slot off w.range) (parity_writes images layout row) (parities row.chunk.profile) any in
+      let q = parity_has row.chunk.profile (length row.chunk.stripes) f.0 here.is_row.parity f.1 in
+      let e = elements_apart layout row row (Slice t.at.index) f.0 slot off here.table here.own_slots (own_byte t i slot off c) (written_parity layout row here.table of.is images f.0 slot off q.0 f.2) in
+      by f.0 (ap is_slice e.2) q.1
+    where
+      by : (q : Part) → true ≡ is_slice q → (q ≡ P) ⊎ (q ≡ Q) → ⊥
+      by q e (inl p) = false≢true (sym (e ∙ ap is_slice p))
+      by q e (inr p) = false≢true (sym (e ∙ ap is_slice p))
+
+  second_keeps : (left stored : Images) (waits : List Range) (t : Target) → IsStopped (parities_writes images layout row) after left → AreAmong waits (ranges_of (parities_writes images layout row)) → KeepsOutside waits left stored
+      → In t row.blocks → IsHad images t → FillsPlace images t → is_good stored t (Slice t.at.index) ≡ true
+  second_keeps left stored waits t stopped among keeps i had fills =
+      let f = final t i had fills in
+      let short = short_after images after (parities_writes images layout row) rebuilt_keeps.lengths parities_short in
+      let all = keeps_then (ranges_of (parities_writes images layout row)) waits after left stored among (stopped_keeps after left (parities_writes images layout row) short stopped) keeps in
+      ap (passes t.setting t.want)
+      (same_element after stored layout (ranges_of (parities_writes images layout row)) t (Slice t.at.index) (lengths_after layout (ranges_of (rebuilt_writes images layout row)) images after rebuilt_keeps here.lengths) (block t i).is all free ∙ element_after t i f)
+      ∙ f.pass
+    where
+      free : (slot off : ℕ) → IsSomeAnd (range_of t (Slice t.at.index)) (λ range. covers slot off range ≡ true) → list_any (covers slot off) (ranges_of (parities_writes images layout row)) ≡ false
+      free slot off c = by (list_any (covers slot off) (ranges_of (parities_writes images layout row))) refl
+        where
+          by : (b : Bool) → list_any (covers slot off) (ranges_of (parities_writes images layout row)) ≡ b → list_any (covers slot off) (ranges_of (parities_writes images layout row)) ≡ false
+          by false e = e
+          by true e = absurd (apart_from_parities t i slot off (subst (λ o. IsSomeAnd o (λ range. covers slot off range ≡ true)) (place_is t i) c) e)
+
+pub first_turn_keeps_blocks : FirstTurnKeepsBlocks
+first_turn_keeps_blocks images left stored layout wants row waits t here stopped among keeps i w = first_keeps images layout wants row here left stored waits t stopped among keeps i w
+
+pub second_turn_keeps_blocks : SecondTurnKeepsBlocks
+second_turn_keeps_blocks images left stored layout wants row waits t here stopped among keeps i had fills = second_keeps images layout wants row here left stored waits t stopped among keeps i had fills
