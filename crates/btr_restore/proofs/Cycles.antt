@@ -1,5 +1,5 @@
 -- A directory in another one.
-use Rattle.std.proofs.Common.{◌≡◌, ℕ, ◌+◌, ◌-◌, ◌<◌, Bool, true, false, zero, suc, List, Option, Result, Ok, Err, refl, sym, ap, ◌∙◌, subst, arith}
+use Rattle.std.proofs.Common.{◌≡◌, ℕ, ◌+◌, ◌-◌, ◌<◌, ◌≤◌, Bool, true, false, zero, suc, List, Option, Result, Ok, Err, refl, sym, ap, ◌∙◌, subst, arith}
 use Rattle.std.specs.Prelude.{◌==◌, OnOk}
 use Rattle.btr_prog.specs.Prog.{Return}
 use Rattle.btr_rack.specs.Sink.{Sink, left}
@@ -14,18 +14,19 @@ use Rattle.btr_restore.specs.declared.treated.Treated.{Treated}
 use Rattle.btr_restore.specs.declared.treated.Treated.TheVariants.{Over, Within}
 use Rattle.btr_restore.specs.Journey as journey
 use Rattle.btr_restore.specs.Journey.{Listing, directory, row}
-use Rattle.btr_restore.specs.Lines.{path_in}
+use Rattle.btr_listing.specs.Deciding.{Met, met_in}
+use Rattle.btr_listing.specs.Lines.{path_in}
 use Rattle.btr_restore.specs.Treating.{IsOver}
 use Rattle.btr_restore.specs.Listing.{StandsIf, ended_with, is_deep, listing_in, treat_in}
 use Rattle.btr_restore.specs.Running.{Outside, World, world, Ran, Stands, StandsAfter, Wrote}
-use Rattle.btr_restore.specs.Step.{Step, Up}
-use Rattle.btr_restore.proofs.Numbers.{is_other}
+use Rattle.btr_listing.specs.Step.{Step, Up}
+use Rattle.btr_listing.proofs.Numbers.{is_other}
 use Rattle.btr_restore.proofs.Rans.{ran_halt, ran_then, ran_wrote, row_halt, row_then, wrote_none}
 
 -- the way up, and then a value
-pub wrote_up : (plan : RestorePlan) (s : Super) (sums : Option TreeRoot) (counts : Counts) (x y : Outside) (r : Result (Unit {0}) TheStop) → Wrote (row plan s sums Up (Return tt)) x y r → Wrote (row plan s sums Up (Return counts)) x y (ended_with counts r)
-wrote_up plan s sums counts x y (Ok u) w = row_then _ _ _ _ _ _ _ w (wrote_none counts y)
-wrote_up plan s sums counts x y (Err t) w = row_halt _ _ _ _ _ _ w
+pub wrote_up : (plan : RestorePlan) (counts : Counts) (x y : Outside) (r : Result (Unit {0}) TheStop) → Wrote (row plan Up (Return tt)) x y r → Wrote (row plan Up (Return counts)) x y (ended_with counts r)
+wrote_up plan counts x y (Ok u) w = row_then _ _ _ _ _ _ _ w (wrote_none counts y)
+wrote_up plan counts x y (Err t) w = row_halt _ _ _ _ _ _ w
 
 pub stands_up : (dry : Bool) (n : ℕ) (old new : Sink) (r : Result (Unit {0}) TheStop) → (dry ≡ false → OnOk r (new ≡ left old)) → Stands dry (n + 1) old → StandsIf dry n new r
 stands_up dry n old new (Ok u) after h = λ d.
@@ -48,10 +49,33 @@ stands_over dry n s treated is h = subst (λ (x : Treated). StandsAfter dry n s 
 pub stands_within : (dry : Bool) (n : ℕ) (s : Sink) (treated : Treated) (tree : TreeRoot) (dirid : ℕ) → treated ≡ Within tree dirid → StandsAfter dry n s (Ok treated) → Stands dry (n + 1) s
 stands_within dry n s treated tree dirid is h = subst (λ (x : Treated). StandsAfter dry n s (Ok x)) is h
 
+-- there are places for all directories that may still be entered
+pub room_left : (depth depth' below below' most : ℕ) → depth' ≡ depth → below' ≡ below → depth + below ≤ most → depth' + below' ≤ most
+room_left depth depth' below below' most e f h = omega arith
+
+pub room_within : (depth depth' below most : ℕ) → depth' ≡ depth + 1 → depth + below ≤ most → depth' + below ≤ most + 1
+room_within depth depth' below most e h = omega arith
+
+pub room_below : (depth frames below most : ℕ) → frames ≡ below + 1 → depth + frames ≤ most + 1 → depth + below ≤ most
+room_below depth frames below most e h = omega arith
+
+pub room_above : (depth below most : ℕ) (deep : Bool) → deep ≡ (below == 0) → deep ≡ false → depth + below ≤ most → depth < most
+room_above depth zero most deep is shallow h = absurd (cc (sym is ∙ shallow))
+room_above depth (suc below) most deep is shallow h = omega arith
+
 -- a directory is entered only where there is a place for it
 pub some_place : (n : ℕ) (deep : Bool) (treated : Treated) (tree : TreeRoot) (dirid : ℕ) → (n ≡ 0 → deep ≡ true) → treated ≡ Within tree dirid → (deep ≡ true → IsOver (Ok treated)) → 0 < n
 some_place zero deep treated tree dirid empty is flat = absurd (subst (λ (x : Treated). IsOver (Ok x)) is (flat (empty refl)))
 some_place (suc n) deep treated tree dirid empty is flat = omega arith
+
+-- an entry of a path, by the path of its directory
+pub treated_in : (plan : RestorePlan) (s : Super) (sums : Option TreeRoot) (deep : Bool) (tree : TreeRoot) (dirid : ℕ) (path here : List ℕ)
+    (counts : Counts) (entry : DirEntry) (x y : World) (r : Result journey.Treated TheStop) → here ≡ path_in path entry.name
+    → Ran (journey.treated plan s sums (record { tree = tree; dirid = dirid; deep = deep; path = here; entry = entry }) counts) x y r
+    → Ran (journey.treated plan s sums (met_in deep tree dirid path entry) counts) x y r
+treated_in plan s sums deep tree dirid path here counts entry x y r at h =
+    let Met_at : List ℕ → Met = λ p. record { tree = tree; dirid = dirid; deep = deep; path = p; entry = entry } in
+    subst (λ (p : List ℕ). Ran (journey.treated plan s sums (Met_at p) counts) x y r) at h
 
 -- what is done with an entry, as far as it was treated
 module _ (plan : RestorePlan) (s : Super) (sums : Option TreeRoot) (k : ℕ) (deep : Bool) (is : deep ≡ is_deep k) (tree : TreeRoot) (dirid : ℕ) (path : List ℕ) (counts : Counts) (entry : DirEntry) (x y z : World) where
@@ -59,7 +83,7 @@ module _ (plan : RestorePlan) (s : Super) (sums : Option TreeRoot) (k : ℕ) (de
   Whole r w = Ran (treat_in plan s sums k tree dirid path counts entry) x w r
 
   abbrev first_part : Bool → Program Step journey.Treated
-  first_part b = journey.treated plan s sums b tree dirid path counts entry
+  first_part b = journey.treated plan s sums (met_in b tree dirid path entry) counts
 
   abbrev then_part : journey.Treated → Program Step Counts
   then_part = journey.listed_in plan s sums (listing_in plan s sums k) (path_in path entry.name)
@@ -79,7 +103,7 @@ module _ (plan : RestorePlan) (s : Super) (sums : Option TreeRoot) (k : ℕ) (de
 -- what is in a directory, and the way up
 module _ (plan : RestorePlan) (s : Super) (sums : Option TreeRoot) (frames below : ℕ) (is : frames ≡ below + 1) (inner : TreeRoot) (dirid : ℕ) (path : List ℕ) (counts : Counts) (x y : World) where
   abbrev up : Counts → Program Step Counts
-  up after = row plan s sums Up (Return after)
+  up after = row plan Up (Return after)
 
   as_listed : (r : Result Counts TheStop) → Ran (directory plan s sums below inner dirid path counts) x y r → Ran (listing_in plan s sums frames inner dirid path counts) x y r
   as_listed r h = subst (λ (l : Listing). Ran (l inner dirid path counts) x y r) (sym (listing_is plan s sums frames below is)) h
@@ -87,9 +111,9 @@ module _ (plan : RestorePlan) (s : Super) (sums : Option TreeRoot) (frames below
   pub within_halts : (t : TheStop) → Ran (directory plan s sums below inner dirid path counts) x y (Err t) → Ran (journey.listed_in plan s sums (listing_in plan s sums frames) path (journey.Within inner dirid counts)) x y (Err t)
   within_halts t h = ran_halt (listing_in plan s sums frames inner dirid path counts) up x y y t (as_listed (Err t) h)
 
-  pub within_up : (after : Counts) (z : Outside) (r : Result (Unit {0}) TheStop) → Ran (directory plan s sums below inner dirid path counts) x y (Ok after) → Wrote (row plan s sums Up (Return tt)) y.out z r → Ran (journey.listed_in plan s sums (listing_in plan s sums frames) path (journey.Within inner dirid counts)) x (world y.rack y.vol z) (ended_with after r)
+  pub within_up : (after : Counts) (z : Outside) (r : Result (Unit {0}) TheStop) → Ran (directory plan s sums below inner dirid path counts) x y (Ok after) → Wrote (row plan Up (Return tt)) y.out z r → Ran (journey.listed_in plan s sums (listing_in plan s sums frames) path (journey.Within inner dirid counts)) x (world y.rack y.vol z) (ended_with after r)
   within_up after z r h w = ran_then (listing_in plan s sums frames inner dirid path counts) up x y (world y.rack y.vol z) after (ended_with after r) (as_listed (Ok after) h)
-      (ran_wrote (up after) y.rack y.vol y.out z (ended_with after r) h.ready (wrote_up plan s sums after y.out z r w))
+      (ran_wrote (up after) y.rack y.vol y.out z (ended_with after r) h.ready (wrote_up plan after y.out z r w))
 
 pub deep_is : (n : ℕ) → (n == 0) ≡ is_deep n
 deep_is zero = refl

@@ -11,7 +11,7 @@ use Rattle.btr_walk.specs.Reading.{UnreadBlock, unread_by}
 use Rattle.btr_volume.specs.Lookup.{Program}
 use Rattle.btr_restore.specs.Outcome.{text_in, text_of}
 use Rattle.btr_restore.specs.Restoring.{sink_after, text_after, Emits}
-use Rattle.btr_restore.specs.Step.{Step, part}
+use Rattle.btr_listing.specs.Step.{Step, part}
 
 -- the steps of two calls
 pub fold-append : {A B : Type 0} (f : A → B → A) (a : A) (xs ys : List B) → fold f a (xs ++ ys) ≡ fold f (fold f a xs) ys

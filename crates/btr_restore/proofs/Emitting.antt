@@ -16,8 +16,8 @@ use Rattle.btr_restore.specs.Outcome.{text_of}
 use Rattle.btr_restore.specs.Restoring.{sink_after, text_after, Emits, stop_halt, stops_out, stops_sink}
 use Rattle.btr_files.specs.declared.counts.Counts.{Counts}
 use Rattle.btr_restore.specs.Journey.{Treated, Over}
-use Rattle.btr_restore.specs.Lines.{more, with_skip}
-use Rattle.btr_restore.specs.Step.{Step, Line, part}
+use Rattle.btr_listing.specs.Lines.{more, with_skip}
+use Rattle.btr_listing.specs.Step.{Step, Line, part}
 
 pub broke_out : (e : SinkError) → stop_halt (stops_out e) ≡ Broke
 broke_out Failed = refl
@@ -57,13 +57,6 @@ module _ {A : Type 0} where
     text = text_line told told' (take h.0 text) h.1;
     goes = λ layout old new Bs. goes_broke Bs (unread_by layout old new) part [] 0 (Line text) (Line (take h.0 text)) h.0 p refl;
   }
-
--- where a test decides, the program is the one branch or the other
-pub if_true : {A : Type 0} (P : Program Step A → Type 0) (b : Bool) (p q : Program Step A) → b ≡ true → P p → P (cond b p q)
-if_true P b p q e h = subst (λ x. P (cond x p q)) (sym e) h
-
-pub if_false : {A : Type 0} (P : Program Step A → Type 0) (b : Bool) (p q : Program Step A) → b ≡ false → P q → P (cond b p q)
-if_false P b p q e h = subst (λ x. P (cond x p q)) (sym e) h
 
 -- a refusal breaks the run off
 pub as_out : {A : Type 0} (P : Result A (Halt Fault UnreadBlock) → Type 0) (stop : Stop) (e : SinkError) → stop ≡ stops_out e → P (Err Broke) → P (Err (stop_halt stop))

@@ -23,7 +23,7 @@ use Rattle.btr_volume.specs.Looking.{Looks}
 use Rattle.btr_volume.specs.Lookup.{Program, Lookup}
 use Rattle.btr_files.proofs.AllMaps.{choices-zero}
 use Rattle.btr_restore.specs.Restoring.{sink_after, text_after, Scene, scene, Does, Emits}
-use Rattle.btr_restore.specs.Step.{Step, part}
+use Rattle.btr_listing.specs.Step.{Step, part}
 use Rattle.btr_restore.proofs.Doing.{goes_on, fold-append, text_then}
 use Rattle.btr_restore.proofs.Emitting.{text_none}
 use Rattle.btr_restore.specs.Listing.{maps_of}

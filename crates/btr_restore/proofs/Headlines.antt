@@ -14,10 +14,11 @@ use Rattle.btr_volume.specs.declared.fault.OpenFault.{OpenFault}
 use Rattle.btr_volume.specs.Maps.{VolumeWant, volume_map}
 use Rattle.btr_volume.specs.Start.{Images, Start, layout_by}
 use Rattle.btr_restore.specs.Committed.{Commit, IsHonest, EndsInOrder, IsClosed, AreWhole, committed, want_of}
-use Rattle.btr_restore.specs.Headline.{StopsShort, IsRestored, Headline, from_start}
+use Rattle.btr_restore.specs.Headline.{StopsShort, IsRestored, Headline, from_start, unless_diverged}
 use Rattle.btr_restore.specs.Journey.{journey}
 use Rattle.btr_restore.specs.Outcome.{outcome_by, outcome}
-use Rattle.btr_restore.specs.Step.{Step}
+use Rattle.btr_listing.specs.Step.{Step}
+use Rattle.btr_restore.proofs.Alike.{none_diverged}
 use Rattle.btr_restore.proofs.Held.{first_choice, lost_there, first_within, all_well}
 
 module _ (plan : RestorePlan) (dest : List ℕ) (images : Images) (start : Start) (C : Commit) (table : List Chunk)
@@ -70,4 +71,7 @@ module _ (plan : RestorePlan) (dest : List ℕ) (images : Images) (start : Start
 
 pub headline : Headline
 headline plan dest images start C table begun honest closed =
-    subst (IsRestored plan dest images start C) (sym (ap (from_start plan dest images) begun)) (restored plan dest images start C table honest closed)
+    let here = outcome (exec (volume_map start (fate images)) (journey plan dest start)) in
+    let none = none_diverged plan dest images start C table honest closed in
+    subst (IsRestored plan dest images start C) (sym (ap (from_start plan dest images) begun ∙ ap (λ d. unless_diverged d here) none))
+    (restored plan dest images start C table honest closed)

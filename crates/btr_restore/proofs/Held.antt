@@ -21,7 +21,7 @@ use Rattle.btr_volume.specs.Table.{TableResult, refusal_of, table_scan}
 use Rattle.btr_files.proofs.AllMaps.{choices-zero}
 use Rattle.btr_restore.specs.Committed.{Commit, IsHonest, IsIn, IsClosed, EndsInOrder, is_lost, committed, committed_choices, want_of}
 use Rattle.btr_restore.specs.Journey.{journey, listing}
-use Rattle.btr_restore.specs.Step.{Step}
+use Rattle.btr_listing.specs.Step.{Step}
 use Rattle.btr_restore.proofs.Extends.{array_honest}
 use Rattle.btr_restore.proofs.Honests.{choices_alike, choices_within, lacked_lost}
 
@@ -61,7 +61,7 @@ module _ (plan : RestorePlan) (dest : List ℕ) (images : Images) (start : Start
   abbrev Within : ℕ → VolumeWant → Type 0
   Within n want = IsWithin (volume_map start (choices images n) want) (volume_map start (committed_choices C images n) want)
 
-  abbrev scan : Program Step TableResult
+  abbrev pub scan : Program Step TableResult
   scan = quiet (table_scan start)
 
   abbrev rest : List Chunk → Program Step (Result Counts OpenFault)
@@ -72,6 +72,18 @@ module _ (plan : RestorePlan) (dest : List ℕ) (images : Images) (start : Start
   the_table t is =
       let map = committed C images (array_layout start) in
       same_table table t (same_value (exec map (table_scan start)).ending (Ok table) (Ok t) closed.stands (sym (quiet_ends Step map (table_scan start)) ∙ is))
+
+  -- of each want of the committed scan the images have the committed bytes, or none
+  pub scan_within : Each (λ w. IsWithin (fate images (array_layout start) w) (committed C images (array_layout start) w))
+      (needs (committed C images (array_layout start)) scan)
+  scan_within =
+      let B = committed C images (array_layout start) in
+      let D : List Chunk → _ = λ (t : List Chunk). committed C images (layout_by start t) in
+      let there : VolumeWant → Type 0 = λ want. IsIn C (want_of want) in
+      each_as (λ w. IsIn C w) (λ w. IsWithin (fate images (array_layout start) w) (B w))
+      (λ w is. subst (λ r. IsWithin r (B w)) (choices-zero images (array_layout start) w)
+      (choices_within C images 0 w (array_layout start) (array_honest C images start table closed.stands honest) is))
+      (needs B scan) (early_wants (λ fault. Err (refusal_of fault)) there B D scan rest closed.holds)
 
   -- of each want of the committed journey the images have the committed bytes, or none
   pub all_within : Each (λ want. (n : ℕ) → Within n want) (needs (volume_map start (committed C images)) (journey plan dest start))

@@ -1,14 +1,13 @@
 -- Restore only shows the bytes of sectors without a checksum.
-use Rattle.std.proofs.Common.{ℕ, zero, suc, ◌^◌, Bool, true, false, not, ◌&&◌, ◌||◌, List, [], Option, Some, None, Result, Ok, Err, refl, ap}
-use Rattle.std.specs.Prelude.{nat_eq, nat_le, nat_lt, codes}
+use Rattle.std.proofs.Common.{ℕ, zero, suc, Bool, true, false, not, ◌||◌, List, [], Option, Some, None, Result, Ok, Err, refl, ap}
+use Rattle.std.specs.Prelude.{codes}
 use Rattle.btr_items.specs.declared.inode.Inode.{Inode}
-use Rattle.btr_items.specs.Types.{inode_item}
 use Rattle.btr_prog.specs.Prog.{Return, Emit, bind}
 use Rattle.btr_prog.specs.Shows.{AreAlike}
 use Rattle.btr_prog.proofs.Showing.{shows_blind, shows_bind, shows_thread, shows_quiet, shows_staged}
 use Rattle.btr_prog.specs.Blind.{IsBlind}
-use Rattle.btr_super.specs.declared.superblock.Super.{Super}
 use Rattle.btr_prog.specs.Quiet.{quiet}
+use Rattle.btr_super.specs.declared.superblock.Super.{Super}
 use Rattle.btr_volume.specs.declared.root.TreeRoot.{TreeRoot}
 use Rattle.btr_volume.specs.Lookup.{Program}
 use Rattle.btr_volume.specs.declared.fault.OpenFault.{OpenFault}
@@ -18,20 +17,21 @@ use Rattle.btr_volume.specs.Table.{refusal_of, table_scan}
 use Rattle.btr_volume.specs.Tree.{tree_of}
 use Rattle.btr_files.specs.declared.counts.Counts.{Counts}
 use Rattle.btr_files.specs.declared.plan.RestorePlan.{RestorePlan}
-use Rattle.btr_files.specs.declared.clearness.Survey.{Survey}
-use Rattle.btr_files.specs.declared.clearness.Survey.TheVariants.{Clear, Compressed, Encoded}
 use Rattle.btr_read.specs.Fate.{is_plain}
 use Rattle.btr_files.specs.Content.{Piece, Bytes, Gap, content}
-use Rattle.btr_files.specs.Entries.{DirEntry, entries}
-use Rattle.btr_files.specs.Extents.{survey}
-use Rattle.btr_files.specs.Names.{inode_in, link, linked, mount, mounted}
+use Rattle.btr_files.specs.Entries.{entries}
 use Rattle.btr_files.specs.Sums.{kind_in}
+use Rattle.btr_listing.specs.declared.decision.Decision.{Decision}
+use Rattle.btr_listing.specs.declared.decision.Decision.TheVariants.{Skip, Empty, Folder}
+use Rattle.btr_listing.specs.declared.decision.Decision.TheVariants as decision
+use Rattle.btr_listing.specs.Deciding.{Met, decided, met_in, target}
+use Rattle.btr_listing.specs.Lines.{path_in, line, no_counts, with_dir, with_file, counts_line}
+use Rattle.btr_listing.specs.Step.{Step, Dir, Up, File, Done, Line}
+use Rattle.btr_listing.specs.Step as step
+use Rattle.btr_listing.proofs.Decidings.{decided_shows}
+use Rattle.btr_files.proofs.Plains.{always, same, Shows, if_shows, looks_shows, each_shows, scan_shows, tree_shows, entries_show, alike_pieces, content_shows}
 use Rattle.btr_restore.specs.Committed.{want_of}
-use Rattle.btr_restore.specs.Journey.{Listing, Treated, Over, Within, has_no_sums, row, told, skip, put, pieces, unverified, closed, written, surveyed, file_found, entered, empty, directory_entry, subvolume_found, subvolume_entry, folder_entry, treated, listed_in, treat, listed, directory, restored, sums_lookup, from_root, listing, journey, most_depth}
-use Rattle.btr_restore.specs.Lines.{is_bad, path_in, line, no_counts, with_dir, with_file, counts_line}
-use Rattle.btr_restore.specs.Step.{Step, Dir, Up, File, Done, Line}
-use Rattle.btr_restore.specs.Step as step
-use Rattle.btr_restore.proofs.Plains.{always, same, Shows, if_shows, looks_shows, each_shows, scan_shows, tree_shows, inode_shows, linked_shows, mounted_shows, entries_show, survey_shows, alike_pieces, content_shows}
+use Rattle.btr_restore.specs.Journey.{Listing, Treated, Over, Within, has_no_sums, row, told, put, pieces, unverified, closed, written, entered, empty, done_about, rules_of, treated, listed_in, treat, listed, directory, restored, sums_lookup, from_root, listing, journey, most_depth}
 
 abbrev any : (s : Step) → always s s
 any s = tt
@@ -44,20 +44,20 @@ abbrev kept : Bool → Program Step (Result Bool Bool)
 kept b = Return (Ok b)
 
 module _ (plan : RestorePlan) (s : Super) (sums : Option TreeRoot) where
-  row_shows : {A : Type 0} (step : Step) (rest : Program Step A) → Restores rest → Restores (row plan s sums step rest)
+  row_shows : {A : Type 0} (step : Step) (rest : Program Step A) → Restores rest → Restores (row plan step rest)
   row_shows step rest h = if_shows always plan.dry rest (Emit step rest) h h
 
-  told_shows : {A : Type 0} (word path : List ℕ) (rest : Program Step A) → Restores rest → Restores (told plan s sums word path rest)
+  told_shows : {A : Type 0} (word path : List ℕ) (rest : Program Step A) → Restores rest → Restores (told plan word path rest)
   told_shows word path rest h = if_shows always (plan.verbose || plan.dry) (Emit (Line (line word path)) rest) rest h h
 
-  unverified_shows : {A : Type 0} (plain : Bool) (path : List ℕ) (rest : Program Step A) → Restores rest → Restores (unverified plan s sums plain path rest)
+  unverified_shows : {A : Type 0} (plain : Bool) (path : List ℕ) (rest : Program Step A) → Restores rest → Restores (unverified plain path rest)
   unverified_shows plain path rest h = if_shows always plain (Emit (Line (line (codes "unverified") path)) rest) rest h h
 
-  put_shows : (plain : Bool) (p : Piece) → Restores (put plan s sums plain p)
+  put_shows : (plain : Bool) (p : Piece) → Restores (put plain p)
   put_shows plain (Bytes bytes summed) = tt
   put_shows plain (Gap n) = tt
 
-  put_alike : (plain : Bool) (p q : Piece) → alike_pieces p q → AreAlike always (bind (put plan s sums plain p) kept) (bind (put plan s sums plain q) kept)
+  put_alike : (plain : Bool) (p q : Piece) → alike_pieces p q → AreAlike always (bind (put plain p) kept) (bind (put plain q) kept)
   put_alike plain (Bytes bytes summed) (Bytes others summed') e = (tt, ap (λ x. Ok (plain || not x)) e)
   put_alike plain (Gap n) (Gap m) e = (tt, refl)
   put_alike plain p q e = absurd e
@@ -65,74 +65,39 @@ module _ (plan : RestorePlan) (s : Super) (sums : Option TreeRoot) where
   pieces_show : (tree : TreeRoot) (ino : ℕ) (inode : Inode) → Restores (pieces plan s sums tree ino inode)
   pieces_show tree ino inode =
       if_shows always plan.dry (Return false) _ tt
-      (shows_thread alike_pieces always any (λ st p. bind (put plan s sums st p) kept) (λ st u. st) is_plain
-      (λ st p. shows_bind always any is_plain (put plan s sums st p) kept (put_shows st p) (λ b. tt)) put_alike false
+      (shows_thread alike_pieces always any (λ st p. bind (put st p) kept) (λ st u. st) is_plain
+      (λ st p. shows_bind always any is_plain (put st p) kept (put_shows st p) (λ b. tt)) put_alike false
       (content (kind_in s) sums (has_no_sums inode) inode.size tree ino) (content_shows (kind_in s) sums (has_no_sums inode) inode.size tree ino))
 
-  closed_shows : (path : List ℕ) (counts : Counts) (plain : Bool) → Restores (closed plan s sums path counts plain)
+  closed_shows : (path : List ℕ) (counts : Counts) (plain : Bool) → Restores (closed plan path counts plain)
   closed_shows path counts plain =
-      let last : Program Step Treated = unverified plan s sums plain path (Return (Over (with_file counts))) in
-      row_shows Done (told plan s sums (codes "file") path last) (told_shows (codes "file") path last (unverified_shows plain path (Return (Over (with_file counts))) tt))
+      let last : Program Step Treated = unverified plain path (Return (Over (with_file counts))) in
+      row_shows Done (told plan (codes "file") path last) (told_shows (codes "file") path last (unverified_shows plain path (Return (Over (with_file counts))) tt))
 
   written_shows : (tree : TreeRoot) (ino : ℕ) (name path : List ℕ) (inode : Inode) (counts : Counts) → Restores (written plan s sums tree ino name path inode counts)
   written_shows tree ino name path inode counts =
-      row_shows (File name) (bind (pieces plan s sums tree ino inode) (closed plan s sums path counts))
-      (shows_bind always any is_plain (pieces plan s sums tree ino inode) (closed plan s sums path counts) (pieces_show tree ino inode) (closed_shows path counts))
+      row_shows (File name) (bind (pieces plan s sums tree ino inode) (closed plan path counts))
+      (shows_bind always any is_plain (pieces plan s sums tree ino inode) (closed plan path counts) (pieces_show tree ino inode) (closed_shows path counts))
 
-  surveyed_shows : (found : Survey) (path : List ℕ) (counts : Counts) (rest : Program Step Treated) → Restores rest → Restores (surveyed plan s sums found path counts rest)
-  surveyed_shows Clear path counts rest h = h
-  surveyed_shows Compressed path counts rest h = tt
-  surveyed_shows Encoded path counts rest h = tt
-
-  file_shows : (tree : TreeRoot) (ino : ℕ) (name path : List ℕ) (counts : Counts) (o : Option Inode) → Restores (file_found plan s sums tree ino name path counts o)
-  file_shows tree ino name path counts None = tt
-  file_shows tree ino name path counts (Some inode) =
-      if_shows always (nat_lt (2 ^ 60) inode.size) (skip plan s sums (codes "size") path counts) _ tt
-      (looks_shows always any (survey tree ino) (λ found. surveyed plan s sums found path counts (written plan s sums tree ino name path inode counts)) (survey_shows tree ino)
-      (λ found. surveyed_shows found path counts (written plan s sums tree ino name path inode counts) (written_shows tree ino name path inode counts)))
-
-  entered_shows : (name path : List ℕ) (tree : TreeRoot) (dirid : ℕ) (counts : Counts) → Restores (entered plan s sums name path tree dirid counts)
+  entered_shows : (name path : List ℕ) (tree : TreeRoot) (dirid : ℕ) (counts : Counts) → Restores (entered plan name path tree dirid counts)
   entered_shows name path tree dirid counts =
       let last : Program Step Treated = Return (Within tree dirid (with_dir counts)) in
-      row_shows (Dir name) (told plan s sums (codes "dir") path last) (told_shows (codes "dir") path last tt)
+      row_shows (Dir name) (told plan (codes "dir") path last) (told_shows (codes "dir") path last tt)
 
-  empty_shows : (name path : List ℕ) (counts : Counts) → Restores (empty plan s sums name path counts)
+  empty_shows : (name path : List ℕ) (counts : Counts) → Restores (empty plan name path counts)
   empty_shows name path counts =
       let last : Program Step Treated = Return (Over (with_dir counts)) in
-      row_shows (Dir name) (told plan s sums (codes "dir") path (row plan s sums Up last)) (told_shows (codes "dir") path (row plan s sums Up last) (row_shows Up last tt))
+      row_shows (Dir name) (told plan (codes "dir") path (row plan Up last)) (told_shows (codes "dir") path (row plan Up last) (row_shows Up last tt))
 
-  directory_shows : (tree : TreeRoot) (dirid : ℕ) (entry : DirEntry) (path : List ℕ) (counts : Counts) → Restores (directory_entry plan s sums tree dirid entry path counts)
-  directory_shows tree dirid entry path counts =
-      let ino = entry.row.location.objectid in
-      looks_shows always any (linked (link dirid entry.row.index entry.name) tree ino) _ (linked_shows (link dirid entry.row.index entry.name) tree ino)
-      (λ is. if_shows always is (entered plan s sums entry.name path tree ino counts) (skip plan s sums (codes "link") path counts) (entered_shows entry.name path tree ino counts) tt)
+  done_shows : (met : Met) (counts : Counts) (found : Decision) → Restores (done_about plan s sums met counts found)
+  done_shows met counts (Skip cause) = tt
+  done_shows met counts (decision.File inode) = written_shows met.tree (target met) met.entry.name met.path inode counts
+  done_shows met counts Empty = empty_shows met.entry.name met.path counts
+  done_shows met counts (Folder inner dirid) = entered_shows met.entry.name met.path inner dirid counts
 
-  found_shows : (name path : List ℕ) (counts : Counts) (o : Option TreeRoot) → Restores (subvolume_found plan s sums name path counts o)
-  found_shows name path counts None = tt
-  found_shows name path counts (Some inner) =
-      if_shows always (not (nat_eq inner.offset 0) && not plan.snapshots) (skip plan s sums (codes "snapshot") path counts) (entered plan s sums name path inner inner.dirid counts) tt
-      (entered_shows name path inner inner.dirid counts)
-
-  subvolume_shows : (tree : TreeRoot) (dirid : ℕ) (entry : DirEntry) (path : List ℕ) (counts : Counts) → Restores (subvolume_entry plan s sums tree dirid entry path counts)
-  subvolume_shows tree dirid entry path counts =
-      let id = entry.row.location.objectid in
-      looks_shows always any (mounted (mount tree.id (link dirid entry.row.index entry.name)) s id) _ (mounted_shows (mount tree.id (link dirid entry.row.index entry.name)) s id)
-      (λ is. if_shows always is _ (empty plan s sums entry.name path counts)
-      (looks_shows always any (tree_of s id) (subvolume_found plan s sums entry.name path counts) (tree_shows s id) (found_shows entry.name path counts))
-      (empty_shows entry.name path counts))
-
-  treated_shows : (deep : Bool) (tree : TreeRoot) (dirid : ℕ) (path : List ℕ) (counts : Counts) (entry : DirEntry) → Restores (treated plan s sums deep tree dirid path counts entry)
-  treated_shows deep tree dirid path counts entry =
-      let here = path_in path entry.name in
-      let ino = entry.row.location.objectid in
-      if_shows always (is_bad entry.name) (skip plan s sums (codes "name") here counts) _ tt
-      (if_shows always (nat_eq entry.row.kind 7) (skip plan s sums (codes "symlink") here counts) _ tt
-      (if_shows always (nat_le 3 entry.row.kind) (skip plan s sums (codes "special") here counts) _ tt
-      (if_shows always (nat_eq entry.row.kind 1) _ (folder_entry plan s sums deep tree dirid entry here counts)
-      (looks_shows always any (inode_in tree ino) (file_found plan s sums tree ino entry.name here counts) (inode_shows tree ino) (file_shows tree ino entry.name here counts))
-      (if_shows always deep (skip plan s sums (codes "depth") here counts) _ tt
-      (if_shows always (nat_eq entry.row.location.kind inode_item) (directory_entry plan s sums tree dirid entry here counts) (subvolume_entry plan s sums tree dirid entry here counts)
-      (directory_shows tree dirid entry here counts) (subvolume_shows tree dirid entry here counts))))))
+  treated_shows : (met : Met) (counts : Counts) → Restores (treated plan s sums met counts)
+  treated_shows met counts =
+      looks_shows always any (decided (rules_of plan) s met) (done_about plan s sums met counts) (decided_shows (rules_of plan) s met) (done_shows met counts)
 
   abbrev Lists : Listing → Type 0
   Lists below = (tree : TreeRoot) (dirid : ℕ) (path : List ℕ) (counts : Counts) → Restores (below tree dirid path counts)
@@ -140,13 +105,13 @@ module _ (plan : RestorePlan) (s : Super) (sums : Option TreeRoot) where
   inside_shows : (below : Listing) → Lists below → (path : List ℕ) (t : Treated) → Restores (listed_in plan s sums below path t)
   inside_shows below h path (Over counts) = tt
   inside_shows below h path (Within tree dirid counts) =
-      let up : Counts → Program Step Counts = λ after. row plan s sums Up (Return after) in
+      let up : Counts → Program Step Counts = λ after. row plan Up (Return after) in
       shows_bind always any is_plain (below tree dirid path counts) up (h tree dirid path counts) (λ after. row_shows Up (Return after) tt)
 
   listed_shows : (deep : Bool) (below : Listing) → Lists below → Lists (listed plan s sums deep below)
   listed_shows deep below h tree dirid path counts =
       each_shows always any (treat plan s sums deep below tree dirid path) counts (entries tree dirid)
-      (λ c entry. shows_bind always any is_plain (treated plan s sums deep tree dirid path c entry) (listed_in plan s sums below (path_in path entry.name)) (treated_shows deep tree dirid path c entry) (inside_shows below h (path_in path entry.name)))
+      (λ c entry. shows_bind always any is_plain (treated plan s sums (met_in deep tree dirid path entry) c) (listed_in plan s sums below (path_in path entry.name)) (treated_shows (met_in deep tree dirid path entry) c) (inside_shows below h (path_in path entry.name)))
       (entries_show tree dirid)
 
   tops_show : (n : ℕ) → Lists (directory plan s sums n)
@@ -160,12 +125,12 @@ module _ (plan : RestorePlan) (dest : List ℕ) (s : Super) where
       row_shows plan s sums (step.Start dest) _
       (shows_bind always any is_plain inside (λ counts. Emit (Line (counts_line counts)) (Return counts)) (tops_show plan s sums most_depth tree tree.dirid [] no_counts) (λ counts. tt))
 
-  sums_show : Shows same (sums_lookup plan dest s)
+  sums_show : Shows same (sums_lookup plan s)
   sums_show = if_shows same plan.dry (Return None) (tree_of s 7) tt (tree_shows s 7)
 
   root_shows : (o : Option TreeRoot) → Restores (from_root plan dest s o)
   root_shows None = tt
-  root_shows (Some tree) = looks_shows always any (sums_lookup plan dest s) (restored plan dest s tree) sums_show (restored_shows tree)
+  root_shows (Some tree) = looks_shows always any (sums_lookup plan s) (restored plan dest s tree) sums_show (restored_shows tree)
 
   pub listing_shows : Restores (listing plan dest s)
   listing_shows = looks_shows always any (tree_of s plan.root) (from_root plan dest s) (tree_shows s plan.root) root_shows

@@ -8,9 +8,10 @@ use Rattle.btr_prog.specs.Quiet.{quiet}
 use Rattle.btr_prog.specs.Stages.{renamed}
 use Rattle.btr_prog.specs.Thread.{thread, go_on}
 use Rattle.btr_rack.specs.Sink.{Sink}
+use Rattle.btr_listing.proofs.Decidings.{Gives}
 use Rattle.btr_restore.specs.Orderly.{counted, Takes, TakesAll}
 use Rattle.btr_restore.specs.Restoring.{sink_after}
-use Rattle.btr_restore.specs.Step.{Step}
+use Rattle.btr_listing.specs.Step.{Step}
 
 -- what holds of a sink, the counts of the steps so far, and a value
 abbrev pub Claim : Type 0 → Type 1
@@ -41,6 +42,13 @@ module _ {W F : Type 0} where
   leads_looks K s c p k h =
       leads_bind (λ t d a. (t ≡ s) × (d ≡ c)) K s c (quiet p) k (leads_quiet (λ t d a. (t ≡ s) × (d ≡ c)) s c p (λ a. (refl, refl)))
       (λ t d a e. subst (λ x. Leads K x d (k a)) (sym e.0) (subst (λ x. Leads K s x (k a)) (sym e.1) (h a)))
+
+  -- .. and something holds of its value
+  pub leads_found : {A C : Type 0} (K : Claim C) (s : Sink) (c : Counts) (p : Prog W F ⊥ A) (k : A → Prog W F Step C) (Q : A → Type 0) → Gives Q p → ((a : A) → Q a → Leads K s c (k a)) → Leads K s c (bind (quiet p) k)
+  leads_found K s c (Return a) k Q g h = h a g
+  leads_found K s c (Stop f) k Q g h = tt
+  leads_found K s c (Need w l) k Q g h = λ bytes. leads_found K s c (l bytes) k Q (g bytes) h
+  leads_found K s c (Emit step p) k Q g h = absurd step
 
   pub leads_if : {A : Type 0} (K : Claim A) (s : Sink) (c : Counts) (b : Bool) (p q : Prog W F Step A) → (b ≡ true → Leads K s c p) → (b ≡ false → Leads K s c q) → Leads K s c (cond b p q)
   leads_if K s c true p q h g = h refl

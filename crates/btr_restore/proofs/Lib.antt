@@ -1,9 +1,9 @@
 mod Extends
 pub mod Agreeing
-mod Plains
 mod Journeys
 mod Honests
 mod Held
+mod Alike
 mod Headlines
 mod Orders
 mod Settling
@@ -11,14 +11,13 @@ mod Leading
 mod Orderlies
 mod Tellings
 pub mod Samples
-mod Names
-mod Emitting
-mod Doing
-mod Goings
-mod Stopping
-mod Numbers
-mod Rans
-mod Listings
+pub mod Emitting
+pub mod Doing
+pub mod Goings
+pub mod Stopping
+pub mod Storing
+pub mod Rans
 mod Treats
-mod Cycles
-mod Writings
+pub mod Listings
+pub mod Cycles
+pub mod Writings

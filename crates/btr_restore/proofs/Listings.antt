@@ -37,11 +37,12 @@ use Rattle.btr_files.specs.Listing.{dir_left, IsDirOn, GivesEntry, IsNextEntry, 
 use Rattle.btr_restore.specs.Listing.{maps_of, TellsBoth, body_of, last_of, treat_in, Left, LeftOf, MetOf, Listed}
 use Rattle.btr_restore.specs.Restoring.{sink_after, text_after, SinkCounts, OutCounts, stop_halt}
 use Rattle.btr_restore.specs.Running.{World, world, IsReady, Ran}
-use Rattle.btr_restore.specs.Step.{Step, part}
+use Rattle.btr_listing.specs.Step.{Step, part}
 use Rattle.btr_restore.proofs.Doing.{fold-append, text_then}
 use Rattle.btr_restore.proofs.Emitting.{text_none}
 use Rattle.btr_restore.proofs.Goings.{if_some, if_both, first_map, each_all, goes_as}
-use Rattle.btr_restore.proofs.Stopping.{reads_self, same_self, reads_then, same_then, stop_cause_since}
+use Rattle.btr_listing.proofs.Looking.{reads_self, reads_then, same_self, same_then}
+use Rattle.btr_restore.proofs.Stopping.{stop_cause_since}
 
 -- facts of calls in a row, over one layout
 module _ (layout : Layout) (a b c : Seen) where

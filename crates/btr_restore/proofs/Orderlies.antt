@@ -1,12 +1,12 @@
 -- The steps of the journey are in order.
-use Rattle.std.proofs.Common.{◌≡◌, ℕ, zero, suc, ◌+◌, ◌-◌, ◌^◌, ◌<◌, Bool, true, false, cond, not, ◌&&◌, ◌||◌, List, [], Option, Some, None, Result, Ok, Err, refl, sym, ap, ◌∙◌, subst, arith}
-use Rattle.std.specs.Prelude.{nat_eq, nat_le, nat_lt, codes}
+use Rattle.std.proofs.Common.{◌≡◌, ℕ, zero, suc, ◌+◌, ◌-◌, ◌<◌, Bool, true, false, cond, ◌||◌, List, [], Option, Some, None, Result, Ok, Err, refl, sym, ap, ◌∙◌, subst, arith}
+use Rattle.std.specs.Prelude.{codes}
 use Rattle.btr_items.specs.declared.inode.Inode.{Inode}
-use Rattle.btr_items.specs.Types.{inode_item}
 use Rattle.btr_chunk.specs.declared.chunk.Chunk.{Chunk}
 use Rattle.btr_prog.specs.Prog.{Return, Emit, bind}
 use Rattle.btr_prog.specs.Quiet.{quiet}
 use Rattle.btr_prog.specs.Stages.{Early, Late, renamed, unless_refused}
+use Rattle.btr_rack.specs.Name.{is_bad}
 use Rattle.btr_rack.specs.Sink.{Sink, NotStarted, BetweenFiles, InFile}
 use Rattle.btr_read.specs.Fate.{Fault}
 use Rattle.btr_super.specs.declared.superblock.Super.{Super}
@@ -18,20 +18,22 @@ use Rattle.btr_volume.specs.Table.{TableResult, refusal_of, table_scan}
 use Rattle.btr_volume.specs.Tree.{tree_of}
 use Rattle.btr_files.specs.declared.counts.Counts.{Counts}
 use Rattle.btr_files.specs.declared.plan.RestorePlan.{RestorePlan}
-use Rattle.btr_files.specs.declared.clearness.Survey.{Survey}
-use Rattle.btr_files.specs.declared.clearness.Survey.TheVariants.{Clear, Compressed, Encoded}
 use Rattle.btr_files.specs.Content.{Piece, Bytes, Gap, content}
-use Rattle.btr_files.specs.Entries.{DirEntry, entries}
-use Rattle.btr_files.specs.Extents.{survey}
-use Rattle.btr_files.specs.Names.{inode_in, link, linked, mount, mounted}
+use Rattle.btr_files.specs.Entries.{entries}
 use Rattle.btr_files.specs.Sums.{kind_in}
-use Rattle.btr_restore.specs.Journey.{Listing, Treated, Over, Within, has_no_sums, row, told, skip, put, pieces, unverified, closed, written, surveyed, file_found, entered, empty, directory_entry, subvolume_found, subvolume_entry, folder_entry, treated, listed_in, treat, listed, directory, restored, sums_lookup, from_root, listing, journey, most_depth}
-use Rattle.btr_restore.specs.Lines.{is_bad, path_in, line, no_counts, with_dir, with_file, with_skip, counts_line}
+use Rattle.btr_listing.specs.declared.decision.Decision.{Decision}
+use Rattle.btr_listing.specs.declared.decision.Decision.TheVariants.{Skip, Empty, Folder}
+use Rattle.btr_listing.specs.declared.decision.Decision.TheVariants as decision
+use Rattle.btr_listing.specs.Causes.{cause_text}
+use Rattle.btr_listing.specs.Deciding.{Fits, Met, decided, met_in, target}
+use Rattle.btr_listing.specs.Lines.{path_in, line, no_counts, with_dir, with_file, with_skip, counts_line}
+use Rattle.btr_listing.specs.Step.{Step, Dir, Up, File, Done, Line}
+use Rattle.btr_listing.specs.Step as step
+use Rattle.btr_listing.proofs.Decidings.{decided_fits}
+use Rattle.btr_restore.specs.Journey.{Listing, Treated, Over, Within, has_no_sums, row, told, skip, put, pieces, unverified, closed, written, entered, empty, done_about, rules_of, treated, listed_in, treat, listed, directory, restored, sums_lookup, from_root, listing, journey, most_depth}
 use Rattle.btr_restore.specs.Orderly.{begins_with, IfCounts, OrderlyLaw}
 use Rattle.btr_restore.specs.Restoring.{sink_after}
-use Rattle.btr_restore.specs.Step.{Step, Dir, Up, File, Done, Line}
-use Rattle.btr_restore.specs.Step as step
-use Rattle.btr_restore.proofs.Leading.{Claim, Leads, leads_bind, leads_looks, leads_quiet, leads_if, leads_each, leads_renamed, IfValue, led}
+use Rattle.btr_restore.proofs.Leading.{Claim, Leads, leads_bind, leads_found, leads_looks, leads_quiet, leads_if, leads_each, leads_renamed, IfValue, led}
 
 -- a sink between two files, in so many directories, and in a file there
 pub record At (d : ℕ) (s : Sink) : Type 0 where
@@ -59,7 +61,7 @@ module _ (plan : RestorePlan) (s : Super) (sums : Option TreeRoot) (wet : plan.d
   abbrev Ends : {A : Type 0} → Claim A → Sink → Counts → Program Step A → Type 0
   Ends K t c p = Leads K t c p
 
-  row_leads : {A : Type 0} (K : Claim A) (t : Sink) (c : Counts) (step : Step) (rest : Program Step A) → Ends K t c (Emit step rest) → Ends K t c (row plan s sums step rest)
+  row_leads : {A : Type 0} (K : Claim A) (t : Sink) (c : Counts) (step : Step) (rest : Program Step A) → Ends K t c (Emit step rest) → Ends K t c (row plan step rest)
   row_leads K t c step rest h = leads_if K t c plan.dry rest (Emit step rest) (λ e. absurd (dry e)) (λ e. h)
     where
       dry : plan.dry ≡ true → ⊥
@@ -73,27 +75,27 @@ module _ (plan : RestorePlan) (s : Super) (sums : Option TreeRoot) (wet : plan.d
   line_leads : {A : Type 0} (K : Claim A) (t : Sink) (c : Counts) (text : List ℕ) (rest : Program Step A) → begins_with (codes "skip ") text ≡ false → Ends K t c rest → Ends K t c (Emit (Line text) rest)
   line_leads K t c text rest other h = (tt, subst (λ d. Ends K t d rest) (sym (counted_same c (begins_with (codes "skip ") text) other)) h)
 
-  told_leads : {A : Type 0} (K : Claim A) (t : Sink) (c : Counts) (word path : List ℕ) (rest : Program Step A) → begins_with (codes "skip ") (line word path) ≡ false → Ends K t c rest → Ends K t c (told plan s sums word path rest)
+  told_leads : {A : Type 0} (K : Claim A) (t : Sink) (c : Counts) (word path : List ℕ) (rest : Program Step A) → begins_with (codes "skip ") (line word path) ≡ false → Ends K t c rest → Ends K t c (told plan word path rest)
   told_leads K t c word path rest other h =
       leads_if K t c (plan.verbose || plan.dry) (Emit (Line (line word path)) rest) rest (λ e. line_leads K t c (line word path) rest other h) (λ e. h)
 
-  skip_leads : (deep : Bool) (d : ℕ) (t : Sink) (c : Counts) (cause path : List ℕ) (counts : Counts) → At d t → counts ≡ c → Ends (Comes deep d) t c (skip plan s sums cause path counts)
+  skip_leads : (deep : Bool) (d : ℕ) (t : Sink) (c : Counts) (cause path : List ℕ) (counts : Counts) → At d t → counts ≡ c → Ends (Comes deep d) t c (skip cause path counts)
   skip_leads deep d t c cause path counts at same = (tt, (at, ap with_skip same))
 
-  put_leads : (d : ℕ) (counts : Counts) (t : Sink) (c : Counts) (plain : Bool) (p : Piece) → Writes d counts t c plain → Ends (Writes d counts) t c (put plan s sums plain p)
+  put_leads : (d : ℕ) (counts : Counts) (t : Sink) (c : Counts) (plain : Bool) (p : Piece) → Writes d counts t c plain → Ends (Writes d counts) t c (put plain p)
   put_leads d counts t c plain (Bytes bytes summed) h = (h.0.stage, (record { stage = h.0.stage; depth = h.0.depth }, h.1))
   put_leads d counts t c plain (Gap n) h = (h.0.stage, (record { stage = h.0.stage; depth = h.0.depth }, h.1))
 
   pieces_lead : (d : ℕ) (counts : Counts) (t : Sink) (c : Counts) (tree : TreeRoot) (ino : ℕ) (inode : Inode) → Writes d counts t c false → Ends (Writes d counts) t c (pieces plan s sums tree ino inode)
   pieces_lead d counts t c tree ino inode h =
       leads_if (Writes d counts) t c plan.dry (Return false) _ (λ e. h)
-      (λ e. leads_each (Writes d counts) (put plan s sums) (λ t c plain p i. put_leads d counts t c plain p i) t c false (content (kind_in s) sums (has_no_sums inode) inode.size tree ino) h)
+      (λ e. leads_each (Writes d counts) put (λ t c plain p i. put_leads d counts t c plain p i) t c false (content (kind_in s) sums (has_no_sums inode) inode.size tree ino) h)
 
-  closed_leads : (deep : Bool) (d : ℕ) (t : Sink) (c : Counts) (path : List ℕ) (counts : Counts) (plain : Bool) → Writes d counts t c plain → Ends (Comes deep d) t c (closed plan s sums path counts plain)
+  closed_leads : (deep : Bool) (d : ℕ) (t : Sink) (c : Counts) (path : List ℕ) (counts : Counts) (plain : Bool) → Writes d counts t c plain → Ends (Comes deep d) t c (closed plan path counts plain)
   closed_leads deep d t c path counts plain h =
-      let last : Program Step Treated = unverified plan s sums plain path (Return (Over (with_file counts))) in
+      let last : Program Step Treated = unverified plain path (Return (Over (with_file counts))) in
       let after : At d (sink_after t Done) = record { stage = refl; depth = h.0.depth } in
-      row_leads (Comes deep d) t c Done (told plan s sums (codes "file") path last) (
+      row_leads (Comes deep d) t c Done (told plan (codes "file") path last) (
         h.0.stage,
         told_leads (Comes deep d) (sink_after t Done) (with_file c) (codes "file") path last refl
             (leads_if (Comes deep d) (sink_after t Done) (with_file c) plain (Emit (Line (line (codes "unverified") path)) (Return (Over (with_file counts)))) (Return (Over (with_file counts)))
@@ -103,83 +105,51 @@ module _ (plan : RestorePlan) (s : Super) (sums : Option TreeRoot) (wet : plan.d
 
   written_leads : (deep : Bool) (d : ℕ) (t : Sink) (c : Counts) (tree : TreeRoot) (ino : ℕ) (name path : List ℕ) (inode : Inode) (counts : Counts) → is_bad name ≡ false → At d t → counts ≡ c → Ends (Comes deep d) t c (written plan s sums tree ino name path inode counts)
   written_leads deep d t c tree ino name path inode counts good at same =
-      row_leads (Comes deep d) t c (File name) (bind (pieces plan s sums tree ino inode) (closed plan s sums path counts)) (
+      row_leads (Comes deep d) t c (File name) (bind (pieces plan s sums tree ino inode) (closed plan path counts)) (
         (at.stage, good),
-        leads_bind (Writes d counts) (Comes deep d) (sink_after t (File name)) c (pieces plan s sums tree ino inode) (closed plan s sums path counts)
+        leads_bind (Writes d counts) (Comes deep d) (sink_after t (File name)) c (pieces plan s sums tree ino inode) (closed plan path counts)
             (pieces_lead d counts (sink_after t (File name)) c tree ino inode (record { stage = refl; depth = at.depth }, same))
             (λ u e plain h. closed_leads deep d u e path counts plain h),
       )
-
-  surveyed_leads : (deep : Bool) (d : ℕ) (t : Sink) (c : Counts) (found : Survey) (path : List ℕ) (counts : Counts) (rest : Program Step Treated) → At d t → counts ≡ c → Ends (Comes deep d) t c rest → Ends (Comes deep d) t c (surveyed plan s sums found path counts rest)
-  surveyed_leads deep d t c Clear path counts rest at same h = h
-  surveyed_leads deep d t c Compressed path counts rest at same h = skip_leads deep d t c (codes "compressed") path counts at same
-  surveyed_leads deep d t c Encoded path counts rest at same h = skip_leads deep d t c (codes "encoded") path counts at same
-
-  file_leads : (deep : Bool) (d : ℕ) (t : Sink) (c : Counts) (tree : TreeRoot) (ino : ℕ) (name path : List ℕ) (counts : Counts) (o : Option Inode) → is_bad name ≡ false → At d t → counts ≡ c → Ends (Comes deep d) t c (file_found plan s sums tree ino name path counts o)
-  file_leads deep d t c tree ino name path counts None good at same = skip_leads deep d t c (codes "missing") path counts at same
-  file_leads deep d t c tree ino name path counts (Some inode) good at same =
-      leads_if (Comes deep d) t c (nat_lt (2 ^ 60) inode.size) (skip plan s sums (codes "size") path counts) _ (λ e. skip_leads deep d t c (codes "size") path counts at same)
-      (λ e. leads_looks (Comes deep d) t c (survey tree ino) (λ found. surveyed plan s sums found path counts (written plan s sums tree ino name path inode counts))
-      (λ found. surveyed_leads deep d t c found path counts (written plan s sums tree ino name path inode counts) at same (written_leads deep d t c tree ino name path inode counts good at same)))
 
   module _ (deep : Bool) (d : ℕ) (t : Sink) (c : Counts) (at : At d t) where
     -- a sink in a directory that was entered
     deeper : (name : List ℕ) → At (d + 1) (sink_after t (Dir name))
     deeper name = record { stage = at.stage; depth = ap (λ n. n + 1) at.depth }
 
-    entered_leads : (name path : List ℕ) (tree : TreeRoot) (dirid : ℕ) (counts : Counts) → deep ≡ false → d < 512 → is_bad name ≡ false → counts ≡ c → Ends (Comes deep d) t c (entered plan s sums name path tree dirid counts)
+    entered_leads : (name path : List ℕ) (tree : TreeRoot) (dirid : ℕ) (counts : Counts) → deep ≡ false → d < 512 → is_bad name ≡ false → counts ≡ c → Ends (Comes deep d) t c (entered plan name path tree dirid counts)
     entered_leads name path tree dirid counts high low good same =
         let last : Program Step Treated = Return (Within tree dirid (with_dir counts)) in
-        row_leads (Comes deep d) t c (Dir name) (told plan s sums (codes "dir") path last) (
+        row_leads (Comes deep d) t c (Dir name) (told plan (codes "dir") path last) (
           (at.stage, good, subst (λ n. n < 512) (sym at.depth) low),
           told_leads (Comes deep d) (sink_after t (Dir name)) (with_dir c) (codes "dir") path last refl (high, deeper name, ap with_dir same),
         )
 
-    empty_leads : (name path : List ℕ) (counts : Counts) → d < 512 → is_bad name ≡ false → counts ≡ c → Ends (Comes deep d) t c (empty plan s sums name path counts)
+    empty_leads : (name path : List ℕ) (counts : Counts) → d < 512 → is_bad name ≡ false → counts ≡ c → Ends (Comes deep d) t c (empty plan name path counts)
     empty_leads name path counts low good same =
         let last : Program Step Treated = Return (Over (with_dir counts)) in
-        row_leads (Comes deep d) t c (Dir name) (told plan s sums (codes "dir") path (row plan s sums Up last)) (
+        row_leads (Comes deep d) t c (Dir name) (told plan (codes "dir") path (row plan Up last)) (
           (at.stage, good, subst (λ n. n < 512) (sym at.depth) low),
-          told_leads (Comes deep d) (sink_after t (Dir name)) (with_dir c) (codes "dir") path (row plan s sums Up last) refl
+          told_leads (Comes deep d) (sink_after t (Dir name)) (with_dir c) (codes "dir") path (row plan Up last) refl
               (row_leads (Comes deep d) (sink_after t (Dir name)) (with_dir c) Up last (
                 (at.stage, subst (λ n. 0 < n + 1) (sym at.depth) (omega arith)),
                 (record { stage = at.stage; depth = ap (λ n. n + 1 - 1) at.depth ∙ (omega arith) }, ap with_dir same),
               )),
         )
 
-    directory_leads : (tree : TreeRoot) (dirid : ℕ) (entry : DirEntry) (path : List ℕ) (counts : Counts) → deep ≡ false → d < 512 → is_bad entry.name ≡ false → counts ≡ c → Ends (Comes deep d) t c (directory_entry plan s sums tree dirid entry path counts)
-    directory_leads tree dirid entry path counts high low good same =
-        let ino = entry.row.location.objectid in
-        leads_looks (Comes deep d) t c (linked (link dirid entry.row.index entry.name) tree ino) _
-        (λ is. leads_if (Comes deep d) t c is (entered plan s sums entry.name path tree ino counts) (skip plan s sums (codes "link") path counts)
-        (λ e. entered_leads entry.name path tree ino counts high low good same) (λ e. skip_leads deep d t c (codes "link") path counts at same))
+  module _ (met : Met) (d : ℕ) (t : Sink) (c : Counts) (at : At d t) (low : met.deep ≡ false → d < 512) (counts : Counts) (same : counts ≡ c) where
+    -- what is done about an entry, by a decision that fits it
+    done_leads : (found : Decision) → Fits (rules_of plan) met found → Ends (Comes met.deep d) t c (done_about plan s sums met counts found)
+    done_leads (Skip cause) fits = skip_leads met.deep d t c (cause_text cause) met.path counts at same
+    done_leads (decision.File inode) good = written_leads met.deep d t c met.tree (target met) met.entry.name met.path inode counts good at same
+    done_leads Empty fits = empty_leads met.deep d t c at met.entry.name met.path counts (low fits.0) fits.1 same
+    done_leads (Folder inner dirid) fits =
+        entered_leads met.deep d t c at met.entry.name met.path inner dirid counts fits.0 (low fits.0) fits.1 same
 
-    found_leads : (name path : List ℕ) (counts : Counts) (o : Option TreeRoot) → deep ≡ false → d < 512 → is_bad name ≡ false → counts ≡ c → Ends (Comes deep d) t c (subvolume_found plan s sums name path counts o)
-    found_leads name path counts None high low good same = skip_leads deep d t c (codes "missing") path counts at same
-    found_leads name path counts (Some inner) high low good same =
-        leads_if (Comes deep d) t c (not (nat_eq inner.offset 0) && not plan.snapshots) (skip plan s sums (codes "snapshot") path counts) (entered plan s sums name path inner inner.dirid counts)
-        (λ e. skip_leads deep d t c (codes "snapshot") path counts at same) (λ e. entered_leads name path inner inner.dirid counts high low good same)
-
-    subvolume_leads : (tree : TreeRoot) (dirid : ℕ) (entry : DirEntry) (path : List ℕ) (counts : Counts) → deep ≡ false → d < 512 → is_bad entry.name ≡ false → counts ≡ c → Ends (Comes deep d) t c (subvolume_entry plan s sums tree dirid entry path counts)
-    subvolume_leads tree dirid entry path counts high low good same =
-        let id = entry.row.location.objectid in
-        leads_looks (Comes deep d) t c (mounted (mount tree.id (link dirid entry.row.index entry.name)) s id) _
-        (λ is. leads_if (Comes deep d) t c is _ (empty plan s sums entry.name path counts)
-        (λ e. leads_looks (Comes deep d) t c (tree_of s id) (subvolume_found plan s sums entry.name path counts) (λ o. found_leads entry.name path counts o high low good same))
-        (λ e. empty_leads entry.name path counts low good same))
-
-    treated_leads : (deep ≡ false → d < 512) → (tree : TreeRoot) (dirid : ℕ) (path : List ℕ) (counts : Counts) (entry : DirEntry) → counts ≡ c → Ends (Comes deep d) t c (treated plan s sums deep tree dirid path counts entry)
-    treated_leads low tree dirid path counts entry same =
-        let here = path_in path entry.name in
-        let ino = entry.row.location.objectid in
-        leads_if (Comes deep d) t c (is_bad entry.name) (skip plan s sums (codes "name") here counts) _ (λ e. skip_leads deep d t c (codes "name") here counts at same) (λ good.
-        leads_if (Comes deep d) t c (nat_eq entry.row.kind 7) (skip plan s sums (codes "symlink") here counts) _ (λ e. skip_leads deep d t c (codes "symlink") here counts at same) (λ e.
-        leads_if (Comes deep d) t c (nat_le 3 entry.row.kind) (skip plan s sums (codes "special") here counts) _ (λ e. skip_leads deep d t c (codes "special") here counts at same) (λ e.
-        leads_if (Comes deep d) t c (nat_eq entry.row.kind 1) _ (folder_entry plan s sums deep tree dirid entry here counts)
-        (λ e. leads_looks (Comes deep d) t c (inode_in tree ino) (file_found plan s sums tree ino entry.name here counts) (λ o. file_leads deep d t c tree ino entry.name here counts o good at same))
-        (λ e. leads_if (Comes deep d) t c deep (skip plan s sums (codes "depth") here counts) _ (λ e. skip_leads deep d t c (codes "depth") here counts at same) (λ high.
-        leads_if (Comes deep d) t c (nat_eq entry.row.location.kind inode_item) (directory_entry plan s sums tree dirid entry here counts) (subvolume_entry plan s sums tree dirid entry here counts)
-        (λ e. directory_leads tree dirid entry here counts high (low high) good same) (λ e. subvolume_leads tree dirid entry here counts high (low high) good same))))))
+    treated_leads : Ends (Comes met.deep d) t c (treated plan s sums met counts)
+    treated_leads =
+        leads_found (Comes met.deep d) t c (decided (rules_of plan) s met) (done_about plan s sums met counts) (Fits (rules_of plan) met)
+        (decided_fits (rules_of plan) s met) done_leads
 
   -- listings of directories so deep
   abbrev Lists : ℕ → Listing → Type 0
@@ -188,7 +158,7 @@ module _ (plan : RestorePlan) (s : Super) (sums : Option TreeRoot) (wet : plan.d
   inside_leads : (deep : Bool) (d : ℕ) (below : Listing) → (deep ≡ false → Lists (d + 1) below) → (path : List ℕ) (t : Sink) (c : Counts) (came : Treated) → Comes deep d t c came → Ends (Stands d) t c (listed_in plan s sums below path came)
   inside_leads deep d below h path t c (Over counts) i = i
   inside_leads deep d below h path t c (Within tree dirid counts) i =
-      let up : Counts → Program Step Counts = λ after. row plan s sums Up (Return after) in
+      let up : Counts → Program Step Counts = λ after. row plan Up (Return after) in
       leads_bind (Stands (d + 1)) (Stands d) t c (below tree dirid path counts) up (h i.0 tree dirid path t c counts i.1 i.2)
       (λ u e after j. row_leads (Stands d) u e Up (Return after) (
         (j.0.stage, subst (λ n. 0 < n) (sym j.0.depth) (omega arith)),
@@ -198,8 +168,8 @@ module _ (plan : RestorePlan) (s : Super) (sums : Option TreeRoot) (wet : plan.d
   listed_leads : (deep : Bool) (d : ℕ) (below : Listing) → (deep ≡ false → d < 512) → (deep ≡ false → Lists (d + 1) below) → Lists d (listed plan s sums deep below)
   listed_leads deep d below low h tree dirid path t c counts at same =
       leads_each (Stands d) (treat plan s sums deep below tree dirid path)
-      (λ u e counts entry i. leads_bind (Comes deep d) (Stands d) u e (treated plan s sums deep tree dirid path counts entry) (listed_in plan s sums below (path_in path entry.name))
-      (treated_leads deep d u e i.0 low tree dirid path counts entry i.1) (λ v f came j. inside_leads deep d below h (path_in path entry.name) v f came j))
+      (λ u e counts entry i. leads_bind (Comes deep d) (Stands d) u e (treated plan s sums (met_in deep tree dirid path entry) counts) (listed_in plan s sums below (path_in path entry.name))
+      (treated_leads (met_in deep tree dirid path entry) d u e i.0 low counts i.1) (λ v f came j. inside_leads deep d below h (path_in path entry.name) v f came j))
       t c counts (entries tree dirid) (at, same)
 
   tops_lead : (n d : ℕ) → d + n ≡ 512 → Lists d (directory plan s sums n)
@@ -227,7 +197,7 @@ module _ (plan : RestorePlan) (dest : List ℕ) (start : Start) (wet : plan.dry 
   root_leads : (t : Sink) → t.stage ≡ NotStarted → (o : Option TreeRoot) → Leads (Stands 0) t no_counts (from_root plan dest start.sup o)
   root_leads t fresh None = tt
   root_leads t fresh (Some tree) =
-      leads_looks (Stands 0) t no_counts (sums_lookup plan dest start.sup) (restored plan dest start.sup tree) (restored_leads t fresh tree)
+      leads_looks (Stands 0) t no_counts (sums_lookup plan start.sup) (restored plan dest start.sup tree) (restored_leads t fresh tree)
 
   pub journey_leads : (t : Sink) → t.stage ≡ NotStarted → Leads Ended t no_counts (journey plan dest start)
   journey_leads t fresh =

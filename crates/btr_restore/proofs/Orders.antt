@@ -20,7 +20,7 @@ use Rattle.btr_volume.specs.Start.{Images, Start, layout_by}
 use Rattle.btr_restore.specs.Committed.{Commit, IsHonest, EndsInOrder, IsClosed, committed, committed_choices, want_of}
 use Rattle.btr_restore.specs.InOrder.{Answer, unread_in, Follows, LostAt, CommittedOrder}
 use Rattle.btr_restore.specs.Journey.{journey}
-use Rattle.btr_restore.specs.Step.{Step, part}
+use Rattle.btr_listing.specs.Step.{Step, part}
 use Rattle.btr_restore.proofs.Held.{each_as, each_of, alike_there, lost_there, all_within, all_well}
 use Rattle.btr_restore.proofs.Journeys.{journey_blind}
 

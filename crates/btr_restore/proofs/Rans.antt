@@ -1,28 +1,30 @@
 -- Calls of restore one after another.
-use Rattle.std.proofs.Common.{◌≡◌, ℕ, Bool, true, false, cond, List, [], ◌∷◌, ◌++◌, Option, Some, None, Result, Ok, Err, refl, sym, ap, ◌∙◌, subst, append-nil}
+use Rattle.std.proofs.Common.{◌≡◌, ℕ, Bool, true, false, cond, List, [], ◌∷◌, ◌++◌, Option, Some, None, Result, Ok, Err, refl, sym, ap, ◌∙◌, subst, append-nil, arith}
 use Rattle.btr_prog.specs.Answers.{Broke}
 use Rattle.btr_prog.specs.Prog.{Return, Stop, Emit, run, bind}
 use Rattle.btr_prog.specs.Quiet.{quiet}
 use Rattle.btr_prog.proofs.Choices.{goes_nowhere, goes_step, goes_broke}
-use Rattle.btr_rack.specs.Rack.{Seen, OnlyReads}
+use Rattle.btr_rack.specs.Rack.{Seen}
 use Rattle.btr_rack.specs.Sink.{Sink}
 use Rattle.btr_read.specs.Fate as fate
 use Rattle.btr_read.specs.Serves.{Serves}
-use Rattle.btr_walk.specs.Reading.{unread_by, HasCause}
+use Rattle.btr_walk.specs.Reading.{unread_by}
 use Rattle.btr_walk.specs.declared.fault.TreeFault.{TreeFault}
-use Rattle.btr_volume.specs.Looking.{Looks, SameVolume}
+use Rattle.btr_volume.specs.Looking.{SameVolume}
 use Rattle.btr_volume.specs.Lookup.{Program, Lookup, looks}
+use Rattle.btr_listing.specs.Looked.{CanLook, Looked}
 use Rattle.btr_volume.specs.declared.stop.Stop.{Stop as TheStop}
 use Rattle.btr_volume.specs.declared.stop.Stop.TheVariants as stop
 use Rattle.btr_volume.specs.declared.volume.Volume.{Volume}
 use Rattle.btr_restore.specs.Outcome.{text_of}
 use Rattle.btr_restore.specs.Restoring.{sink_after, text_after, Emits, stop_halt, ended}
 use Rattle.btr_restore.specs.Running.{Outside, World, world, scene_of, IsReady, StopsOutside, Wrote, Ran}
-use Rattle.btr_restore.specs.Step.{Step, part}
+use Rattle.btr_listing.specs.Step.{Step, part}
 use Rattle.btr_restore.proofs.Doing.{emits_then, emits_halt}
 use Rattle.btr_restore.proofs.Emitting.{text_none, emits_none}
 use Rattle.btr_restore.proofs.Goings.{does_emits, does_halt, does_look, does_then}
-use Rattle.btr_restore.proofs.Stopping.{cause_kept, no_cause, outs_kept, outs_then, reads_self, reads_then, room_kept, same_self, same_then, sinks_kept, sinks_then, stop_cause_since}
+use Rattle.btr_listing.proofs.Looking.{reads_self, reads_then, room_kept, same_self, same_then}
+use Rattle.btr_restore.proofs.Stopping.{cause_kept, no_cause, outs_kept, outs_then, sinks_kept, sinks_then, stop_cause_since}
 
 -- calls that write only, one after another
 module _ {A C : Type 0} (p : Program Step A) (k : A → Program Step C) (x y z : Outside) where
@@ -90,26 +92,34 @@ module _ {A : Type 0} (p : Program Step A) (rack : Seen) (vol : Volume) (x y : O
     out_calls = w.out_calls;
   }
 
+-- a volume can be read on after a call that only read
+pub ready_next : {old : Seen} (new : Seen) (vol after : Volume) → IsReady old vol → Serves new after.store → SameVolume vol after → IsReady new after
+ready_next new vol after ready serves same = record { serves = serves; room = room_kept vol after same ready.room }
+
+-- the slots that a lookup needs are free
+pub can_look : {rack : Seen} {vol : Volume} → IsReady rack vol → CanLook rack vol
+can_look ready = record { serves = ready.serves; room = omega (arith, ready.room) }
+
 -- a lookup
 module _ {A : Type 0} (p : Lookup A) (old new : Seen) (vol after : Volume) (x : Outside) where
-  pub ran_found : (a : A) → IsReady old vol → Serves new after.store → OnlyReads old new → SameVolume vol after → Looks vol.store.layout old new p (Ok a) → Ran (quiet p) (world old vol x) (world new after x) (Ok a)
-  ran_found a ready serves reads same looks = record {
-    reads = reads;
-    volume = same;
-    ready = record { serves = serves; room = room_kept vol after same ready.room };
-    did = does_look vol.store.layout old new p x.sink x.text (Ok a) looks;
+  pub ran_found : (a : A) → IsReady old vol → Looked p old vol new after (Ok a) → Ran (quiet p) (world old vol x) (world new after x) (Ok a)
+  ran_found a ready looked = record {
+    reads = looked.reads;
+    volume = looked.volume;
+    ready = ready_next new vol after ready looked.ready.serves looked.volume;
+    did = does_look vol.store.layout old new p x.sink x.text (Ok a) looked.content;
     cause = tt;
     sink_calls = refl;
     out_calls = refl;
   }
 
-  pub ran_fault : (f : TreeFault) → IsReady old vol → Serves new after.store → OnlyReads old new → SameVolume vol after → HasCause {A = A} vol.store.layout old new (Err f) → Looks vol.store.layout old new p (Err f) → Ran (quiet p) (world old vol x) (world new after x) (Err (stop.Tree f))
-  ran_fault f ready serves reads same cause looks = record {
-    reads = reads;
-    volume = same;
-    ready = record { serves = serves; room = room_kept vol after same ready.room };
-    did = does_look vol.store.layout old new p x.sink x.text (Err f) looks;
-    cause = cause;
+  pub ran_fault : (f : TreeFault) → IsReady old vol → Looked p old vol new after (Err f) → Ran (quiet p) (world old vol x) (world new after x) (Err (stop.Tree f))
+  ran_fault f ready looked = record {
+    reads = looked.reads;
+    volume = looked.volume;
+    ready = ready_next new vol after ready looked.ready.serves looked.volume;
+    did = does_look vol.store.layout old new p x.sink x.text (Err f) looked.content;
+    cause = looked.cause;
     sink_calls = refl;
     out_calls = refl;
   }
@@ -177,10 +187,6 @@ module _ {A C : Type 0} (p : Lookup A) (k : A → Program Step C) (x y : World) 
   pub look_halt : (s : TheStop) → Ran (quiet p) x y result → result ≡ Err s → Ran (looks p k) x y (Err s)
   look_halt s h e = ran_halt (quiet p) k x y y s (subst (λ (b : Result A TheStop). Ran (quiet p) x y b) e h)
 
-  -- .. that reads nothing
-  pub look_wrote : (z : Outside) (a : A) (r : Result C TheStop) → Ran (quiet p) x y result → result ≡ Ok a → Wrote (k a) y.out z r → Ran (looks p k) x (world y.rack y.vol z) r
-  look_wrote z a r h e w = look_then (world y.rack y.vol z) a r h e (ran_wrote (k a) y.rack y.vol y.out z r h.ready w)
-
 -- where a test decides
 module _ {A : Type 0} (p q : Program Step A) (x y : World) (r : Result A TheStop) where
   pub ran_if : (b : Bool) → b ≡ true → Ran p x y r → Ran (cond b p q) x y r
@@ -191,22 +197,9 @@ module _ {A : Type 0} (p q : Program Step A) (x y : World) (r : Result A TheStop
   ran_else true e h = cc
   ran_else false e h = h
 
-module _ {A : Type 0} (p q : Program Step A) (x y : Outside) (r : Result A TheStop) where
-  pub wrote_if : (b : Bool) → b ≡ true → Wrote p x y r → Wrote (cond b p q) x y r
-  wrote_if true e h = h
-  wrote_if false e h = cc
-
-  pub wrote_else : (b : Bool) → b ≡ false → Wrote q x y r → Wrote (cond b p q) x y r
-  wrote_else true e h = cc
-  wrote_else false e h = h
-
 -- want of memory, before anything was done
 pub ran_memory : {A : Type 0} (p : Program Step A) (rack : Seen) (vol : Volume) (x : Outside) → IsReady rack vol → Ran p (world rack vol x) (world rack vol x) (Err stop.Memory)
 ran_memory p rack vol x ready = ran_wrote p rack vol x x (Err stop.Memory) ready (wrote_memory p x)
-
--- a volume can be read on after a call that only read
-pub ready_next : {old : Seen} (new : Seen) (vol after : Volume) → IsReady old vol → Serves new after.store → SameVolume vol after → IsReady new after
-ready_next new vol after ready serves same = record { serves = serves; room = room_kept vol after same ready.room }
 
 -- a step of the sink that was done, and one that was broken off
 silent_text : (t : Step) → text_of (t ∷ []) ≡ [] → (u : Option (List ℕ)) → u ≡ text_after u (t ∷ [])

@@ -29,8 +29,8 @@ use Rattle.btr_volume.specs.Start.{Start}
 use Rattle.btr_volume.specs.Tree.{key}
 use Rattle.btr_restore.specs.Committed.{want_of}
 use Rattle.btr_restore.specs.Journey.{journey}
-use Rattle.btr_restore.specs.Step.{Step, Line}
-use Rattle.btr_restore.specs.Step as step
+use Rattle.btr_listing.specs.Step.{Step, Line}
+use Rattle.btr_listing.specs.Step as step
 
 -- a number in n bytes
 abbrev little_bytes : ℕ → ℕ → List ℕ

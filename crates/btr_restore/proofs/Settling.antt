@@ -20,11 +20,11 @@ use Rattle.btr_volume.specs.Maps.{Maps, VolumeWant, volume_map, array_layout}
 use Rattle.btr_volume.specs.Start.{Start, layout_by}
 use Rattle.btr_volume.specs.Table.{refusal_of, table_scan}
 use Rattle.btr_walk.specs.Reading.{UnreadBlock, unread_by}
-use Rattle.btr_restore.specs.Headline.{from_start}
+use Rattle.btr_restore.specs.Headline.{from_start, unless_diverged}
 use Rattle.btr_restore.specs.InOrder.{unread_in, opened, OpenedThen, OpenRefused, OpenHalted, answer_by, SettledLaw}
 use Rattle.btr_restore.specs.Journey.{listing, journey}
 use Rattle.btr_restore.specs.Outcome.{Ending, outcome_by, outcome}
-use Rattle.btr_restore.specs.Step.{Step, part}
+use Rattle.btr_listing.specs.Step.{Step, part}
 
 each_same : {W : Type 0} (B : BlockMap W Fault) (ws : List W) → Each (λ w. (n : ℕ) → B w ≡ B w) ws
 each_same B [] = tt
@@ -35,12 +35,12 @@ same_by r Is done (Ok value) follows = ap (λ ss. outcome_by ss (Ok value)) foll
 same_by r Is done (Err fault) follows = ap (λ ss. outcome_by ss (Err fault)) follows.0 ∙ ap (λ e. outcome_by (steps_of r.marks) e) (sym follows.1)
 
 pub settled : SettledLaw
-settled plan dest images start old new done ending begun follows =
+settled plan dest images start old new done ending begun none follows =
     let B = volume_map start (fate images) in
     let here = exec B (journey plan dest start) in
     let one : follows.0 ≡ here = goes_one (λ (n : ℕ). B) B (journey plan dest start) follows.0 (each_same B (needs B (journey plan dest start))) follows.1 in
     same_by here (unread_in start old new) done ending (subst (λ (r : Run VolumeWant Fault Step (Result Counts OpenFault)). run_follows (unread_in start old new) part [] r done (answer_by ending)) one follows.2)
-    ∙ sym (ap (from_start plan dest images) begun)
+    ∙ sym (ap (from_start plan dest images) begun ∙ ap (λ d. unless_diverged d (outcome here)) none)
 
 module _ (plan : RestorePlan) (dest : List ℕ) (start : Start) (old new : Seen) where
   abbrev rest : Program Step (Result Counts OpenFault)

@@ -1,16 +1,13 @@
 -- Stops, and the accounts of calls in a row.
-use Rattle.std.proofs.Common.{◌≡◌, ◌≤◌, count_by, is_none, Result, Ok, Err, refl, sym, ap, ◌∙◌, subst, arith}
+use Rattle.std.proofs.Common.{◌≡◌, Result, Ok, Err, refl, sym, subst, inl}
 use Rattle.btr_rack.specs.Out.{CallAccount, Counts}
 use Rattle.btr_rack.specs.Rack.{Seen, OnlyReads}
 use Rattle.btr_rack.specs.declared.error.SinkError.{SinkError}
 use Rattle.btr_rack.specs.declared.error.SinkError.TheVariants.{Failed, Memory as NoMemory}
 use Rattle.btr_read.specs.Layout.{Layout}
-use Rattle.btr_read.specs.Store.{free_count}
 use Rattle.btr_walk.proofs.Fetched.{cause_since}
-use Rattle.btr_volume.specs.Looking.{SameVolume}
 use Rattle.btr_volume.specs.declared.stop.Stop.{Stop as TheStop}
 use Rattle.btr_volume.specs.declared.stop.Stop.TheVariants as stop
-use Rattle.btr_volume.specs.declared.volume.Volume.{Volume}
 use Rattle.btr_restore.specs.Restoring.{StopCause, SinkCounts, OutCounts, stops_out, stops_sink}
 use Rattle.btr_restore.specs.Running.{StopsOutside}
 
@@ -68,24 +65,6 @@ outs_kept A C a b stop.Sink h = h
 outs_kept A C a b stop.Out h = h
 outs_kept A C a b stop.Memory h = h
 
--- calls in a row only read, and left the volume as it was
-pub same_then : {a b c : Volume} → SameVolume a b → SameVolume b c → SameVolume a c
-same_then one two = record { sup = two.sup ∙ one.sup; store = record { layout = two.store.layout ∙ one.store.layout; loans = two.store.loans ∙ one.store.loans } }
-
-pub reads_then : {a b c : Seen} → OnlyReads a b → OnlyReads b c → OnlyReads a c
-reads_then {c = c} one two = record { later = omega (arith, one.later, two.later); same = two.same ∙ ap (λ (s : Seen). record s { account = c.account }) one.same; same_shut = two.same_shut ∙ one.same_shut }
-
--- the slots that were free still are
-pub room_kept : (vol after : Volume) → SameVolume vol after → 6 ≤ free_count vol.store → 6 ≤ free_count after.store
-room_kept vol after same h = subst (λ l. 6 ≤ count_by is_none l) (sym same.store.loans) h
-
--- no call did anything
-pub same_self : (vol : Volume) → SameVolume vol vol
-same_self vol = record { sup = refl; store = record { layout = refl; loans = refl } }
-
-pub reads_self : (rack : Seen) → OnlyReads rack rack
-reads_self rack = record { later = omega arith; same = refl; same_shut = refl }
-
 -- a call that reads nothing has no other stop than those outside
 pub no_cause : {A : Type 0} (layout : Layout) (old new : Seen) (r : Result A TheStop) → StopsOutside r → StopCause layout old new r
 no_cause layout old new (Ok v) h = tt
@@ -105,7 +84,7 @@ sinks_of_out A a s Failed is = subst (λ (x : TheStop). SinkCounts {A = A} a a (
 sinks_of_out A a s NoMemory is = subst (λ (x : TheStop). SinkCounts {A = A} a a (Err x)) (sym is) refl
 
 pub outs_of_sink : (A : Type 0) (a : CallAccount) (s : TheStop) (e : SinkError) → s ≡ stops_sink e → OutCounts {A = A} a a (Err s)
-outs_of_sink A a s Failed is = subst (λ (x : TheStop). OutCounts {A = A} a a (Err x)) (sym is) refl
+outs_of_sink A a s Failed is = subst (λ (x : TheStop). OutCounts {A = A} a a (Err x)) (sym is) (inl refl)
 outs_of_sink A a s NoMemory is = subst (λ (x : TheStop). OutCounts {A = A} a a (Err x)) (sym is) refl
 
 pub out_stops : (A : Type 0) (s : TheStop) (e : SinkError) → s ≡ stops_out e → StopsOutside {A = A} (Err s)

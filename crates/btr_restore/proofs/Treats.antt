@@ -1,26 +1,71 @@
--- What becomes of an entry, by its name.
-use Rattle.std.proofs.Common.{◌≡◌, ℕ, Bool, true, false, List, Option, Result, subst}
-use Rattle.std.specs.Prelude.{codes}
+-- What becomes of an entry, by what it comes to.
+use Rattle.std.proofs.Common.{◌≡◌, ℕ, List, Result, Ok, Err, refl, sym, subst}
+use Rattle.btr_items.specs.declared.inode.Inode.{Inode}
+use Rattle.btr_rack.specs.Rack.{Seen}
 use Rattle.btr_super.specs.declared.superblock.Super.{Super}
+use Rattle.btr_walk.specs.declared.fault.TreeFault.{TreeFault}
 use Rattle.btr_volume.specs.declared.root.TreeRoot.{TreeRoot}
 use Rattle.btr_volume.specs.declared.stop.Stop.{Stop as TheStop}
+use Rattle.btr_volume.specs.declared.stop.Stop.TheVariants as stop
+use Rattle.btr_volume.specs.declared.volume.Volume.{Volume}
 use Rattle.btr_files.specs.declared.counts.Counts.{Counts}
-use Rattle.btr_files.specs.declared.dir_row.DirRow.{DirRow}
-use Rattle.btr_files.specs.declared.name.NameBuf.{NameBuf}
-use Rattle.btr_files.specs.declared.plan.RestorePlan.{RestorePlan}
 use Rattle.btr_files.specs.Entries.{name_in}
-use Rattle.btr_files.specs.Listing.{named_row}
-use Rattle.btr_restore.specs.Journey.{Treated, skip, treated, treated_named}
-use Rattle.btr_restore.specs.Lines.{is_bad, path_in}
-use Rattle.btr_restore.specs.Running.{World, Ran}
-use Rattle.btr_restore.specs.Treating.{entry_as}
-use Rattle.btr_restore.proofs.Rans.{ran_if, ran_else}
+use Rattle.btr_listing.specs.declared.cause.Cause.{Cause}
+use Rattle.btr_listing.specs.declared.decision.Decision.{Decision}
+use Rattle.btr_listing.specs.declared.decision.Decision.TheVariants as decision
+use Rattle.btr_listing.specs.declared.entry.Entry.{Entry}
+use Rattle.btr_listing.specs.declared.rules.Rules.{Rules}
+use Rattle.btr_listing.specs.Causes.{cause_text}
+use Rattle.btr_listing.specs.Deciding.{decided}
+use Rattle.btr_listing.specs.Looked.{Looked, met_by}
+use Rattle.btr_restore.specs.declared.job.Job.{Job}
+use Rattle.btr_restore.specs.Journey.{Treated, done_about, empty, entered, rules_of, skip}
+use Rattle.btr_restore.specs.Running.{IsReady, Outside, Ran, World, world}
+use Rattle.btr_restore.specs.Treating.{done_for, treated_for, written_for}
+use Rattle.btr_restore.proofs.Rans.{look_halt, look_then, ran_fault, ran_found}
 
-module _ (plan : RestorePlan) (s : Super) (sums : Option TreeRoot) (deep : Bool) (tree : TreeRoot) (dirid : ℕ) (path here : List ℕ) (counts : Counts) (row : DirRow) (name : NameBuf) (x y : World) (r : Result Treated TheStop) (at : here ≡ path_in path (name_in name)) where
-  pub bad_named : is_bad (name_in name) ≡ true → Ran (skip plan s sums (codes "name") here counts) x y r → Ran (treated plan s sums deep tree dirid path counts (named_row row name)) x y r
-  bad_named bad h = ran_if _ _ _ _ _ (is_bad (name_in name)) bad (subst (λ (p : List ℕ). Ran (skip plan s sums (codes "name") p counts) x y r) at h)
+module _ (job : Job) (entry : Entry) (counts : Counts) (s : Super) where
+  -- what is done about an entry, by a decision
+  module _ (x y : World) (r : Result Treated TheStop) (found : Decision) where
+    abbrev Does : Decision → Type 0
+    Does d = Ran (done_for job entry d counts s) x y r
 
-  pub good_named : (text : List ℕ) → text ≡ name_in name → is_bad (name_in name) ≡ false → Ran (treated_named plan s sums deep tree dirid here counts (entry_as row text)) x y r → Ran (treated plan s sums deep tree dirid path counts (named_row row name)) x y r
-  good_named text same good h = ran_else _ _ _ _ _ (is_bad (name_in name)) good
-      (subst (λ (p : List ℕ). Ran (treated_named plan s sums deep tree dirid p counts (entry_as row (name_in name))) x y r) at
-      (subst (λ (n : List ℕ). Ran (treated_named plan s sums deep tree dirid here counts (entry_as row n)) x y r) same h))
+    as_found : (d : Decision) → found ≡ d → Does d → Does found
+    as_found d is h = subst Does (sym is) h
+
+    pub done_skip : (cause : Cause) → found ≡ decision.Skip cause → Ran (skip (cause_text cause) entry.path.now counts) x y r → Does found
+    done_skip cause is h = as_found (decision.Skip cause) is h
+
+    module _ (name : List ℕ) (named : name ≡ name_in entry.name.now) where
+      pub done_file : (inode : Inode) → found ≡ decision.File inode → Ran (written_for job entry name inode counts s) x y r → Does found
+      done_file inode is h = as_found (decision.File inode) is (subst (λ (n : List ℕ). Ran (written_for job entry n inode counts s) x y r) named h)
+
+      pub done_empty : found ≡ decision.Empty → Ran (empty job.plan name entry.path.now counts) x y r → Does found
+      done_empty is h = as_found decision.Empty is (subst (λ (n : List ℕ). Ran (empty job.plan n entry.path.now counts) x y r) named h)
+
+      pub done_folder : (inner : TreeRoot) (dirid : ℕ) → found ≡ decision.Folder inner dirid → Ran (entered job.plan name entry.path.now inner dirid
+          counts) x y r → Does found
+      done_folder inner dirid is h = as_found (decision.Folder inner dirid) is (subst (λ (n : List ℕ). Ran
+          (entered job.plan n entry.path.now inner dirid counts) x y r) named h)
+
+  -- an entry, by what is looked up under the rules of restore
+  module _ (rules : Rules) (of_plan : rules ≡ rules_of job.plan) (old : Seen) (vol : Volume) (same : s ≡ vol.sup) (new : Seen) (after : Volume)
+      (x : Outside) (ready : IsReady old vol) where
+    as_rules : (r : Result Decision TreeFault) → Looked (decided rules vol.sup (met_by entry)) old vol new after r → Looked (decided (rules_of job.plan) s (met_by entry)) old vol new after r
+    as_rules r h =
+        subst (λ (t : Super). Looked (decided (rules_of job.plan) t (met_by entry)) old vol new after r) (sym same)
+        (subst (λ (k : Rules). Looked (decided k vol.sup (met_by entry)) old vol new after r) of_plan h)
+
+    pub treat_halts : (f : TreeFault) → Looked (decided rules vol.sup (met_by entry)) old vol new after (Err f) → Ran (treated_for job entry counts s)
+        (world old vol x) (world new after x) (Err (stop.Tree f))
+    treat_halts f h =
+        look_halt (decided (rules_of job.plan) s (met_by entry)) (done_about job.plan s job.sums (met_by entry) counts)
+        (world old vol x) (world new after x) (Err (stop.Tree f)) (stop.Tree f)
+        (ran_fault (decided (rules_of job.plan) s (met_by entry)) old new vol after x f ready (as_rules (Err f) h)) refl
+
+    pub treat_then : (z : World) (found : Decision) (r : Result Treated TheStop) → Looked (decided rules vol.sup (met_by entry)) old vol new after
+        (Ok found) → Ran (done_for job entry found counts s) (world new after x) z r → Ran (treated_for job entry counts s) (world old vol x) z r
+    treat_then z found r h g =
+        look_then (decided (rules_of job.plan) s (met_by entry)) (done_about job.plan s job.sums (met_by entry) counts)
+        (world old vol x) (world new after x) (Ok found) z found r
+        (ran_found (decided (rules_of job.plan) s (met_by entry)) old new vol after x found ready (as_rules (Ok found) h)) refl g

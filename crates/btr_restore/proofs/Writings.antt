@@ -26,13 +26,11 @@ use Rattle.btr_walk.proofs.Turns.{base_layout}
 use Rattle.btr_walk.proofs.Fetched.{since, cause_since}
 use Rattle.btr_volume.specs.Lookup.{Program, each}
 use Rattle.btr_volume.specs.Looking.{SameVolume}
-use Rattle.btr_volume.specs.declared.root.TreeRoot.{TreeRoot}
 use Rattle.btr_volume.specs.declared.stop.Stop.{Stop as TheStop}
 use Rattle.btr_volume.specs.declared.stop.Stop.TheVariants as stop
 use Rattle.btr_volume.specs.declared.volume.Volume.{Volume}
 use Rattle.btr_files.specs.declared.file.FileBytes.{FileBytes}
 use Rattle.btr_files.specs.declared.piece.Piece.{Piece as Lending}
-use Rattle.btr_files.specs.declared.plan.RestorePlan.{RestorePlan}
 use Rattle.btr_files.specs.Content.{Piece}
 use Rattle.btr_files.specs.Maps.{TellsAll}
 use Rattle.btr_files.specs.Streaming.{Begins, FileGoes, GivesPiece, EndsBy, IsFileOn, IsNextPiece, IsReading, Streamed, inline_of, piece_of, todo_prog, without_file}
@@ -43,12 +41,13 @@ use Rattle.btr_restore.specs.Journey.{put}
 use Rattle.btr_restore.specs.Listing.{maps_of}
 use Rattle.btr_restore.specs.Restoring.{sink_after, text_after, SinkCounts, OutCounts, stop_halt, ended}
 use Rattle.btr_restore.specs.Running.{Outside, World, world, IsReady, Wrote, Ran}
-use Rattle.btr_restore.specs.Step.{Step, part}
+use Rattle.btr_listing.specs.Step.{Step, part}
 use Rattle.btr_restore.specs.Writing.{put_of, last_plain, Puts, PutsLeft, PutsFrom, LeftToPut, PieceToPut, IsWriting, WasWritten}
 use Rattle.btr_restore.proofs.Doing.{fold-append, text_then}
 use Rattle.btr_restore.proofs.Emitting.{text_none}
 use Rattle.btr_restore.proofs.Goings.{if_some, if_map, if_both}
-use Rattle.btr_restore.proofs.Stopping.{reads_then, reads_self, no_cause, room_kept}
+use Rattle.btr_listing.proofs.Looking.{reads_self, reads_then, room_kept}
+use Rattle.btr_restore.proofs.Stopping.{no_cause}
 
 wants_back : {W : Type 0} (ws : List W) → wants_of {S = Step} (want_marks ws) ≡ ws
 wants_back [] = refl
@@ -58,20 +57,20 @@ steps_back : {W : Type 0} (ws : List W) → steps_of {S = Step} (want_marks ws) 
 steps_back [] = refl
 steps_back (w ∷ ws) = steps_back ws
 
-module _ (plan : RestorePlan) (s : Super) (sums : Option TreeRoot) (Bs : ℕ → Map) where
+module _ (Bs : ℕ → Map) where
   abbrev Body : Bool → Piece → Run Want Fault Step (Result Bool Bool) → Type 0
-  Body st piece b = GoesTo Bs (put_of plan s sums st piece) b
+  Body st piece b = GoesTo Bs (put_of st piece) b
 
   abbrev last : Bool → Unit {0} → Bool
-  last = last_plain plan s sums
+  last = last_plain
 
   abbrev some : Bool → Run Want Fault Piece (Unit {0}) → Run Want Fault Step Bool
-  some st q = some_run Bs 0 (put_of plan s sums) last st q.marks q.ending
+  some st q = some_run Bs 0 (put_of) last st q.marks q.ending
 
-  some_puts : (st : Bool) (q : Run Want Fault Piece (Unit {0})) → Puts plan s sums Bs st q (some st q)
-  some_puts st q = threads_map Bs 0 (put_of plan s sums) last st q.marks q.ending
+  some_puts : (st : Bool) (q : Run Want Fault Piece (Unit {0})) → Puts Bs st q (some st q)
+  some_puts st q = threads_map Bs 0 (put_of) last st q.marks q.ending
 
-  past_in : (ws : List Want) (st : Bool) (q : Run Want Fault Piece (Unit {0})) (r : Run Want Fault Step Bool) → Puts plan s sums Bs st q r → Puts plan s sums Bs st (prepend (want_marks ws) q) (prepend (want_marks ws) r)
+  past_in : (ws : List Want) (st : Bool) (q : Run Want Fault Piece (Unit {0})) (r : Run Want Fault Step Bool) → Puts Bs st q r → Puts Bs st (prepend (want_marks ws) q) (prepend (want_marks ws) r)
   past_in [] st q r h = h
   past_in (w ∷ ws) st q r h = (prepend (want_marks ws) r, refl, past_in ws st q r h)
 
@@ -84,11 +83,11 @@ module _ (plan : RestorePlan) (s : Super) (sums : Option TreeRoot) (Bs : ℕ →
       let p = file.progress in
       then_some kind file.source Bs (todo_prog kind file.source p.at p.end (inline_of (met_last (Bs 0) p.rest)) p.todo) (exec (Bs 0) (rest_left (Bs 0) p.rest))
 
-  pub left_first : (kind : SumKind) (file : FileBytes) (plain : Bool) (p : Program Piece (Unit {0})) → Begins kind file p → IsFileOn (Bs 0) [] file → LeftToPut plan s sums (each (put plan s sums) plain p) kind Bs plain file []
+  pub left_first : (kind : SumKind) (file : FileBytes) (plain : Bool) (p : Program Piece (Unit {0})) → Begins kind file p → IsFileOn (Bs 0) [] file → LeftToPut (each put plain p) kind Bs plain file []
   left_first kind file plain p begins on = record {
     seen = [];
-    so_far = so_far_more (GoesTo Bs (each (put plan s sums) plain p)) (GoesTo Bs (each (put plan s sums) plain p)) (PutsLeft plan s sums kind Bs plain file) [] [] []
-        (λ r h. goes_thread Bs (put_of plan s sums) last plain p h.0 r (begins Bs h.0 h.1) h.2) (so_far_none (GoesTo Bs (each (put plan s sums) plain p)));
+    so_far = so_far_more (GoesTo Bs (each put plain p)) (GoesTo Bs (each put plain p)) (PutsLeft kind Bs plain file) [] [] []
+        (λ r h. goes_thread Bs (put_of) last plain p h.0 r (begins Bs h.0 h.1) h.2) (so_far_none (GoesTo Bs (each put plain p)));
     on = on;
   }
 
@@ -97,24 +96,24 @@ module _ (plan : RestorePlan) (s : Super) (sums : Option TreeRoot) (Bs : ℕ →
     Whole = GoesTo Bs whole
 
     -- a piece was given
-    pub piece_next : (file' : FileBytes) (piece : Piece) → (l : LeftToPut plan s sums whole kind Bs plain file done) → GivesPiece kind Bs l.seen file file' piece → PieceToPut plan s sums whole kind Bs plain piece file' done
+    pub piece_next : (file' : FileBytes) (piece : Piece) → (l : LeftToPut whole kind Bs plain file done) → GivesPiece kind Bs l.seen file file' piece → PieceToPut whole kind Bs plain piece file' done
     piece_next file' piece l g =
         let ws = want_marks {S = Step} g.past in
-        let more = so_far_more Whole (PutsLeft plan s sums kind Bs plain file) (PutsFrom plan s sums kind Bs plain piece file') l.seen done ws
+        let more = so_far_more Whole (PutsLeft kind Bs plain file) (PutsFrom kind Bs plain piece file') l.seen done ws
         (λ r h. (prepend (want_marks g.past) (first (Does piece) h.0), g.goes h.0 h.1, past_in g.past plain (first (Does piece) h.0) r h.2)) l.so_far in
         record {
           seen = l.seen ++ g.past;
-          so_far = subst (λ (x : List Want). SoFar Whole (PutsFrom plan s sums kind Bs plain piece file') (l.seen ++ x) done) (wants_back g.past)
-              (subst (λ (x : List Step). SoFar Whole (PutsFrom plan s sums kind Bs plain piece file') (l.seen ++ wants_of ws) x) (ap (λ (x : List Step). done ++ x) (steps_back g.past) ∙ append-nil done) more);
+          so_far = subst (λ (x : List Want). SoFar Whole (PutsFrom kind Bs plain piece file') (l.seen ++ x) done) (wants_back g.past)
+              (subst (λ (x : List Step). SoFar Whole (PutsFrom kind Bs plain piece file') (l.seen ++ wants_of ws) x) (ap (λ (x : List Step). done ++ x) (steps_back g.past) ∙ append-nil done) more);
           on = g.on;
         }
 
     -- the file came to a fault
-    pub file_fault : (Is : UnreadBlock → Want → Type 0) (halt : Halt Fault UnreadBlock) → (l : LeftToPut plan s sums whole kind Bs plain file done) → EndsBy kind Is Bs l.seen file (Err halt) → Goes Is part [] Bs whole done (Err halt)
+    pub file_fault : (Is : UnreadBlock → Want → Type 0) (halt : Halt Fault UnreadBlock) → (l : LeftToPut whole kind Bs plain file done) → EndsBy kind Is Bs l.seen file (Err halt) → Goes Is part [] Bs whole done (Err halt)
     file_fault Is halt l e =
         let c = cursor_halts Body last (λ st q. (some st q, some_puts st q)) Is part l.seen plain e.0 halt e.2 in
         subst (λ (x : List Step). Answers Is part Whole x (Err halt)) (append-nil done)
-        (so_far_ends Is part Whole (PutsLeft plan s sums kind Bs plain file) l.seen done [] (Err halt) l.so_far (c.0, (e.0, e.1, c.1), c.2))
+        (so_far_ends Is part Whole (PutsLeft kind Bs plain file) l.seen done [] (Err halt) l.so_far (c.0, (e.0, e.1, c.1), c.2))
 
     -- .. or to its end
     no_more : (ms : List (Mark Want Piece)) (e : Result (Unit {0}) Fault) → [] ≡ steps_of ms → e ≡ Ok tt → (r : Run Want Fault Step Bool) × ThreadsTo Body last plain ms e r × ([] ≡ steps_of r.marks) × (r.ending ≡ Ok plain)
@@ -122,43 +121,43 @@ module _ (plan : RestorePlan) (s : Super) (sums : Option TreeRoot) (Bs : ℕ →
     no_more (Wants w ∷ ms) e n i = let g = no_more ms e n i in (first (Wants w) g.0, (g.0, refl, g.1), g.2, g.3)
     no_more (Does p ∷ ms) e n i = cc
 
-    pub file_end : (Is : UnreadBlock → Want → Type 0) → (l : LeftToPut plan s sums whole kind Bs plain file done) → EndsBy kind Is Bs l.seen file (Ok tt) → Goes Is part [] Bs whole done (Ok plain)
+    pub file_end : (Is : UnreadBlock → Want → Type 0) → (l : LeftToPut whole kind Bs plain file done) → EndsBy kind Is Bs l.seen file (Ok tt) → Goes Is part [] Bs whole done (Ok plain)
     file_end Is l e =
         let c = no_more e.0.marks e.0.ending e.2.0 e.2.1 in
         subst (λ (x : List Step). Answers Is part Whole x (Ok plain)) (append-nil done)
-        (so_far_ends Is part Whole (PutsLeft plan s sums kind Bs plain file) l.seen done [] (Ok plain) l.so_far (c.0, (e.0, e.1, c.1), (c.2, c.3)))
+        (so_far_ends Is part Whole (PutsLeft kind Bs plain file) l.seen done [] (Ok plain) l.so_far (c.0, (e.0, e.1, c.1), (c.2, c.3)))
 
     module _ (piece : Piece) (more : List Step) (Is : UnreadBlock → Want → Type 0) where
       module _ (q : Run Want Fault Piece (Unit {0})) where
-        treated : (st : Bool) (marks : List (Mark Want Step)) (x : Result (Result Bool Bool) Fault) (r : Run Want Fault Step Bool) → x ≡ Ok (Ok st) → Puts plan s sums Bs st q r → AfterTo marks x (GoOnTo (λ st'. Puts plan s sums Bs st' q)) (prepend marks r)
-        treated st marks x r i h = subst (λ y. AfterTo marks y (GoOnTo (λ st'. Puts plan s sums Bs st' q)) (prepend marks r)) (sym i) (r, refl, h)
+        treated : (st : Bool) (marks : List (Mark Want Step)) (x : Result (Result Bool Bool) Fault) (r : Run Want Fault Step Bool) → x ≡ Ok (Ok st) → Puts Bs st q r → AfterTo marks x (GoOnTo (λ st'. Puts Bs st' q)) (prepend marks r)
+        treated st marks x r i h = subst (λ y. AfterTo marks y (GoOnTo (λ st'. Puts Bs st' q)) (prepend marks r)) (sym i) (r, refl, h)
 
-        after_some : (marks : List (Mark Want Step)) (x : Result (Result Bool Bool) Fault) → AfterTo marks x (GoOnTo (λ st'. Puts plan s sums Bs st' q)) (after marks x (go_on_run (λ st'. some st' q)))
+        after_some : (marks : List (Mark Want Step)) (x : Result (Result Bool Bool) Fault) → AfterTo marks x (GoOnTo (λ st'. Puts Bs st' q)) (after marks x (go_on_run (λ st'. some st' q)))
         after_some marks (Ok (Ok st)) = (some st q, refl, some_puts st q)
         after_some marks (Ok (Err y)) = (run [] (Ok y), refl, refl)
         after_some marks (Err f) = refl
 
       -- the piece was put
-      pub piece_put : (plain' : Bool) → PieceToPut plan s sums whole kind Bs plain piece file done → Goes Is part [] Bs (put plan s sums plain piece) more (Ok plain') → LeftToPut plan s sums whole kind Bs plain' file (done ++ more)
+      pub piece_put : (plain' : Bool) → PieceToPut whole kind Bs plain piece file done → Goes Is part [] Bs (put plain piece) more (Ok plain') → LeftToPut whole kind Bs plain' file (done ++ more)
       piece_put plain' l t =
           let b : Run Want Fault Step (Result Bool Bool) = with_value {S = Step} Bs Ok t.0 in
           let f = follows_value Is part [] Ok t.0 plain' more t.2 in
           record {
             seen = l.seen ++ wants_of b.marks;
-            so_far = subst (λ (x : List Step). SoFar Whole (PutsLeft plan s sums kind Bs plain' file) (l.seen ++ wants_of b.marks) (done ++ x)) (sym f.0)
-                (so_far_more Whole (PutsFrom plan s sums kind Bs plain piece file) (PutsLeft plan s sums kind Bs plain' file) l.seen done b.marks
-                (λ r h. (h.0, h.1, (b, goes_value Bs Ok (put plan s sums plain piece) t.0 t.1, treated h.0 plain' b.marks b.ending r f.1 h.2))) l.so_far);
+            so_far = subst (λ (x : List Step). SoFar Whole (PutsLeft kind Bs plain' file) (l.seen ++ wants_of b.marks) (done ++ x)) (sym f.0)
+                (so_far_more Whole (PutsFrom kind Bs plain piece file) (PutsLeft kind Bs plain' file) l.seen done b.marks
+                (λ r h. (h.0, h.1, (b, goes_value Bs Ok (put plain piece) t.0 t.1, treated h.0 plain' b.marks b.ending r f.1 h.2))) l.so_far);
             on = file_more file l.seen (wants_of b.marks) l.on;
           }
 
       -- .. or not put
-      pub piece_halts : (halt : Halt Fault UnreadBlock) → PieceToPut plan s sums whole kind Bs plain piece file done → Goes Is part [] Bs (put plan s sums plain piece) more (Err halt) → Goes Is part [] Bs whole (done ++ more) (Err halt)
+      pub piece_halts : (halt : Halt Fault UnreadBlock) → PieceToPut whole kind Bs plain piece file done → Goes Is part [] Bs (put plain piece) more (Err halt) → Goes Is part [] Bs whole (done ++ more) (Err halt)
       piece_halts halt l t =
           let b : Run Want Fault Step (Result Bool Bool) = with_value {S = Step} Bs Ok t.0 in
           let f = some_file kind file in
           let g = follows_alone Is part l.seen b more (Err halt) (follows_halt Is part [] t.0 (λ x. run [] (Ok (Ok x))) more halt t.2) in
-          so_far_ends Is part Whole (PutsFrom plan s sums kind Bs plain piece file) l.seen done more (Err halt) l.so_far
-          (after b.marks b.ending (go_on_run (λ st'. some st' f.0)), (f.0, f.1, (b, goes_value Bs Ok (put plan s sums plain piece) t.0 t.1, after_some f.0 b.marks b.ending)), follows_halt Is part l.seen b (go_on_run (λ st'. some st' f.0)) more halt g)
+          so_far_ends Is part Whole (PutsFrom kind Bs plain piece file) l.seen done more (Err halt) l.so_far
+          (after b.marks b.ending (go_on_run (λ st'. some st' f.0)), (f.0, f.1, (b, goes_value Bs Ok (put plain piece) t.0 t.1, after_some f.0 b.marks b.ending)), follows_halt Is part l.seen b (go_on_run (λ st'. some st' f.0)) more halt g)
 
 -- facts of calls in a row, over one layout
 all_then : (layout : Layout) (a b c : Seen) (P Q R : (ℕ → Map) → Type 0) → ((Bs : ℕ → Map) → P Bs → Q Bs → R Bs) → TellsAll layout a b P → TellsAll layout b c Q → TellsAll layout a c R
@@ -168,7 +167,7 @@ all_then layout a b c P Q R f one two = record {
 }
 
 -- the writing of a file, call by call
-module _ (plan : RestorePlan) (s : Super) (sums : Option TreeRoot) (whole : Program Step Bool) (x y : World) (plain : Bool) (file file' : FileBytes) (rack : Seen) (vol : Volume) (l : IsWriting plan s sums whole x y plain file) (reads : OnlyReads y.rack rack) where
+module _ (whole : Program Step Bool) (x y : World) (plain : Bool) (file file' : FileBytes) (rack : Seen) (vol : Volume) (l : IsWriting whole x y plain file) (reads : OnlyReads y.rack rack) where
   abbrev layout : Layout
   layout = x.vol.store.layout
 
@@ -176,7 +175,7 @@ module _ (plan : RestorePlan) (s : Super) (sums : Option TreeRoot) (whole : Prog
   kind = kind_in x.vol.sup
 
   abbrev Was : (ℕ → Map) → Type 0
-  Was Bs = LeftToPut plan s sums whole kind Bs plain file l.done
+  Was Bs = LeftToPut whole kind Bs plain file l.done
 
   abbrev Next : Layout → Super → Result (Option Lending) TreeFault → (ℕ → Map) → Type 0
   Next L t result Bs = IsNextPiece (kind_in t) (unread_by L y.rack rack) Bs file file' result
@@ -197,7 +196,7 @@ module _ (plan : RestorePlan) (s : Super) (sums : Option TreeRoot) (whole : Prog
   streamed result other e n = subst (λ r. Streamed y.vol vol file file' y.rack rack r) e n
 
   -- it came to a fault
-  pub writing_fault : (f : TreeFault) (result : Result (Option Lending) TreeFault) → result ≡ Err f → Streamed y.vol vol file file' y.rack rack result → HasCause {A = Option Lending} y.vol.store.layout y.rack rack (Err f) → WasWritten plan s sums whole x (world rack vol y.out) file' (Err (stop.Tree f))
+  pub writing_fault : (f : TreeFault) (result : Result (Option Lending) TreeFault) → result ≡ Err f → Streamed y.vol vol file file' y.rack rack result → HasCause {A = Option Lending} y.vol.store.layout y.rack rack (Err f) → WasWritten whole x (world rack vol y.out) file' (Err (stop.Tree f))
   writing_fault f result is m cause =
       let n = streamed result (Err f) is m in
       record {
@@ -210,7 +209,7 @@ module _ (plan : RestorePlan) (s : Super) (sums : Option TreeRoot) (whole : Prog
           sink = l.sink;
           text = l.text;
           content = all_then layout x.rack y.rack rack Was (Next layout x.vol.sup (Err f)) (λ Bs. Goes (unread_by layout x.rack rack) part [] Bs whole l.done (Err (halt_of f)))
-              (λ Bs p q. file_fault plan s sums Bs whole kind plain file l.done (unread_by layout x.rack rack) (halt_of f) p
+              (λ Bs p q. file_fault Bs whole kind plain file l.done (unread_by layout x.rack rack) (halt_of f) p
               (let e = q p.seen p.on in (e.0, e.1, follows_as (unread_by layout y.rack rack) (unread_by layout x.rack rack) earlier no_part p.seen e.0 [] (Err (halt_of f)) e.2)))
               l.content (over (Err f) n.content);
         };
@@ -220,7 +219,7 @@ module _ (plan : RestorePlan) (s : Super) (sums : Option TreeRoot) (whole : Prog
       }
 
   -- .. or to its end
-  pub writing_end : (result : Result (Option Lending) TreeFault) → result ≡ Ok None → Streamed y.vol vol file file' y.rack rack result → WasWritten plan s sums whole x (world rack vol y.out) file' (Ok plain)
+  pub writing_end : (result : Result (Option Lending) TreeFault) → result ≡ Ok None → Streamed y.vol vol file file' y.rack rack result → WasWritten whole x (world rack vol y.out) file' (Ok plain)
   writing_end result is m =
       let n = streamed result (Ok None) is m in
       record {
@@ -233,7 +232,7 @@ module _ (plan : RestorePlan) (s : Super) (sums : Option TreeRoot) (whole : Prog
           sink = l.sink;
           text = l.text;
           content = all_then layout x.rack y.rack rack Was (Next layout x.vol.sup (Ok None)) (λ Bs. Goes (unread_by layout x.rack rack) part [] Bs whole l.done (Ok plain))
-              (λ Bs p q. file_end plan s sums Bs whole kind plain file l.done (unread_by layout x.rack rack) p
+              (λ Bs p q. file_end Bs whole kind plain file l.done (unread_by layout x.rack rack) p
               (let e = q p.seen p.on in (e.0, e.1, follows_as (unread_by layout y.rack rack) (unread_by layout x.rack rack) earlier no_part p.seen e.0 [] (Ok tt) e.2)))
               l.content (over (Ok None) n.content);
         };
@@ -248,15 +247,15 @@ module _ (plan : RestorePlan) (s : Super) (sums : Option TreeRoot) (whole : Prog
     n = streamed result (Ok (Some piece)) is m
 
     abbrev Met : (ℕ → Map) → Type 0
-    Met Bs = PieceToPut plan s sums whole kind Bs plain (piece_of piece) file' l.done
+    Met Bs = PieceToPut whole kind Bs plain (piece_of piece) file' l.done
 
     met : TellsAll layout x.rack rack Met
-    met = all_then layout x.rack y.rack rack Was (Next layout x.vol.sup (Ok (Some piece))) Met (λ Bs p q. piece_next plan s sums Bs whole kind plain file l.done file' (piece_of piece) p (q p.seen p.on)) l.content (over (Ok (Some piece)) n.content)
+    met = all_then layout x.rack y.rack rack Was (Next layout x.vol.sup (Ok (Some piece))) Met (λ Bs p q. piece_next Bs whole kind plain file l.done file' (piece_of piece) p (q p.seen p.on)) l.content (over (Ok (Some piece)) n.content)
 
-    put_with : {R : (ℕ → Map) → Type 0} (r : Result Bool TheStop) (w : Wrote (put plan s sums plain (piece_of piece)) y.out z r) → ((Bs : ℕ → Map) → Met Bs → Goes (unread_by layout x.rack rack) part [] Bs (put plan s sums plain (piece_of piece)) w.did.done (ended r) → R Bs) → TellsAll layout x.rack rack R
+    put_with : {R : (ℕ → Map) → Type 0} (r : Result Bool TheStop) (w : Wrote (put plain (piece_of piece)) y.out z r) → ((Bs : ℕ → Map) → Met Bs → Goes (unread_by layout x.rack rack) part [] Bs (put plain (piece_of piece)) w.did.done (ended r) → R Bs) → TellsAll layout x.rack rack R
     put_with {R} r w f = record { calls = calls_as (λ sure h p. if_map (λ images. Met (maps_of layout sure images)) (λ images. R (maps_of layout sure images)) h (λ images m. f (maps_of layout sure images) m (w.did.goes layout x.rack rack (maps_of layout sure images))) p) met.calls }
 
-    pub writing_on : (plain' : Bool) → Wrote (put plan s sums plain (piece_of piece)) y.out z (Ok plain') → IsWriting plan s sums whole x (world rack vol z) plain' file'
+    pub writing_on : (plain' : Bool) → Wrote (put plain (piece_of piece)) y.out z (Ok plain') → IsWriting whole x (world rack vol z) plain' file'
     writing_on plain' w = record {
       reads = reads_then l.reads reads;
       sup = n.sup ∙ l.sup;
@@ -265,12 +264,12 @@ module _ (plan : RestorePlan) (s : Super) (sums : Option TreeRoot) (whole : Prog
       done = l.done ++ w.did.done;
       sink = w.did.sink ∙ (ap (λ v. fold sink_after v w.did.done) l.sink ∙ sym (fold-append sink_after x.out.sink l.done w.did.done));
       text = w.did.text ∙ (ap (λ u. text_after u w.did.done) l.text ∙ text_then x.out.text l.done w.did.done);
-      content = put_with (Ok plain') w (λ Bs m g. piece_put plan s sums Bs whole kind plain file' l.done (piece_of piece) w.did.done (unread_by layout x.rack rack) plain' m g);
+      content = put_with (Ok plain') w (λ Bs m g. piece_put Bs whole kind plain file' l.done (piece_of piece) w.did.done (unread_by layout x.rack rack) plain' m g);
       sink_calls = w.sink_calls ∙ l.sink_calls;
       out_calls = w.out_calls ∙ l.out_calls;
     }
 
-    pub writing_halt : (t : TheStop) → Wrote (put plan s sums plain (piece_of piece)) y.out z (Err t) → WasWritten plan s sums whole x (world rack vol z) file' (Err t)
+    pub writing_halt : (t : TheStop) → Wrote (put plain (piece_of piece)) y.out z (Err t) → WasWritten whole x (world rack vol z) file' (Err t)
     writing_halt t w = record {
       reads = reads_then l.reads reads;
       sup = n.sup ∙ l.sup;
@@ -280,7 +279,7 @@ module _ (plan : RestorePlan) (s : Super) (sums : Option TreeRoot) (whole : Prog
         done = l.done ++ w.did.done;
         sink = w.did.sink ∙ (ap (λ v. fold sink_after v w.did.done) l.sink ∙ sym (fold-append sink_after x.out.sink l.done w.did.done));
         text = w.did.text ∙ (ap (λ u. text_after u w.did.done) l.text ∙ text_then x.out.text l.done w.did.done);
-        content = put_with (Err t) w (λ Bs m g. piece_halts plan s sums Bs whole kind plain file' l.done (piece_of piece) w.did.done (unread_by layout x.rack rack) (stop_halt t) m g);
+        content = put_with (Err t) w (λ Bs m g. piece_halts Bs whole kind plain file' l.done (piece_of piece) w.did.done (unread_by layout x.rack rack) (stop_halt t) m g);
       };
       cause = no_cause {A = Bool} layout x.rack rack (Err t) w.stops;
       sink_calls = subst (λ a. SinkCounts {A = Bool} a z.sink_calls (Err t)) l.sink_calls w.sink_calls;
@@ -288,8 +287,8 @@ module _ (plan : RestorePlan) (s : Super) (sums : Option TreeRoot) (whole : Prog
     }
 
 -- a file begins
-pub writing_first : (plan : RestorePlan) (s : Super) (sums : Option TreeRoot) (x : World) (file : FileBytes) (p : Program Piece (Unit {0})) → IsReading x.rack x.vol.store file → without_file x.vol.store file ≡ x.vol.store → Begins (kind_in x.vol.sup) file p → ((B : Map) → IsFileOn B [] file) → IsWriting plan s sums (each (put plan s sums) false p) x x false file
-writing_first plan s sums x file p reading same begins on = record {
+pub writing_first : (x : World) (file : FileBytes) (p : Program Piece (Unit {0})) → IsReading x.rack x.vol.store file → without_file x.vol.store file ≡ x.vol.store → Begins (kind_in x.vol.sup) file p → ((B : Map) → IsFileOn B [] file) → IsWriting (each put false p) x x false file
+writing_first x file p reading same begins on = record {
   reads = reads_self x.rack;
   sup = refl;
   others = subst (SameLoans x.vol.store) (sym same) (record { layout = refl; loans = refl });
@@ -298,16 +297,16 @@ writing_first plan s sums x file p reading same begins on = record {
   sink = refl;
   text = text_none x.out.text;
   content = record {
-    calls = calls_none (λ sure. if_some (λ images. LeftToPut plan s sums (each (put plan s sums) false p) (kind_in x.vol.sup) (maps_of x.vol.store.layout sure images) false file []) x.rack.held
-        (λ images. left_first plan s sums (maps_of x.vol.store.layout sure images) (kind_in x.vol.sup) file false p begins (on (maps_of x.vol.store.layout sure images 0))));
+    calls = calls_none (λ sure. if_some (λ images. LeftToPut (each put false p) (kind_in x.vol.sup) (maps_of x.vol.store.layout sure images) false file []) x.rack.held
+        (λ images. left_first (maps_of x.vol.store.layout sure images) (kind_in x.vol.sup) file false p begins (on (maps_of x.vol.store.layout sure images 0))));
   };
   sink_calls = refl;
   out_calls = refl;
 }
 
 -- .. and is given back
-pub writing_over : (plan : RestorePlan) (s : Super) (sums : Option TreeRoot) (whole : Program Step Bool) (x y : World) (vol : Volume) (file : FileBytes) (r : Result Bool TheStop) → IsReady x.rack x.vol → WasWritten plan s sums whole x y file r → vol.sup ≡ y.vol.sup → SameLoans (without_file y.vol.store file) vol.store → Serves y.rack vol.store → Ran whole x (world y.rack vol y.out) r
-writing_over plan s sums whole x y vol file r ready w sup back serves =
+pub writing_over : (whole : Program Step Bool) (x y : World) (vol : Volume) (file : FileBytes) (r : Result Bool TheStop) → IsReady x.rack x.vol → WasWritten whole x y file r → vol.sup ≡ y.vol.sup → SameLoans (without_file y.vol.store file) vol.store → Serves y.rack vol.store → Ran whole x (world y.rack vol y.out) r
+writing_over whole x y vol file r ready w sup back serves =
     let same : SameVolume x.vol vol = record { sup = sup ∙ w.sup; store = record { layout = back.layout ∙ w.others.layout; loans = back.loans ∙ w.others.loans } } in
     record {
       reads = w.reads;

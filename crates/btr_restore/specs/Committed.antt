@@ -13,6 +13,7 @@ use Rattle.btr_read.specs.declared.want.Want.{Want}
 use Rattle.btr_volume.specs.Maps.{VolumeWant, Maps, volume_map, array_layout}
 use Rattle.btr_volume.specs.Start.{Images, Start}
 use Rattle.btr_volume.specs.Table.{table_scan}
+use Rattle.btr_volume.specs.Tree.{root_want}
 use Rattle.btr_restore.specs.Journey.{journey}
 
 -- the committed blocks: for each checked want its bytes, if it has any; what is said of other wants isn't looked at
@@ -64,9 +65,10 @@ abbrev pub IsCommittedTable : Commit → Images → Start → List Chunk → Typ
 IsCommittedTable C images start table = (exec (committed C images (array_layout start)) (table_scan start)).ending ≡ Ok (Ok table)
 
 module _ (plan : RestorePlan) (dest : List ℕ) (images : Images) (start : Start) (C : Commit) where
-  -- the committed blocks hold all that restore needs, and their trees are well formed
+  -- the committed blocks hold all that restore needs, and the root tree's root block, and their trees are well formed
   pub record IsClosed (table : List Chunk) : Type 0 where
     pub stands : IsCommittedTable C images start table
+    pub root : IsSome (C (root_want start.sup))
     pub holds : Each (λ want. IsIn C (want_of want)) (needs (volume_map start (committed C images)) (journey plan dest start))
     pub well : EndsInOrder (exec (volume_map start (committed C images)) (journey plan dest start)).ending
 

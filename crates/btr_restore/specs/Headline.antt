@@ -1,5 +1,5 @@
 -- What restore does where every candidate that passes its test is the committed block.
-use Rattle.std.specs.Prelude.{◌≡◌, ℕ, List, [], ◌∷◌, ◌++◌, Result, Ok, Err}
+use Rattle.std.specs.Prelude.{◌≡◌, ℕ, List, [], ◌∷◌, ◌++◌, Option, Some, None, Result, Ok, Err}
 use Rattle.btr_chunk.specs.declared.chunk.Chunk.{Chunk}
 use Rattle.btr_files.specs.declared.plan.RestorePlan.{RestorePlan}
 use Rattle.btr_prog.specs.Prog.{Mark, Wants, exec, steps_of, wants_of}
@@ -7,16 +7,24 @@ use Rattle.btr_prog.specs.Maps.{Each, IsWhole}
 use Rattle.btr_read.specs.Fate.{Lost, fate}
 use Rattle.btr_read.specs.Want.{addr_of}
 use Rattle.btr_volume.specs.declared.fault.OpenFault.{OpenFault}
-use Rattle.btr_volume.specs.Maps.{VolumeWant, volume_map}
+use Rattle.btr_volume.specs.declared.fault.OpenFault.TheVariants.{Diverged}
+use Rattle.btr_volume.specs.Maps.{VolumeWant, diverged_at, volume_map}
 use Rattle.btr_volume.specs.Start.{Images, Start, start_of, layout_by}
 use Rattle.btr_restore.specs.Committed.{Commit, IsHonest, IsClosed, AreWhole, committed, want_of}
 use Rattle.btr_restore.specs.Journey.{journey}
 use Rattle.btr_restore.specs.Outcome.{Outcome, outcome_by, outcome}
-use Rattle.btr_restore.specs.Step.{Step}
+use Rattle.btr_listing.specs.Step.{Step}
 
+-- an outcome, where the candidates of the root tree's root block agree: else the images are refused
+abbrev pub unless_diverged : Option ℕ → Outcome → Outcome
+unless_diverged None found = found
+unless_diverged (Some slot) found = outcome_by [] (Ok (Err (Diverged slot)))
+
+-- what comes of restore by what the images start as
 abbrev pub from_start : RestorePlan → List ℕ → Images → Result Start OpenFault → Outcome
 from_start plan dest images (Err refusal) = outcome_by [] (Ok (Err refusal))
-from_start plan dest images (Ok start) = outcome (exec (volume_map start (fate images)) (journey plan dest start))
+from_start plan dest images (Ok start) =
+    unless_diverged (diverged_at images start) (outcome (exec (volume_map start (fate images)) (journey plan dest start)))
 
 -- what comes of restore over the bytes of the images
 abbrev pub restore_outcome : RestorePlan → List ℕ → Images → Outcome

@@ -1,5 +1,5 @@
 -- What restore has done and answers whatever failed: the steps of its journey up to some place.
-use Rattle.std.specs.Prelude.{◌≡◌, ◌⊎◌, ℕ, List, [], ◌∷◌, ◌++◌, Result, Ok, Err}
+use Rattle.std.specs.Prelude.{◌≡◌, ◌⊎◌, ℕ, List, [], ◌∷◌, ◌++◌, None, Result, Ok, Err}
 use Rattle.btr_chunk.specs.declared.chunk.Chunk.{Chunk}
 use Rattle.btr_files.specs.declared.counts.Counts.{Counts}
 use Rattle.btr_files.specs.declared.plan.RestorePlan.{RestorePlan}
@@ -11,7 +11,7 @@ use Rattle.btr_rack.specs.Rack.{Seen}
 use Rattle.btr_read.specs.Fate.{Fault, Lost, fate, choices}
 use Rattle.btr_read.specs.Want.{addr_of}
 use Rattle.btr_volume.specs.declared.fault.OpenFault.{OpenFault}
-use Rattle.btr_volume.specs.Maps.{Maps, VolumeWant, volume_map, array_layout}
+use Rattle.btr_volume.specs.Maps.{Maps, VolumeWant, volume_map, array_layout, diverged_at}
 use Rattle.btr_volume.specs.Start.{Images, Start, start_of, layout_by}
 use Rattle.btr_volume.specs.Table.{refusal_of, table_scan}
 use Rattle.btr_volume.specs.declared.fault.TableFault.{TableFault}
@@ -20,7 +20,7 @@ use Rattle.btr_restore.specs.Committed.{Commit, IsHonest, IsClosed, committed_ch
 use Rattle.btr_restore.specs.Headline.{restore_outcome}
 use Rattle.btr_restore.specs.Journey.{journey, listing}
 use Rattle.btr_restore.specs.Outcome.{Ending, outcome_by}
-use Rattle.btr_restore.specs.Step.{Step, part}
+use Rattle.btr_listing.specs.Step.{Step, part}
 
 -- how calls end that run the journey
 abbrev pub Answer : Type 0
@@ -72,11 +72,13 @@ abbrev pub answer_by : Ending → Answer
 answer_by (Ok value) = Ok value
 answer_by (Err fault) = Err (halt_fault fault)
 
--- what follows the first copies, and ends as the images decide, is the outcome of restore over their bytes
+-- What follows the first copies, and ends as the images decide, is the outcome of restore over their bytes, where the candidates of the root
+-- tree's root block agree.
 abbrev pub SettledLaw : Type 0
 SettledLaw =
     (plan : RestorePlan) (dest : List ℕ) (images : Images) (start : Start) (old new : Seen) (done : List Step) (ending : Ending)
     → start_of images ≡ Ok start
+    → diverged_at images start ≡ None
     → Follows plan dest start old new (λ n. fate images) done (answer_by ending)
     → outcome_by done ending ≡ restore_outcome plan dest images
 

@@ -1,8 +1,7 @@
 -- The whole listing of restore, as one program over wants.
-use Rattle.std.specs.Prelude.{ℕ, zero, suc, ◌^◌, Bool, true, false, not, ◌&&◌, ◌||◌, ◌==◌, nat_le, nat_lt, if◌then◌else◌, List, [], codes, bit_and, Option, Some, None, Result, Ok, Err}
+use Rattle.std.specs.Prelude.{ℕ, zero, suc, Bool, true, false, not, ◌||◌, ◌==◌, if◌then◌else◌, List, [], codes, bit_and, Option, Some, None, Result, Ok, Err}
 use Rattle.btr_chunk.specs.declared.chunk.Chunk.{Chunk}
 use Rattle.btr_items.specs.declared.inode.Inode.{Inode}
-use Rattle.btr_items.specs.Types.{inode_item}
 use Rattle.btr_prog.specs.Prog.{Prog, Return, Stop, Emit, bind}
 use Rattle.btr_prog.specs.Quiet.{quiet}
 use Rattle.btr_prog.specs.Stages.{staged}
@@ -17,17 +16,19 @@ use Rattle.btr_volume.specs.Table.{refusal_of, table_scan}
 use Rattle.btr_volume.specs.Tree.{tree_of}
 use Rattle.btr_files.specs.declared.counts.Counts.{Counts}
 use Rattle.btr_files.specs.declared.plan.RestorePlan.{RestorePlan}
-use Rattle.btr_files.specs.declared.clearness.Survey.{Survey}
-use Rattle.btr_files.specs.declared.clearness.Survey.TheVariants.{Clear, Compressed, Encoded}
 use Rattle.btr_files.specs.Content.{Piece, Gap, content}
 use Rattle.btr_files.specs.Content as piece
 use Rattle.btr_files.specs.Entries.{DirEntry, entries}
-use Rattle.btr_files.specs.Extents.{survey}
-use Rattle.btr_files.specs.Names.{inode_in, link, linked, mount, mounted}
 use Rattle.btr_files.specs.Sums.{kind_in}
-use Rattle.btr_restore.specs.Lines.{is_bad, path_in, line, skip_line, no_counts, with_dir, with_file, with_skip, counts_line}
-use Rattle.btr_restore.specs.Step.{Step, Dir, Up, File, Bytes, Zeros, Done, Line}
-use Rattle.btr_restore.specs.Step as step
+use Rattle.btr_listing.specs.declared.decision.Decision.{Decision}
+use Rattle.btr_listing.specs.declared.decision.Decision.TheVariants.{Skip, Empty, Folder}
+use Rattle.btr_listing.specs.declared.decision.Decision.TheVariants as decision
+use Rattle.btr_listing.specs.declared.rules.Rules.{Rules}
+use Rattle.btr_listing.specs.Causes.{cause_text}
+use Rattle.btr_listing.specs.Deciding.{Met, decided, met_in, target}
+use Rattle.btr_listing.specs.Lines.{line, skip_line, no_counts, with_dir, with_file, with_skip, counts_line}
+use Rattle.btr_listing.specs.Step.{Step, Dir, Up, File, Bytes, Zeros, Done, Line}
+use Rattle.btr_listing.specs.Step as step
 
 -- the listing of a directory of a tree, by its path and the counts before it
 abbrev pub Listing : Type 0
@@ -46,7 +47,24 @@ most_depth = 512
 abbrev pub has_no_sums : Inode → Bool
 has_no_sums inode = not (bit_and inode.flags 1 == 0)
 
-module _ (plan : RestorePlan) (s : Super) (sums : Option TreeRoot) where
+-- an entry that is left out and named
+abbrev pub skip : List ℕ → List ℕ → Counts → Program Step Treated
+skip cause path counts = Emit (Line (skip_line cause path)) (Return (Over (with_skip counts)))
+
+-- a line for a file of which some sector was read without a checksum, and then the rest
+abbrev pub unverified : {A : Type 0} → Bool → List ℕ → Program Step A → Program Step A
+unverified plain path rest = if plain then Emit (Line (line (codes "unverified") path)) rest else rest
+
+-- a piece of a file, and whether some piece so far was read without a checksum
+abbrev pub put : Bool → Piece → Program Step Bool
+put plain (piece.Bytes bytes summed) = Emit (Bytes bytes) (Return (plain || not summed))
+put plain (Gap count) = Emit (Zeros count) (Return plain)
+
+-- restore enters all subvolumes, and snapshots where they are asked for; a path may be as long as it is
+abbrev pub rules_of : RestorePlan → Rules
+rules_of plan = record { snapshots = plan.snapshots; subvolumes = true; longest = None }
+
+module _ (plan : RestorePlan) where
   -- a call of the sink, which a dry run leaves out, and then the rest
   abbrev pub row : {A : Type 0} → Step → Program Step A → Program Step A
   row step rest = if plan.dry then rest else Emit step rest
@@ -55,43 +73,9 @@ module _ (plan : RestorePlan) (s : Super) (sums : Option TreeRoot) where
   abbrev pub told : {A : Type 0} → List ℕ → List ℕ → Program Step A → Program Step A
   told word path rest = if plan.verbose || plan.dry then Emit (Line (line word path)) rest else rest
 
-  -- an entry that is left out and named
-  abbrev pub skip : List ℕ → List ℕ → Counts → Program Step Treated
-  skip cause path counts = Emit (Line (skip_line cause path)) (Return (Over (with_skip counts)))
-
-  -- a piece of a file, and whether some piece so far was read without a checksum
-  abbrev pub put : Bool → Piece → Program Step Bool
-  put plain (piece.Bytes bytes summed) = Emit (Bytes bytes) (Return (plain || not summed))
-  put plain (Gap count) = Emit (Zeros count) (Return plain)
-
-  -- the pieces of a file, of which a dry run reads none
-  abbrev pub pieces : TreeRoot → ℕ → Inode → Program Step Bool
-  pieces tree ino inode =
-      if plan.dry then Return false else each put false (content (kind_in s) sums (has_no_sums inode) inode.size tree ino)
-
-  abbrev pub unverified : {A : Type 0} → Bool → List ℕ → Program Step A → Program Step A
-  unverified plain path rest = if plain then Emit (Line (line (codes "unverified") path)) rest else rest
-
   -- a file that is finished, and named
   abbrev pub closed : List ℕ → Counts → Bool → Program Step Treated
   closed path counts plain = row Done (told (codes "file") path (unverified plain path (Return (Over (with_file counts)))))
-
-  -- a file that is written
-  abbrev pub written : TreeRoot → ℕ → List ℕ → List ℕ → Inode → Counts → Program Step Treated
-  written tree ino name path inode counts = row (File name) (bind (pieces tree ino inode) (closed path counts))
-
-  -- a file by what its extents come to
-  abbrev pub surveyed : Survey → List ℕ → Counts → Program Step Treated → Program Step Treated
-  surveyed Clear path counts rest = rest
-  surveyed Compressed path counts rest = skip (codes "compressed") path counts
-  surveyed Encoded path counts rest = skip (codes "encoded") path counts
-
-  -- a file by its inode, if that is there
-  abbrev pub file_found : TreeRoot → ℕ → List ℕ → List ℕ → Counts → Option Inode → Program Step Treated
-  file_found tree ino name path counts None = skip (codes "missing") path counts
-  file_found tree ino name path counts (Some inode) =
-      if nat_lt (2 ^ 60) inode.size then skip (codes "size") path counts
-      else looks (survey tree ino) (λ found. surveyed found path counts (written tree ino name path inode counts))
 
   -- a directory that is entered
   abbrev pub entered : List ℕ → List ℕ → TreeRoot → ℕ → Counts → Program Step Treated
@@ -101,58 +85,37 @@ module _ (plan : RestorePlan) (s : Super) (sums : Option TreeRoot) where
   abbrev pub empty : List ℕ → List ℕ → Counts → Program Step Treated
   empty name path counts = row (Dir name) (told (codes "dir") path (row Up (Return (Over (with_dir counts)))))
 
-  -- a directory, where this entry is its one name
-  abbrev pub directory_entry : TreeRoot → ℕ → DirEntry → List ℕ → Counts → Program Step Treated
-  directory_entry tree dirid entry path counts =
-      let ino = entry.row.location.objectid in
-      looks (linked (link dirid entry.row.index entry.name) tree ino)
-      (λ is. if is then entered entry.name path tree ino counts else skip (codes "link") path counts)
+module _ (plan : RestorePlan) (s : Super) (sums : Option TreeRoot) where
+  -- the pieces of a file, of which a dry run reads none
+  abbrev pub pieces : TreeRoot → ℕ → Inode → Program Step Bool
+  pieces tree ino inode =
+      if plan.dry then Return false else each put false (content (kind_in s) sums (has_no_sums inode) inode.size tree ino)
 
-  -- a subvolume by its root, if that is there
-  abbrev pub subvolume_found : List ℕ → List ℕ → Counts → Option TreeRoot → Program Step Treated
-  subvolume_found name path counts None = skip (codes "missing") path counts
-  subvolume_found name path counts (Some inner) =
-      if not (inner.offset == 0) && not plan.snapshots then skip (codes "snapshot") path counts
-      else entered name path inner inner.dirid counts
+  -- a file that is written
+  abbrev pub written : TreeRoot → ℕ → List ℕ → List ℕ → Inode → Counts → Program Step Treated
+  written tree ino name path inode counts = row plan (File name) (bind (pieces tree ino inode) (closed plan path counts))
 
-  -- a subvolume, where this entry is its one name; else an empty directory
-  abbrev pub subvolume_entry : TreeRoot → ℕ → DirEntry → List ℕ → Counts → Program Step Treated
-  subvolume_entry tree dirid entry path counts =
-      let id = entry.row.location.objectid in
-      looks (mounted (mount tree.id (link dirid entry.row.index entry.name)) s id) (λ is.
-      if is then looks (tree_of s id) (subvolume_found entry.name path counts) else empty entry.name path counts)
+  -- what is done about an entry, by what it comes to
+  abbrev pub done_about : Met → Counts → Decision → Program Step Treated
+  done_about met counts (Skip cause) = skip (cause_text cause) met.path counts
+  done_about met counts (decision.File inode) = written met.tree (target met) met.entry.name met.path inode counts
+  done_about met counts Empty = empty plan met.entry.name met.path counts
+  done_about met counts (Folder inner dirid) = entered plan met.entry.name met.path inner dirid counts
 
-  -- a directory or a subvolume, in a directory that may be too deep for it
-  abbrev pub folder_entry : Bool → TreeRoot → ℕ → DirEntry → List ℕ → Counts → Program Step Treated
-  folder_entry deep tree dirid entry path counts =
-      if deep then skip (codes "depth") path counts
-      else if entry.row.location.kind == inode_item then directory_entry tree dirid entry path counts
-      else subvolume_entry tree dirid entry path counts
-
-  -- an entry of a good name, by its kind
-  abbrev pub treated_named : Bool → TreeRoot → ℕ → List ℕ → Counts → DirEntry → Program Step Treated
-  treated_named deep tree dirid here counts entry =
-      let ino = entry.row.location.objectid in
-      if entry.row.kind == 7 then skip (codes "symlink") here counts
-      else if nat_le 3 entry.row.kind then skip (codes "special") here counts
-      else if entry.row.kind == 1 then looks (inode_in tree ino) (file_found tree ino entry.name here counts)
-      else folder_entry deep tree dirid entry here counts
-
-  -- an entry by its name and its kind: the first rule that fits decides
-  abbrev pub treated : Bool → TreeRoot → ℕ → List ℕ → Counts → DirEntry → Program Step Treated
-  treated deep tree dirid path counts entry =
-      let here = path_in path entry.name in
-      if is_bad entry.name then skip (codes "name") here counts else treated_named deep tree dirid here counts entry
+  -- an entry: what it comes to, and what is done about it
+  abbrev pub treated : Met → Counts → Program Step Treated
+  treated met counts = looks (decided (rules_of plan) s met) (done_about met counts)
 
   -- what is listed in a directory that was entered, and the way up
   abbrev pub listed_in : Listing → List ℕ → Treated → Program Step Counts
   listed_in below path (Over counts) = Return counts
-  listed_in below path (Within tree dirid counts) = bind (below tree dirid path counts) (λ after. row Up (Return after))
+  listed_in below path (Within tree dirid counts) = bind (below tree dirid path counts) (λ after. row plan Up (Return after))
 
   -- an entry, and what is in it
   abbrev pub treat : Bool → Listing → TreeRoot → ℕ → List ℕ → Counts → DirEntry → Program Step Counts
   treat deep below tree dirid path counts entry =
-      bind (treated deep tree dirid path counts entry) (listed_in below (path_in path entry.name))
+      let met = met_in deep tree dirid path entry in
+      bind (treated met counts) (listed_in below met.path)
 
   -- each entry of a directory is treated wholly before the next is sought
   abbrev pub listed : Bool → Listing → Listing
@@ -163,20 +126,20 @@ module _ (plan : RestorePlan) (s : Super) (sums : Option TreeRoot) where
   directory zero = listed true (λ tree dirid path counts. Return counts)
   directory (suc n) = listed false (directory n)
 
+-- the checksum tree; a dry run reads no bytes of files
+abbrev pub sums_lookup : RestorePlan → Super → Lookup (Option TreeRoot)
+sums_lookup plan s = if plan.dry then Return None else tree_of s 7
+
 module _ (plan : RestorePlan) (dest : List ℕ) (s : Super) where
   -- the top directory of a tree, the checksums being those of another
   abbrev pub restored : TreeRoot → Option TreeRoot → Program Step Counts
   restored tree sums =
-      row plan s sums (step.Start dest)
+      row plan (step.Start dest)
       (bind (directory plan s sums most_depth tree tree.dirid [] no_counts) (λ counts. Emit (Line (counts_line counts)) (Return counts)))
-
-  -- the checksum tree; a dry run reads no bytes of files
-  abbrev pub sums_lookup : Lookup (Option TreeRoot)
-  sums_lookup = if plan.dry then Return None else tree_of s 7
 
   abbrev pub from_root : Option TreeRoot → Program Step Counts
   from_root None = Stop (NoTree plan.root)
-  from_root (Some tree) = looks sums_lookup (restored tree)
+  from_root (Some tree) = looks (sums_lookup plan s) (restored tree)
 
   -- restore over an opened volume: the start tree, the checksum tree, and the listing into the destination
   abbrev pub listing : Program Step Counts

@@ -1,6 +1,3 @@
-pub mod Step
-pub mod Lines
-pub mod Causes
 pub mod Journey
 pub mod Outcome
 pub mod Committed

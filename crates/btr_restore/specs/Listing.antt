@@ -27,8 +27,8 @@ use Rattle.btr_files.specs.Maps.{maps_by}
 use Rattle.btr_restore.specs.declared.job.Job.{Job}
 use Rattle.btr_restore.specs.Journey.{Listing, Within, directory, listed_in, treat}
 use Rattle.btr_restore.specs.Restoring.{sink_after, text_after}
-use Rattle.btr_restore.specs.Running.{World, IsReady, Stands}
-use Rattle.btr_restore.specs.Step.{Step}
+use Rattle.btr_restore.specs.Running.{World, IsReady, KeepsSink, Stands}
+use Rattle.btr_listing.specs.Step.{Step}
 
 -- whether directories are too deep, below which so many more may be entered
 abbrev pub is_deep : ℕ → Bool
@@ -122,12 +122,13 @@ module _ (treat : Counts → DirEntry → Program Step Counts) where
 
 -- a listing is under way: its directory can be read on, its path is as it began, and the sink stands where it stood
 pub record IsUnderway
-    (plan : RestorePlan) (sums : Option TreeRoot) (deeper : ℕ) (tree : TreeRoot) (dirid : ℕ) (path : List ℕ)
+    {T : Type 0} (began now : T) (plan : RestorePlan) (sums : Option TreeRoot) (deeper : ℕ) (tree : TreeRoot) (dirid : ℕ) (path : List ℕ)
     (first : Counts) (x y : World) (counts : Counts) (dir : Dir) (here : List ℕ) (below : ℕ) : Type 0 where
   pub ready : IsReady y.rack y.vol
   pub reads_on : IsDir dir
   pub same_path : here ≡ path
   pub same_below : below ≡ deeper
+  pub same_sink : KeepsSink plan.dry began now
   pub stands : (n : ℕ) → Stands plan.dry n x.out.sink → Stands plan.dry n y.out.sink
   pub listed : (s : Super) → s ≡ x.vol.sup
       → Listed (treat_in plan s sums deeper tree dirid path)

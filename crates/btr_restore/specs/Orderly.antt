@@ -1,8 +1,7 @@
 -- The steps of restore are calls that a sink may take, and its counts are those of the steps.
-use Rattle.std.specs.Prelude.{◌≡◌, ℕ, ◌<◌, Bool, true, false, ◌&&◌, ◌==◌, if◌then◌else◌, List, [], ◌∷◌, fold, codes, Contains, Option, Result, Ok, Err}
+use Rattle.std.specs.Prelude.{◌≡◌, ℕ, ◌<◌, Bool, true, false, ◌&&◌, ◌==◌, if◌then◌else◌, List, [], ◌∷◌, fold, codes, Option, Result, Ok, Err}
 use Rattle.btr_files.specs.declared.counts.Counts.{Counts}
 use Rattle.btr_files.specs.declared.plan.RestorePlan.{RestorePlan}
-use Rattle.btr_files.specs.Entries.{DirEntry}
 use Rattle.btr_prog.specs.Goes.{GoesTo}
 use Rattle.btr_prog.specs.Prog.{BlockMap, Run, steps_of}
 use Rattle.btr_rack.specs.Sink.{Sink, NotStarted, BetweenFiles, InFile}
@@ -13,10 +12,15 @@ use Rattle.btr_volume.specs.declared.fault.OpenFault.{OpenFault}
 use Rattle.btr_volume.specs.declared.root.TreeRoot.{TreeRoot}
 use Rattle.btr_volume.specs.Maps.{VolumeWant}
 use Rattle.btr_volume.specs.Start.{Start as VolumeStart}
-use Rattle.btr_restore.specs.Journey.{Treated, treated, journey}
-use Rattle.btr_restore.specs.Lines.{is_bad, path_in, skip_line, no_counts, with_dir, with_file, with_skip}
+use Rattle.btr_restore.specs.Journey.{Treated, rules_of, treated, journey}
+use Rattle.btr_listing.specs.declared.cause.Cause.{Cause}
+use Rattle.btr_listing.specs.declared.rules.Rules.{Rules}
+use Rattle.btr_listing.specs.Causes.{cause_text}
+use Rattle.btr_listing.specs.Deciding.{MayLeaveOut, Met}
+use Rattle.btr_rack.specs.Name.{is_bad}
+use Rattle.btr_listing.specs.Lines.{skip_line, no_counts, with_dir, with_file, with_skip}
 use Rattle.btr_restore.specs.Restoring.{sink_after}
-use Rattle.btr_restore.specs.Step.{Step, Start, Dir, Up, File, Bytes, Zeros, Done, Line}
+use Rattle.btr_listing.specs.Step.{Step, Start, Dir, Up, File, Bytes, Zeros, Done, Line}
 
 -- a sink may take the call of a step: it stands where the call asks it to; no bad name comes to it, and it is never more than 512 directories deep
 abbrev pub Takes : Sink → Step → Type 0
@@ -74,36 +78,30 @@ OrderlyLaw =
     → GoesTo maps (journey plan dest start) run
     → IsOrderly sink run
 
--- why an entry is left out
-abbrev pub causes : List (List ℕ)
-causes =
-    codes "name" ∷ codes "symlink" ∷ codes "special" ∷ codes "missing" ∷ codes "size" ∷ codes "compressed" ∷ codes "encoded" ∷ codes "depth"
-    ∷ codes "link" ∷ codes "snapshot" ∷ []
-
--- the step that an entry is told by: its file or its directory, or the line that it is skipped
-abbrev pub IsOfEntry : List ℕ → List ℕ → Step → Type 0
-IsOfEntry path name (Dir other) = other ≡ name
-IsOfEntry path name (File other) = other ≡ name
-IsOfEntry path name (Line text) = (cause : List ℕ) × Contains causes cause × (text ≡ skip_line cause (path_in path name))
-IsOfEntry path name (Start other) = ⊥
-IsOfEntry path name Up = ⊥
-IsOfEntry path name (Bytes bytes) = ⊥
-IsOfEntry path name (Zeros count) = ⊥
-IsOfEntry path name Done = ⊥
+-- the step that an entry is told by: its file or its directory, or the line that it is skipped, for a cause that it may have
+abbrev pub IsOfEntry : Rules → Met → Step → Type 0
+IsOfEntry rules met (Dir other) = other ≡ met.entry.name
+IsOfEntry rules met (File other) = other ≡ met.entry.name
+IsOfEntry rules met (Line text) =
+    (cause : Cause) × MayLeaveOut rules met cause × (text ≡ skip_line (cause_text cause) met.path)
+IsOfEntry rules met (Start other) = ⊥
+IsOfEntry rules met Up = ⊥
+IsOfEntry rules met (Bytes bytes) = ⊥
+IsOfEntry rules met (Zeros count) = ⊥
+IsOfEntry rules met Done = ⊥
 
 -- an entry that was treated, or entered, has a row or the line that it is skipped, and that comes first
-pub record IsTold (path name : List ℕ) (done : List Step) : Type 0 where
+pub record IsTold (rules : Rules) (met : Met) (done : List Step) : Type 0 where
   pub step : Step
   pub more : List Step
   pub steps : done ≡ step ∷ more
-  pub of_entry : IsOfEntry path name step
+  pub of_entry : IsOfEntry rules met step
 
 abbrev pub ToldLaw : Type 0
 ToldLaw =
-    (plan : RestorePlan) (s : Super) (sums : Option TreeRoot) (deep : Bool) (tree : TreeRoot) (dirid : ℕ) (path : List ℕ) (counts : Counts)
-    (entry : DirEntry) (came : Treated)
+    (plan : RestorePlan) (s : Super) (sums : Option TreeRoot) (met : Met) (counts : Counts) (came : Treated)
     (maps : ℕ → BlockMap Want Fault) (run : Run Want Fault Step Treated)
     → plan.dry ≡ false
-    → GoesTo maps (treated plan s sums deep tree dirid path counts entry) run
+    → GoesTo maps (treated plan s sums met counts) run
     → run.ending ≡ Ok came
-    → IsTold path entry.name (steps_of run.marks)
+    → IsTold (rules_of plan) met (steps_of run.marks)

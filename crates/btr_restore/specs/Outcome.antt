@@ -9,7 +9,7 @@ use Rattle.btr_read.specs.Fate.{Fault}
 use Rattle.btr_volume.specs.declared.fault.OpenFault.{OpenFault}
 use Rattle.btr_volume.specs.Maps.{VolumeWant}
 use Rattle.btr_files.specs.declared.counts.Counts.{Counts}
-use Rattle.btr_restore.specs.Step.{Step, Start, Dir, Up, File, Bytes, Zeros, Done, Line}
+use Rattle.btr_listing.specs.Step.{Step, Start, Dir, Up, File, Bytes, Zeros, Done, Line}
 
 -- what stands in a sink after a step
 abbrev pub after_step : Tree → Step → Tree

@@ -1,5 +1,5 @@
 -- What calls of restore have done and answer, whatever failed.
-use Rattle.std.specs.Prelude.{◌≡◌, ℕ, List, [], ◌++◌, fold, replicate, Option, Some, None, Result, Ok, Err}
+use Rattle.std.specs.Prelude.{◌≡◌, ◌≢◌, ◌⊎◌, ℕ, List, [], ◌++◌, fold, replicate, Option, Some, None, Result, Ok, Err}
 use Rattle.btr_prog.specs.Answers.{Halt, Fault as halt_fault, Broke}
 use Rattle.btr_prog.specs.Goes.{Goes}
 use Rattle.btr_rack.specs.Out.{CallAccount, Counts}
@@ -16,7 +16,7 @@ use Rattle.btr_volume.specs.declared.stop.Stop.{Stop}
 use Rattle.btr_volume.specs.declared.stop.Stop.TheVariants.{NoTree, Tree, Deletion, Balance, Missing, Image, Sink as sink_stop, Out as out_stop, Memory}
 use Rattle.btr_files.specs.Maps.{TellsAll}
 use Rattle.btr_restore.specs.Outcome.{text_of}
-use Rattle.btr_restore.specs.Step.{Step, Start, Dir, Up, File, Bytes, Zeros, Done, Line, part}
+use Rattle.btr_listing.specs.Step.{Step, Start, Dir, Up, File, Bytes, Zeros, Done, Line, part}
 
 -- what a step does to a sink
 abbrev pub sink_after : Sink → Step → Sink
@@ -96,26 +96,27 @@ sink_answer (Err sink_stop) = Err Failed
 sink_answer (Err out_stop) = Ok tt
 sink_answer (Err Memory) = Ok tt
 
--- .. and what the output did
-abbrev pub out_answer : {A : Type 0} → Result A Stop → Result Unit SinkError
-out_answer (Ok a) = Ok tt
-out_answer (Err (NoTree id)) = Ok tt
-out_answer (Err (Tree f)) = Ok tt
-out_answer (Err (Deletion id)) = Ok tt
-out_answer (Err Balance) = Ok tt
-out_answer (Err (Missing id)) = Ok tt
-out_answer (Err (Image slot)) = Ok tt
-out_answer (Err sink_stop) = Ok tt
-out_answer (Err out_stop) = Err Failed
-out_answer (Err Memory) = Ok tt
-
 -- the account of the sink changed only where a call of it failed, and then that is the answer
 abbrev pub SinkCounts : {A : Type 0} → CallAccount → CallAccount → Result A Stop → Type 0
 SinkCounts old new result = Counts old new (sink_answer result)
 
--- so did that of the output
+-- the account of the output changed only where a call of it failed, and then that is the answer, or that the sink failed behind it
 abbrev pub OutCounts : {A : Type 0} → CallAccount → CallAccount → Result A Stop → Type 0
-OutCounts old new result = Counts old new (out_answer result)
+OutCounts old new (Ok a) = new ≡ old
+OutCounts old new (Err (NoTree id)) = new ≡ old
+OutCounts old new (Err (Tree f)) = new ≡ old
+OutCounts old new (Err (Deletion id)) = new ≡ old
+OutCounts old new (Err Balance) = new ≡ old
+OutCounts old new (Err (Missing id)) = new ≡ old
+OutCounts old new (Err (Image slot)) = new ≡ old
+OutCounts old new (Err sink_stop) = (new ≡ old) ⊎ Counts {T = Unit {0}} old new (Err Failed)
+OutCounts old new (Err out_stop) = Counts {T = Unit {0}} old new (Err Failed)
+OutCounts old new (Err Memory) = new ≡ old
+
+-- what waits in a sink was stored before a stop is answered; where that failed the answer is that the sink did
+abbrev pub Settles : Stop → CallAccount → CallAccount → Stop → Type 0
+Settles stop old new result =
+    ((result ≡ stop) × (new ≡ old)) ⊎ ((stop ≢ sink_stop) × (result ≡ sink_stop) × Counts {T = Unit {0}} old new (Err Failed))
 
 -- Calls that read nothing did the steps of a program, whatever a block may come to.
 pub record Emits

@@ -1,5 +1,5 @@
 -- What a call of restore did and how it answered, in one word.
-use Rattle.std.specs.Prelude.{◌≡◌, ℕ, ◌+◌, ◌≤◌, Bool, false, List, Option, Result, Ok, Err}
+use Rattle.std.specs.Prelude.{◌≡◌, ℕ, ◌+◌, ◌≤◌, Bool, true, false, List, Option, Result, Ok, Err}
 use Rattle.btr_prog.specs.Prog.{Return}
 use Rattle.btr_prog.specs.Quiet.{quiet}
 use Rattle.btr_rack.specs.Out.{CallAccount}
@@ -9,18 +9,14 @@ use Rattle.btr_read.specs.Serves.{Serves}
 use Rattle.btr_read.specs.Store.{free_count}
 use Rattle.btr_super.specs.declared.superblock.Super.{Super}
 use Rattle.btr_volume.specs.Lookup.{Lookup, Program}
-use Rattle.btr_volume.specs.declared.root.TreeRoot.{TreeRoot}
-use Rattle.btr_files.specs.declared.name.NameBuf.{NameBuf}
 use Rattle.btr_files.specs.declared.plan.RestorePlan.{RestorePlan}
-use Rattle.btr_files.specs.Entries.{name_in}
-use Rattle.btr_restore.specs.Journey.{row, sums_lookup}
-use Rattle.btr_restore.specs.Lines.{path_in}
+use Rattle.btr_restore.specs.Journey.{row}
 use Rattle.btr_volume.specs.Looking.{SameVolume}
 use Rattle.btr_volume.specs.declared.stop.Stop.{Stop}
 use Rattle.btr_volume.specs.declared.stop.Stop.TheVariants.{NoTree, Tree, Deletion, Balance, Missing, Image, Sink as SinkStop, Out as OutStop, Memory}
 use Rattle.btr_volume.specs.declared.volume.Volume.{Volume}
 use Rattle.btr_restore.specs.Restoring.{Scene, scene, Does, Emits, StopCause, SinkCounts, OutCounts, ended}
-use Rattle.btr_restore.specs.Step.{Step}
+use Rattle.btr_listing.specs.Step.{Step}
 use Rattle.btr_restore.specs.declared.treated.Treated.{Treated}
 use Rattle.btr_restore.specs.declared.treated.Treated.TheVariants.{Over, Within}
 
@@ -89,34 +85,18 @@ pub record Ran {A : Type 0} (p : Program Step A) (x y : World) (answer : Result 
   pub sink_calls : SinkCounts x.out.sink_calls y.out.sink_calls answer
   pub out_calls : OutCounts x.out.out_calls y.out.out_calls answer
 
--- a call that reads nothing did the steps of a program, whatever the superblock is, and whatever the checksum tree
-abbrev pub WroteFor : {A : Type 0} → (Super → Program Step A) → Outside → Outside → Result A Stop → Type 0
-WroteFor p x y answer = (s : Super) → Wrote (p s) x y answer
-
-abbrev pub WroteBy : {A : Type 0} → (Super → Option TreeRoot → Program Step A) → Outside → Outside → Result A Stop → Type 0
-WroteBy p x y answer = (s : Super) (sums : Option TreeRoot) → Wrote (p s sums) x y answer
-
--- the same of a call of the sink, whatever the output is
+-- a call of the sink did a step, unless the run is dry, whatever the output is
 abbrev pub WroteRow : {T : Type 0} → RestorePlan → Step → (T → Sink) → (T → CallAccount) → T → T → Result (Unit {0}) Stop → Type 0
 WroteRow plan step sink calls tree tree' answer =
-    (s : Super) (sums : Option TreeRoot) (text : Option (List ℕ)) (out_calls : CallAccount)
-    → Wrote (row plan s sums step (Return tt)) (outside (sink tree) (calls tree) text out_calls)
+    (text : Option (List ℕ)) (out_calls : CallAccount)
+    → Wrote (row plan step (Return tt)) (outside (sink tree) (calls tree) text out_calls)
     (outside (sink tree') (calls tree') text out_calls) answer
 
--- .. and of calls of the output, whatever the sink is: by a program, by one that asks for the superblock and the checksum tree, and by one that
--- asks for the plan too
+-- .. and calls of the output did the steps of a program, whatever the sink is
 abbrev pub WroteLines : {A O : Type 0} → Program Step A → (O → Option (List ℕ)) → (O → CallAccount) → O → O → Result A Stop → Type 0
 WroteLines p text calls out out' answer =
     (sink : Sink) (sink_calls : CallAccount)
     → Wrote p (outside sink sink_calls (text out) (calls out)) (outside sink sink_calls (text out') (calls out')) answer
-
-abbrev pub WroteLinesBy : {A O : Type 0} → (Super → Option TreeRoot → Program Step A) → (O → Option (List ℕ)) → (O → CallAccount)
-    → O → O → Result A Stop → Type 0
-WroteLinesBy p text calls out out' answer = (s : Super) (sums : Option TreeRoot) → WroteLines (p s sums) text calls out out' answer
-
-abbrev pub WroteLinesOf : {A O : Type 0} → (RestorePlan → Super → Option TreeRoot → Program Step A) → (O → Option (List ℕ))
-    → (O → CallAccount) → O → O → Result A Stop → Type 0
-WroteLinesOf p text calls out out' answer = (plan : RestorePlan) → WroteLinesBy (p plan) text calls out out' answer
 
 -- a call did the steps of a program by the superblock of its volume
 abbrev pub RanFor : {A : Type 0} → (Super → Program Step A) → World → World → Result A Stop → Type 0
@@ -128,33 +108,14 @@ abbrev pub RanBeside : {A : Type 0} → Super → (Super → Program Step A) →
 RanBeside sup p x y answer =
     (s : Super) (text : Option (List ℕ)) (calls : CallAccount) → s ≡ sup → Ran (p s) (x text calls) (y text calls) answer
 
--- .. of an entry of this path, by the path of its directory
-abbrev pub RanIn : {A : Type 0} → List ℕ → NameBuf → (Super → List ℕ → Program Step A) → World → World → Result A Stop → Type 0
-RanIn here name p x y answer =
-    (s : Super) (path : List ℕ) → s ≡ x.vol.sup → here ≡ path_in path (name_in name) → Ran (p s path) x y answer
-
--- a lookup was done, whatever the sink and the output are: by a program, by one that asks for the superblock, for a name, for both, and that of the
--- checksum tree
-abbrev pub Looked : {A : Type 0} → Lookup A → Seen → Volume → Seen → Volume → Result A Stop → Type 0
-Looked p rack vol rack' vol' answer = (x : Outside) → Ran (quiet p) (world rack vol x) (world rack' vol' x) answer
-
+-- .. a lookup, whatever the sink and the output are
 abbrev pub LookedFor : {A : Type 0} → (Super → Lookup A) → Seen → Volume → Seen → Volume → Result A Stop → Type 0
 LookedFor p rack vol rack' vol' answer =
     (x : Outside) (s : Super) → s ≡ vol.sup → Ran (quiet (p s)) (world rack vol x) (world rack' vol' x) answer
 
-abbrev pub LookedBy : {A : Type 0} → NameBuf → (List ℕ → Lookup A) → Seen → Volume → Seen → Volume → Result A Stop → Type 0
-LookedBy name p rack vol rack' vol' answer =
-    (x : Outside) (n : List ℕ) → n ≡ name_in name → Ran (quiet (p n)) (world rack vol x) (world rack' vol' x) answer
-
-abbrev pub LookedForBy : {A : Type 0} → NameBuf → (Super → List ℕ → Lookup A) → Seen → Volume → Seen → Volume → Result A Stop → Type 0
-LookedForBy name p rack vol rack' vol' answer =
-    (x : Outside) (s : Super) (n : List ℕ) → s ≡ vol.sup → n ≡ name_in name
-    → Ran (quiet (p s n)) (world rack vol x) (world rack' vol' x) answer
-
-abbrev pub LookedForSums : RestorePlan → Seen → Volume → Seen → Volume → Result (Option TreeRoot) Stop → Type 0
-LookedForSums plan rack vol rack' vol' answer =
-    (x : Outside) (dest : List ℕ) (s : Super) → s ≡ vol.sup
-    → Ran (quiet (sums_lookup plan dest s)) (world rack vol x) (world rack' vol' x) answer
+-- a dry run makes no call of the sink: it is as it was
+abbrev pub KeepsSink : {T : Type 0} → Bool → T → T → Type 0
+KeepsSink dry old new = dry ≡ true → new ≡ old
 
 -- a sink stands between two files, so deep below the destination, unless the run is dry
 abbrev pub Stands : Bool → ℕ → Sink → Type 0

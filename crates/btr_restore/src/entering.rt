@@ -1,17 +1,21 @@
 // What is written for an entry.
-ghost use Rattle.std.specs.Prelude.{◌≡◌, false, OnOk};
+ghost use Rattle.std.specs.Prelude.{◌≡◌, false, OnOk, ◌<◌};
+ghost use Rattle.btr_rack.specs.Name.{IsGoodName};
 ghost use Rattle.btr_rack.specs.Sink.{BetweenFiles, InFile};
 ghost use Rattle.btr_restore.specs.Journey.{closed, empty, entered};
-ghost use Rattle.btr_restore.specs.Running.{KeepsStanding, WroteBy, outside_of};
-ghost use Rattle.btr_restore.specs.Treating.{IsOver, came};
+ghost use Rattle.btr_restore.specs.Running.{IsReady, KeepsSink, KeepsStanding, RanFor, Wrote, outside_of, world};
+ghost use Rattle.btr_restore.specs.Treating.{IsOver, came, written_for};
 
 use crate::job::Job;
-use crate::rows::{close_file, leave_dir, make_dir};
+use crate::rows::{close_file, leave_dir, make_dir, make_file};
 use crate::telling::{more, tell, tell_unverified};
 use crate::treated::Treated;
+use crate::writing::write_bytes;
 use btr_files::Counts;
-use btr_rack::{Out, TreeSink};
-use btr_volume::{Stop, TreeRoot};
+use btr_items::Inode;
+use btr_listing::Entry;
+use btr_rack::{Out, Rack, TreeSink};
+use btr_volume::{Stop, TreeRoot, Volume};
 
 /// Enters a directory of a tree.
 pub(crate) fn enter<T: TreeSink, O: Out>(
@@ -25,11 +29,14 @@ pub(crate) fn enter<T: TreeSink, O: Out>(
     out: &mut O,
 ) -> Result<Treated, Stop>
     requires between { job.now.plan.dry ≡ false → (T.sink tree.old).stage ≡ BetweenFiles }
-    ensures wrote { WroteBy (λ s sums. entered job.now.plan s sums name.now path.now inner dirid counts.old)
+    requires good { IsGoodName name.now }
+    requires above { job.now.plan.dry ≡ false → (T.sink tree.old).depth < 512 }
+    ensures wrote { Wrote (entered job.now.plan name.now path.now inner dirid counts.old)
         (outside_of T.sink T.account O.text O.account tree.old out.old)
         (outside_of T.sink T.account O.text O.account tree.new out.new)
         (came counts.new result) }
     ensures stands { KeepsStanding job.now.plan.dry (T.sink tree.old) (T.sink tree.new) result }
+    ensures dry { KeepsSink job.now.plan.dry tree.old tree.new }
 {
     match make_dir(&job.plan, name, tree) {
         Ok(()) => {}
@@ -53,12 +60,15 @@ pub(crate) fn enter_empty<T: TreeSink, O: Out>(
     out: &mut O,
 ) -> Result<Treated, Stop>
     requires between { job.now.plan.dry ≡ false → (T.sink tree.old).stage ≡ BetweenFiles }
-    ensures wrote { WroteBy (λ s sums. empty job.now.plan s sums name.now path.now counts.old)
+    requires good { IsGoodName name.now }
+    requires above { job.now.plan.dry ≡ false → (T.sink tree.old).depth < 512 }
+    ensures wrote { Wrote (empty job.now.plan name.now path.now counts.old)
         (outside_of T.sink T.account O.text O.account tree.old out.old)
         (outside_of T.sink T.account O.text O.account tree.new out.new)
         (came counts.new result) }
     ensures stands { KeepsStanding job.now.plan.dry (T.sink tree.old) (T.sink tree.new) result }
     ensures over { IsOver result }
+    ensures dry { KeepsSink job.now.plan.dry tree.old tree.new }
 {
     match make_dir(&job.plan, name, tree) {
         Ok(()) => {}
@@ -76,8 +86,8 @@ pub(crate) fn enter_empty<T: TreeSink, O: Out>(
     Ok(Treated::Over)
 }
 
-/// Finishes a file, and names it where that is asked for, or where some sector of it was read without a checksum.
-pub(crate) fn finish_file<T: TreeSink, O: Out>(
+// Finishes a file, and names it where that is asked for, or where some sector of it was read without a checksum.
+fn finish_file<T: TreeSink, O: Out>(
     job: &Job,
     path: &[u8],
     plain: bool,
@@ -86,13 +96,14 @@ pub(crate) fn finish_file<T: TreeSink, O: Out>(
     out: &mut O,
 ) -> Result<Treated, Stop>
     requires begun { job.now.plan.dry ≡ false → (T.sink tree.old).stage ≡ InFile }
-    ensures wrote { WroteBy (λ s sums. closed job.now.plan s sums path.now counts.old plain)
+    ensures wrote { Wrote (closed job.now.plan path.now counts.old plain)
         (outside_of T.sink T.account O.text O.account tree.old out.old)
         (outside_of T.sink T.account O.text O.account tree.new out.new)
         (came counts.new result) }
     ensures over { IsOver result }
     ensures between { job.now.plan.dry ≡ false → OnOk result ((T.sink tree.new).stage ≡ BetweenFiles) }
     ensures depth { job.now.plan.dry ≡ false → OnOk result ((T.sink tree.new).depth ≡ (T.sink tree.old).depth) }
+    ensures dry { KeepsSink job.now.plan.dry tree.old tree.new }
 {
     match close_file(&job.plan, tree) {
         Ok(()) => {}
@@ -108,4 +119,38 @@ pub(crate) fn finish_file<T: TreeSink, O: Out>(
     }
     counts.files = more(counts.files);
     Ok(Treated::Over)
+}
+
+/// Writes a file, by its inode.
+pub(crate) fn write_file<R: Rack, T: TreeSink, O: Out>(
+    job: &Job,
+    entry: &Entry<'_>,
+    name: &str,
+    found: &Inode,
+    counts: &mut Counts,
+    rack: &mut R,
+    vol: &mut Volume,
+    tree: &mut T,
+    out: &mut O,
+) -> Result<Treated, Stop>
+    requires ready { IsReady (R.seen rack.old) vol.old }
+    requires between { job.now.plan.dry ≡ false → (T.sink tree.old).stage ≡ BetweenFiles }
+    requires good { IsGoodName name.now }
+    ensures ran { RanFor (written_for job.now entry.now name.now found.now counts.old)
+        (world (R.seen rack.old) vol.old (outside_of T.sink T.account O.text O.account tree.old out.old))
+        (world (R.seen rack.new) vol.new (outside_of T.sink T.account O.text O.account tree.new out.new))
+        (came counts.new result) }
+    ensures stands { KeepsStanding job.now.plan.dry (T.sink tree.old) (T.sink tree.new) result }
+    ensures over { IsOver result }
+    ensures dry { KeepsSink job.now.plan.dry tree.old tree.new }
+{
+    match make_file(&job.plan, name, tree) {
+        Ok(()) => {}
+        Err(stop) => return Err(stop),
+    }
+    let ino = entry.row.location.objectid;
+    match write_bytes(job, &entry.tree, ino, found, rack, vol, tree) {
+        Err(stop) => Err(stop),
+        Ok(plain) => finish_file(job, entry.path, plain, counts, tree, out),
+    }
 }

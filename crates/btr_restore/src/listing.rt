@@ -1,24 +1,23 @@
 // The listing of directories, from the top directory of a tree down.
-ghost use Rattle.std.specs.Prelude.{◌≡◌, ◌<◌, false, OnOk, length, take};
+ghost use Rattle.std.specs.Prelude.{◌≡◌, ◌<◌, false, OnOk, length, take, ◌+◌, ◌≤◌};
 ghost use Rattle.btr_rack.specs.Sink.{BetweenFiles};
 ghost use Rattle.btr_restore.specs.Listing.{ended_with, listing_for, entry_for, within_for, KeepsDepth, LeavesDepth};
-ghost use Rattle.btr_restore.specs.Running.{IsReady, world, RanFor, outside_of};
+ghost use Rattle.btr_restore.specs.Running.{KeepsSink, IsReady, world, RanFor, outside_of};
 
-use crate::entry::Entry;
 use crate::job::Job;
-use crate::path::Path;
 use crate::rows::leave_dir;
 use crate::treated::Treated;
 use crate::treating::treat;
 use btr_files::{Counts, Dir, DirRow, NameBuf};
+use btr_listing::{Entry, Path};
 use btr_rack::{Out, Rack, TreeSink};
 use btr_volume::{Stop, TreeRoot, Volume};
 
 /// Where a directory is listed: how far that has come, and a place for the name of an entry.
 #[derive(Clone, Copy, Debug)]
-pub(crate) struct Frame {
-    pub(crate) dir: Dir,
-    pub(crate) name: NameBuf,
+pub struct Frame {
+    pub dir: Dir,
+    pub name: NameBuf,
 }
 
 // What is in a directory that was entered, and the way up. The first frame is its own.
@@ -39,12 +38,14 @@ fn list_within<R: Rack, T: TreeSink, O: Out>(
     requires between { job.now.plan.dry ≡ false → (T.sink tree.old).stage ≡ BetweenFiles }
     requires some { 0 < length frames.old }
     requires below { job.now.plan.dry ≡ false → 0 < (T.sink tree.old).depth }
+    requires room { job.now.plan.dry ≡ false → (T.sink tree.old).depth + length frames.old ≤ 513 }
     ensures ran { RanFor (within_for job.now (length frames.old) path.old inner dirid counts.old)
         (world (R.seen rack.old) vol.old (outside_of T.sink T.account O.text O.account tree.old out.old))
         (world (R.seen rack.new) vol.new (outside_of T.sink T.account O.text O.account tree.new out.new))
         (ended_with counts.new result) }
     ensures path { OnOk result (path.new ≡ path.old) }
     ensures stands { LeavesDepth job.now.plan.dry (T.sink tree.old) (T.sink tree.new) result }
+    ensures dry { KeepsSink job.now.plan.dry tree.old tree.new }
 {
     let Some((here, below)) = frames.split_first_mut() else {
         unreachable!();
@@ -75,12 +76,14 @@ fn list_entry<R: Rack, T: TreeSink, O: Out>(
 ) -> Result<(), Stop>
     requires ready { IsReady (R.seen rack.old) vol.old }
     requires between { job.now.plan.dry ≡ false → (T.sink tree.old).stage ≡ BetweenFiles }
+    requires room { job.now.plan.dry ≡ false → (T.sink tree.old).depth + length below.old ≤ 512 }
     ensures ran { RanFor (entry_for job.now (length below.old) root.now dirid path.old counts.old row name.now)
         (world (R.seen rack.old) vol.old (outside_of T.sink T.account O.text O.account tree.old out.old))
         (world (R.seen rack.new) vol.new (outside_of T.sink T.account O.text O.account tree.new out.new))
         (ended_with counts.new result) }
     ensures path { OnOk result (take (length path.old) path.new ≡ path.old) }
     ensures stands { KeepsDepth job.now.plan.dry (T.sink tree.old) (T.sink tree.new) result }
+    ensures dry { KeepsSink job.now.plan.dry tree.old tree.new }
 {
     match path.push(name.as_bytes()) {
         Ok(()) => {}
@@ -120,12 +123,14 @@ pub(crate) fn list<R: Rack, T: TreeSink, O: Out>(
 ) -> Result<(), Stop>
     requires ready { IsReady (R.seen rack.old) vol.old }
     requires between { job.now.plan.dry ≡ false → (T.sink tree.old).stage ≡ BetweenFiles }
+    requires room { job.now.plan.dry ≡ false → (T.sink tree.old).depth + length below.old ≤ 512 }
     ensures ran { RanFor (listing_for job.now (length below.old) root dirid path.old counts.old)
         (world (R.seen rack.old) vol.old (outside_of T.sink T.account O.text O.account tree.old out.old))
         (world (R.seen rack.new) vol.new (outside_of T.sink T.account O.text O.account tree.new out.new))
         (ended_with counts.new result) }
     ensures path { OnOk result (path.new ≡ path.old) }
     ensures stands { KeepsDepth job.now.plan.dry (T.sink tree.old) (T.sink tree.new) result }
+    ensures dry { KeepsSink job.now.plan.dry tree.old tree.new }
 {
     here.dir = Dir::new(root, dirid);
     let len = path.len();

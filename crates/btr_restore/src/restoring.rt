@@ -1,21 +1,21 @@
 // The call restore.
-ghost use Rattle.std.specs.Prelude.{◌≡◌, false, IfOk, [], length, Some};
+ghost use Rattle.std.specs.Prelude.{◌≡◌, ◌≢◌, false, IfErr, IfOk, [], length, Some};
 ghost use Rattle.btr_prog.specs.Prog.{Emit, Return};
 ghost use Rattle.btr_rack.specs.Sink.{NotStarted};
 ghost use Rattle.btr_restore.specs.Journey.{from_root, listing, restored};
-ghost use Rattle.btr_restore.specs.Lines.{counts_line};
-ghost use Rattle.btr_restore.specs.Running.{IsReady, Ran, world, LookedForSums, RanFor, WroteLines, outside_of};
-ghost use Rattle.btr_restore.specs.Step.{Line};
+ghost use Rattle.btr_listing.specs.Lines.{counts_line};
+ghost use Rattle.btr_restore.specs.Restoring.{Settles};
+ghost use Rattle.btr_restore.specs.Running.{KeepsSink, IsReady, Ran, world, RanFor, WroteLines, outside_of};
+ghost use Rattle.btr_listing.specs.Step.{Line};
 
 use crate::job::Job;
-use crate::lines::put_counts;
 use crate::listing::{Frame, list};
-use crate::lookups::find_tree;
-use crate::path::Path;
+use crate::lookups::{find_sums, find_tree};
 use crate::rows::start_in;
 use crate::telling::out_stop;
 use btr_base::Memory;
 use btr_files::{Counts, Dir, NameBuf, RestorePlan};
+use btr_listing::{Path, put_counts};
 use btr_rack::{Out, Rack, TreeSink};
 use btr_volume::{Stop, TreeRoot, Volume};
 use btr_walk::RootPlace;
@@ -23,9 +23,6 @@ use std::alloc::Global;
 
 // A frame for the destination, and one for each of the 512 directories in one another that may be entered below it.
 const FRAMES: usize = 513;
-
-// The tree of the checksums of data.
-const SUM_TREE: u64 = 7;
 
 // A frame that lists nothing yet.
 fn free_frame() -> Frame {
@@ -46,8 +43,8 @@ fn free_frame() -> Frame {
     }
 }
 
-// The frames of a listing. Their memory is taken once.
-fn free_frames(alloc: Global) -> Result<Vec<Frame>, Memory>
+/// The frames of a listing: 513, one for the destination and one for each of the 512 directories in one another. Their memory is taken once.
+pub fn free_frames(alloc: Global) -> Result<Vec<Frame>, Memory>
     ensures { IfOk result (λ frames. length frames.items ≡ 513) }
 {
     match vec![in alloc; free_frame(); FRAMES] {
@@ -56,8 +53,8 @@ fn free_frames(alloc: Global) -> Result<Vec<Frame>, Memory>
     }
 }
 
-// Tells how much was restored.
-fn tell_counts<O: Out>(counts: &Counts, out: &mut O) -> Result<Counts, Stop>
+/// Tells how much was restored.
+pub fn tell_counts<O: Out>(counts: &Counts, out: &mut O) -> Result<Counts, Stop>
     ensures { WroteLines (Emit (Line (counts_line counts.now)) (Return counts.now))
         O.text O.account out.old out.new result }
 {
@@ -65,21 +62,6 @@ fn tell_counts<O: Out>(counts: &Counts, out: &mut O) -> Result<Counts, Stop>
         Ok(()) => Ok(*counts),
         Err(error) => Err(out_stop(error)),
     }
-}
-
-// The checksum tree, if there is one; a dry run reads no bytes of files.
-fn find_sums<R: Rack>(
-    plan: &RestorePlan,
-    rack: &mut R,
-    vol: &mut Volume,
-) -> Result<Option<TreeRoot>, Stop>
-    requires { IsReady (R.seen rack.old) vol.old }
-    ensures { LookedForSums plan.now (R.seen rack.old) vol.old (R.seen rack.new) vol.new result }
-{
-    if plan.dry {
-        return Ok(None);
-    }
-    find_tree(SUM_TREE, rack, vol)
 }
 
 // The top directory of a tree, into the destination.
@@ -98,10 +80,11 @@ fn list_into<R: Rack, T: TreeSink, O: Out>(
     requires fresh { job.now.plan.dry ≡ false → (T.sink tree.old).stage ≡ NotStarted }
     requires frames { length frames.old ≡ 513 }
     requires path { path.old ≡ [] }
-    ensures { RanFor (λ s. restored job.now.plan dest.now s root.now job.now.sums)
+    ensures ran { RanFor (λ s. restored job.now.plan dest.now s root.now job.now.sums)
         (world (R.seen rack.old) vol.old (outside_of T.sink T.account O.text O.account tree.old out.old))
         (world (R.seen rack.new) vol.new (outside_of T.sink T.account O.text O.account tree.new out.new))
         result }
+    ensures dry { KeepsSink job.now.plan.dry tree.old tree.new }
 {
     match start_in(&job.plan, dest, tree) {
         Ok(()) => {}
@@ -149,10 +132,11 @@ fn restore_tree<R: Rack, T: TreeSink, O: Out>(
     requires fresh { plan.now.dry ≡ false → (T.sink tree.old).stage ≡ NotStarted }
     requires frames { length frames.old ≡ 513 }
     requires path { path.old ≡ [] }
-    ensures { RanFor (λ s. from_root plan.now dest.now s (Some root.now))
+    ensures ran { RanFor (λ s. from_root plan.now dest.now s (Some root.now))
         (world (R.seen rack.old) vol.old (outside_of T.sink T.account O.text O.account tree.old out.old))
         (world (R.seen rack.new) vol.new (outside_of T.sink T.account O.text O.account tree.new out.new))
         result }
+    ensures dry { KeepsSink plan.now.dry tree.old tree.new }
 {
     match find_sums(plan, rack, vol) {
         Err(stop) => Err(stop),
@@ -163,15 +147,8 @@ fn restore_tree<R: Rack, T: TreeSink, O: Out>(
     }
 }
 
-/// Restores the subvolume of a plan into the destination of this name: its directories, the bytes of its files, and a line of what was restored. Entries that
-/// can't be restored are left out, and named.
-///
-/// The memory of a path of 131328 bytes and of 513 directories in one another is taken first, and nothing else takes any. Six slots of the volume are free.
-/// Each checksum of data is verified; a file with a sector that has none is named.
-///
-/// `NoTree` comes exactly where there is no such subvolume, `Tree` where a block of a tree or of a file's data can't be had or is malformed, `Sink` and `Out` where the
-/// destination or the output failed, and `Memory` for want of memory. All that was done before stands.
-pub fn restore<R: Rack, T: TreeSink, O: Out>(
+// Restores the subvolume of a plan. What waits in the sink then isn't stored yet.
+fn restore_unsettled<R: Rack, T: TreeSink, O: Out>(
     alloc: Global,
     plan: &RestorePlan,
     dest: &str,
@@ -182,10 +159,11 @@ pub fn restore<R: Rack, T: TreeSink, O: Out>(
 ) -> Result<Counts, Stop>
     requires ready { IsReady (R.seen rack.old) vol.old }
     requires fresh { plan.now.dry ≡ false → (T.sink tree.old).stage ≡ NotStarted }
-    ensures { Ran (listing plan.now dest.now vol.old.sup)
+    ensures ran { Ran (listing plan.now dest.now vol.old.sup)
         (world (R.seen rack.old) vol.old (outside_of T.sink T.account O.text O.account tree.old out.old))
         (world (R.seen rack.new) vol.new (outside_of T.sink T.account O.text O.account tree.new out.new))
         result }
+    ensures dry { KeepsSink plan.now.dry tree.old tree.new }
 {
     let mut path = match Path::new(alloc) {
         Ok(path) => path,
@@ -202,5 +180,57 @@ pub fn restore<R: Rack, T: TreeSink, O: Out>(
             let frames = frames.as_mut_slice();
             restore_tree(plan, dest, &root, frames, &mut path, rack, vol, tree, out)
         }
+    }
+}
+
+/// Stores what waits in the sink, before a stop is answered: where that fails, the sink failed. A dry run leaves the sink alone.
+pub fn settle<T: TreeSink>(plan: &RestorePlan, stop: Stop, tree: &mut T) -> Stop
+    ensures same { T.sink tree.new ≡ T.sink tree.old }
+    ensures settled { Settles stop (T.account tree.old) (T.account tree.new) result }
+    ensures stored { plan.now.dry ≡ false → result ≢ Stop.Sink → T.waits tree.new ≡ false }
+    ensures dry { KeepsSink plan.now.dry tree.old tree.new }
+{
+    if plan.dry {
+        return stop;
+    }
+    match stop {
+        Stop::Sink => Stop::Sink,
+        other => match tree.flush() {
+            Ok(()) => other,
+            Err(_) => Stop::Sink,
+        },
+    }
+}
+
+/// Restores the subvolume of a plan into the destination of this name: its directories, the bytes of its files, and a line of what was restored. Entries that
+/// can't be restored are left out, and named.
+///
+/// The memory of a path of 131328 bytes and of 513 directories in one another is taken first, and nothing else takes any. Six slots of the volume are free.
+/// Each checksum of data is verified; a file with a sector that has none is named.
+///
+/// `NoTree` comes exactly where there is no such subvolume, `Tree` where a block of a tree or of a file's data can't be had or is malformed, `Sink` and `Out` where the
+/// destination or the output failed, and `Memory` for want of memory. All that was done before stands: what waits in the destination is stored before
+/// another error than `Sink` is answered, and where that fails the answer is `Sink`. A dry run makes no call of the sink, whatever is answered.
+pub fn restore<R: Rack, T: TreeSink, O: Out>(
+    alloc: Global,
+    plan: &RestorePlan,
+    dest: &str,
+    rack: &mut R,
+    vol: &mut Volume,
+    tree: &mut T,
+    out: &mut O,
+) -> Result<Counts, Stop>
+    requires ready { IsReady (R.seen rack.old) vol.old }
+    requires fresh { plan.now.dry ≡ false → (T.sink tree.old).stage ≡ NotStarted }
+    ensures ran { Ran (listing plan.now dest.now vol.old.sup)
+        (world (R.seen rack.old) vol.old (outside_of T.sink T.account O.text O.account tree.old out.old))
+        (world (R.seen rack.new) vol.new (outside_of T.sink T.account O.text O.account tree.new out.new))
+        result }
+    ensures stored { plan.now.dry ≡ false → IfErr result (λ stop. stop ≢ Stop.Sink → T.waits tree.new ≡ false) }
+    ensures dry { KeepsSink plan.now.dry tree.old tree.new }
+{
+    match restore_unsettled(alloc, plan, dest, rack, vol, tree, out) {
+        Ok(counts) => Ok(counts),
+        Err(stop) => Err(settle(plan, stop, tree)),
     }
 }

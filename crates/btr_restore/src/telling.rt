@@ -1,30 +1,29 @@
 // What restore tells, and what it counts.
 ghost use Rattle.std.specs.Prelude.{◌≡◌, ◌||◌};
 ghost use Rattle.btr_rack.specs.Sink.{Sink};
-ghost use Rattle.btr_restore.specs.Causes.{cause_text};
+ghost use Rattle.btr_listing.specs.Causes.{cause_text};
 ghost use Rattle.btr_prog.specs.Prog.{Return};
 ghost use Rattle.btr_restore.specs.Journey.{told, skip, unverified};
-ghost use Rattle.btr_restore.specs.Lines.{more};
+ghost use Rattle.btr_listing.specs.Lines.{more};
 ghost use Rattle.btr_restore.specs.Restoring.{stops_out, stops_sink};
-ghost use Rattle.btr_restore.specs.Running.{WroteLinesBy, WroteLinesOf};
+ghost use Rattle.btr_restore.specs.Running.{WroteLines};
 ghost use Rattle.btr_restore.specs.Treating.{IsOver, came};
 
-use crate::cause::Cause;
-use crate::lines::{put_line, put_skip};
 use crate::treated::Treated;
 use btr_files::{Counts, RestorePlan};
+use btr_listing::{Cause, put_line, put_skip};
 use btr_rack::{Out, SinkError};
 use btr_volume::Stop;
 
 /// A count with one more; it stands still at its last value.
-pub(crate) fn more(n: u64) -> u64
+pub fn more(n: u64) -> u64
     ensures { result ≡ more n }
 {
     n.saturating_add(1)
 }
 
 /// The stop that a refusal of the output is.
-pub(crate) fn out_stop(error: SinkError) -> Stop
+pub fn out_stop(error: SinkError) -> Stop
     ensures { result ≡ stops_out error }
 {
     match error {
@@ -34,7 +33,7 @@ pub(crate) fn out_stop(error: SinkError) -> Stop
 }
 
 /// The stop that a refusal of the sink is.
-pub(crate) fn sink_stop(error: SinkError) -> Stop
+pub fn sink_stop(error: SinkError) -> Stop
     ensures { result ≡ stops_sink error }
 {
     match error {
@@ -57,7 +56,7 @@ pub(crate) fn tell<O: Out>(
     path: &[u8],
     out: &mut O,
 ) -> Result<(), Stop>
-    ensures { WroteLinesBy (λ s sums. told plan.now s sums word.now path.now (Return tt))
+    ensures { WroteLines (told plan.now word.now path.now (Return tt))
         O.text O.account out.old out.new result }
 {
     if !tells(plan) {
@@ -70,13 +69,13 @@ pub(crate) fn tell<O: Out>(
 }
 
 /// Names an entry that is left out, and counts it.
-pub(crate) fn leave_out<O: Out>(
+pub fn leave_out<O: Out>(
     cause: Cause,
     path: &[u8],
     counts: &mut Counts,
     out: &mut O,
 ) -> Result<Treated, Stop>
-    ensures wrote { WroteLinesOf (λ plan s sums. skip plan s sums (cause_text cause) path.now counts.old)
+    ensures wrote { WroteLines (skip (cause_text cause) path.now counts.old)
         O.text O.account out.old out.new (came counts.new result) }
     ensures over { IsOver result }
 {
@@ -90,8 +89,8 @@ pub(crate) fn leave_out<O: Out>(
 }
 
 /// Names a file of which some sector was read without a checksum.
-pub(crate) fn tell_unverified<O: Out>(plain: bool, path: &[u8], out: &mut O) -> Result<(), Stop>
-    ensures { WroteLinesOf (λ plan s sums. unverified plan s sums plain path.now (Return tt))
+pub fn tell_unverified<O: Out>(plain: bool, path: &[u8], out: &mut O) -> Result<(), Stop>
+    ensures { WroteLines (unverified plain path.now (Return tt))
         O.text O.account out.old out.new result }
 {
     if !plain {

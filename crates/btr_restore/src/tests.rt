@@ -1,10 +1,7 @@
-// The lines and the names.
-use crate::cause::Cause;
-use crate::lines::put_counts;
-use crate::name::good_name;
-use crate::path::Path;
+// The lines.
 use crate::telling::{leave_out, tell};
 use btr_files::{Counts, RestorePlan};
+use btr_listing::{Cause, Path, put_counts};
 use btr_rack::MemOut;
 use std::alloc::AllocError;
 use std::test::Fail;
@@ -50,16 +47,5 @@ fn lines(rt: HostRuntime) -> Result<(), Fail> {
     must(put_counts(&counts, &mut out))?;
     let text = b"dir /sub\nskip snapshot /snap\\x0a\ndirectories 1 files 0 skipped 1\n";
     assert_eq!(rt; out.text(), text.as_slice());
-    Ok(())
-}
-
-#[test]
-fn names(rt: HostRuntime) -> Result<(), Fail> {
-    for bad in [b"".as_slice(), b".", b"..", b"a/b", b"a\0", b"\xff"] {
-        assert!(rt; good_name(bad).is_none());
-    }
-    for good in [b"a".as_slice(), b"...", b"a b", b"\xc3\xa4"] {
-        assert!(rt; good_name(good).is_some());
-    }
     Ok(())
 }

@@ -1,28 +1,52 @@
-// What becomes of an entry, by its name and its kind.
-ghost use Rattle.std.specs.Prelude.{◌≡◌, false, true};
+// What becomes of an entry.
+ghost use Rattle.std.specs.Prelude.{◌≡◌, false, true, ◌<◌};
 ghost use Rattle.btr_files.specs.Entries.{name_in};
+ghost use Rattle.btr_listing.specs.Deciding.{Fits};
+ghost use Rattle.btr_listing.specs.Looked.{met_by};
+ghost use Rattle.btr_rack.specs.Name.{IsGoodName};
 ghost use Rattle.btr_rack.specs.Sink.{BetweenFiles};
-ghost use Rattle.btr_restore.specs.Journey.{treated};
-ghost use Rattle.btr_restore.specs.Running.{IsReady, world, KeepsStanding, RanFor, RanIn, outside_of};
-ghost use Rattle.btr_restore.specs.Treating.{IsOver, came, named_for, treated_for};
+ghost use Rattle.btr_restore.specs.Journey.{rules_of};
+ghost use Rattle.btr_restore.specs.Running.{IsReady, KeepsSink, KeepsStanding, RanFor, outside_of, world};
+ghost use Rattle.btr_restore.specs.Treating.{IsOver, came, done_for, treated_for};
 
-use crate::cause::Cause;
-use crate::entry::Entry;
-use crate::filing::treat_file;
-use crate::folders::treat_folder;
+use crate::entering::{enter, enter_empty, write_file};
 use crate::job::Job;
-use crate::name::good_name;
 use crate::telling::leave_out;
 use crate::treated::Treated;
-use btr_files::Counts;
+use btr_files::{Counts, RestorePlan};
+use btr_listing::{Decision, Entry, Rules, decide, good_name};
 use btr_rack::{Out, Rack, TreeSink};
 use btr_volume::{Stop, Volume};
 
-// An entry of a good name.
-fn treat_named<R: Rack, T: TreeSink, O: Out>(
+/// What restore leaves out: snapshots, unless they are asked for.
+pub fn rules_of(plan: &RestorePlan) -> Rules
+    ensures { result ≡ rules_of plan.now }
+{
+    Rules {
+        snapshots: plan.snapshots,
+        subvolumes: true,
+        longest: None,
+    }
+}
+
+// The name of an entry that isn't left out.
+fn name_of<'a>(entry: &Entry<'a>) -> &'a str
+    requires { IsGoodName (name_in entry.now.name.now) }
+    ensures { result.now ≡ name_in entry.now.name.now }
+{
+    match good_name(entry.name.as_bytes()) {
+        Some(name) => name,
+        None => unreachable!(),
+    }
+}
+
+/// Does about an entry what restore does, by what it comes to. Where a directory is entered, what is in it is still to be listed.
+///
+/// The stops are those of `restore`, but for `NoTree`.
+pub fn carry_out<R: Rack, T: TreeSink, O: Out>(
     job: &Job,
     entry: &Entry<'_>,
-    name: &str,
+    decision: Decision,
     counts: &mut Counts,
     rack: &mut R,
     vol: &mut Volume,
@@ -31,27 +55,34 @@ fn treat_named<R: Rack, T: TreeSink, O: Out>(
 ) -> Result<Treated, Stop>
     requires ready { IsReady (R.seen rack.old) vol.old }
     requires between { job.now.plan.dry ≡ false → (T.sink tree.old).stage ≡ BetweenFiles }
-    requires named { name.now ≡ name_in entry.now.name.now }
-    ensures ran { RanFor (named_for job.now entry.now name.now counts.old)
+    requires fits { Fits (rules_of job.now.plan) (met_by entry.now) decision }
+    requires above { entry.now.deep ≡ false → job.now.plan.dry ≡ false → (T.sink tree.old).depth < 512 }
+    ensures ran { RanFor (done_for job.now entry.now decision counts.old)
         (world (R.seen rack.old) vol.old (outside_of T.sink T.account O.text O.account tree.old out.old))
         (world (R.seen rack.new) vol.new (outside_of T.sink T.account O.text O.account tree.new out.new))
         (came counts.new result) }
     ensures stands { KeepsStanding job.now.plan.dry (T.sink tree.old) (T.sink tree.new) result }
     ensures flat { entry.now.deep ≡ true → IsOver result }
+    ensures dry { KeepsSink job.now.plan.dry tree.old tree.new }
 {
-    if entry.row.kind == 7 {
-        return leave_out(Cause::Symlink, entry.path, counts, out);
+    match decision {
+        Decision::Skip(cause) => leave_out(cause, entry.path, counts, out),
+        Decision::File(inode) => {
+            let name = name_of(entry);
+            write_file(job, entry, name, &inode, counts, rack, vol, tree, out)
+        }
+        Decision::Empty => {
+            let name = name_of(entry);
+            enter_empty(job, name, entry.path, counts, tree, out)
+        }
+        Decision::Folder { tree: inner, dirid } => {
+            let name = name_of(entry);
+            enter(job, name, entry.path, inner, dirid, counts, tree, out)
+        }
     }
-    if entry.row.kind >= 3 {
-        return leave_out(Cause::Special, entry.path, counts, out);
-    }
-    if entry.row.kind == 1 {
-        return treat_file(job, entry, name, counts, rack, vol, tree, out);
-    }
-    treat_folder(job, entry, name, counts, rack, vol, tree, out)
 }
 
-/// Treats an entry: the first rule that fits decides. Where a directory is entered, what is in it is still to be listed.
+/// Treats an entry. Where a directory is entered, what is in it is still to be listed.
 pub(crate) fn treat<R: Rack, T: TreeSink, O: Out>(
     job: &Job,
     entry: &Entry<'_>,
@@ -63,15 +94,18 @@ pub(crate) fn treat<R: Rack, T: TreeSink, O: Out>(
 ) -> Result<Treated, Stop>
     requires ready { IsReady (R.seen rack.old) vol.old }
     requires between { job.now.plan.dry ≡ false → (T.sink tree.old).stage ≡ BetweenFiles }
-    ensures ran { RanIn entry.now.path.now entry.now.name.now (treated_for job.now entry.now counts.old)
+    requires above { entry.now.deep ≡ false → job.now.plan.dry ≡ false → (T.sink tree.old).depth < 512 }
+    ensures ran { RanFor (treated_for job.now entry.now counts.old)
         (world (R.seen rack.old) vol.old (outside_of T.sink T.account O.text O.account tree.old out.old))
         (world (R.seen rack.new) vol.new (outside_of T.sink T.account O.text O.account tree.new out.new))
         (came counts.new result) }
     ensures stands { KeepsStanding job.now.plan.dry (T.sink tree.old) (T.sink tree.new) result }
     ensures flat { entry.now.deep ≡ true → IsOver result }
+    ensures dry { KeepsSink job.now.plan.dry tree.old tree.new }
 {
-    match good_name(entry.name.as_bytes()) {
-        None => leave_out(Cause::Name, entry.path, counts, out),
-        Some(name) => treat_named(job, entry, name, counts, rack, vol, tree, out),
+    let rules = rules_of(&job.plan);
+    match decide(&rules, entry, rack, vol) {
+        Err(fault) => Err(Stop::Tree(fault)),
+        Ok(decision) => carry_out(job, entry, decision, counts, rack, vol, tree, out),
     }
 }

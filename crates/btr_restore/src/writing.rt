@@ -4,13 +4,14 @@ ghost use Rattle.btr_rack.specs.Sink.{InFile};
 ghost use Rattle.btr_read.specs.Store.{SameLoans, free_count};
 ghost use Rattle.btr_files.specs.Streaming.{bytes_left, IsPiece, IsReading, piece_of, without_file};
 ghost use Rattle.btr_restore.specs.Journey.{has_no_sums, pieces};
-ghost use Rattle.btr_restore.specs.Running.{IsReady, RanBeside, beside};
+ghost use Rattle.btr_restore.specs.Running.{KeepsSink, IsReady, RanBeside, beside};
 ghost use Rattle.btr_restore.specs.Writing.{PutsNext, PutsPiece, PutsRest};
 
 use crate::job::Job;
 use crate::telling::sink_stop;
+use bitflags::Flags;
 use btr_files::{FileBytes, Piece, next_piece};
-use btr_items::Inode;
+use btr_items::{Inode, InodeFlags};
 use btr_rack::{Rack, TreeSink};
 use btr_volume::{Stop, TreeRoot, Volume};
 
@@ -98,11 +99,11 @@ fn put_pieces<R: Rack, T: TreeSink>(
     }
 }
 
-// Whether the sectors of a file have no checksums.
-fn has_no_sums(inode: &Inode) -> bool
+/// Whether the sectors of a file have no checksums.
+pub fn has_no_sums(inode: &Inode) -> bool
     ensures { result ≡ has_no_sums inode.now }
 {
-    inode.flags & 1 != 0
+    inode.flags().intersects(InodeFlags::NODATASUM)
 }
 
 /// Writes the bytes of a file, unless the run is dry. Answers whether some piece was read without a checksum.
@@ -122,6 +123,7 @@ pub(crate) fn write_bytes<R: Rack, T: TreeSink>(
         (beside R.seen T.sink T.account rack.new vol.new tree.new) result }
     ensures stage { job.now.plan.dry ≡ false → (T.sink tree.new).stage ≡ InFile }
     ensures depth { job.now.plan.dry ≡ false → (T.sink tree.new).depth ≡ (T.sink tree.old).depth }
+    ensures dry { KeepsSink job.now.plan.dry tree.old tree.new }
 {
     if job.plan.dry {
         return Ok(false);

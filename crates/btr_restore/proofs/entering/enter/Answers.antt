@@ -5,19 +5,19 @@ use Rattle.btr_restore.proofs.Rans.{line_then, line_halt, row_then, row_halt, wr
 use Rattle.btr_restore.proofs.entering.enter.Goals as goal
 
 pub returns-in-Err-clause-wrote : goal.returns-in-Err-clause-wrote
-returns-in-Err-clause-wrote g c s sums = row_halt _ _ _ _ _ _ (c.in-Err.ensures.wrote s sums (g.O.Out.text c.args.out.now) (g.O.Out.account c.args.out.now))
+returns-in-Err-clause-wrote g c = row_halt _ _ _ _ _ _ (c.in-Err.ensures.wrote (g.O.Out.text c.args.out.now) (g.O.Out.account c.args.out.now))
 
 pub returns-in-Err-tell-clause-wrote : goal.returns-in-Err-tell-clause-wrote
-returns-in-Err-tell-clause-wrote g c s sums =
-    row_then _ _ _ _ _ _ _ (c.in-Ok.ensures.wrote s sums (g.O.Out.text c.args.out.now) (g.O.Out.account c.args.out.now))
-    (line_halt _ _ _ _ _ _ (c.in-Err-tell.ensures s sums (g.T.TreeSink.sink c.make_dir.new.tree) (g.T.TreeSink.account c.make_dir.new.tree)))
+returns-in-Err-tell-clause-wrote g c =
+    row_then _ _ _ _ _ _ _ (c.in-Ok.ensures.wrote (g.O.Out.text c.args.out.now) (g.O.Out.account c.args.out.now))
+    (line_halt _ _ _ _ _ _ (c.in-Err-tell.ensures (g.T.TreeSink.sink c.make_dir.new.tree) (g.T.TreeSink.account c.make_dir.new.tree)))
 
 pub returns-clause-wrote : goal.returns-clause-wrote
-returns-clause-wrote g c s sums =
-    subst (λ (n : ℕ). Wrote (entered c.args.job.now.plan s sums c.args.name.now c.args.path.now c.args.inner c.args.dirid c.args.counts.now)
+returns-clause-wrote g c =
+    subst (λ (n : ℕ). Wrote (entered c.args.job.now.plan c.args.name.now c.args.path.now c.args.inner c.args.dirid c.args.counts.now)
     (outside (g.T.TreeSink.sink c.args.tree.now) (g.T.TreeSink.account c.args.tree.now) (g.O.Out.text c.args.out.now) (g.O.Out.account c.args.out.now))
     (outside (g.T.TreeSink.sink c.make_dir.new.tree) (g.T.TreeSink.account c.make_dir.new.tree) (g.O.Out.text c.tell.new.out) (g.O.Out.account c.tell.new.out))
     (Ok (Within c.args.inner c.args.dirid (record { dirs = n; files = c.args.counts.now.files; skipped = c.args.counts.now.skipped })))) (sym c.more-counts.ensures)
-    (row_then _ _ _ _ _ _ _ (c.in-Ok.ensures.wrote s sums (g.O.Out.text c.args.out.now) (g.O.Out.account c.args.out.now))
-    (line_then _ _ _ _ _ _ _ (c.in-Ok-tell.ensures s sums (g.T.TreeSink.sink c.make_dir.new.tree) (g.T.TreeSink.account c.make_dir.new.tree))
+    (row_then _ _ _ _ _ _ _ (c.in-Ok.ensures.wrote (g.O.Out.text c.args.out.now) (g.O.Out.account c.args.out.now))
+    (line_then _ _ _ _ _ _ _ (c.in-Ok-tell.ensures (g.T.TreeSink.sink c.make_dir.new.tree) (g.T.TreeSink.account c.make_dir.new.tree))
     (wrote_none _ _)))

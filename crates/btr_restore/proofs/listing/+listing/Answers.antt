@@ -10,13 +10,14 @@ use Rattle.btr_files.specs.Listing.{DirNears}
 use Rattle.btr_restore.specs.declared.treated.Treated.{Treated}
 use Rattle.btr_restore.specs.Journey.{listed_in, treated}
 use Rattle.btr_restore.specs.Journey as journey
-use Rattle.btr_restore.specs.Lines.{path_in}
+use Rattle.btr_listing.specs.Deciding.{met_in}
+use Rattle.btr_listing.specs.Lines.{path_in}
 use Rattle.btr_restore.specs.Treating.{came_to}
 use Rattle.btr_restore.specs.Listing.{ended_with, treat_in, listing_in}
 use Rattle.btr_restore.specs.Running.{Ran, outside, world}
-use Rattle.btr_restore.specs.Step.{Step}
+use Rattle.btr_listing.specs.Step.{Step}
 use Rattle.btr_restore.proofs.Listings.{directory_is, listed_first, listed_fault, listed_end, listed_step, listed_halt}
-use Rattle.btr_restore.proofs.Cycles.{deep_is, entry_halts, entry_over, entry_within, some_place, stands_over, stands_up, stands_within, within_halts, within_up}
+use Rattle.btr_restore.proofs.Cycles.{deep_is, entry_halts, entry_over, entry_within, room_above, room_below, room_left, room_within, some_place, treated_in, stands_over, stands_up, stands_within, within_halts, within_up}
 use Rattle.btr_restore.proofs.Rans.{ran_memory, ready_next}
 use Rattle.btr_restore.proofs.listing.+listing.Goals as goal
 
@@ -26,6 +27,7 @@ list-loop-fault-init g t c = record {
   reads_on = c.new-here.ensures.dir;
   same_path = refl;
   same_below = refl;
+  same_sink = λ dry. refl;
   stands = λ n h. h;
   listed = λ s e. listed_first (treat_in c.args.job.now.plan s c.args.job.now.sums (length c.args.below.now) c.args.root c.args.dirid c.args.path.now) (world (g.R.Rack.seen c.args.rack.now) c.args.vol.now (outside (g.T.TreeSink.sink c.args.tree.now) (g.T.TreeSink.account c.args.tree.now) (g.O.Out.text c.args.out.now) (g.O.Out.account c.args.out.now))) c.args.counts.now c.new-here.result (entries c.args.root c.args.dirid) c.requires.ready c.new-here.ensures.program c.new-here.ensures.on;
 }
@@ -66,7 +68,10 @@ list-list_entry-requires g t c κs within = (
         within.1.1,
         (
           ready_next _ _ _ c.loop-fault.invariant.ready c.in-Ok-Some.ensures.serves c.in-Ok-Some.ensures.volume,
-          λ dry. (c.loop-fault.invariant.stands (g.T.TreeSink.sink c.args.tree.now).depth (λ d. (c.requires.between d, refl)) dry).0,
+          (
+            λ dry. (c.loop-fault.invariant.stands (g.T.TreeSink.sink c.args.tree.now).depth (λ d. (c.requires.between d, refl)) dry).0,
+            λ dry. room_left _ _ _ _ 512 (c.loop-fault.invariant.stands (g.T.TreeSink.sink c.args.tree.now).depth (λ d. (c.requires.between d, refl)) dry).1 c.loop-fault.invariant.same_below (c.requires.room dry),
+          ),
         ),
       ),
     ),
@@ -83,6 +88,7 @@ list-loop-fault-preserved g t c =
       reads_on = c.in-Ok-Some.ensures.dir;
       same_path = c.cut.ensures ∙ (ap (λ (n : ℕ). take n c.list_entry.new.path) (c.len-len.ensures ∙ ap length (sym c.loop-fault.invariant.same_path)) ∙ (c.in-Ok.ensures.path ∙ c.loop-fault.invariant.same_path));
       same_below = c.list_entry.auto.below ∙ c.loop-fault.invariant.same_below;
+      same_sink = λ dry. c.in-Ok.ensures.dry dry ∙ c.loop-fault.invariant.same_sink dry;
       stands = λ n h. c.in-Ok.ensures.stands n (c.loop-fault.invariant.stands n h);
       listed = λ s e. listed_step (treat_in c.args.job.now.plan s c.args.job.now.sums (length c.args.below.now) c.args.root c.args.dirid c.args.path.now) (world (g.R.Rack.seen c.args.rack.now) c.args.vol.now (outside (g.T.TreeSink.sink c.args.tree.now) (g.T.TreeSink.account c.args.tree.now) (g.O.Out.text c.args.out.now) (g.O.Out.account c.args.out.now))) (each (treat_in c.args.job.now.plan s c.args.job.now.sums (length c.args.below.now) c.args.root c.args.dirid c.args.path.now) c.args.counts.now (entries c.args.root c.args.dirid)) (world (g.R.Rack.seen c.loop-fault.rack) c.loop-fault.vol (outside (g.T.TreeSink.sink c.loop-fault.tree) (g.T.TreeSink.account c.loop-fault.tree) (g.O.Out.text c.loop-fault.out) (g.O.Out.account c.loop-fault.out))) c.loop-fault.counts c.loop-fault.here.dir c.next.new.self c.next.new.name (g.R.Rack.seen c.next.new.rack) c.next.new.vol (c.loop-fault.invariant.listed s e) c.in-Ok-Some.ensures.reads c.in-Ok-Some.ensures.volume (ready_next _ _ _ c.loop-fault.invariant.ready c.in-Ok-Some.ensures.serves c.in-Ok-Some.ensures.volume) c.in-Ok-Some.row c.next.result (c.in-Ok-Some.is ∙ ap Ok c.in-Ok-Some.field-0-is) c.next.ensures.content (world (g.R.Rack.seen c.list_entry.new.rack) c.list_entry.new.vol (outside (g.T.TreeSink.sink c.list_entry.new.tree) (g.T.TreeSink.account c.list_entry.new.tree) (g.O.Out.text c.list_entry.new.out) (g.O.Out.account c.list_entry.new.out))) c.list_entry.new.counts
           (subst (λ (k : ℕ). Ran (treat_in c.args.job.now.plan s c.args.job.now.sums k c.args.root c.args.dirid c.args.path.now c.loop-fault.counts (named_row c.in-Ok-Some.row c.next.new.name)) (world (g.R.Rack.seen c.next.new.rack) c.next.new.vol (outside (g.T.TreeSink.sink c.loop-fault.tree) (g.T.TreeSink.account c.loop-fault.tree) (g.O.Out.text c.loop-fault.out) (g.O.Out.account c.loop-fault.out))) (world (g.R.Rack.seen c.list_entry.new.rack) c.list_entry.new.vol (outside (g.T.TreeSink.sink c.list_entry.new.tree) (g.T.TreeSink.account c.list_entry.new.tree) (g.O.Out.text c.list_entry.new.out) (g.O.Out.account c.list_entry.new.out))) (Ok c.list_entry.new.counts)) c.loop-fault.invariant.same_below
@@ -112,12 +118,15 @@ list_entry-list_within-requires g t c κs within = (
       (
         within.1.1,
         (
-          (c.treat.ensures.ran c.args.vol.now.sup c.args.path.now refl (c.as_bytes-2.ensures ∙ (c.in-Ok.ensures ∙ ap (path_in c.args.path.now) c.as_bytes.ensures))).ready,
+          (c.treat.ensures.ran c.args.vol.now.sup refl).ready,
           (
             λ dry. (stands_within c.args.job.now.plan.dry (g.T.TreeSink.sink c.args.tree.now).depth (g.T.TreeSink.sink c.treat.new.tree) c.in-Ok-Within.field-0 c.in-Ok-Within.inner c.in-Ok-Within.dirid c.in-Ok-Within.field-0-is (c.in-Ok-Within.ensures.stands (g.T.TreeSink.sink c.args.tree.now).depth (λ d. (c.requires.between d, refl))) dry).0,
             (
               some_place (length c.args.below.now) c.is_empty.result c.in-Ok-Within.field-0 c.in-Ok-Within.inner c.in-Ok-Within.dirid (λ z. c.is_empty.ensures ∙ ap (λ (k : ℕ). k == 0) z) c.in-Ok-Within.field-0-is c.in-Ok-Within.ensures.flat,
-              λ dry. subst (λ (d : ℕ). 0 < d) (sym (stands_within c.args.job.now.plan.dry (g.T.TreeSink.sink c.args.tree.now).depth (g.T.TreeSink.sink c.treat.new.tree) c.in-Ok-Within.field-0 c.in-Ok-Within.inner c.in-Ok-Within.dirid c.in-Ok-Within.field-0-is (c.in-Ok-Within.ensures.stands (g.T.TreeSink.sink c.args.tree.now).depth (λ d. (c.requires.between d, refl))) dry).1) (omega arith),
+              (
+                λ dry. subst (λ (d : ℕ). 0 < d) (sym (stands_within c.args.job.now.plan.dry (g.T.TreeSink.sink c.args.tree.now).depth (g.T.TreeSink.sink c.treat.new.tree) c.in-Ok-Within.field-0 c.in-Ok-Within.inner c.in-Ok-Within.dirid c.in-Ok-Within.field-0-is (c.in-Ok-Within.ensures.stands (g.T.TreeSink.sink c.args.tree.now).depth (λ d. (c.requires.between d, refl))) dry).1) (omega arith),
+                λ dry. room_within _ _ _ 512 (stands_within c.args.job.now.plan.dry (g.T.TreeSink.sink c.args.tree.now).depth (g.T.TreeSink.sink c.treat.new.tree) c.in-Ok-Within.field-0 c.in-Ok-Within.inner c.in-Ok-Within.dirid c.in-Ok-Within.field-0-is (c.in-Ok-Within.ensures.stands (g.T.TreeSink.sink c.args.tree.now).depth (λ d. (c.requires.between d, refl))) dry).1 (c.requires.room dry),
+              ),
             ),
           ),
         ),
@@ -126,14 +135,17 @@ list_entry-list_within-requires g t c κs within = (
   ),
 )
 
+pub list_entry-treat-requires-clause-above : goal.list_entry-treat-requires-clause-above
+list_entry-treat-requires-clause-above g t c = λ shallow dry. room_above _ _ 512 _ c.is_empty.ensures shallow (c.requires.room dry)
+
 pub list_entry-returns-in-Err-treat-clause-ran : goal.list_entry-returns-in-Err-treat-clause-ran
 list_entry-returns-in-Err-treat-clause-ran g t c s e =
-    entry_halts c.args.job.now.plan s c.args.job.now.sums (length c.args.below.now) c.is_empty.result (c.is_empty.ensures ∙ deep_is (length c.args.below.now)) c.args.root.now c.args.dirid c.args.path.now c.args.counts.now (named_row c.args.row c.args.name.now) (world (g.R.Rack.seen c.args.rack.now) c.args.vol.now (outside (g.T.TreeSink.sink c.args.tree.now) (g.T.TreeSink.account c.args.tree.now) (g.O.Out.text c.args.out.now) (g.O.Out.account c.args.out.now))) (world (g.R.Rack.seen c.treat.new.rack) c.treat.new.vol (outside (g.T.TreeSink.sink c.treat.new.tree) (g.T.TreeSink.account c.treat.new.tree) (g.O.Out.text c.treat.new.out) (g.O.Out.account c.treat.new.out))) (world (g.R.Rack.seen c.treat.new.rack) c.treat.new.vol (outside (g.T.TreeSink.sink c.treat.new.tree) (g.T.TreeSink.account c.treat.new.tree) (g.O.Out.text c.treat.new.out) (g.O.Out.account c.treat.new.out))) c.in-Err-treat.stop (c.in-Err-treat.ensures.ran s c.args.path.now e (c.as_bytes-2.ensures ∙ (c.in-Ok.ensures ∙ ap (path_in c.args.path.now) c.as_bytes.ensures)))
+    entry_halts c.args.job.now.plan s c.args.job.now.sums (length c.args.below.now) c.is_empty.result (c.is_empty.ensures ∙ deep_is (length c.args.below.now)) c.args.root.now c.args.dirid c.args.path.now c.args.counts.now (named_row c.args.row c.args.name.now) (world (g.R.Rack.seen c.args.rack.now) c.args.vol.now (outside (g.T.TreeSink.sink c.args.tree.now) (g.T.TreeSink.account c.args.tree.now) (g.O.Out.text c.args.out.now) (g.O.Out.account c.args.out.now))) (world (g.R.Rack.seen c.treat.new.rack) c.treat.new.vol (outside (g.T.TreeSink.sink c.treat.new.tree) (g.T.TreeSink.account c.treat.new.tree) (g.O.Out.text c.treat.new.out) (g.O.Out.account c.treat.new.out))) (world (g.R.Rack.seen c.treat.new.rack) c.treat.new.vol (outside (g.T.TreeSink.sink c.treat.new.tree) (g.T.TreeSink.account c.treat.new.tree) (g.O.Out.text c.treat.new.out) (g.O.Out.account c.treat.new.out))) c.in-Err-treat.stop (treated_in c.args.job.now.plan s c.args.job.now.sums c.is_empty.result c.args.root.now c.args.dirid c.args.path.now _ c.args.counts.now (named_row c.args.row c.args.name.now) _ _ _ (c.as_bytes-2.ensures ∙ (c.in-Ok.ensures ∙ ap (path_in c.args.path.now) c.as_bytes.ensures)) (c.in-Err-treat.ensures.ran s e))
 
 pub list_entry-returns-in-Ok-Over-clause-ran : goal.list_entry-returns-in-Ok-Over-clause-ran
 list_entry-returns-in-Ok-Over-clause-ran g t c s e =
     entry_over c.args.job.now.plan s c.args.job.now.sums (length c.args.below.now) c.is_empty.result (c.is_empty.ensures ∙ deep_is (length c.args.below.now)) c.args.root.now c.args.dirid c.args.path.now c.args.counts.now (named_row c.args.row c.args.name.now) (world (g.R.Rack.seen c.args.rack.now) c.args.vol.now (outside (g.T.TreeSink.sink c.args.tree.now) (g.T.TreeSink.account c.args.tree.now) (g.O.Out.text c.args.out.now) (g.O.Out.account c.args.out.now))) (world (g.R.Rack.seen c.treat.new.rack) c.treat.new.vol (outside (g.T.TreeSink.sink c.treat.new.tree) (g.T.TreeSink.account c.treat.new.tree) (g.O.Out.text c.treat.new.out) (g.O.Out.account c.treat.new.out))) (world (g.R.Rack.seen c.treat.new.rack) c.treat.new.vol (outside (g.T.TreeSink.sink c.treat.new.tree) (g.T.TreeSink.account c.treat.new.tree) (g.O.Out.text c.treat.new.out) (g.O.Out.account c.treat.new.out))) c.treat.new.counts
-    (subst (λ (r : Treated). Ran (treated c.args.job.now.plan s c.args.job.now.sums c.is_empty.result c.args.root.now c.args.dirid c.args.path.now c.args.counts.now (named_row c.args.row c.args.name.now)) (world (g.R.Rack.seen c.args.rack.now) c.args.vol.now (outside (g.T.TreeSink.sink c.args.tree.now) (g.T.TreeSink.account c.args.tree.now) (g.O.Out.text c.args.out.now) (g.O.Out.account c.args.out.now))) (world (g.R.Rack.seen c.treat.new.rack) c.treat.new.vol (outside (g.T.TreeSink.sink c.treat.new.tree) (g.T.TreeSink.account c.treat.new.tree) (g.O.Out.text c.treat.new.out) (g.O.Out.account c.treat.new.out))) (Ok (came_to c.treat.new.counts r))) c.in-Ok-Over.field-0-is (c.in-Ok-Over.ensures.ran s c.args.path.now e (c.as_bytes-2.ensures ∙ (c.in-Ok.ensures ∙ ap (path_in c.args.path.now) c.as_bytes.ensures))))
+    (subst (λ (r : Treated). Ran (treated c.args.job.now.plan s c.args.job.now.sums (met_in c.is_empty.result c.args.root.now c.args.dirid c.args.path.now (named_row c.args.row c.args.name.now)) c.args.counts.now) (world (g.R.Rack.seen c.args.rack.now) c.args.vol.now (outside (g.T.TreeSink.sink c.args.tree.now) (g.T.TreeSink.account c.args.tree.now) (g.O.Out.text c.args.out.now) (g.O.Out.account c.args.out.now))) (world (g.R.Rack.seen c.treat.new.rack) c.treat.new.vol (outside (g.T.TreeSink.sink c.treat.new.tree) (g.T.TreeSink.account c.treat.new.tree) (g.O.Out.text c.treat.new.out) (g.O.Out.account c.treat.new.out))) (Ok (came_to c.treat.new.counts r))) c.in-Ok-Over.field-0-is (treated_in c.args.job.now.plan s c.args.job.now.sums c.is_empty.result c.args.root.now c.args.dirid c.args.path.now _ c.args.counts.now (named_row c.args.row c.args.name.now) _ _ _ (c.as_bytes-2.ensures ∙ (c.in-Ok.ensures ∙ ap (path_in c.args.path.now) c.as_bytes.ensures)) (c.in-Ok-Over.ensures.ran s e)))
 
 pub list_entry-returns-in-Ok-Over-clause-stands : goal.list_entry-returns-in-Ok-Over-clause-stands
 list_entry-returns-in-Ok-Over-clause-stands g t c n h =
@@ -141,7 +153,7 @@ list_entry-returns-in-Ok-Over-clause-stands g t c n h =
 
 pub list_entry-returns-in-Ok-Within-clause-ran : goal.list_entry-returns-in-Ok-Within-clause-ran
 list_entry-returns-in-Ok-Within-clause-ran g t c s e =
-    let h = subst (λ (r : Treated). Ran (treated c.args.job.now.plan s c.args.job.now.sums c.is_empty.result c.args.root.now c.args.dirid c.args.path.now c.args.counts.now (named_row c.args.row c.args.name.now)) (world (g.R.Rack.seen c.args.rack.now) c.args.vol.now (outside (g.T.TreeSink.sink c.args.tree.now) (g.T.TreeSink.account c.args.tree.now) (g.O.Out.text c.args.out.now) (g.O.Out.account c.args.out.now))) (world (g.R.Rack.seen c.treat.new.rack) c.treat.new.vol (outside (g.T.TreeSink.sink c.treat.new.tree) (g.T.TreeSink.account c.treat.new.tree) (g.O.Out.text c.treat.new.out) (g.O.Out.account c.treat.new.out))) (Ok (came_to c.treat.new.counts r))) c.in-Ok-Within.field-0-is (c.in-Ok-Within.ensures.ran s c.args.path.now e (c.as_bytes-2.ensures ∙ (c.in-Ok.ensures ∙ ap (path_in c.args.path.now) c.as_bytes.ensures))) in
+    let h = subst (λ (r : Treated). Ran (treated c.args.job.now.plan s c.args.job.now.sums (met_in c.is_empty.result c.args.root.now c.args.dirid c.args.path.now (named_row c.args.row c.args.name.now)) c.args.counts.now) (world (g.R.Rack.seen c.args.rack.now) c.args.vol.now (outside (g.T.TreeSink.sink c.args.tree.now) (g.T.TreeSink.account c.args.tree.now) (g.O.Out.text c.args.out.now) (g.O.Out.account c.args.out.now))) (world (g.R.Rack.seen c.treat.new.rack) c.treat.new.vol (outside (g.T.TreeSink.sink c.treat.new.tree) (g.T.TreeSink.account c.treat.new.tree) (g.O.Out.text c.treat.new.out) (g.O.Out.account c.treat.new.out))) (Ok (came_to c.treat.new.counts r))) c.in-Ok-Within.field-0-is (treated_in c.args.job.now.plan s c.args.job.now.sums c.is_empty.result c.args.root.now c.args.dirid c.args.path.now _ c.args.counts.now (named_row c.args.row c.args.name.now) _ _ _ (c.as_bytes-2.ensures ∙ (c.in-Ok.ensures ∙ ap (path_in c.args.path.now) c.as_bytes.ensures)) (c.in-Ok-Within.ensures.ran s e)) in
     entry_within c.args.job.now.plan s c.args.job.now.sums (length c.args.below.now) c.is_empty.result (c.is_empty.ensures ∙ deep_is (length c.args.below.now)) c.args.root.now c.args.dirid c.args.path.now c.args.counts.now (named_row c.args.row c.args.name.now) (world (g.R.Rack.seen c.args.rack.now) c.args.vol.now (outside (g.T.TreeSink.sink c.args.tree.now) (g.T.TreeSink.account c.args.tree.now) (g.O.Out.text c.args.out.now) (g.O.Out.account c.args.out.now))) (world (g.R.Rack.seen c.treat.new.rack) c.treat.new.vol (outside (g.T.TreeSink.sink c.treat.new.tree) (g.T.TreeSink.account c.treat.new.tree) (g.O.Out.text c.treat.new.out) (g.O.Out.account c.treat.new.out))) (world (g.R.Rack.seen c.list_within.new.rack) c.list_within.new.vol (outside (g.T.TreeSink.sink c.list_within.new.tree) (g.T.TreeSink.account c.list_within.new.tree) (g.O.Out.text c.list_within.new.out) (g.O.Out.account c.list_within.new.out))) c.in-Ok-Within.inner c.in-Ok-Within.dirid c.treat.new.counts _ h
     (subst (λ (p : List ℕ). Ran (listed_in c.args.job.now.plan s c.args.job.now.sums (listing_in c.args.job.now.plan s c.args.job.now.sums (length c.args.below.now)) p (journey.Within c.in-Ok-Within.inner c.in-Ok-Within.dirid c.treat.new.counts)) (world (g.R.Rack.seen c.treat.new.rack) c.treat.new.vol (outside (g.T.TreeSink.sink c.treat.new.tree) (g.T.TreeSink.account c.treat.new.tree) (g.O.Out.text c.treat.new.out) (g.O.Out.account c.treat.new.out))) (world (g.R.Rack.seen c.list_within.new.rack) c.list_within.new.vol (outside (g.T.TreeSink.sink c.list_within.new.tree) (g.T.TreeSink.account c.list_within.new.tree) (g.O.Out.text c.list_within.new.out) (g.O.Out.account c.list_within.new.out))) (ended_with c.list_within.new.counts c.list_within.result)) (c.in-Ok.ensures ∙ ap (path_in c.args.path.now) c.as_bytes.ensures)
     (c.list_within.ensures.ran s (e ∙ sym h.volume.sup)))
@@ -153,7 +165,7 @@ list_entry-returns-in-Ok-Within-clause-stands g t c n h =
 pub list_within-list-requires : goal.list_within-list-requires
 list_within-list-requires g t c κs within = (
   omega (arith, c.decreases, (sym c.in-Some.ensures.cases.1)),
-  (within.0, (within.1.0, (within.1.1, (c.requires.ready, c.requires.between)))),
+  (within.0, (within.1.0, (within.1.1, (c.requires.ready, (c.requires.between, λ dry. room_below _ _ _ 512 (sym c.in-Some.ensures.cases.1) (c.requires.room dry)))))),
 )
 
 pub list_within-leave_dir-requires-clause-between : goal.list_within-leave_dir-requires-clause-between
@@ -170,7 +182,7 @@ list_within-returns-in-Err-clause-ran g t c s e =
 
 pub list_within-returns-in-Ok-clause-ran : goal.list_within-returns-in-Ok-clause-ran
 list_within-returns-in-Ok-clause-ran g t c s e =
-    within_up c.args.job.now.plan s c.args.job.now.sums (length c.args.frames.now) (length c.in-Some.below.now) (sym c.in-Some.ensures.cases.1) c.args.inner c.args.dirid c.args.path.now c.args.counts.now (world (g.R.Rack.seen c.args.rack.now) c.args.vol.now (outside (g.T.TreeSink.sink c.args.tree.now) (g.T.TreeSink.account c.args.tree.now) (g.O.Out.text c.args.out.now) (g.O.Out.account c.args.out.now))) (world (g.R.Rack.seen c.list.new.rack) c.list.new.vol (outside (g.T.TreeSink.sink c.list.new.tree) (g.T.TreeSink.account c.list.new.tree) (g.O.Out.text c.list.new.out) (g.O.Out.account c.list.new.out))) c.list.new.counts _ c.leave_dir.result (c.in-Ok.ensures.ran s e) (c.leave_dir.ensures.wrote s c.args.job.now.sums (g.O.Out.text c.list.new.out) (g.O.Out.account c.list.new.out))
+    within_up c.args.job.now.plan s c.args.job.now.sums (length c.args.frames.now) (length c.in-Some.below.now) (sym c.in-Some.ensures.cases.1) c.args.inner c.args.dirid c.args.path.now c.args.counts.now (world (g.R.Rack.seen c.args.rack.now) c.args.vol.now (outside (g.T.TreeSink.sink c.args.tree.now) (g.T.TreeSink.account c.args.tree.now) (g.O.Out.text c.args.out.now) (g.O.Out.account c.args.out.now))) (world (g.R.Rack.seen c.list.new.rack) c.list.new.vol (outside (g.T.TreeSink.sink c.list.new.tree) (g.T.TreeSink.account c.list.new.tree) (g.O.Out.text c.list.new.out) (g.O.Out.account c.list.new.out))) c.list.new.counts _ c.leave_dir.result (c.in-Ok.ensures.ran s e) (c.leave_dir.ensures.wrote (g.O.Out.text c.list.new.out) (g.O.Out.account c.list.new.out))
 
 pub list_within-returns-in-Ok-clause-stands : goal.list_within-returns-in-Ok-clause-stands
 list_within-returns-in-Ok-clause-stands g t c n h =

@@ -1,9 +1,9 @@
 use Rattle.std.proofs.Common.{refl}
 use Rattle.btr_files.specs.declared.counts.Counts.{Counts}
 use Rattle.btr_prog.specs.Prog.{Emit, Return}
-use Rattle.btr_restore.specs.Lines.{counts_line}
+use Rattle.btr_listing.specs.Lines.{counts_line}
 use Rattle.btr_restore.specs.Restoring.{Emits}
-use Rattle.btr_restore.specs.Step.{Line}
+use Rattle.btr_listing.specs.Step.{Line}
 use Rattle.btr_restore.proofs.Emitting.{as_out, breaks_line, emits_line}
 use Rattle.btr_restore.proofs.Stopping.{out_stops, outs_of_out, sinks_of_out}
 use Rattle.btr_restore.proofs.restoring.tell_counts.Goals as goal

@@ -2,13 +2,10 @@ use Rattle.std.proofs.Common.{◌≡◌, ℕ, Bool, false, List, Option}
 use Rattle.btr_rack.specs.Out.{CallAccount}
 use Rattle.btr_rack.specs.Sink.{InFile}
 use Rattle.btr_read.specs.Store.{SameLoans}
-use Rattle.btr_super.specs.declared.superblock.Super.{Super}
 use Rattle.btr_volume.specs.Lookup.{Program}
-use Rattle.btr_volume.specs.declared.root.TreeRoot.{TreeRoot}
-use Rattle.btr_files.specs.declared.plan.RestorePlan.{RestorePlan}
 use Rattle.btr_files.specs.Streaming.{bytes_left, IsReading, without_file}
 use Rattle.btr_restore.specs.Running.{World, outside, world}
-use Rattle.btr_restore.specs.Step.{Step}
+use Rattle.btr_listing.specs.Step.{Step}
 use Rattle.btr_restore.specs.Writing.{IsWriting}
 use Rattle.btr_restore.proofs.writing.put_pieces.Given as goal
 
@@ -18,9 +15,9 @@ invariant-loop-stop g l =
     × SameLoans (without_file l.initial.vol.store l.initial.file) (without_file l.vol.store l.file)
     × ((g.T.TreeSink.sink l.tree).stage ≡ InFile)
     × ((g.T.TreeSink.sink l.tree).depth ≡ (g.T.TreeSink.sink l.initial.tree).depth)
-    × ((plan : RestorePlan) (s : Super) (sums : Option TreeRoot) (whole : Program Step Bool) (x : World) (text : Option (List ℕ)) (calls : CallAccount)
-    → IsWriting plan s sums whole x (world (g.R.Rack.seen l.initial.rack) l.initial.vol (outside (g.T.TreeSink.sink l.initial.tree) (g.T.TreeSink.account l.initial.tree) text calls)) false l.initial.file
-    → IsWriting plan s sums whole x (world (g.R.Rack.seen l.rack) l.vol (outside (g.T.TreeSink.sink l.tree) (g.T.TreeSink.account l.tree) text calls)) l.plain l.file)
+    × ((whole : Program Step Bool) (x : World) (text : Option (List ℕ)) (calls : CallAccount)
+    → IsWriting whole x (world (g.R.Rack.seen l.initial.rack) l.initial.vol (outside (g.T.TreeSink.sink l.initial.tree) (g.T.TreeSink.account l.initial.tree) text calls)) false l.initial.file
+    → IsWriting whole x (world (g.R.Rack.seen l.rack) l.vol (outside (g.T.TreeSink.sink l.tree) (g.T.TreeSink.account l.tree) text calls)) l.plain l.file)
 
 abbrev pub decreases-loop-stop : goal.decreases-loop-stop
 decreases-loop-stop g l = bytes_left l.file

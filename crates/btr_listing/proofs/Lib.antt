@@ -1,0 +1,4 @@
+mod Names
+pub mod Numbers
+pub mod Looking
+pub mod Decidings

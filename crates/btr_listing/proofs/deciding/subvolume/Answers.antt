@@ -1,0 +1,40 @@
+use Rattle.std.proofs.Common.{true, false, not, Ok, ap, ◌∙◌}
+use Rattle.btr_listing.specs.declared.decision.Decision.TheVariants.{Empty}
+use Rattle.btr_files.specs.Names.{mounted}
+use Rattle.btr_listing.specs.Deciding.{mount_found, mount_of, target}
+use Rattle.btr_listing.specs.Looked.{met_by}
+use Rattle.btr_listing.proofs.Looking.{look_again, looked_by, looked_else, looked_halt, looked_if, looked_then, looked_value}
+use Rattle.btr_listing.proofs.deciding.subvolume.Goals as goal
+
+pub root-requires-clause-ready : goal.root-requires-clause-ready
+root-requires-clause-ready g c = look_again c.requires.ready c.mounted.ensures.serves c.mounted.ensures.volume
+
+pub returns-then-not-rules-clause-looked : goal.returns-then-not-rules-clause-looked
+returns-then-not-rules-clause-looked g c = looked_if _ _ _ (ap not c.if-not-rules.true) (looked_value _ c.requires.ready)
+
+pub returns-in-Err-clause-looked : goal.returns-in-Err-clause-looked
+returns-in-Err-clause-looked g c =
+    let met = met_by c.args.entry.now in
+    looked_else _ _ _ (ap not c.if-not-rules.false)
+    (looked_halt (mounted (mount_of met) c.args.vol.now.sup (target met)) (mount_found c.args.rules.now met) c.in-Err.fault
+    (looked_by _ _ c.requires.ready c.mounted.ensures.serves c.mounted.ensures.reads c.mounted.ensures.volume
+    c.mounted.ensures.cause c.mounted.ensures.content) c.in-Err.is)
+
+pub returns-in-Ok-false-clause-looked : goal.returns-in-Ok-false-clause-looked
+returns-in-Ok-false-clause-looked g c =
+    let met = met_by c.args.entry.now in
+    looked_else _ _ _ (ap not c.if-not-rules.false)
+    (looked_then (mounted (mount_of met) c.args.vol.now.sup (target met)) (mount_found c.args.rules.now met) false _
+    (looked_by _ _ c.requires.ready c.mounted.ensures.serves c.mounted.ensures.reads c.mounted.ensures.volume
+    c.mounted.ensures.cause c.mounted.ensures.content)
+    (c.in-Ok-false.is ∙ ap Ok c.in-Ok-false.field-0-test)
+    (looked_value Empty (look_again c.requires.ready c.mounted.ensures.serves c.mounted.ensures.volume)))
+
+pub returns-in-Ok-true-clause-looked : goal.returns-in-Ok-true-clause-looked
+returns-in-Ok-true-clause-looked g c =
+    let met = met_by c.args.entry.now in
+    looked_else _ _ _ (ap not c.if-not-rules.false)
+    (looked_then (mounted (mount_of met) c.args.vol.now.sup (target met)) (mount_found c.args.rules.now met) true _
+    (looked_by _ _ c.requires.ready c.mounted.ensures.serves c.mounted.ensures.reads c.mounted.ensures.volume
+    c.mounted.ensures.cause c.mounted.ensures.content)
+    (c.in-Ok-true.is ∙ ap Ok c.in-Ok-true.field-0-test) c.root.ensures.looked)

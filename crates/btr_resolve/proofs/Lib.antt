@@ -1,0 +1,11 @@
+pub mod Threads
+pub mod Stopping
+pub mod Rans
+pub mod Owning
+pub mod Listing
+pub mod Cursors
+pub mod Upward
+pub mod Turning
+pub mod Tellings
+pub mod Namings
+pub mod Resolved

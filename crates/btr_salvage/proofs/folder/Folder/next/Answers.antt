@@ -1,0 +1,31 @@
+use Rattle.std.proofs.Common.{Ok, Err, sym, ◌∙◌}
+use Rattle.btr_walk.specs.Reading.{unread_by}
+use Rattle.btr_walk.proofs.Fetched.{since}
+use Rattle.btr_walk.proofs.Joined.{drawn, joined}
+use Rattle.btr_walk.proofs.Turns.{base_layout}
+use Rattle.btr_tour.specs.Rests.{TakesUp}
+use Rattle.btr_salvage.specs.Folders.{IsNextFound, IsNextMet}
+use Rattle.btr_salvage.proofs.Folders.{next_found, rest_fault}
+use Rattle.btr_salvage.proofs.folder.Folder.next.Goals as goal
+
+pub returns-in-Err-clause-content : goal.returns-in-Err-clause-content
+returns-in-Err-clause-content g c =
+    let layout = c.args.vol.now.store.layout in
+    let is = unread_by layout (g.R.Rack.seen c.args.rack.now) (g.R.Rack.seen c.tour.new.rack) in
+    drawn layout (λ B. TakesUp is B c.args.self.now.rest c.tour.new.store (Err c.in-Err.fault)) (λ B. IsNextFound is B c.args.self.now c.args.self.now c.args.name.now (Err c.in-Err.fault))
+    (λ B h. rest_fault is B c.args.self.now c.tour.new.store c.args.name.now c.in-Err.fault h) c.in-Err.ensures.content
+
+pub returns-in-Ok-clause-content : goal.returns-in-Ok-clause-content
+returns-in-Ok-clause-content g c =
+    let layout = c.args.vol.now.store.layout in
+    let mid = c.tour.new.store in
+    let same = sym (base_layout mid _) ∙ c.in-Ok.ensures.taken.others.layout in
+    let one = unread_by mid.layout (g.R.Rack.seen c.tour.new.rack) (g.R.Rack.seen c.meet_next-found.new.rack) in
+    let is = unread_by layout (g.R.Rack.seen c.args.rack.now) (g.R.Rack.seen c.meet_next-found.new.rack) in
+    joined {layout' = mid.layout}
+    (λ B. TakesUp (unread_by layout (g.R.Rack.seen c.args.rack.now) (g.R.Rack.seen c.tour.new.rack)) B c.args.self.now.rest mid (Ok c.in-Ok.tour))
+    (λ B. IsNextMet one B mid c.meet_next-found.new.store c.in-Ok.tour c.meet_next-found.new.tour c.meet_next-found.new.name c.meet_next-found.result)
+    (λ B. IsNextFound is B c.args.self.now (record { rest = c.rest-after.result }) c.meet_next-found.new.name c.meet_next-found.result)
+    same
+    (λ B takes meets. next_found is one (λ u w i. since layout mid.layout same c.in-Ok.ensures.reads u w i) B c.args.self.now c.args.vol.now.store mid c.meet_next-found.new.store c.in-Ok.tour c.meet_next-found.new.tour c.rest-after.result c.meet_next-found.new.name c.rest-after.ensures.rests c.meet_next-found.result takes meets)
+    c.in-Ok.ensures.content c.meet_next-found.ensures.content

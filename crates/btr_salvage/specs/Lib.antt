@@ -1,0 +1,11 @@
+pub mod Lines
+pub mod Attempts
+pub mod Marks
+pub mod Salvaging
+pub mod Damages
+pub mod Folders
+pub mod Running
+pub mod Treating
+pub mod Reading
+pub mod Listing
+pub mod Laws

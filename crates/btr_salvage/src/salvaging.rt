@@ -1,0 +1,209 @@
+// The call salvage.
+ghost use Rattle.std.specs.Prelude.{◌≡◌, ◌≢◌, false, IfErr, IfOk, [], length, Some};
+ghost use Rattle.btr_rack.specs.Sink.{NotStarted};
+ghost use Rattle.btr_restore.specs.Running.{IsReady, world, outside_of};
+ghost use Rattle.btr_salvage.specs.Running.{Ran, RanFor};
+ghost use Rattle.btr_salvage.specs.Salvaging.{from_root, from_tree, salvaging};
+
+use crate::folder::Folder;
+use crate::listing::{Frame, list};
+use crate::salvaged::Salvaged;
+use crate::telling::tell_salvaged;
+use btr_base::Memory;
+use btr_files::{Counts, NameBuf, RestorePlan};
+use btr_listing::Path;
+use btr_rack::{Out, Rack, TreeSink};
+use btr_restore::{Job, find_tree, settle, start_in};
+use btr_volume::{Stop, TreeRoot, Volume};
+use btr_walk::RootPlace;
+use std::alloc::Global;
+
+// A frame for the destination, and one for each of the 512 directories in one another that may be entered below it.
+const FRAMES: usize = 513;
+
+// The tree of the checksums of data.
+const SUM_TREE: u64 = 7;
+
+// A frame that lists nothing yet.
+fn free_frame() -> Frame {
+    let nowhere = TreeRoot {
+        id: 0,
+        offset: 0,
+        place: RootPlace {
+            addr: 0,
+            generation: 0,
+            level: 0,
+        },
+        dirid: 0,
+        refs: 0,
+    };
+    Frame {
+        folder: Folder::new(&nowhere, 0),
+        name: NameBuf::new(),
+    }
+}
+
+// The frames of a listing. Their memory is taken once.
+fn free_frames(alloc: Global) -> Result<Vec<Frame>, Memory>
+    ensures { IfOk result (λ frames. length frames.items ≡ 513) }
+{
+    match vec![in alloc; free_frame(); FRAMES] {
+        Ok(frames) => Ok(frames),
+        Err(_) => Err(Memory),
+    }
+}
+
+// The top directory of a tree, into the destination.
+fn list_into<R: Rack, T: TreeSink, O: Out>(
+    job: &Job,
+    dest: &str,
+    root: &TreeRoot,
+    frames: &mut [Frame],
+    path: &mut Path,
+    rack: &mut R,
+    vol: &mut Volume,
+    tree: &mut T,
+    out: &mut O,
+) -> Result<Salvaged, Stop>
+    requires ready { IsReady (R.seen rack.old) vol.old }
+    requires fresh { job.now.plan.dry ≡ false → (T.sink tree.old).stage ≡ NotStarted }
+    requires frames { length frames.old ≡ 513 }
+    requires path { path.old ≡ [] }
+    ensures { RanFor (λ s. from_tree job.now.plan dest.now s root.now job.now.sums)
+        (world (R.seen rack.old) vol.old (outside_of T.sink T.account O.text O.account tree.old out.old))
+        (world (R.seen rack.new) vol.new (outside_of T.sink T.account O.text O.account tree.new out.new))
+        result }
+{
+    match start_in(&job.plan, dest, tree) {
+        Ok(()) => {}
+        Err(stop) => return Err(stop),
+    }
+    let mut salvaged = Salvaged {
+        counts: Counts {
+            dirs: 0,
+            files: 0,
+            skipped: 0,
+        },
+        broken: 0,
+    };
+    let Some((here, below)) = frames.split_first_mut() else {
+        unreachable!();
+    };
+    match list(
+        job,
+        *root,
+        root.dirid,
+        here,
+        below,
+        path,
+        &mut salvaged,
+        rack,
+        vol,
+        tree,
+        out,
+    ) {
+        Ok(()) => tell_salvaged(&salvaged, out),
+        Err(stop) => Err(stop),
+    }
+}
+
+// A tree into the destination, once its checksums are found.
+fn salvage_tree<R: Rack, T: TreeSink, O: Out>(
+    plan: &RestorePlan,
+    dest: &str,
+    root: &TreeRoot,
+    frames: &mut [Frame],
+    path: &mut Path,
+    rack: &mut R,
+    vol: &mut Volume,
+    tree: &mut T,
+    out: &mut O,
+) -> Result<Salvaged, Stop>
+    requires ready { IsReady (R.seen rack.old) vol.old }
+    requires fresh { plan.now.dry ≡ false → (T.sink tree.old).stage ≡ NotStarted }
+    requires frames { length frames.old ≡ 513 }
+    requires path { path.old ≡ [] }
+    ensures { RanFor (λ s. from_root plan.now dest.now s (Some root.now))
+        (world (R.seen rack.old) vol.old (outside_of T.sink T.account O.text O.account tree.old out.old))
+        (world (R.seen rack.new) vol.new (outside_of T.sink T.account O.text O.account tree.new out.new))
+        result }
+{
+    match find_tree(SUM_TREE, rack, vol) {
+        Err(stop) => Err(stop),
+        Ok(sums) => {
+            let job = Job { plan: *plan, sums };
+            list_into(&job, dest, root, frames, path, rack, vol, tree, out)
+        }
+    }
+}
+
+// Salvages the subvolume of a plan. What waits in the sink then isn't stored yet.
+fn salvage_unsettled<R: Rack, T: TreeSink, O: Out>(
+    alloc: Global,
+    plan: &RestorePlan,
+    dest: &str,
+    rack: &mut R,
+    vol: &mut Volume,
+    tree: &mut T,
+    out: &mut O,
+) -> Result<Salvaged, Stop>
+    requires ready { IsReady (R.seen rack.old) vol.old }
+    requires fresh { plan.now.dry ≡ false → (T.sink tree.old).stage ≡ NotStarted }
+    ensures { Ran (salvaging plan.now dest.now vol.old.sup)
+        (world (R.seen rack.old) vol.old (outside_of T.sink T.account O.text O.account tree.old out.old))
+        (world (R.seen rack.new) vol.new (outside_of T.sink T.account O.text O.account tree.new out.new))
+        result }
+{
+    let mut path = match Path::new(alloc) {
+        Ok(path) => path,
+        Err(_) => return Err(Stop::Memory),
+    };
+    let mut frames = match free_frames(alloc) {
+        Ok(frames) => frames,
+        Err(_) => return Err(Stop::Memory),
+    };
+    match find_tree(plan.root, rack, vol) {
+        Err(stop) => Err(stop),
+        Ok(None) => Err(Stop::NoTree(plan.root)),
+        Ok(Some(root)) => {
+            let frames = frames.as_mut_slice();
+            salvage_tree(plan, dest, &root, frames, &mut path, rack, vol, tree, out)
+        }
+    }
+}
+
+/// Restores the subvolume of a plan into the destination of this name, past blocks that can't be had: its directories, the bytes of its files, and lines of
+/// what is missing and of how much was restored. The plan isn't dry.
+///
+/// An entry of which a block can't be had is left out, with all that is below it, and named with the block's address; so is each part of a directory. A file
+/// is begun only where all its bytes can be had: they are read twice. Entries that can't be restored by the rules of restore are left out and named as there.
+///
+/// The memory of a path of 131328 bytes and of 513 directories in one another is taken first, and nothing else takes any. Six slots of the volume are free.
+///
+/// `NoTree` comes exactly where there is no such subvolume. `Tree` comes where a block could not be read, where one of the way to the root of the subvolume
+/// or of the checksum tree can't be had or is malformed, and where one that was read came to something else when it was read again. `Sink` and `Out`
+/// come where the destination or the output failed, and `Memory` for want of memory. All that was done before stands: what waits in the destination is
+/// stored before another error than `Sink` is answered, and where that fails the answer is `Sink`.
+pub fn salvage<R: Rack, T: TreeSink, O: Out>(
+    alloc: Global,
+    plan: &RestorePlan,
+    dest: &str,
+    rack: &mut R,
+    vol: &mut Volume,
+    tree: &mut T,
+    out: &mut O,
+) -> Result<Salvaged, Stop>
+    requires ready { IsReady (R.seen rack.old) vol.old }
+    requires wet { plan.now.dry ≡ false }
+    requires fresh { (T.sink tree.old).stage ≡ NotStarted }
+    ensures ran { Ran (salvaging plan.now dest.now vol.old.sup)
+        (world (R.seen rack.old) vol.old (outside_of T.sink T.account O.text O.account tree.old out.old))
+        (world (R.seen rack.new) vol.new (outside_of T.sink T.account O.text O.account tree.new out.new))
+        result }
+    ensures stored { IfErr result (λ stop. stop ≢ Stop.Sink → T.waits tree.new ≡ false) }
+{
+    match salvage_unsettled(alloc, plan, dest, rack, vol, tree, out) {
+        Ok(salvaged) => Ok(salvaged),
+        Err(stop) => Err(settle(plan, stop, tree)),
+    }
+}

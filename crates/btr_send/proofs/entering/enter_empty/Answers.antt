@@ -1,0 +1,18 @@
+use Rattle.std.proofs.Common.{ℕ, Ok, sym, subst}
+use Rattle.btr_restore.specs.Journey.{Over}
+use Rattle.btr_restore.specs.Running.{Wrote, outside}
+use Rattle.btr_restore.proofs.Rans.{wrote_none}
+use Rattle.btr_send.specs.Sending.{empty}
+use Rattle.btr_send.proofs.Putting.{step_halt, step_then}
+use Rattle.btr_send.proofs.entering.enter_empty.Goals as goal
+
+pub returns-in-Err-clause-wrote : goal.returns-in-Err-clause-wrote
+returns-in-Err-clause-wrote g c text calls = step_halt _ _ _ _ _ (c.in-Err.ensures.wrote text calls)
+
+pub returns-clause-wrote : goal.returns-clause-wrote
+returns-clause-wrote g c text calls =
+    subst (λ (n : ℕ). Wrote (empty c.args.path.now c.args.counts.now)
+    (outside (g.T.TreeSink.sink c.args.tree.now) (g.T.TreeSink.account c.args.tree.now) text calls)
+    (outside (g.T.TreeSink.sink c.put_mkdir.new.tree) (g.T.TreeSink.account c.put_mkdir.new.tree) text calls)
+    (Ok (Over (record { dirs = n; files = c.args.counts.now.files; skipped = c.args.counts.now.skipped })))) (sym c.more-counts.ensures)
+    (step_then _ _ _ _ _ _ (c.in-Ok.ensures.wrote text calls) (wrote_none _ _))

@@ -1,0 +1,22 @@
+use Rattle.std.proofs.Common.{sym, ◌∙◌}
+use Rattle.btr_restore.proofs.Rans.{can_look, ran_wrote, ready_next}
+use Rattle.btr_send.proofs.Treats.{treat_halts, treat_long, treat_then}
+use Rattle.btr_send.proofs.treating.treat.Goals as goal
+
+pub decide-requires : goal.decide-requires
+decide-requires g c = record { ready = can_look c.requires.ready }
+
+pub carry_out-requires-clause-ready : goal.carry_out-requires-clause-ready
+carry_out-requires-clause-ready g c = ready_next _ _ _ c.requires.ready c.in-Ok.ensures.looked.ready.serves c.in-Ok.ensures.looked.volume
+
+pub returns-then-entry-gt-LONGEST-clause-ran : goal.returns-then-entry-gt-LONGEST-clause-ran
+returns-then-entry-gt-LONGEST-clause-ran g c s e = treat_long c.args.sums c.args.entry.now c.args.counts.now s _ _ _ _ _ c.if-entry-gt-LONGEST.true c.as_bytes.ensures c.overlong.ensures
+    (ran_wrote _ _ _ _ _ _ c.requires.ready (c.leave_out.ensures.wrote _ _))
+
+pub returns-in-Err-clause-ran : goal.returns-in-Err-clause-ran
+returns-in-Err-clause-ran g c s e = treat_halts c.args.sums c.args.entry.now c.args.counts.now s _ c.rules.ensures _ _ e _ _ _
+    c.requires.ready _ c.in-Err.ensures.looked
+
+pub returns-in-Ok-clause-ran : goal.returns-in-Ok-clause-ran
+returns-in-Ok-clause-ran g c s e = treat_then c.args.sums c.args.entry.now c.args.counts.now s _ c.rules.ensures _ _ e _ _ _
+    c.requires.ready _ _ _ c.in-Ok.ensures.looked (c.carry_out.ensures.ran s (e ∙ sym c.in-Ok.ensures.looked.volume.sup))

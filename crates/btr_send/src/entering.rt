@@ -1,0 +1,129 @@
+// What is sent for an entry.
+ghost use Rattle.std.specs.Prelude.{◌≡◌, ◌≤◌, length};
+ghost use Rattle.btr_rack.specs.Sink.{InFile};
+ghost use Rattle.btr_restore.specs.Running.{IsReady, RanFor, Wrote, outside_of, world};
+ghost use Rattle.btr_restore.specs.Treating.{IsOver, came};
+ghost use Rattle.btr_send.specs.Running.{WroteIn};
+ghost use Rattle.btr_send.specs.Sending.{closed, empty, entered};
+ghost use Rattle.btr_send.specs.Treating.{written_for};
+
+use crate::buffer::Buffer;
+use crate::commands::{put_mkdir, put_mkfile, put_truncate};
+use crate::progress::Progress;
+use crate::writing::write_bytes;
+use btr_files::Counts;
+use btr_items::Inode;
+use btr_listing::Entry;
+use btr_rack::{Out, Rack, TreeSink};
+use btr_restore::{Treated, more, tell_unverified};
+use btr_volume::{Stop, TreeRoot, Volume};
+
+/// Enters a directory of a tree.
+pub(crate) fn enter<T: TreeSink>(
+    path: &[u8],
+    inner: TreeRoot,
+    dirid: u64,
+    buffer: &mut Buffer,
+    counts: &mut Counts,
+    tree: &mut T,
+) -> Result<Treated, Stop>
+    requires begun { (T.sink tree.old).stage ≡ InFile }
+    requires short { length path.now ≤ 4096 }
+    ensures wrote { WroteIn (entered path.now inner dirid counts.old)
+        T.sink T.account tree.old tree.new (came counts.new result) }
+    ensures stage { (T.sink tree.new).stage ≡ InFile }
+{
+    match put_mkdir(path, buffer, tree) {
+        Ok(()) => {}
+        Err(stop) => return Err(stop),
+    }
+    counts.dirs = more(counts.dirs);
+    Ok(Treated::Within { tree: inner, dirid })
+}
+
+/// Makes a directory that stays empty.
+pub(crate) fn enter_empty<T: TreeSink>(
+    path: &[u8],
+    buffer: &mut Buffer,
+    counts: &mut Counts,
+    tree: &mut T,
+) -> Result<Treated, Stop>
+    requires begun { (T.sink tree.old).stage ≡ InFile }
+    requires short { length path.now ≤ 4096 }
+    ensures wrote { WroteIn (empty path.now counts.old)
+        T.sink T.account tree.old tree.new (came counts.new result) }
+    ensures over { IsOver result }
+    ensures stage { (T.sink tree.new).stage ≡ InFile }
+{
+    match put_mkdir(path, buffer, tree) {
+        Ok(()) => {}
+        Err(stop) => return Err(stop),
+    }
+    counts.dirs = more(counts.dirs);
+    Ok(Treated::Over)
+}
+
+// Ends a file, and names it where some sector of it was read without a checksum.
+fn close_file<T: TreeSink, O: Out>(
+    path: &[u8],
+    size: u64,
+    sent: Progress,
+    buffer: &mut Buffer,
+    counts: &mut Counts,
+    tree: &mut T,
+    out: &mut O,
+) -> Result<Treated, Stop>
+    requires begun { (T.sink tree.old).stage ≡ InFile }
+    requires short { length path.now ≤ 4096 }
+    ensures wrote { Wrote (closed path.now size counts.old sent)
+        (outside_of T.sink T.account O.text O.account tree.old out.old)
+        (outside_of T.sink T.account O.text O.account tree.new out.new)
+        (came counts.new result) }
+    ensures over { IsOver result }
+    ensures stage { (T.sink tree.new).stage ≡ InFile }
+{
+    match put_truncate(path, size, buffer, tree) {
+        Ok(()) => {}
+        Err(stop) => return Err(stop),
+    }
+    match tell_unverified(sent.plain, path, out) {
+        Ok(()) => {}
+        Err(stop) => return Err(stop),
+    }
+    counts.files = more(counts.files);
+    Ok(Treated::Over)
+}
+
+/// Writes a file, by its inode.
+pub(crate) fn write_file<R: Rack, T: TreeSink, O: Out>(
+    sums: Option<TreeRoot>,
+    entry: &Entry<'_>,
+    inode: &Inode,
+    buffer: &mut Buffer,
+    counts: &mut Counts,
+    rack: &mut R,
+    vol: &mut Volume,
+    tree: &mut T,
+    out: &mut O,
+) -> Result<Treated, Stop>
+    requires ready { IsReady (R.seen rack.old) vol.old }
+    requires begun { (T.sink tree.old).stage ≡ InFile }
+    requires short { length entry.now.path.now ≤ 4096 }
+    ensures ran { RanFor (written_for sums entry.now inode.now counts.old)
+        (world (R.seen rack.old) vol.old (outside_of T.sink T.account O.text O.account tree.old out.old))
+        (world (R.seen rack.new) vol.new (outside_of T.sink T.account O.text O.account tree.new out.new))
+        (came counts.new result) }
+    ensures over { IsOver result }
+    ensures stage { (T.sink tree.new).stage ≡ InFile }
+{
+    match put_mkfile(entry.path, buffer, tree) {
+        Ok(()) => {}
+        Err(stop) => return Err(stop),
+    }
+    let ino = entry.row.location.objectid;
+    let path = entry.path;
+    match write_bytes(sums, &entry.tree, ino, path, inode, buffer, rack, vol, tree) {
+        Err(stop) => Err(stop),
+        Ok(sent) => close_file(path, inode.size, sent, buffer, counts, tree, out),
+    }
+}

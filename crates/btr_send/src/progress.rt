@@ -1,0 +1,8 @@
+/// How much of a file was sent.
+#[derive(Clone, Copy, Debug, PartialEq, Eq)]
+pub(crate) struct Progress {
+    /// The position in bytes, up to which it was given.
+    pub(crate) offset: u64,
+    /// Some sector was read without a checksum.
+    pub(crate) plain: bool,
+}

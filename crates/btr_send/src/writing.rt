@@ -1,0 +1,155 @@
+// The bytes of a file.
+ghost use Rattle.std.specs.Prelude.{◌≡◌, ◌≤◌, ◌<◌, ◌||◌, not, IfOk, IfSome, length};
+ghost use Rattle.btr_rack.specs.Sink.{InFile};
+ghost use Rattle.btr_read.specs.Store.{SameLoans, free_count};
+ghost use Rattle.btr_files.specs.Streaming.{bytes_left, IsPiece, IsReading, piece_of, without_file};
+ghost use Rattle.btr_restore.specs.Journey.{has_no_sums};
+ghost use Rattle.btr_restore.specs.Running.{IsReady, RanBeside, beside};
+ghost use Rattle.btr_send.specs.Running.{WroteIn};
+ghost use Rattle.btr_send.specs.Sending.{at_front, pieces, put};
+ghost use Rattle.btr_send.specs.Writing.{PutsNext, PutsRest};
+
+use crate::buffer::Buffer;
+use crate::commands::{behind, put_writes};
+use crate::progress::Progress;
+use bitflags::Flags;
+use btr_files::{FileBytes, Piece, next_piece};
+use btr_items::{Inode, InodeFlags};
+use btr_rack::{Rack, TreeSink};
+use btr_volume::{Stop, TreeRoot, Volume};
+
+// Whether some piece was read without a checksum, this one included.
+fn is_plain(plain: bool, verified: bool) -> bool
+    ensures { result ≡ (plain || not verified) }
+{
+    plain || !verified
+}
+
+// Puts a piece of a file, behind those before it.
+fn put_piece<T: TreeSink>(
+    path: &[u8],
+    now: Progress,
+    piece: Piece<'_>,
+    buffer: &mut Buffer,
+    tree: &mut T,
+) -> Result<Progress, Stop>
+    requires begun { (T.sink tree.old).stage ≡ InFile }
+    requires short { length path.now ≤ 4096 }
+    requires some { IsPiece piece }
+    ensures wrote { WroteIn (put path.now now (piece_of piece.entry)) T.sink T.account tree.old tree.new result }
+    ensures stage { (T.sink tree.new).stage ≡ InFile }
+{
+    match piece {
+        Piece::Gap(count) => Ok(Progress {
+            offset: behind(now.offset, count),
+            plain: now.plain,
+        }),
+        Piece::Bytes { bytes, verified } => {
+            match put_writes(path, now.offset, bytes, buffer, tree) {
+                Err(stop) => Err(stop),
+                Ok(()) => Ok(Progress {
+                    offset: behind(now.offset, bytes.len() as u64),
+                    plain: is_plain(now.plain, verified),
+                }),
+            }
+        }
+    }
+}
+
+// Gives the next piece of a file, and puts it: how much was sent then, or `None` exactly after the last.
+fn put_next<R: Rack, T: TreeSink>(
+    path: &[u8],
+    file: &mut FileBytes,
+    now: Progress,
+    buffer: &mut Buffer,
+    rack: &mut R,
+    vol: &mut Volume,
+    tree: &mut T,
+) -> Result<Option<Progress>, Stop>
+    requires ready { IsReading (R.seen rack.old) vol.old.store file.old }
+    requires room { 5 ≤ free_count (without_file vol.old.store file.old) }
+    requires begun { (T.sink tree.old).stage ≡ InFile }
+    requires short { length path.now ≤ 4096 }
+    ensures writes { PutsNext (put path.now) now file.old file.new
+        (beside R.seen T.sink T.account rack.old vol.old tree.old)
+        (beside R.seen T.sink T.account rack.new vol.new tree.new) result }
+    ensures ready { IsReading (R.seen rack.new) vol.new.store file.new }
+    ensures room { SameLoans (without_file vol.old.store file.old) (without_file vol.new.store file.new) }
+    ensures nears { IfOk result (λ on. IfSome on (λ after. bytes_left file.new < bytes_left file.old)) }
+    ensures stage { (T.sink tree.new).stage ≡ InFile }
+{
+    match next_piece(vol, file, rack) {
+        Err(fault) => Err(Stop::Tree(fault)),
+        Ok(None) => Ok(None),
+        Ok(Some(piece)) => match put_piece(path, now, piece, buffer, tree) {
+            Ok(after) => Ok(Some(after)),
+            Err(stop) => Err(stop),
+        },
+    }
+}
+
+// Puts the pieces of a file that are still to come. Answers how much was sent.
+fn put_pieces<R: Rack, T: TreeSink>(
+    path: &[u8],
+    file: &mut FileBytes,
+    buffer: &mut Buffer,
+    rack: &mut R,
+    vol: &mut Volume,
+    tree: &mut T,
+) -> Result<Progress, Stop>
+    requires ready { IsReading (R.seen rack.old) vol.old.store file.old }
+    requires room { 5 ≤ free_count (without_file vol.old.store file.old) }
+    requires begun { (T.sink tree.old).stage ≡ InFile }
+    requires short { length path.now ≤ 4096 }
+    ensures writes { PutsRest (put path.now) at_front file.old file.new
+        (beside R.seen T.sink T.account rack.old vol.old tree.old)
+        (beside R.seen T.sink T.account rack.new vol.new tree.new) result }
+    ensures ready { IsReading (R.seen rack.new) vol.new.store file.new }
+    ensures stage { (T.sink tree.new).stage ≡ InFile }
+{
+    let mut now = Progress {
+        offset: 0,
+        plain: false,
+    };
+    loop {
+        match put_next(path, file, now, buffer, rack, vol, tree) {
+            Err(stop) => return Err(stop),
+            Ok(None) => return Ok(now),
+            Ok(Some(after)) => now = after,
+        }
+    }
+}
+
+// Whether the sectors of a file have no checksums.
+fn has_no_sums(inode: &Inode) -> bool
+    ensures { result ≡ has_no_sums inode.now }
+{
+    inode.flags().intersects(InodeFlags::NODATASUM)
+}
+
+/// Writes the bytes of a file, by its inode. Answers how much was sent.
+pub(crate) fn write_bytes<R: Rack, T: TreeSink>(
+    sums: Option<TreeRoot>,
+    root: &TreeRoot,
+    ino: u64,
+    path: &[u8],
+    inode: &Inode,
+    buffer: &mut Buffer,
+    rack: &mut R,
+    vol: &mut Volume,
+    tree: &mut T,
+) -> Result<Progress, Stop>
+    requires ready { IsReady (R.seen rack.old) vol.old }
+    requires begun { (T.sink tree.old).stage ≡ InFile }
+    requires short { length path.now ≤ 4096 }
+    ensures ran { RanBeside vol.old.sup (λ s. pieces s sums root.now ino path.now inode.now)
+        (beside R.seen T.sink T.account rack.old vol.old tree.old)
+        (beside R.seen T.sink T.account rack.new vol.new tree.new) result }
+    ensures stage { (T.sink tree.new).stage ≡ InFile }
+{
+    let nosum = has_no_sums(inode);
+    let mut file = FileBytes::new(*root, ino, inode.size, nosum, sums);
+    let sent = put_pieces(path, &mut file, buffer, rack, vol, tree);
+    file.finish(vol);
+    sent
+}
