@@ -1,6 +1,7 @@
 -- What a command comes to where reads failed, but the copies agree.
-use Rattle.std.proofs.Common.{◌≡◌, ◌⊎◌, inl, inr, ⊎_elim, false, Bool, List, [], Option, Some, None, Result, Ok, Err, refl, sym, ap, ◌∙◌, subst}
+use Rattle.std.proofs.Common.{◌≡◌, ◌⊎◌, inl, inr, ⊎_elim, ℕ, false, Bool, List, [], Option, Some, None, Result, Ok, Err, refl, sym, ap, ◌∙◌, subst}
 use Rattle.std.specs.Option.{IfSome}
+use Rattle.btr_chunk.specs.declared.chunk.Chunk.{Chunk}
 use Rattle.btr_check.specs.Before.{refusal}
 use Rattle.btr_check.specs.Findings.{findings}
 use Rattle.btr_check.specs.Running.{OfReading, is_outside}
@@ -15,8 +16,11 @@ use Rattle.btr_read.specs.Fate as fault
 use Rattle.btr_read.specs.Layout.{Layout}
 use Rattle.btr_refs.specs.declared.finding.Finding.{Finding}
 use Rattle.btr_restore.proofs.Agreeing.{array_agreed}
+use Rattle.btr_read.proofs.Compared.{compares_agreed, disagreeing-agreed}
+use Rattle.btr_read.specs.Comparing.{disagreeing}
 use Rattle.btr_volume.specs.Maps.{array_layout, table_of, table_or}
-use Rattle.btr_volume.specs.Opening.{Opened, Opens, Scans, Starts}
+use Rattle.btr_volume.specs.Tree.{root_want}
+use Rattle.btr_volume.specs.Opening.{Opened, Opens, RootsDiffer, Scans, Starts}
 use Rattle.btr_volume.specs.Start.{Images, Start, start_of, layout_by}
 use Rattle.btr_volume.specs.Table.{TableResult, refusal_of, table_scan}
 use Rattle.btr_volume.specs.declared.fault.OpenFault.{OpenFault}
@@ -28,17 +32,18 @@ use Rattle.btr_volume.specs.declared.volume.Volume.{Volume}
 use Rattle.btr_walk.specs.Reading.{Map, Tells, UnreadBlock, halt_of, unread_by}
 use Rattle.btr_walk.specs.declared.fault.TreeFault.{TreeFault}
 use Rattle.btr_walk.specs.declared.fault.TreeFault.TheVariants as tree
+use Rattle.btr_restore.specs.Running.{Outside}
 use Rattle.btr_run.specs.Agreeing.{AgreesOn, AreAgreed, AreAgreedOn, IsOrUnread, IsTreesOrUnread}
 use Rattle.btr_run.specs.Checked.{check_in, check_outcome, filesystem_by, listing, unless_refused}
 use Rattle.btr_run.specs.Faults.{open_answer, stop_answer, tree_answer}
-use Rattle.btr_run.specs.Filesystem.{OpensAs, answer_as, fault_answer, filesystem_in, filesystem_of, with_start, with_table}
-use Rattle.btr_run.specs.Outcomes.{IsNoFault, Outcome, Shows, refused, showing}
+use Rattle.btr_run.specs.Filesystem.{OpensAs, answer_as, fault_answer, filesystem_in, filesystem_of, with_roots, with_start, with_table}
+use Rattle.btr_run.specs.Outcomes.{Comes, IsNoFault, Outcome, Shows, refused, showing}
 use Rattle.btr_run.specs.Trees.{ShowsUpTo, call_answer, trees_in}
 use Rattle.btr_run.specs.declared.answer.Answer.{Answer}
 use Rattle.btr_run.specs.declared.answer.Answer.TheVariants.{Lost, Unmapped, Crosses, Malformed}
 use Rattle.btr_run.specs.declared.plan.DumpChoice.{DumpChoice}
-use Rattle.btr_run.proofs.Coming.{shows_bare, shows_also}
-use Rattle.btr_run.proofs.Ending.{when_told}
+use Rattle.btr_run.proofs.Coming.{comes_bare, shows_bare, shows_also}
+use Rattle.btr_run.proofs.Coming.{when_told}
 use Rattle.btr_run.proofs.Orders.{scan_follows}
 use Rattle.btr_run.proofs.Refusals.{open_no_fault}
 
@@ -48,11 +53,31 @@ module _ (old new : Seen) (images : Images) (told : old.held ≡ Some images) (a
       → Follows {S = ⊥} (unread_by (array_layout start) old new) no_part [] (exec (fate images (array_layout start)) (table_scan start)) [] answer
   scanned start is answer scans = scan_follows images start old new answer told (array_agreed images start (agreed start is)) scans
 
+  -- by the table that was scanned the images agree
+  table_agreed : (start : Start) → start_of images ≡ Ok start → (chunks : List Chunk)
+      → (exec (fate images (array_layout start)) (table_scan start)).ending ≡ Ok (Ok chunks) → Agreed images (layout_by start chunks)
+  table_agreed start is chunks ends = subst (λ t. Agreed images (layout_by start t)) (ap (table_or start.array) ends) (agreed start is)
+
+  -- and the candidates of the root tree's root block with them
+  roots_agree : (start : Start) → start_of images ≡ Ok start → (chunks : List Chunk)
+      → (exec (fate images (array_layout start)) (table_scan start)).ending ≡ Ok (Ok chunks)
+      → disagreeing images (layout_by start chunks) (root_want start.sup) ≡ None
+  roots_agree start is chunks ends =
+      disagreeing-agreed images (layout_by start chunks) (root_want start.sup) (table_agreed start is chunks ends (root_want start.sup) tt)
+
+  never_differ : (slot : ℕ) → RootsDiffer images old new slot → ⊥
+  never_differ slot d =
+      let scan = scanned d.start d.is (Ok (Ok d.chunks)) d.scans in
+      let none = compares_agreed images (layout_by d.start d.chunks) (root_want d.start.sup) old new (Some slot) told
+      (table_agreed d.start d.is d.chunks scan.1 (root_want d.start.sup) tt) d.differ in
+      cc
+
   -- the volume is the filesystem
   pub opened_is : (volume : Volume) → Opened images old new volume → filesystem_of images ≡ Ok (filesystem_in volume)
   opened_is volume o =
       let scan = scanned o.start o.is (Ok (Ok volume.store.layout.chunks)) o.scans in
-      ap (with_start images) o.is ∙ ap (with_table o.start) scan.1
+      let none = roots_agree o.start o.is volume.store.layout.chunks scan.1 in
+      ap (with_start images) o.is ∙ ap (with_table images o.start) scan.1 ∙ ap (with_roots o.start volume.store.layout.chunks) none
       ∙ ap (λ s. Ok (record { sup = s; layout = layout_by o.start volume.store.layout.chunks })) (sym o.by.sup)
       ∙ ap (λ l. Ok (record { sup = volume.sup; layout = l })) (sym o.by.layout)
 
@@ -65,7 +90,7 @@ module _ (old new : Seen) (images : Images) (told : old.held ≡ Some images) (a
 
   -- a refusal by a chunk of the chunk tree
   by_table : (f : TableFault) → Starts images old new (Ok (Err f)) → filesystem_of images ≡ Err (open_answer (refusal_of f))
-  by_table f s = let scan = scanned s.start s.is (Ok (Err f)) s.scans in ap (with_start images) s.is ∙ ap (with_table s.start) scan.1
+  by_table f s = let scan = scanned s.start s.is (Ok (Err f)) s.scans in ap (with_start images) s.is ∙ ap (with_table images s.start) scan.1
 
   -- a refusal of opening is what a command comes to that shows it
   module _ (wanted : Outcome) (bare : (answer : Answer) → filesystem_of images ≡ Err answer → wanted ≡ refused answer) where
@@ -74,7 +99,8 @@ module _ (old new : Seen) (images : Images) (told : old.held ≡ Some images) (a
 
     -- the chunk tree can't be read on
     by_fault : (x : Fault) (answer : Answer) → fault_answer x ≡ answer → Starts images old new (Err (halts x)) → IsOrUnread wanted (refused answer)
-    by_fault x answer is s = let scan = scanned s.start s.is (Err (halts x)) s.scans in by_filesystem answer (ap (with_start images) s.is ∙ ap (with_table s.start) scan.1 ∙ ap (λ a. Err a) is)
+    by_fault x answer is s = let scan = scanned s.start s.is (Err (halts x)) s.scans in by_filesystem answer
+        (ap (with_start images) s.is ∙ ap (with_table images s.start) scan.1 ∙ ap (λ a. Err a) is)
 
     by_tree : (f : TreeFault) → Starts images old new (Err (halt_of f)) → IsOrUnread wanted (refused (tree_answer f))
     by_tree (tree.Lost a) s = by_fault (fault.Lost a) (Lost a) refl s
@@ -96,6 +122,8 @@ module _ (old new : Seen) (images : Images) (told : old.held ≡ Some images) (a
     unopened (opening.SumKind kind) opens = by_refusal (opening.SumKind kind) opens
     unopened (opening.Foreign slot) opens = by_refusal (opening.Foreign slot) opens
     unopened (opening.Twin slot) opens = by_refusal (opening.Twin slot) opens
+    unopened (opening.Diverged slot) opens =
+        by_filesystem (open_answer (opening.Diverged slot)) (⊎_elim (λ start. ap (with_start images) start) (λ d. absurd (never_differ slot d)) opens)
     unopened (opening.Unsupported bits) opens = by_refusal (opening.Unsupported bits) opens
     unopened opening.Geometry opens = by_refusal opening.Geometry opens
     unopened opening.LogPending opens = by_refusal opening.LogPending opens
@@ -137,6 +165,17 @@ module _ (wanted : Images → Outcome) (bare : (images : Images) (answer : Answe
       (λ images h agreed. h agreed is)
       (unopened_where (λ images a. (result ≡ a) → Shows (IsOrUnread (wanted images)) text text account account result) old new answer
       (λ images told agreed r opens same. subst (Shows (IsOrUnread (wanted images)) text text account account) (sym same) (shows_bare (IsOrUnread (wanted images)) text account (open_answer r) (unopened old new images told agreed (wanted images) (bare images) r opens) (open_no_fault r))) opens)
+
+  -- .. of one that does steps
+  pub unopened_comes : (old new : Seen) (answer result : Answer) → result ≡ answer → (x : Outside) → IfSome old.held (λ images. OpensAs images old new (Err answer))
+      → IfSome old.held (λ images. AreAgreed images → Comes (Unit {0}) (IsOrUnread (wanted images)) x x result)
+  unopened_comes old new answer result is x opens =
+      when_told old.held (λ images. AreAgreed images → (result ≡ answer) → Comes (Unit {0}) (IsOrUnread (wanted images)) x x result)
+      (λ images. AreAgreed images → Comes (Unit {0}) (IsOrUnread (wanted images)) x x result)
+      (λ images h agreed. h agreed is)
+      (unopened_where (λ images a. (result ≡ a) → Comes (Unit {0}) (IsOrUnread (wanted images)) x x result) old new answer
+      (λ images told agreed r opens same. subst (Comes (Unit {0}) (IsOrUnread (wanted images)) x x) (sym same)
+      (comes_bare (Unit {0}) (IsOrUnread (wanted images)) x (open_answer r) (unopened old new images told agreed (wanted images) (bare images) r opens) (open_no_fault r))) opens)
 
 -- The filesystem is open.
 module _ (old mid : Seen) (volume : Volume) (opens : IfSome old.held (λ images. OpensAs images old mid (Ok volume))) where

@@ -22,7 +22,7 @@ use Rattle.btr_run.specs.Repaired.{AsksToWrite, KeepsRepair, LeavesImages}
 use Rattle.btr_run.specs.Scrubbed.{mending_writes}
 use Rattle.btr_run.specs.Words.{Words, IsUsageAt}
 use Rattle.btr_run.specs.declared.plan.Command.{Command}
-use Rattle.btr_run.specs.declared.plan.Command.TheVariants.{Super, Dump, Roots, Check, Restore, Scrub}
+use Rattle.btr_run.specs.declared.plan.Command.TheVariants.{Super, Dump, Resolve, Check, Restore, Salvage, Scrub, Send}
 use Rattle.btr_run.specs.declared.opening.OpeningFault.{OpeningFault}
 use Rattle.btr_run.specs.declared.opening.OpeningFault.TheVariants.{TooMany, Failed, Memory as memory_fault}
 use Rattle.btr_volume.specs.declared.which.Which.TheVariants.{Images as images_limit}
@@ -70,13 +70,15 @@ as_opened calm (Some at) None slots answer other opens = tt
 as_opened calm (Some at) (Some images) slots answer other opens = (images, opens, as_they_were calm images images answer other refl)
 
 -- what is answered before anything is put is one of the answers of each command over images that agree
-pub agreed_before : (command : Command) (images : Images) (answer : Answer) → error_line answer ≢ [] → IsUnreadOrWant (refused answer) → ComesAgreed command images (refused answer)
-agreed_before Super images answer line unread = inr (refl, line)
-agreed_before (Dump choice) images answer line unread = inr (inr unread)
-agreed_before Roots images answer line unread = inr (inr unread)
-agreed_before (Check read_data) images answer line unread = inr unread
-agreed_before (Scrub write) images answer line unread = inr unread
-agreed_before (Restore dest plan) images answer line unread = inr (refl, line)
+pub agreed_before : (command : Command) (words : Words) (images : Images) (answer : Answer) → error_line answer ≢ [] → IsUnreadOrWant (refused answer) → ComesAgreed command words images (refused answer)
+agreed_before Super words images answer line unread = inr (refl, line)
+agreed_before (Dump choice) words images answer line unread = inr (inr unread)
+agreed_before (Resolve addr) words images answer line unread = inr (inr unread)
+agreed_before (Check read_data) words images answer line unread = inr unread
+agreed_before (Scrub write) words images answer line unread = inr unread
+agreed_before (Restore dest plan) words images answer line unread = inr (refl, line)
+agreed_before (Salvage dest plan) words images answer line unread = inr (inr unread)
+agreed_before (Send dest file plan) words images answer line unread = inr (inr unread)
 
 -- words that are no sentence
 module _ (words : Words) (at : ℕ) (usage : IsUsageAt words at) where

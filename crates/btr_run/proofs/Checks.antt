@@ -29,7 +29,7 @@ use Rattle.btr_run.specs.Outcomes.{Outcome, IsNoFault, OrBare, OrMemory, Shows, 
 use Rattle.btr_run.specs.declared.answer.Answer.{Answer}
 use Rattle.btr_run.specs.declared.answer.Answer.TheVariants.{Done, Found, ImageFault}
 use Rattle.btr_run.proofs.Coming.{shows_bare}
-use Rattle.btr_run.proofs.Ending.{when_told}
+use Rattle.btr_run.proofs.Coming.{when_told}
 use Rattle.btr_run.proofs.Faulting.{no_tree, tree_in, tree_back}
 use Rattle.btr_run.proofs.TreesShown.{NoneOf, mends_of, none_unread, tree_no_fault}
 

@@ -1,5 +1,6 @@
 -- Outcomes, and what was done and put of them.
 use Rattle.std.proofs.Common.{◌≡◌, ◌⊎◌, inl, inr, ℕ, zero, suc, ◌≤◌, false, List, [], ◌∷◌, ◌++◌, length, take, fold, Option, Some, None, Result, Ok, Err, refl, sym, ap, ◌∙◌, subst, arith}
+use Rattle.std.specs.Option.{IfSome}
 use Rattle.std.specs.Result.{IsErrAnd}
 use Rattle.std.proofs.lemmas.List.{append-nil, take_all}
 use Rattle.std.proofs.lemmas.Result.{err_from_is_err_and}
@@ -12,12 +13,17 @@ use Rattle.btr_rack.specs.declared.error.SinkError.TheVariants.{Failed, Memory a
 use Rattle.btr_restore.specs.Outcome.{text_of}
 use Rattle.btr_restore.specs.Restoring.{sink_after}
 use Rattle.btr_restore.specs.Running.{Outside}
-use Rattle.btr_restore.specs.Step.{Step, Line}
+use Rattle.btr_listing.specs.Step.{Step, Line}
 use Rattle.btr_text.proofs.Writing.{adds_nothing, adds_twice}
 use Rattle.btr_run.specs.Answers.{error_line, answer_of}
-use Rattle.btr_run.specs.Outcomes.{Outcome, refused, showing, text_steps, due_after, IsPut, IsNoFault, Shows, IsFirstPart, Stands, StandsPartly, CallFailed, How, Whole, SinkFailed, OutFailed, Wanted, HasEnded, Comes, HasFirstPart, MayEnd, IsPrinted}
+use Rattle.btr_run.specs.Outcomes.{Outcome, refused, showing, text_steps, due_after, IsPut, IsNoFault, Shows, IsFirstPart, Stands, StandsPartly, CallFailed, OneFailed, How, Whole, SinkFailed, OutFailed, Wanted, HasEnded, Comes, HasFirstPart, MayEnd, IsPrinted}
 use Rattle.btr_run.specs.declared.answer.Answer.{Answer}
 use Rattle.btr_run.specs.declared.answer.Answer.TheVariants.{SinkFault, OutFault, Memory}
+
+-- where something is told, a clause on it
+pub when_told : {X : Type 0} (o : Option X) (P Q : X → Type 0) → ((x : X) → P x → Q x) → IfSome o P → IfSome o Q
+when_told None P Q f p = tt
+when_told (Some x) P Q f p = f x p
 
 -- the answer that a `?` made of a fault
 pub answer_gives : (r : Result Answer Answer) (answer : Answer) → IsErrAnd r (λ a. a ≡ answer) → answer_of r ≡ answer
@@ -138,9 +144,14 @@ module _ (May : Type 0) (x y : Outside) (new : Option (List ℕ)) (after : CallA
   after_whole stands same (Err fault) puts counts due =
       failed_line outcome.answer (inl refl) (record { done = outcome.steps; first = whole_first outcome.steps; stands = stands }) same fault puts counts due
 
-  after_sink : CallFailed x.sink_calls y.sink_calls → StandsPartly x y outcome [] → y.out_calls ≡ x.out_calls → (r : Result Unit SinkError) → Puts y.text new (error_line SinkFault) r → Counts y.out_calls after r → result ≡ due_after r SinkFault → IsPrinted May x z outcome result
-  after_sink failed partly same (Ok u) puts counts due = inr (inl (due, failed, behind_part (error_line SinkFault) partly puts))
-  after_sink failed partly same (Err fault) puts counts due = failed_line SinkFault (inr (inl refl)) partly same fault puts counts due
+  after_sink : CallFailed x.sink_calls y.sink_calls → StandsPartly x y outcome [] → ((y.out_calls ≡ x.out_calls) ⊎ OneFailed x.out_calls y.out_calls) → (r : Result Unit SinkError) → Puts y.text new (error_line SinkFault) r → Counts y.out_calls after r
+      → result ≡ due_after r SinkFault → IsPrinted May x z outcome result
+  after_sink failed partly calls (Ok u) puts counts due = inr (inl (due, failed, behind_part (error_line SinkFault) partly puts))
+  after_sink failed partly (inl same) (Err fault) puts counts due = failed_line SinkFault (inr (inl refl)) partly same fault puts counts due
+  after_sink failed partly (inr one) (Err Failed) puts counts due =
+      inr (inr (inl (due, (one.0.0, rose_again x.out_calls.faults y.out_calls.faults after.faults one.0.1 (omega (arith, one.0.1.0, counts.1.0)) counts.1.0), first_part SinkFault (inr (inl refl)) partly puts)))
+  after_sink failed partly (inr one) (Err memory_fault) puts counts due =
+      inr (inr (inr (due, scarce (sym (ap (λ (c : CallAccount). c.ample) one.1) ∙ counts.0), first_part SinkFault (inr (inl refl)) partly puts)))
 
   after_want : May → StandsPartly x y outcome [] → y.out_calls ≡ x.out_calls → (r : Result Unit SinkError) → Puts y.text new (error_line Memory) r → Counts y.out_calls after r → result ≡ due_after r Memory → IsPrinted May x z outcome result
   after_want may partly same (Ok u) puts counts due = inr (inr (inr (due, may, first_part Memory (inr (inr refl)) partly (line_part y.text new (error_line Memory) (Ok u) puts))))

@@ -1,30 +1,33 @@
 -- How a run ends: what holds of an answer before its line is put holds of the run's.
-use Rattle.std.proofs.Common.{◌≡◌, ◌≢◌, ◌⊎◌, inl, inr, ⊎_elim, true, ℕ, ◌<◌, List, length, map, take, Option, Some, None, refl, sym, ap, ◌∙◌, subst, arith}
+use Rattle.std.proofs.Common.{◌≡◌, ◌≢◌, ◌⊎◌, inl, inr, ⊎_elim, true, false, Bool, ℕ, ◌<◌, List, length, map, take, Option, Some, None, refl, sym, ap, ◌∙◌, subst, arith}
 use Rattle.std.specs.Option.{IfSome}
 use Rattle.std.proofs.lemmas.List.{take_all}
 use Rattle.btr_rack.specs.Rack.{Seen, Slot, Rose, Steady, Shelf}
 use Rattle.btr_rack.specs.Out.{CallAccount}
+use Rattle.btr_rack.specs.Sink.{IsSound, NotStarted}
+use Rattle.btr_restore.specs.Headline.{Headline}
+use Rattle.btr_restore.specs.InOrder.{CommittedOrder, OpenHaltedLaw, OpenRefusedLaw, OpenedThenLaw, SettledLaw}
 use Rattle.btr_restore.specs.Running.{Outside}
+use Rattle.btr_run.specs.Order.{FollowsOrder, KeepsOrder}
+use Rattle.btr_run.specs.Run.{AreImagesSteady, HasWholeEffect, IsAnswered, IsCalm, IsObeyed, KeepsFirstPart, LeavesItsImages, RestoresCommitted, Run, before, behind, outside_before, outside_behind}
 use Rattle.btr_run.specs.Agreeing.{ComesAgreed, FollowsAgreed, KeepsAgreed}
 use Rattle.btr_run.specs.Answers.{error_line}
-use Rattle.btr_run.specs.Causes.{HidesNone, ImageCause, IsBehindWords, IsMissingImage, IsShut, TreeCause}
+use Rattle.btr_run.specs.Causes.{opened_with, HidesNone, ImageCause, IsBehindWords, IsMissingImage, IsShut, TreeCause}
 use Rattle.btr_run.specs.Effects.{FollowsWords, HasEffect, HasPart, IsOutcome, IsTold, MayFollow, MayWantBy}
-use Rattle.btr_run.specs.Outcomes.{Outcome, refused, CallFailed, Comes, HasFirstPart, IsPrinted, IsPut, MayEnd, OrBare, OrMemory, Stands, StandsPartly}
+use Rattle.btr_run.specs.Outcomes.{Outcome, refused, CallFailed, Comes, HasEnded, HasFirstPart, How, Whole, SinkFailed, OutFailed, Wanted, IsPrinted, IsPut, MayEnd, OrBare, OrMemory, Stands, StandsPartly}
 use Rattle.btr_run.specs.Images.{taken}
 use Rattle.btr_run.specs.Checked.{found}
-use Rattle.btr_run.specs.Repaired.{AreLeft, LeavesImages, MayWrite}
+use Rattle.btr_run.specs.Repaired.{AreLeft, KeepsRepair, LeavesImages, MayWrite}
+use Rattle.btr_run.specs.Stored.{IsStored, IsStoredOrTold}
 use Rattle.btr_run.specs.Words.{Words}
 use Rattle.btr_volume.specs.Start.{Images}
 use Rattle.btr_run.specs.declared.answer.Answer.{Answer}
-use Rattle.btr_run.specs.declared.answer.Answer.TheVariants.{ImageFault, SinkFault, OutFault, Memory}
-use Rattle.btr_run.proofs.Coming.{comes_printed, put_ends, whole_first, with_line}
+use Rattle.btr_run.specs.declared.answer.Answer.TheVariants.{Done, ImageFault, SinkFault, OutFault, Memory}
+use Rattle.btr_run.proofs.Coming.{comes_printed, put_ends, when_told, whole_first}
+use Rattle.btr_run.proofs.Orders.{keeps_committed, keeps_order}
+use Rattle.btr_run.proofs.Promises.{keeps_headline, keeps_outcome}
 use Rattle.btr_run.proofs.Faulting.{no_tree, tree_in}
 use Rattle.btr_run.proofs.Found.{found_no_memory, found_no_out}
-
--- where something is told, a clause on it
-pub when_told : {X : Type 0} (o : Option X) (P Q : X → Type 0) → ((x : X) → P x → Q x) → IfSome o P → IfSome o Q
-when_told None P Q f p = tt
-when_told (Some x) P Q f p = f x p
 
 not_steady : (before now : ℕ) → Steady before now → Rose before now → ⊥
 not_steady before now steady rose = omega (arith, steady.0, steady.1, rose.0, rose.1)
@@ -37,16 +40,40 @@ whole_line : (x y : Outside) (outcome : Outcome) (answer : Answer) → MayEnd ou
 whole_line x y outcome answer may partly =
     record { answer = answer; may_end = may; some = length (error_line answer); stands = subst (StandsPartly x y outcome) (sym (all_taken (error_line answer))) partly }
 
-whole : (x y : Outside) (outcome : Outcome) → Stands x y outcome.steps (error_line outcome.answer) → HasFirstPart x y outcome
-whole x y outcome stands = whole_line x y outcome outcome.answer (inl refl) (record { done = outcome.steps; first = whole_first outcome.steps; stands = stands })
+whole_part : (x y : Outside) (outcome : Outcome) → Stands x y outcome.steps (error_line outcome.answer) → HasFirstPart x y outcome
+whole_part x y outcome stands = whole_line x y outcome outcome.answer (inl refl) (record { done = outcome.steps; first = whole_first outcome.steps; stands = stands })
 
 -- the answer before its line, or a fault of the put
 abbrev Ends : Answer → Answer → Type 0
 Ends answer result = (result ≡ answer) ⊎ (result ≡ OutFault) ⊎ (result ≡ Memory)
 
-module _ (words : Words) (x y : Outside) (new : Option (List ℕ)) (after : CallAccount) (answer result : Answer) (line : IsPut y.text new y.out_calls after (error_line answer) answer result) where
+module _ {R T O : Type 0} (run : Run R T O) (out : O) (result : Answer)
+    (line : IsPut (outside_behind run).text (run.eyes.text out) (outside_behind run).out_calls (run.eyes.out_calls out) (error_line run.answer) run.answer result) where
+  abbrev words : Words
+  words = run.words
+
+  abbrev answer : Answer
+  answer = run.answer
+
+  -- the sink and the output before the run, before its line and behind it
+  abbrev x : Outside
+  x = outside_before run
+
+  abbrev y : Outside
+  y = outside_behind run
+
+  abbrev new : Option (List ℕ)
+  new = run.eyes.text out
+
+  abbrev after : CallAccount
+  after = run.eyes.out_calls out
+
+  -- the run with its line
+  abbrev whole : Run R T O
+  whole = record run { new = record run.new { out = out }; answer = result }
+
   abbrev z : Outside
-  z = with_line y new after
+  z = outside_behind whole
 
   abbrev May : Type 0
   May = MayWantBy words x.out_calls
@@ -58,39 +85,51 @@ module _ (words : Words) (x y : Outside) (new : Option (List ℕ)) (after : Call
   print : (IsOne : Outcome → Type 0) (comes : Comes May IsOne x y answer) → IsPrinted May x z comes.outcome result
   print IsOne comes = comes_printed May x y new after comes.outcome result (λ scarce. inl scarce) answer comes.how comes.ended line
 
-  pub has_effect : (shelf : Shelf) → Comes May (OrMemory (IsOutcome words shelf)) x y answer → Steady x.sink_calls.faults y.sink_calls.faults → Steady x.out_calls.faults after.faults → result ≢ Memory → HasEffect words shelf x z result
+  has_effect : (shelf : Shelf) → Comes May (OrMemory (IsOutcome words shelf)) x y answer → Steady x.sink_calls.faults y.sink_calls.faults → Steady x.out_calls.faults after.faults → result ≢ Memory → HasEffect words shelf x z result
   has_effect shelf comes calm steady enough =
       ⊎_elim (λ done. ⊎_elim (λ is. record { outcome = comes.outcome; is = is; answered = done.0; stands = done.1 }) (λ (want : comes.outcome ≡ refused Memory). absurd (enough (cc done.0))) comes.is_one)
       (λ rest. ⊎_elim (λ fault. absurd (not_steady x.sink_calls.faults y.sink_calls.faults calm fault.1.1))
       (λ more. ⊎_elim (λ fault. absurd (not_steady x.out_calls.faults after.faults steady fault.1.1)) (λ want. absurd (enough want.0)) more) rest)
       (print (OrMemory (IsOutcome words shelf)) comes)
 
-  pub has_part : (shelf : Shelf) → Comes May (OrMemory (IsOutcome words shelf)) x y answer → HasPart words shelf x z
+  has_part : (shelf : Shelf) → Comes May (OrMemory (IsOutcome words shelf)) x y answer → HasPart words shelf x z
   has_part shelf comes = (
     comes.outcome,
     comes.is_one,
-    ⊎_elim (λ done. whole x z comes.outcome done.1)
+    ⊎_elim (λ done. whole_part x z comes.outcome done.1)
         (λ rest. ⊎_elim (λ fault. whole_line x z comes.outcome SinkFault (inr (inl refl)) fault.2) (λ more. ⊎_elim (λ fault. fault.2) (λ want. want.2) more) rest) (print (OrMemory (IsOutcome words shelf)) comes),
   )
 
-  pub is_told : Comes May (OrBare (MayFollow words)) x y answer → IsTold words x z result
+  is_told : Comes May (OrBare (MayFollow words)) x y answer → IsTold words x z result
   is_told comes = (comes.outcome, comes.is_one, print (OrBare (MayFollow words)) comes)
 
-  pub keeps_agreed : (shelf : Shelf) → FollowsAgreed words shelf x y answer → KeepsAgreed words shelf x z result
-  keeps_agreed shelf follows plan images asks agreed = let comes = follows plan images asks agreed in (comes.outcome, comes.is_one, print (ComesAgreed plan.command images) comes)
+  keeps_agreed : (shelf : Shelf) → FollowsAgreed words shelf x y answer → KeepsAgreed words shelf x z result
+  keeps_agreed shelf follows plan images asks agreed = let comes = follows plan images asks agreed in (comes.outcome, comes.is_one, print (ComesAgreed plan.command words images) comes)
 
-  pub out_failed : (IsOne : Outcome → Type 0) → Comes May IsOne x y answer → result ≡ OutFault → CallFailed x.out_calls after
+  out_failed : (IsOne : Outcome → Type 0) → Comes May IsOne x y answer → result ≡ OutFault → CallFailed x.out_calls after
   out_failed IsOne comes is =
       ⊎_elim (λ done. absurd (comes.no_fault.no_out (sym done.0 ∙ is)))
       (λ rest. ⊎_elim (λ fault. absurd (cc (sym fault.0 ∙ is))) (λ more. ⊎_elim (λ fault. fault.1) (λ want. absurd (cc (sym want.0 ∙ is))) more) rest) (print IsOne comes)
 
-  pub sink_failed : (IsOne : Outcome → Type 0) → Comes May IsOne x y answer → result ≡ SinkFault → CallFailed x.sink_calls y.sink_calls
+  sink_failed : (IsOne : Outcome → Type 0) → Comes May IsOne x y answer → result ≡ SinkFault → CallFailed x.sink_calls y.sink_calls
   sink_failed IsOne comes is =
       ⊎_elim (λ done. absurd (comes.no_fault.no_sink (sym done.0 ∙ is)))
       (λ rest. ⊎_elim (λ fault. fault.1) (λ more. ⊎_elim (λ fault. absurd (cc (sym fault.0 ∙ is))) (λ want. absurd (cc (sym want.0 ∙ is))) more) rest) (print IsOne comes)
 
+  -- what waits in the sink
+  stored : (IsOne : Outcome → Type 0) → Comes May IsOne x y answer → (waits : Bool) → IsStored waits answer → ((n : ℕ) → answer ≡ Done n → result ≡ answer) → IsStoredOrTold waits x.sink_calls y.sink_calls result
+  stored IsOne comes waits inner silent = λ undone other.
+      ⊎_elim (λ same. inl (inner (λ n e. undone n (same ∙ e)) (λ e. other (same ∙ e)))) (λ refused. of undone refused comes.how comes.ended) ends
+    where
+      of : ((n : ℕ) → result ≢ Done n) → ((result ≡ OutFault) ⊎ (result ≡ Memory)) → (how : How) → HasEnded May x y comes.outcome answer how
+          → (waits ≡ false) ⊎ (((result ≡ OutFault) ⊎ (result ≡ Memory)) × CallFailed x.sink_calls y.sink_calls)
+      of undone refused Whole e = inl (inner (λ n d. undone n (silent n d ∙ d)) (λ s. comes.no_fault.no_sink (sym e.0 ∙ s)))
+      of undone refused SinkFailed e = inr (refused, e.1.0)
+      of undone refused OutFailed e = inl (inner (λ n d. undone n (silent n d ∙ d)) (λ s. absurd (cc (sym e.0 ∙ s))))
+      of undone refused Wanted e = inl (inner (λ n d. undone n (silent n d ∙ d)) (λ s. absurd (cc (sym e.0 ∙ s))))
+
   -- a scrub that writes
-  pub repaired : (P : Type 0) (IsOne : Outcome → Type 0) → Comes May IsOne x y answer → (answer ≢ Memory → P) → Steady x.out_calls.faults after.faults → result ≢ Memory → P
+  repaired : (P : Type 0) (IsOne : Outcome → Type 0) → Comes May IsOne x y answer → (answer ≢ Memory → P) → Steady x.out_calls.faults after.faults → result ≢ Memory → P
   repaired P IsOne comes of steady enough =
       ⊎_elim (λ same. of (λ e. enough (same ∙ e)))
       (λ rest. ⊎_elim (λ out. absurd (not_steady x.out_calls.faults after.faults steady (out_failed IsOne comes out).1)) (λ want. absurd (enough want)) rest) ends
@@ -103,7 +142,7 @@ module _ (words : Words) (x y : Outside) (new : Option (List ℕ)) (after : Call
   still_found lost e =
       ⊎_elim (λ same. sym same ∙ e) (λ rest. ⊎_elim (λ out. absurd (found_no_out lost (sym e ∙ out))) (λ want. absurd (found_no_memory lost (sym e ∙ want))) rest) ends
 
-  pub left : (calm : Type 0) (shelf : Option Shelf) (slots : List Slot) (held : Option Images) → AreLeft calm shelf slots held answer → AreLeft calm shelf slots held result
+  left : (calm : Type 0) (shelf : Option Shelf) (slots : List Slot) (held : Option Images) → AreLeft calm shelf slots held answer → AreLeft calm shelf slots held result
   left calm shelf slots held are = (are.0, of shelf held are.1)
     where
       of : (shelf : Option Shelf) (held : Option Images) → IfSome shelf (λ at. IfSome held (λ left. (images : Images) × (taken (map (λ s. s.name) slots) at ≡ Some images) × LeavesImages calm images left answer))
@@ -120,10 +159,10 @@ module _ (words : Words) (x y : Outside) (new : Option (List ℕ)) (after : Call
         },
       )
 
-  pub decided : (one : Answer) → answer ≡ one → (result ≡ one) ⊎ (result ≡ OutFault) ⊎ (result ≡ Memory)
+  decided : (one : Answer) → answer ≡ one → (result ≡ one) ⊎ (result ≡ OutFault) ⊎ (result ≡ Memory)
   decided one is = subst (λ a. Ends a result) is ends
 
-  pub stated : FollowsWords words answer → FollowsWords words result
+  stated : FollowsWords words answer → FollowsWords words result
   stated follows =
       ⊎_elim (λ same. subst (FollowsWords words) (sym same) follows)
       (λ rest. ⊎_elim (λ out. record { usage = λ at is. absurd (cc (sym out ∙ is)); limit = λ n is. absurd (cc (sym out ∙ is)) })
@@ -134,21 +173,101 @@ module _ (words : Words) (x y : Outside) (new : Option (List ℕ)) (after : Call
   at_fault slot is = ⊎_elim (λ same. sym same ∙ is) (λ rest. ⊎_elim (λ out. absurd (cc (sym out ∙ is))) (λ want. absurd (cc (sym want ∙ is))) rest) ends
 
   module _ (seen seen' : Seen) (behind : IsBehindWords words seen seen' answer) where
-    pub image : (slot : ℕ) → result ≡ ImageFault slot → ImageCause words seen seen' slot
+    image : (slot : ℕ) → result ≡ ImageFault slot → ImageCause words seen seen' slot
     image slot is = behind.image slot (at_fault slot is)
 
-    pub sure : (slot : ℕ) → result ≡ ImageFault slot → seen.sure ≡ true → IsMissingImage words seen.shelf slot
+    sure : (slot : ℕ) → result ≡ ImageFault slot → seen.sure ≡ true → IsMissingImage words seen.shelf slot
     sure slot is = behind.sure slot (at_fault slot is)
 
-    pub shut : seen.account.shut < seen'.account.shut → IsShut words seen seen' result
+    shut : seen.account.shut < seen'.account.shut → IsShut words seen seen' result
     shut more = let failed = behind.shut more in ⊎_elim (λ same. inl (failed.0, same ∙ failed.1, failed.2)) (λ rest. inr rest) ends
 
-    pub tree : TreeCause words seen seen' result
+    tree : TreeCause words seen seen' result
     tree =
         ⊎_elim (λ same. subst (TreeCause words seen seen') (sym same) behind.tree)
         (λ rest. ⊎_elim (λ out fault e. absurd (no_tree result (ap tree_in out) fault e)) (λ want fault e. absurd (no_tree result (ap tree_in want) fault e)) rest) ends
 
-    pub hidden : HidesNone words seen.account seen'.account result
+    hidden : HidesNone words seen.account seen'.account result
     hidden =
         ⊎_elim (λ same. subst (HidesNone words seen.account seen'.account) (sym same) behind.hidden)
         (λ rest. ⊎_elim (λ out. inr (inl (inr (inr (inl out))))) (λ want. inr (inl (inr (inr (inr want))))) rest) ends
+
+  -- all that is promised, of a run whose words were obeyed
+  module _ (obeyed : IsObeyed run) where
+    pub answered : ((skipped : ℕ) → answer ≡ Done skipped → result ≡ answer) → IsAnswered whole
+    answered silent = record {
+      words = record {
+        decided = λ answer is.
+            let first = obeyed.decided answer is in
+            (first.0, first.1, decided answer first.2);
+        stated = stated obeyed.stated;
+      };
+      cause = record {
+        image = image (before run) (behind run) obeyed.cause;
+        shut = shut (before run) (behind run) obeyed.cause;
+        sure = sure (before run) (behind run) obeyed.cause;
+        tree = tree (before run) (behind run) obeyed.cause;
+        sink = sink_failed (OrBare (MayFollow words)) obeyed.told;
+        out = out_failed (OrBare (MayFollow words)) obeyed.told;
+        hidden = hidden (before run) (behind run) obeyed.cause;
+      };
+      told = is_told obeyed.told;
+      stored = stored (OrBare (MayFollow words)) obeyed.told (run.eyes.waits run.new.tree) obeyed.stored silent;
+      alone = obeyed.alone;
+    }
+
+    effect_told : IfSome (before run).shelf (λ shelf. IsCalm whole → HasEffect words shelf x z result)
+    effect_told =
+        when_told (before run).shelf _ _
+        (λ shelf comes calm.
+        has_effect shelf (comes calm.put.images) calm.sink calm.put.out calm.put.enough)
+        obeyed.effect
+
+    -- by the laws of restore
+    module _ (settles : SettledLaw) (then : OpenedThenLaw) (refused : OpenRefusedLaw) (halted : OpenHaltedLaw) (sound : IsSound x.sink) (fresh : x.sink.stage ≡ NotStarted) where
+      pub effect : HasWholeEffect whole
+      effect =
+          when_told (before run).shelf _ _
+          (λ shelf effect calm. record {
+            effect = effect calm;
+            outcome = keeps_outcome (before run) settles (λ plan dest start. then plan dest start (before run) (before run)) (λ plan dest start. refused plan dest start (before run) (before run))
+                (λ plan dest start. halted plan dest start (before run) (before run)) words shelf x z result sound fresh (effect calm);
+          })
+          effect_told
+
+      pub committed : Headline → RestoresCommitted whole
+      committed law =
+          when_told (before run).shelf _ _
+          (λ shelf effect calm.
+          keeps_headline (before run) settles (λ plan dest start. then plan dest start (before run) (before run)) (λ plan dest start. refused plan dest start (before run) (before run))
+          (λ plan dest start. halted plan dest start (before run) (before run)) words shelf x z result sound fresh law (effect calm))
+          effect_told
+
+    pub first_part : CommittedOrder → KeepsFirstPart whole
+    first_part law = record {
+      steady = when_told (before run).shelf _ _
+          (λ shelf comes still. has_part shelf (comes still)) obeyed.effect;
+      agreed = when_told (before run).shelf _ _
+          (λ shelf follows. keeps_agreed shelf follows) obeyed.agreed;
+      order = when_told (before run).shelf _ _ in_order obeyed.order;
+      committed = when_told (before run).shelf _ _
+          (λ shelf follows. keeps_committed law words shelf (opened_with (before run).account (behind run)) (behind run) x z result (in_order shelf follows)) obeyed.order;
+    }
+      where
+        in_order : (shelf : Shelf) → FollowsOrder words shelf (opened_with (before run).account (behind run)) (behind run) x y answer
+            → KeepsOrder words shelf (opened_with (before run).account (behind run)) (behind run) x z result
+        in_order shelf follows =
+            keeps_order x y new after answer result line words shelf (opened_with (before run).account (behind run)) (behind run) follows
+
+    pub left_images : LeavesItsImages whole
+    left_images = record {
+      unchanged = obeyed.unchanged;
+      repaired = when_told (before run).shelf _ _
+          (λ shelf keeps well.
+          repaired (KeepsRepair words shelf (behind run).held)
+          (OrBare (MayFollow words)) obeyed.told (keeps well.images) well.out well.enough)
+          obeyed.repaired;
+      left = λ asks.
+          left (AreImagesSteady run) (before run).shelf (behind run).slots (behind run).held
+          (obeyed.left asks);
+    }

@@ -11,7 +11,9 @@ use Rattle.btr_walk.specs.Reading.{UnreadBlock, unread_by, halt_of}
 use Rattle.btr_walk.specs.declared.fault.TreeFault.{TreeFault}
 use Rattle.btr_walk.specs.declared.fault.TreeFault.TheVariants as tree
 use Rattle.btr_volume.specs.Maps.{array_layout}
-use Rattle.btr_volume.specs.Opening.{OpenCause, Opens, Opened, Scans, Starts}
+use Rattle.btr_volume.specs.Tree.{root_want}
+use Rattle.btr_read.proofs.Compared.{compares_steady}
+use Rattle.btr_volume.specs.Opening.{OpenCause, Opens, Opened, RootsDiffer, Scans, Starts}
 use Rattle.btr_volume.specs.Start.{Images, Start, start_of, layout_by}
 use Rattle.btr_volume.specs.Table.{TableResult, refusal_of, table_scan}
 use Rattle.btr_volume.specs.declared.fault.OpenFault.{OpenFault}
@@ -20,8 +22,9 @@ use Rattle.btr_volume.specs.declared.fault.TableFault.{TableFault}
 use Rattle.btr_volume.specs.declared.volume.Volume.{Volume}
 use Rattle.btr_run.specs.Behind.{IfSteady}
 use Rattle.btr_run.specs.Faults.{open_answer, tree_answer}
-use Rattle.btr_run.specs.Filesystem.{OpensAs, OpensFilesystem, filesystem_of, filesystem_in, with_start, with_table}
+use Rattle.btr_run.specs.Filesystem.{OpensAs, OpensFilesystem, filesystem_of, filesystem_in, with_roots, with_start, with_table}
 use Rattle.btr_run.specs.declared.answer.Answer.{Answer}
+use Rattle.btr_run.specs.declared.answer.Answer.TheVariants.{Diverged}
 
 steady_not_rose : (before now : ℕ) → Steady before now → Rose before now → ⊥
 steady_not_rose before now steady rose = omega (arith, steady.0, steady.1, rose.0, rose.1)
@@ -37,26 +40,31 @@ scanned start old new images answer told steady scans =
 opened : (old new : Seen) (images : Images) (volume : Volume) → old.held ≡ Some images → Steady old.account.faults new.account.faults → Opened images old new volume → filesystem_of images ≡ Ok (filesystem_in volume)
 opened old new images volume told steady o =
     let scan = scanned o.start old new images (Ok (Ok volume.store.layout.chunks)) told steady o.scans in
-    ap (with_start images) o.is ∙ ap (with_table o.start) scan.1
+    let none = compares_steady images (layout_by o.start volume.store.layout.chunks) (root_want o.start.sup) old new None told steady o.alike in
+    ap (with_start images) o.is ∙ ap (with_table images o.start) scan.1 ∙ ap (with_roots o.start volume.store.layout.chunks) (sym none)
     ∙ ap (λ s. Ok (record { sup = s; layout = layout_by o.start volume.store.layout.chunks })) (sym o.by.sup)
     ∙ ap (λ l. Ok (record { sup = volume.sup; layout = l })) (sym o.by.layout)
 
 -- a refusal by a chunk of the chunk tree
 by_table : (old new : Seen) (images : Images) (f : TableFault) → old.held ≡ Some images → Steady old.account.faults new.account.faults → Starts images old new (Ok (Err f)) → filesystem_of images ≡ Err (open_answer (refusal_of f))
 by_table old new images f told steady s =
-    let scan = scanned s.start old new images (Ok (Err f)) told steady s.scans in ap (with_start images) s.is ∙ ap (with_table s.start) scan.1
+    let scan = scanned s.start old new images (Ok (Err f)) told steady s.scans in ap (with_start images) s.is ∙ ap (with_table images s.start) scan.1
 
 -- the chunk tree can't be read on
 by_tree : (old new : Seen) (images : Images) (f : TreeFault) → old.held ≡ Some images → Steady old.account.faults new.account.faults → OpenCause {T = Volume} old new (Err (opening.Tree f)) → Starts images old new (Err (halt_of f))
     → filesystem_of images ≡ Err (tree_answer f)
 by_tree old new images (tree.Lost a) told steady cause s =
-    let scan = scanned s.start old new images (Err (halts (fault.Lost a))) told steady s.scans in ap (with_start images) s.is ∙ ap (with_table s.start) scan.1
+    let scan = scanned s.start old new images (Err (halts (fault.Lost a))) told steady s.scans in ap (with_start images) s.is
+    ∙ ap (with_table images s.start) scan.1
 by_tree old new images (tree.Unmapped a) told steady cause s =
-    let scan = scanned s.start old new images (Err (halts (fault.Unmapped a))) told steady s.scans in ap (with_start images) s.is ∙ ap (with_table s.start) scan.1
+    let scan = scanned s.start old new images (Err (halts (fault.Unmapped a))) told steady s.scans in ap (with_start images) s.is
+    ∙ ap (with_table images s.start) scan.1
 by_tree old new images (tree.Crosses a) told steady cause s =
-    let scan = scanned s.start old new images (Err (halts (fault.Crosses a))) told steady s.scans in ap (with_start images) s.is ∙ ap (with_table s.start) scan.1
+    let scan = scanned s.start old new images (Err (halts (fault.Crosses a))) told steady s.scans in ap (with_start images) s.is
+    ∙ ap (with_table images s.start) scan.1
 by_tree old new images (tree.Malformed a) told steady cause s =
-    let scan = scanned s.start old new images (Err (halts (fault.Malformed a))) told steady s.scans in ap (with_start images) s.is ∙ ap (with_table s.start) scan.1
+    let scan = scanned s.start old new images (Err (halts (fault.Malformed a))) told steady s.scans in ap (with_start images) s.is
+    ∙ ap (with_table images s.start) scan.1
 by_tree old new images (tree.Unread a slot) told steady cause s = absurd (steady_not_rose old.account.faults new.account.faults steady cause.1.1.unread.rose)
 
 -- by the superblocks, or by a chunk of the chunk tree
@@ -64,6 +72,15 @@ by_refusal : (old new : Seen) (images : Images) (refusal : OpenFault) → old.he
     → (start_of images ≡ Err refusal) ⊎ ((f : TableFault) × (refusal_of f ≡ refusal) × Starts images old new (Ok (Err f))) → OpensFilesystem images (Err (open_answer refusal))
 by_refusal old new images refusal told steady why =
     inl (⊎_elim (λ start. ap (with_start images) start) (λ table. by_table old new images table.0 told steady table.2 ∙ ap (λ r. Err (open_answer r)) table.1) why)
+
+-- by the superblocks, or by the root tree's root block
+by_roots : (old new : Seen) (images : Images) (slot : ℕ) → old.held ≡ Some images → Steady old.account.faults new.account.faults
+    → (start_of images ≡ Err (opening.Diverged slot)) ⊎ RootsDiffer images old new slot → OpensFilesystem images (Err (Diverged slot))
+by_roots old new images slot told steady why =
+    inl (⊎_elim (λ start. ap (with_start images) start) (λ (d : RootsDiffer images old new slot).
+    let scan = scanned d.start old new images (Ok (Ok d.chunks)) told steady d.scans in
+    let some = compares_steady images (layout_by d.start d.chunks) (root_want d.start.sup) old new (Some slot) told steady d.differ in
+    ap (with_start images) d.is ∙ ap (with_table images d.start) scan.1 ∙ ap (with_roots d.start d.chunks) (sym some)) why)
 
 refused : (old new : Seen) (images : Images) (refusal : OpenFault) → old.held ≡ Some images → Steady old.account.faults new.account.faults → OpenCause {T = Volume} old new (Err refusal) → Opens images old new (Err refusal)
     → OpensFilesystem images (Err (open_answer refusal))
@@ -74,6 +91,7 @@ refused old new images (opening.NoSuper slot) told steady cause opens = by_refus
 refused old new images (opening.SumKind kind) told steady cause opens = by_refusal old new images (opening.SumKind kind) told steady opens
 refused old new images (opening.Foreign slot) told steady cause opens = by_refusal old new images (opening.Foreign slot) told steady opens
 refused old new images (opening.Twin slot) told steady cause opens = by_refusal old new images (opening.Twin slot) told steady opens
+refused old new images (opening.Diverged slot) told steady cause opens = by_roots old new images slot told steady opens
 refused old new images (opening.Unsupported bits) told steady cause opens = by_refusal old new images (opening.Unsupported bits) told steady opens
 refused old new images opening.Geometry told steady cause opens = by_refusal old new images opening.Geometry told steady opens
 refused old new images opening.LogPending told steady cause opens = by_refusal old new images opening.LogPending told steady opens

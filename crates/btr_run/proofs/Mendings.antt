@@ -22,7 +22,7 @@ use Rattle.btr_run.specs.declared.answer.Answer.TheVariants.{ImageFault, Memory,
 use Rattle.btr_run.specs.declared.plan.Command.TheVariants.{Scrub}
 use Rattle.btr_run.proofs.Carrying.{as_they_were}
 use Rattle.btr_run.proofs.Found.{found_line}
-use Rattle.btr_run.proofs.Ending.{when_told}
+use Rattle.btr_run.proofs.Coming.{when_told}
 use Rattle.btr_run.proofs.Performing.{only_reads}
 use Rattle.btr_run.proofs.Refusals.{open_line, open_no_fault}
 use Rattle.btr_run.proofs.TreesShown.{unopened_behind}

@@ -26,7 +26,7 @@ use Rattle.btr_run.specs.Repaired.{AreLeft, AsksToWrite, KeepsRepair, LeavesImag
 use Rattle.btr_run.specs.Scrubbed.{scrubbed_images}
 use Rattle.btr_run.specs.Words.{Words, IsSentence, images_of}
 use Rattle.btr_run.specs.declared.plan.Command.{Command}
-use Rattle.btr_run.specs.declared.plan.Command.TheVariants.{Super, Dump, Roots, Check, Restore, Scrub}
+use Rattle.btr_run.specs.declared.plan.Command.TheVariants.{Super, Dump, Resolve, Check, Restore, Salvage, Scrub, Send}
 use Rattle.btr_run.specs.declared.plan.Plan.{Plan}
 use Rattle.btr_run.specs.declared.opening.OpeningFault.{OpeningFault}
 use Rattle.btr_run.specs.declared.opening.OpeningFault.TheVariants.{TooMany, Failed, Memory as memory_fault}
@@ -39,7 +39,7 @@ use Rattle.btr_run.proofs.Coming.{comes_bare, comes_also}
 use Rattle.btr_run.proofs.Faulting.{no_tree}
 use Rattle.btr_run.proofs.Openings.{Images}
 use Rattle.btr_run.proofs.Orders.{nothing_done, nothing_stands}
-use Rattle.btr_run.proofs.Accepting.{one_plan}
+use Rattle.btr_run.proofs.Apart.{one_plan}
 use Rattle.btr_run.proofs.Found.{found_line}
 use Rattle.btr_run.proofs.Carrying.{agreed_before, all_told, as_opened, few, limit_outcome, opening_line, opening_no_fault, opening_no_tree, steady_not_rose, taken_outcome}
 
@@ -91,9 +91,9 @@ module _ (words names : Words) (plan : Plan) (sentence : IsSentence plan words) 
     pub opening_agreed : (shelf : Option Shelf) (x : Outside) (result : Answer) → result ≡ opening_answer fault → IfSome shelf (λ s. FollowsAgreed words s x x result)
     opening_agreed shelf x result is =
         all_told shelf _ (λ s p images asks agreed.
-        subst (λ a. Comes (MayWantBy words x.out_calls) (ComesAgreed p.command images) x x a) (sym is)
-        (comes_bare (MayWantBy words x.out_calls) (ComesAgreed p.command images) x (opening_answer fault)
-        (agreed_before p.command images (opening_answer fault) (opening_line fault)
+        subst (λ a. Comes (MayWantBy words x.out_calls) (ComesAgreed p.command words images) x x a) (sym is)
+        (comes_bare (MayWantBy words x.out_calls) (ComesAgreed p.command words images) x (opening_answer fault)
+        (agreed_before p.command words images (opening_answer fault) (opening_line fault)
         (of images (subst (λ l. length l ≤ most_images) (ap (λ (q : Plan). images_of q words) (one_plan words _ plan asks.sentence sentence) ∙ named) asks.few) fault many)) (opening_no_fault fault)))
       where
         of : (images : Images) → length names ≤ most_images → (f : OpeningFault) → HasTooMany names (Err f) → IsUnreadOrWant (refused (opening_answer f))
@@ -221,12 +221,12 @@ module _ (words names : Words) (plan : Plan) (sentence : IsSentence plan words) 
             (subst (λ i. InOrder p (get_or words from.number []) i mid new x y answer) (the_images held images same) (order from.number p (sym (ap (λ (q : Plan). q.command) one)))))
 
     pub command_agreed : (x y : Outside) → OpensAll names old.shelf mid.held (Ok tt)
-        → IfSome mid.held (λ images. AreAgreedFor plan.command images → Comes (MayWant plan.command x.out_calls) (ComesAgreed plan.command images) x y answer)
+        → IfSome mid.held (λ images. AreAgreedFor plan.command images → Comes (MayWant plan.command x.out_calls) (ComesAgreed plan.command words images) x y answer)
         → IfSome old.shelf (λ shelf. FollowsAgreed words shelf x y answer)
     command_agreed x y = of old.shelf mid.held
       where
         Comes_so : Command → Images → Type 0
-        Comes_so command images = AreAgreedFor command images → Comes (MayWant command x.out_calls) (ComesAgreed command images) x y answer
+        Comes_so command images = AreAgreedFor command images → Comes (MayWant command x.out_calls) (ComesAgreed command words images) x y answer
 
         of : (shelf : Option Shelf) (held : Option Images) → OpensAll names shelf held (Ok tt) → IfSome held (λ images. Comes_so plan.command images) → IfSome shelf (λ shelf. FollowsAgreed words shelf x y answer)
         of None held opens comes = tt
@@ -235,7 +235,7 @@ module _ (words names : Words) (plan : Plan) (sentence : IsSentence plan words) 
             let one = one_plan words _ plan asks.sentence sentence in
             let same : ◌≡◌ {A = Option Images} (Some held) (Some images) = sym opens ∙ sym (ap (λ (q : Plan). taken (images_of q words) at) one ∙ ap (λ l. taken l at) named) ∙ asks.from in
             let by_command : Comes_so p.command images = subst (λ c. Comes_so c images) (sym (ap (λ (q : Plan). q.command) one)) (subst (λ i. Comes_so plan.command i) (the_images held images same) comes) in
-            comes_also (MayWant p.command x.out_calls) (MayWantBy words x.out_calls) (ComesAgreed p.command images) (ComesAgreed p.command images) x y answer
+            comes_also (MayWant p.command x.out_calls) (MayWantBy words x.out_calls) (ComesAgreed p.command words images) (ComesAgreed p.command words images) x y answer
             (subst (λ c. MayWant c x.out_calls → MayWantBy words x.out_calls) (sym (ap (λ (q : Plan). q.command) one)) (may_want x)) (λ outcome o. o) (by_command agreed)
 
     pub none_decided : (other : Answer) → IsDecided words other → ⊥
@@ -328,9 +328,11 @@ module _ (words names : Words) (plan : Plan) (sentence : IsSentence plan words) 
         writing (Scrub write) is = ap (λ b. Scrub b) is
         writing Super is = absurd (cc is)
         writing (Dump choice) is = absurd (cc is)
-        writing Roots is = absurd (cc is)
+        writing (Resolve addr) is = absurd (cc is)
         writing (Check read_data) is = absurd (cc is)
         writing (Restore dest p) is = absurd (cc is)
+        writing (Salvage dest p) is = absurd (cc is)
+        writing (Send dest file p) is = absurd (cc is)
 
         at_end : (at : Shelf) (images : Images) (o : Option Images) → taken (map (λ s. s.name) mid.slots) at ≡ Some images → IfSome o (λ left. LeavesImages (Steady mid.account.faults new.account.faults) images left answer)
             → IfSome o (λ left. (i : Images) × (taken (map (λ s. s.name) new.slots) at ≡ Some i) × LeavesImages (Steady old.account.faults new.account.faults) i left answer)

@@ -6,11 +6,11 @@ use Rattle.btr_chunk.specs.declared.chunk.Chunk.{Chunk}
 use Rattle.btr_files.specs.declared.counts.Counts.{Counts}
 use Rattle.btr_files.specs.declared.plan.RestorePlan.{RestorePlan}
 use Rattle.btr_files.proofs.AllMaps.{choices-zero}
-use Rattle.btr_prog.specs.Answers.{Breaks, Follows, Halt, Fault as halt_fault, Unread as halt_unread, Broke, Leaves, Names, no_part}
+use Rattle.btr_prog.specs.Answers.{Follows, Halt, Fault as halt_fault, Unread as halt_unread, Broke, Names, no_part}
 use Rattle.btr_prog.specs.Calls.{Any}
 use Rattle.btr_prog.specs.Goes.{Goes}
 use Rattle.btr_prog.specs.Maps.{Each}
-use Rattle.btr_prog.specs.Prog.{Mark, Wants, Does, Run, exec, needs, steps_of}
+use Rattle.btr_prog.specs.Prog.{Run, exec, needs}
 use Rattle.btr_prog.proofs.Choices.{goes_map, goes_some}
 use Rattle.btr_rack.specs.Rack.{Seen, OnlyReads, Shelf}
 use Rattle.btr_rack.specs.Out.{Adds, CallAccount, Puts}
@@ -25,11 +25,13 @@ use Rattle.btr_restore.specs.Journey as whole
 use Rattle.btr_restore.specs.Outcome.{text_of}
 use Rattle.btr_restore.specs.Restoring.{StopCause, ended}
 use Rattle.btr_restore.specs.Running.{Outside, Ran, world}
-use Rattle.btr_restore.specs.Step.{Step, part}
+use Rattle.btr_listing.specs.Step.{Step, part}
 use Rattle.btr_volume.specs.Maps.{array_layout, table_of, table_or, volume_map}
-use Rattle.btr_volume.specs.Opening.{Opens, Scans, Starts}
+use Rattle.btr_volume.specs.Opening.{ComparesRoots, Opens, RootsDiffer, Scans, Starts}
 use Rattle.btr_volume.specs.Start.{Images, Start, start_of, layout_by}
 use Rattle.btr_volume.specs.Table.{TableResult, refusal_of, table_scan}
+use Rattle.btr_volume.specs.Tree.{root_want}
+use Rattle.btr_read.proofs.Compared.{compares_agreed}
 use Rattle.btr_volume.specs.declared.fault.OpenFault.{OpenFault}
 use Rattle.btr_volume.specs.declared.fault.OpenFault.TheVariants as opening
 use Rattle.btr_volume.specs.declared.fault.TableFault.{TableFault}
@@ -45,10 +47,12 @@ use Rattle.btr_run.specs.Answers.{error_line}
 use Rattle.btr_run.specs.Faults.{open_answer, tree_answer}
 use Rattle.btr_run.specs.Filesystem.{OpensAs, answer_as}
 use Rattle.btr_restore.proofs.Agreeing.{array_agreed}
+use Rattle.btr_restore.proofs.Storing.{broken}
 use Rattle.btr_run.specs.Order.{AnswersAs, FollowsOrder, InOrder, IsAgreed, KeepsCommittedOrder, KeepsOrder, KeepsSo, KeepsTo}
 use Rattle.btr_run.specs.Outcomes.{IsPut, Stands, due_after}
 use Rattle.btr_run.specs.Words.{Words}
-use Rattle.btr_run.specs.Restored.{call_answer}
+use Rattle.btr_run.specs.Listed.{stopped_answer}
+use Rattle.btr_run.specs.Restored.{skipped_in}
 use Rattle.btr_run.specs.declared.answer.Answer.{Answer}
 use Rattle.btr_run.proofs.Coming.{with_line}
 
@@ -60,26 +64,6 @@ no_steps (step ∷ steps) = absurd step
 -- where nothing was done
 pub nothing_stands : (x : Outside) → Stands x x [] []
 nothing_stands x = record { sink = refl; text = adds_nothing x.text }
-
--- what is left of a step that isn't done in part
-left_whole : {W : Type 0} (left : Option Step) (ms : List (Mark W Step)) → Leaves no_part left ms → Leaves part left ms
-left_whole None ms leaves = tt
-left_whole (Some t) [] leaves = leaves
-left_whole (Some t) (Wants w ∷ ms) leaves = leaves
-left_whole (Some t) (Does s ∷ ms) leaves = absurd (cc leaves.1)
-
--- what follows a run may as well have been broken off there
-pub broken : {W A U : Type 0} (Is : U → W → Type 0) (r : Run W Fault Step A) (done : List Step) (answer : Result A (Halt Fault U)) → Follows Is part [] r done answer → Follows Is part [] r done (Err Broke)
-broken {W} {A} {U} Is r done answer = of answer
-  where
-    all : done ≡ steps_of r.marks → Breaks part (λ (ws : List W). Unit {0}) r done
-    all is = record { before = r.marks; behind = []; left = None; place = sym (append-nil r.marks); steps = is ∙ sym (append-nil (steps_of r.marks)); leaves = tt; holds = tt }
-
-    of : (answer : Result A (Halt Fault U)) → Follows Is part [] r done answer → Follows Is part [] r done (Err Broke)
-    of (Ok a) f = all f.0
-    of (Err (halt_fault x)) f = all f.0
-    of (Err (halt_unread u)) f = record { before = f.before; behind = f.behind; left = f.left; place = f.place; steps = f.steps; leaves = left_whole f.left f.behind f.leaves; holds = tt }
-    of (Err Broke) f = f
 
 -- nothing may be done of a journey
 pub nothing_done : (plan : RestorePlan) (dest : List ℕ) (images : Images) (start : Start) (old new : Seen) → journey.Follows plan dest start old new (choices images) [] (Err Broke)
@@ -120,7 +104,7 @@ goes_since layout old mid new first r done (Err (halt_unread u)) f =
 goes_since layout old mid new first r done (Err Broke) f = f
 
 -- the answer of a call, as that of the journey
-listed_as : (layout : Layout) (old new : Seen) (result : Result Counts Stop) → StopCause layout old new result → AnswersAs (journey.opened (ended result)) (call_answer result)
+listed_as : (layout : Layout) (old new : Seen) (result : Result Counts Stop) → StopCause layout old new result → AnswersAs (journey.opened (ended result)) (stopped_answer skipped_in result)
 listed_as layout old new (Ok counts) cause = refl
 listed_as layout old new (Err (stop.NoTree id)) cause = refl
 listed_as layout old new (Err (stop.Tree (tree.Lost a))) cause = refl
@@ -150,6 +134,19 @@ module _ (plan : RestorePlan) (dest : List ℕ) (images : Images) (start : Start
   same_start : (other : Start) → start_of images ≡ Ok other → other ≡ start
   same_start other is = cc (sym is ∙ begun)
 
+  -- the candidates of the root tree's root block agree with all others
+  never_differ : (slot : ℕ) → RootsDiffer images old new slot → ⊥
+  never_differ slot d =
+      let same = same_start d.start d.is in
+      let scans = subst (λ s. Scans s old new (Ok (Ok d.chunks))) same d.scans in
+      let scan = scan_follows images start old new (Ok (Ok d.chunks)) told (array_agreed images start agreed) scans in
+      let by_chunks : Agreed images (layout_by start d.chunks) = subst (λ t. Agreed images (layout_by start t)) (ap (table_or start.array) scan.1)
+      agreed in
+      let differ = subst (λ s. ComparesRoots s d.chunks old new (Some slot)) same d.differ in
+      let none = compares_agreed images (layout_by start d.chunks) (root_want start.sup) old new (Some slot) told
+      (by_chunks (root_want start.sup) tt) differ in
+      cc
+
   -- where the filesystem isn't opened nothing was done
   module _ (x : Outside) (stands : Stands x x [] []) where
     bare : (answer : journey.Answer) (result : Answer) → Journeys [] answer → AnswersAs answer result → KeepsTo Journeys x x [] result
@@ -172,6 +169,8 @@ module _ (plan : RestorePlan) (dest : List ℕ) (images : Images) (start : Start
     unopened_order (opening.SumKind kind) opens = by_start (opening.SumKind kind) opens
     unopened_order (opening.Foreign slot) opens = by_start (opening.Foreign slot) opens
     unopened_order (opening.Twin slot) opens = by_start (opening.Twin slot) opens
+    unopened_order (opening.Diverged slot) opens =
+        ⊎_elim (λ none. absurd (cc (sym none ∙ begun))) (λ d. absurd (never_differ slot d)) opens
     unopened_order (opening.Unsupported bits) opens = by_start (opening.Unsupported bits) opens
     unopened_order opening.Geometry opens = by_start opening.Geometry opens
     unopened_order opening.LogPending opens = by_start opening.LogPending opens
@@ -180,7 +179,7 @@ module _ (plan : RestorePlan) (dest : List ℕ) (images : Images) (start : Start
     unopened_order (opening.Limit which n) opens = by_start (opening.Limit which n) opens
 
   -- The filesystem was opened, and it was restored from.
-  pub opened_order : (mid : Seen) (volume after : Volume) (x y : Outside) (result : Result Counts Stop) → OnlyReads old mid → Opens images old mid (Ok volume) → (ran : Ran (listing plan dest volume.sup) (world mid volume x) (world new after y) result) → Stands x y ran.did.done [] → KeepsTo Journeys x y [] (call_answer result)
+  pub opened_order : (mid : Seen) (volume after : Volume) (x y : Outside) (result : Result Counts Stop) → OnlyReads old mid → Opens images old mid (Ok volume) → (ran : Ran (listing plan dest volume.sup) (world mid volume x) (world new after y) result) → Stands x y ran.did.done [] → KeepsTo Journeys x y [] (stopped_answer skipped_in result)
   opened_order mid volume after x y result first opens ran stands = record {
     done = ran.did.done;
     answer = journey.opened (ended result);
@@ -247,7 +246,7 @@ module _ (plan : RestorePlan) (dest : List ℕ) (old new : Seen) (then : (start 
       of (Some images) told opens = by images told opens.opening opens.opens opens.same
 
   -- it is open, and it was restored from
-  pub opened_in_order : (mid : Seen) (volume after : Volume) (x y : Outside) (answer : Answer) (result : Result Counts Stop) → answer ≡ call_answer result → OnlyReads old mid → IfSome old.held (λ images. OpensAs images old mid (Ok volume))
+  pub opened_in_order : (mid : Seen) (volume after : Volume) (x y : Outside) (answer : Answer) (result : Result Counts Stop) → answer ≡ stopped_answer skipped_in result → OnlyReads old mid → IfSome old.held (λ images. OpensAs images old mid (Ok volume))
       → (ran : Ran (listing plan dest volume.sup) (world mid volume x) (world new after y) result) → Stands x y ran.did.done [] → IfSome old.held (λ images. InOrder plan dest images old new x y answer)
   opened_in_order mid volume after x y answer result is first opens ran stands = of old.held refl opens
     where

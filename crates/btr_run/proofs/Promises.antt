@@ -14,30 +14,32 @@ use Rattle.btr_rack.specs.Sink.{Sink, Tree, IsSound, NotStarted, is_in_file}
 use Rattle.btr_rack.specs.declared.part.Part.{Part}
 use Rattle.btr_read.specs.Fate.{Fault, fate}
 use Rattle.btr_read.specs.declared.want.Want.{Want}
-use Rattle.btr_restore.specs.Headline.{Headline, from_start, restore_outcome}
+use Rattle.btr_restore.specs.Headline.{Headline, from_start, restore_outcome, unless_diverged}
 use Rattle.btr_restore.specs.InOrder.{OpenedThen, OpenRefused, OpenHalted, SettledLaw}
-use Rattle.btr_restore.specs.Journey.{listing}
-use Rattle.btr_restore.specs.Outcome.{Ending, Outcome, after_step, nothing, outcome_by, tree_after}
+use Rattle.btr_restore.specs.Journey.{journey, listing}
+use Rattle.btr_restore.specs.Outcome.{Ending, Outcome, after_step, nothing, outcome, outcome_by, tree_after}
 use Rattle.btr_restore.specs.Restoring.{sink_after}
 use Rattle.btr_restore.specs.Running.{Outside}
-use Rattle.btr_restore.specs.Step.{Step, Start as Starts, Dir, Up, File, Bytes, Zeros, Done as Finishes, Line, part}
-use Rattle.btr_volume.specs.Maps.{array_layout}
+use Rattle.btr_listing.specs.Step.{Step, Start as Starts, Dir, Up, File, Bytes, Zeros, Done as Finishes, Line, part}
+use Rattle.btr_volume.specs.Maps.{array_layout, diverged_at, roots_differ, volume_map}
 use Rattle.btr_volume.specs.Start.{Images, Start, start_of, layout_by}
 use Rattle.btr_volume.specs.Table.{TableResult, refusal_of, table_scan}
 use Rattle.btr_volume.specs.declared.fault.OpenFault.{OpenFault}
+use Rattle.btr_volume.specs.declared.fault.OpenFault.TheVariants as opening
 use Rattle.btr_run.specs.Answers.{error_line}
 use Rattle.btr_run.specs.Effects.{HasEffect, images_outcome}
-use Rattle.btr_run.specs.Filesystem.{with_start, with_table}
+use Rattle.btr_run.specs.Filesystem.{with_roots, with_start, with_table}
 use Rattle.btr_run.specs.Outcomes as tool
 use Rattle.btr_run.specs.Promise.{IsOutcomeOf, KeepsHeadline, KeepsOutcome, StandsAs, ended_answer}
-use Rattle.btr_run.specs.Restored.{listed_answer, restored, restored_in}
+use Rattle.btr_run.specs.Listed.{listed_answer}
+use Rattle.btr_run.specs.Restored.{restored, restored_in, skipped_in}
 use Rattle.btr_run.specs.Words.{Words, IsSentence, images_of}
 use Rattle.btr_run.specs.declared.answer.Answer.{Answer}
 use Rattle.btr_run.specs.declared.plan.Command.TheVariants.{Restore}
 use Rattle.btr_run.specs.declared.plan.Plan.{Plan}
 use Rattle.btr_run.proofs.Carrying.{taken_outcome}
 use Rattle.btr_run.proofs.Orders.{no_steps}
-use Rattle.btr_run.proofs.Accepting.{one_plan}
+use Rattle.btr_run.proofs.Apart.{one_plan}
 
 -- the outcome of some steps and an ending
 by_steps : (steps : List Step) (ending : Ending) (answer : Answer) (found : Outcome) → outcome_by steps ending ≡ found → answer ≡ ended_answer ending → IsOutcomeOf (record { answer = answer; steps = steps }) found
@@ -49,38 +51,52 @@ module _ (seen : Seen) (settles : SettledLaw) (then : (plan : RestorePlan) (dest
     abbrev scan : Run Want Fault ⊥ TableResult
     scan = exec (fate images (array_layout start)) (table_scan start)
 
+    -- where the candidates of the root tree's root block don't agree, by what was scanned
+    by_roots : (s : Result TableResult Fault) → scan.ending ≡ s → diverged_at images start ≡ roots_differ images start s
+    by_roots s scanned = ap (roots_differ images start) scanned
+
     -- the table of chunks was scanned, and the listing done
-    with_listing : (table : List Chunk) → scan.ending ≡ Ok (Ok table) → IsOutcomeOf (restored_in plan dest images (with_table start (Ok (Ok table)))) (restore_outcome plan dest images)
-    with_listing table scanned = of r.ending refl
+    with_listing : (table : List Chunk) → scan.ending ≡ Ok (Ok table) → diverged_at images start ≡ None
+        → IsOutcomeOf (restored_in plan dest images (with_roots start table None)) (restore_outcome plan dest images)
+    with_listing table scanned none = of r.ending refl
       where
         r : Run Want Fault Step Counts
         r = exec (fate images (layout_by start table)) (listing plan dest start.sup)
 
-        of : (e : Result Counts Fault) → r.ending ≡ e → IsOutcomeOf (record { answer = listed_answer r.ending; steps = steps_of r.marks }) (restore_outcome plan dest images)
+        of : (e : Result Counts Fault) → r.ending ≡ e → IsOutcomeOf (record { answer = listed_answer skipped_in r.ending; steps = steps_of r.marks }) (restore_outcome plan dest images)
         of (Ok counts) ended =
-            by_steps (steps_of r.marks) (Ok (Ok counts)) (listed_answer r.ending) (restore_outcome plan dest images)
-            (settles plan dest images start seen seen (steps_of r.marks) (Ok (Ok counts)) begun
+            by_steps (steps_of r.marks) (Ok (Ok counts)) (listed_answer skipped_in r.ending) (restore_outcome plan dest images)
+            (settles plan dest images start seen seen (steps_of r.marks) (Ok (Ok counts)) begun none
             (then plan dest start (λ n. fate images) table (steps_of r.marks) (Ok counts)
             (scan, goes_map (λ (n : ℕ). fate images (array_layout start)) 0 (table_scan start), (no_steps (steps_of scan.marks), scanned))
             (r, goes_map (λ (n : ℕ). fate images (layout_by start table)) 0 (listing plan dest start.sup), (refl, ended))))
-            (ap listed_answer ended)
+            (ap (listed_answer skipped_in) ended)
         of (Err f) ended =
-            by_steps (steps_of r.marks) (Err f) (listed_answer r.ending) (restore_outcome plan dest images)
-            (settles plan dest images start seen seen (steps_of r.marks) (Err f) begun
+            by_steps (steps_of r.marks) (Err f) (listed_answer skipped_in r.ending) (restore_outcome plan dest images)
+            (settles plan dest images start seen seen (steps_of r.marks) (Err f) begun none
             (then plan dest start (λ n. fate images) table (steps_of r.marks) (Err (halt_fault f))
             (scan, goes_map (λ (n : ℕ). fate images (array_layout start)) 0 (table_scan start), (no_steps (steps_of scan.marks), scanned))
             (r, goes_map (λ (n : ℕ). fate images (layout_by start table)) 0 (listing plan dest start.sup), (refl, ended))))
-            (ap listed_answer ended)
+            (ap (listed_answer skipped_in) ended)
 
-    by_scan : (s : Result TableResult Fault) → scan.ending ≡ s → IsOutcomeOf (restored_in plan dest images (with_table start s)) (restore_outcome plan dest images)
-    by_scan (Ok (Ok table)) scanned = with_listing table scanned
+    with_chunks : (table : List Chunk) → scan.ending ≡ Ok (Ok table) → (d : Option ℕ) → roots_differ images start (Ok (Ok table)) ≡ d
+        → IsOutcomeOf (restored_in plan dest images (with_roots start table d)) (restore_outcome plan dest images)
+    with_chunks table scanned None is = with_listing table scanned (by_roots (Ok (Ok table)) scanned ∙ is)
+    with_chunks table scanned (Some slot) is =
+        let here = outcome (exec (volume_map start (fate images)) (journey plan dest start)) in
+        by_steps [] (Ok (Err (opening.Diverged slot))) _ (restore_outcome plan dest images)
+        (sym (ap (from_start plan dest images) begun ∙ ap (λ d. unless_diverged d here) (by_roots (Ok (Ok table)) scanned ∙ is))) refl
+
+    by_scan : (s : Result TableResult Fault) → scan.ending ≡ s
+        → IsOutcomeOf (restored_in plan dest images (with_table images start s)) (restore_outcome plan dest images)
+    by_scan (Ok (Ok table)) scanned = with_chunks table scanned (roots_differ images start (Ok (Ok table))) refl
     by_scan (Ok (Err fault)) scanned =
         by_steps [] (Ok (Err (refusal_of fault))) _ (restore_outcome plan dest images)
-        (settles plan dest images start seen seen [] (Ok (Err (refusal_of fault))) begun
+        (settles plan dest images start seen seen [] (Ok (Err (refusal_of fault))) begun (by_roots (Ok (Err fault)) scanned)
         (refused plan dest start (λ n. fate images) fault (scan, goes_map (λ (n : ℕ). fate images (array_layout start)) 0 (table_scan start), (no_steps (steps_of scan.marks), scanned)))) refl
     by_scan (Err f) scanned =
         by_steps [] (Err f) _ (restore_outcome plan dest images)
-        (settles plan dest images start seen seen [] (Err f) begun
+        (settles plan dest images start seen seen [] (Err f) begun (by_roots (Err f) scanned)
         (halted plan dest start (λ n. fate images) (halt_fault f) (scan, goes_map (λ (n : ℕ). fate images (array_layout start)) 0 (table_scan start), (no_steps (steps_of scan.marks), scanned)))) refl
 
   is_outcome : (plan : RestorePlan) (dest : List ℕ) (images : Images) → IsOutcomeOf (restored plan dest images) (restore_outcome plan dest images)

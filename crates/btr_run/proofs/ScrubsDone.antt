@@ -17,7 +17,8 @@ use Rattle.btr_scrub.specs.Filesystem as scrubbed
 use Rattle.btr_scrub.specs.Gathering.{StopCause, TreeCause, checked_among, count_met, stop_halt}
 use Rattle.btr_scrub.specs.Judging.{IsUnplaced}
 use Rattle.btr_scrub.specs.Repair.{effect_of_ending, effect_unless, first_missing, meeting, met, writes}
-use Rattle.btr_scrub.specs.Scrubbing.{IsOfScrub, Works, all_count_for, all_writes_for, plain}
+use Rattle.btr_mend.specs.Syncing.{plain}
+use Rattle.btr_scrub.specs.Scrubbing.{IsOfScrub, Works, all_count_for, all_writes_for}
 use Rattle.btr_scrub.specs.Units.{Met, units_in}
 use Rattle.btr_scrub.specs.Whole.{Goes, Listed, ListedCounts, ListedWrites, Listing, Refused, ScrubsAll, Stopped, first_tally}
 use Rattle.btr_scrub.specs.Whole as whole
@@ -215,7 +216,8 @@ module _ (write : Bool) (old mid : Seen) (first : OnlyReads old mid) (volume : V
 
         keeps : KeepsRack old new
         keeps = record {
-          same = ap (λ (s : Seen). record s { unsynced = new.unsynced }) works.does.only.same ∙ ap (λ (s : Seen). record s { held = new.held; unsynced = new.unsynced; account = new.account }) all.same;
+          same = ap (λ (s : Seen). record s { unsynced = new.unsynced; never_synced = new.never_synced }) works.does.only.same
+              ∙ ap (λ (s : Seen). record s { held = new.held; unsynced = new.unsynced; never_synced = new.never_synced; account = new.account }) all.same;
           later = omega (arith, all.later, works.does.only.later);
           same_shut = works.does.only.same_shut ∙ all.same_shut;
         }
@@ -240,7 +242,8 @@ module _ (write : Bool) (old mid : Seen) (first : OnlyReads old mid) (volume : V
           where
             stopped_at : (images left : Images) → old.held ≡ Some images → new.held ≡ Some left → Both Is images → IsStopped (mending_writes images) images left
             stopped_at images left told told' h =
-                let mending : writes_if write (ws images) ≡ mending_writes images = ap (λ b. writes_if b (ws images)) is ∙ writes_are images h.1.0 ∙ sym (writes_by images ∙ ap (writes_in images) h.0) in
+                let mending : writes_if write (ws images) ≡ mending_writes images = ap (λ b. writes_if b (ws images)) is ∙ writes_are images h.1.0 ∙ sym (writes_by images ∙ ap (writes_in images) h.0 ∙ ap (λ m. (effect_unless true images fs m).writes) given
+                ∙ ap (λ r. (effect_of_ending true images fs r).writes) h.1.1) in
                 subst (λ w. IsStopped w images left) mending
                 (stop_place (λ i. writes_if write (ws i)) images left ended (subst (λ (o : Option Images). Leaves (λ i. writes_if write (ws i)) (Some images) o ended) told' (held_as ended refl images told)))
 

@@ -20,7 +20,7 @@ use Rattle.btr_run.specs.declared.plan.Command.TheVariants.{Scrub}
 use Rattle.btr_run.proofs.Found.{found_no_memory}
 use Rattle.btr_run.proofs.Checks.{found_calm, listed_no_image, listed_no_tree, listed_none}
 use Rattle.btr_run.proofs.Coming.{shows_bare}
-use Rattle.btr_run.proofs.Ending.{when_told}
+use Rattle.btr_run.proofs.Coming.{when_told}
 use Rattle.btr_run.proofs.Faulting.{no_tree}
 use Rattle.btr_run.proofs.TreesShown.{NoneOf, mends_of}
 

@@ -47,6 +47,13 @@ fault_no_fault f = record { no_out = fault_no_out f; no_sink = fault_no_sink f }
 first_part : (before rest : Text) (n : ℕ) → n ≤ length before → take n before ≡ take n (before ++ rest)
 first_part before rest n le = sym (take-append-le n before rest le)
 
+-- where no step can be done in part, none is left
+pub none_left : {S : Type 0} (before : List S) (left : Option S) (rest : List (Mark Want S)) → Leaves no_part left rest → before ++ option_to_list left ≡ before
+none_left before None rest leaves = append-nil before
+none_left before (Some t) [] leaves = absurd leaves
+none_left before (Some t) (Wants w ∷ rest) leaves = absurd leaves
+none_left before (Some t) (Does s ∷ rest) leaves = absurd (cc (leaves.1))
+
 -- what was done before a place, and perhaps a part of the piece there, is a first part of the whole text
 cut_text : (ms before behind : List (Mark Want Text)) (left : Option Text) → ms ≡ before ++ behind → Leaves part left behind → (n : ℕ) × (whole (steps_of before ++ option_to_list left) ≡ take n (whole (steps_of ms)))
 cut_text ms before behind left place leaves =
@@ -112,14 +119,8 @@ module _ {A : Type 0} (answer : A → Answer) (fine : (a : A) → IsNoFault (ans
       shown = record { answer = Unread a slot; text = whole (steps_of broke.before) };
       is_one = unread broke.before broke.behind broke.place broke.holds;
       no_fault = record { no_out = λ e. cc; no_sink = λ e. cc };
-      put = record { put = Ok tt; puts = subst (λ l. Adds old new (whole l)) (broke.steps ∙ none_left broke.left broke.behind broke.leaves) adds; counts = same; due = refl };
+      put = record { put = Ok tt; puts = subst (λ l. Adds old new (whole l)) (broke.steps ∙ none_left (steps_of broke.before) broke.left broke.behind broke.leaves) adds; counts = same; due = refl };
     }
-      where
-        none_left : (left : Option Text) (rest : List (Mark Want Text)) → Leaves no_part left rest → steps_of broke.before ++ option_to_list left ≡ steps_of broke.before
-        none_left None rest leaves = append-nil (steps_of broke.before)
-        none_left (Some t) [] leaves = absurd leaves
-        none_left (Some t) (Wants w ∷ rest) leaves = absurd leaves
-        none_left (Some t) (Does s ∷ rest) leaves = absurd (cc (leaves.1))
 
 fine_whole : (u : Unit {0}) → IsNoFault (whole_answer u)
 fine_whole u = record { no_out = λ e. cc; no_sink = λ e. cc }

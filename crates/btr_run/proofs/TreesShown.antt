@@ -39,7 +39,7 @@ use Rattle.btr_run.specs.declared.plan.DumpChoice.{DumpChoice}
 use Rattle.btr_run.specs.declared.answer.Answer.{Answer}
 use Rattle.btr_run.specs.declared.answer.Answer.TheVariants.{Done, Usage, NoSuper, SumKind, Foreign, Twin, Unsupported, Geometry, LogPending, BadArray, Limit, NoTree, ImageFault}
 use Rattle.btr_run.proofs.Coming.{shows_bare, shows_also}
-use Rattle.btr_run.proofs.Ending.{when_told}
+use Rattle.btr_run.proofs.Coming.{when_told}
 use Rattle.btr_run.proofs.Faulting.{tree_in, tree_back}
 use Rattle.btr_run.proofs.Refusals.{open_line, open_no_fault, open_no_usage}
 use Rattle.btr_run.proofs.Shows.{HasUnread, asked_come, puts_come}
@@ -251,6 +251,7 @@ mends_of answer none_of refusal by e = of refusal by (subst NoneOf e none_of)
     of (opening.SumKind kind) by none = none
     of (opening.Foreign slot) by none = none
     of (opening.Twin slot) by none = none
+    of (opening.Diverged slot) by none = by
     of (opening.Unsupported bits) by none = none
     of opening.Geometry by none = none
     of opening.LogPending by none = none

@@ -7,7 +7,7 @@ use Rattle.btr_text.specs.Pieces.{hex_text}
 use Rattle.btr_volume.specs.declared.which.Which.{Which}
 use Rattle.btr_volume.specs.declared.which.Which.TheVariants.{Images, Stripes, Chunks}
 use Rattle.btr_run.specs.declared.answer.Answer.{Answer}
-use Rattle.btr_run.specs.declared.answer.Answer.TheVariants.{Done, Found, Lost, Malformed, Unmapped, Crosses, Usage, NoSuper, SumKind, Foreign, Twin, Unsupported, Geometry, LogPending, BadArray, BadChunk, Limit, NoTree, DeletionPending, BalancePending, MissingDevice, Unread, ImageFault, SinkFault, OutFault, Memory}
+use Rattle.btr_run.specs.declared.answer.Answer.TheVariants.{Done, Found, Lost, Malformed, Unmapped, Crosses, Usage, NoSuper, SumKind, Foreign, Twin, Diverged, Unsupported, Geometry, LogPending, BadArray, BadChunk, Limit, NoTree, DeletionPending, BalancePending, MissingDevice, Unread, ImageFault, SinkFault, OutFault, Memory}
 
 -- the exit status
 abbrev pub code_of : Answer → ℕ
@@ -22,6 +22,7 @@ code_of (NoSuper slot) = 3
 code_of (SumKind kind) = 3
 code_of (Foreign slot) = 3
 code_of (Twin slot) = 3
+code_of (Diverged slot) = 3
 code_of (Unsupported bits) = 3
 code_of Geometry = 3
 code_of LogPending = 3
@@ -57,6 +58,7 @@ error_line (NoSuper slot) = codes "error: image " ++ decimal slot ++ codes " has
 error_line (SumKind kind) = codes "error: checksum type " ++ decimal kind ++ codes " is not supported\n"
 error_line (Foreign slot) = codes "error: image " ++ decimal slot ++ codes " belongs to another filesystem\n"
 error_line (Twin slot) = codes "error: image " ++ decimal slot ++ codes " repeats a device\n"
+error_line (Diverged slot) = codes "error: image " ++ decimal slot ++ codes " has diverged\n"
 error_line (Unsupported bits) = codes "error: unsupported features " ++ hex_text bits ++ codes "\n"
 error_line Geometry = codes "error: unsupported geometry\n"
 error_line LogPending = codes "error: a log tree is pending\n"

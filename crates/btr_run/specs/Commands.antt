@@ -5,6 +5,7 @@ use Rattle.btr_rack.specs.Rack.{NoneFailed, OnlyReads, Rose, Seen}
 use Rattle.btr_rack.specs.declared.place.Place.{Place as Range}
 use Rattle.btr_read.specs.Layout.{Layout}
 use Rattle.btr_scrub.specs.Scrubbing.{IsOfScrub}
+use Rattle.btr_send.specs.Names.{IsStreamName}
 use Rattle.btr_volume.specs.Opening.{SuperUnread}
 use Rattle.btr_volume.specs.declared.which.Which.TheVariants.{Images as images_limit}
 use Rattle.btr_walk.specs.Reading.{FaultCause}
@@ -14,93 +15,133 @@ use Rattle.btr_run.specs.Checked.{check_outcome, IsCheckOutcome}
 use Rattle.btr_run.specs.Filesystem.{MayMend}
 use Rattle.btr_run.specs.Newest.{super_outcome, IsSuperOutcome}
 use Rattle.btr_run.specs.Outcomes.{Outcome}
+use Rattle.btr_run.specs.Resolved.{resolve_outcome, IsResolved}
 use Rattle.btr_run.specs.Restored.{restored, IsRestored}
 use Rattle.btr_run.specs.Faults.{tree_answer}
 use Rattle.btr_run.specs.Scrubbed.{scrub_outcome, IsScrubOutcome}
+use Rattle.btr_run.specs.Salvaged.{salvage_outcome}
+use Rattle.btr_run.specs.Sent.{send_outcome}
 use Rattle.btr_run.specs.Trees.{trees_outcome, IsTreesOutcome}
 use Rattle.btr_run.specs.Words.{Words}
 use Rattle.btr_run.specs.declared.answer.Answer.{Answer}
 use Rattle.btr_run.specs.declared.answer.Answer.TheVariants.{Usage, Limit, ImageFault}
 use Rattle.btr_run.specs.declared.plan.Command.{Command}
-use Rattle.btr_run.specs.declared.plan.Command.TheVariants.{Super, Dump, Roots, Check, Scrub, Restore}
-use Rattle.btr_run.specs.declared.plan.DumpChoice.TheVariants.{RootLines}
+use Rattle.btr_run.specs.declared.plan.Command.TheVariants.{Super, Dump, Resolve, Check, Scrub, Restore, Salvage, Send}
 
 -- what a command of some words comes to over the bytes of its images
 abbrev pub command_outcome : Command → Words → List (List ℕ) → Option Outcome
 command_outcome Super words images = super_outcome images
 command_outcome (Dump choice) words images = Some (trees_outcome choice images)
-command_outcome Roots words images = Some (trees_outcome RootLines images)
+command_outcome (Resolve addr) words images = Some (resolve_outcome addr images)
 command_outcome (Check read_data) words images = Some (check_outcome read_data images)
 command_outcome (Scrub write) words images = Some (scrub_outcome write images)
 command_outcome (Restore dest plan) words images = Some (restored plan (get_or words dest []) images)
+command_outcome (Salvage dest plan) words images = Some (salvage_outcome plan (get_or words dest []) images)
+command_outcome (Send dest file plan) words images = Some (send_outcome plan (get_or words dest []) (get_or words file []) images)
 
 -- what a command may come to whatever its images hold, and whatever fails, beside refusals before anything else
 abbrev pub MayCome : Command → Outcome → Type 0
 MayCome Super outcome = IsSuperOutcome outcome
 MayCome (Dump choice) outcome = IsTreesOutcome outcome
-MayCome Roots outcome = IsTreesOutcome outcome
+MayCome (Resolve addr) outcome = IsResolved outcome
 MayCome (Check read_data) outcome = IsCheckOutcome outcome
 MayCome (Scrub write) outcome = IsScrubOutcome outcome
 MayCome (Restore dest plan) outcome = IsRestored outcome
+MayCome (Salvage dest plan) outcome = IsRestored outcome
+MayCome (Send dest file plan) outcome = IsRestored outcome
 
 -- what a command may answer behind a failed call on an image, beside a fault
 abbrev pub MayFail : Command → Answer → Type 0
 MayFail Super answer = ⊥
 MayFail (Dump choice) answer = MayMend answer
-MayFail Roots answer = MayMend answer
+MayFail (Resolve addr) answer = MayMend answer
 MayFail (Check read_data) answer = MayMend answer
 MayFail (Scrub write) answer = MayMend answer
 MayFail (Restore dest plan) answer = MayMend answer
+MayFail (Salvage dest plan) answer = MayMend answer
+MayFail (Send dest file plan) answer = MayMend answer
 
 -- the faults of trees whose cause a command tells: a check goes on behind all but a block that could not be read, and keeps only where they were; a
 -- scrub also answers an extent that crosses
 abbrev pub TellsCause : Command → TreeFault → Type 0
 TellsCause Super fault = AnyFault fault
 TellsCause (Dump choice) fault = AnyFault fault
-TellsCause Roots fault = AnyFault fault
+TellsCause (Resolve addr) fault = AnyFault fault
 TellsCause (Check read_data) fault = IsUnread fault
 TellsCause (Scrub write) fault = IsNoCrossing fault
 TellsCause (Restore dest plan) fault = AnyFault fault
+TellsCause (Salvage dest plan) fault = AnyFault fault
+TellsCause (Send dest file plan) fault = AnyFault fault
 
--- a command that writes into a sink, if it isn't a dry run
-abbrev pub Writes : Command → Type 0
-Writes Super = ⊥
-Writes (Dump choice) = ⊥
-Writes Roots = ⊥
-Writes (Check read_data) = ⊥
-Writes (Scrub write) = ⊥
-Writes (Restore dest plan) = Unit {0}
+-- a command that takes memory on its way: for a file that is written, or for names and paths
+abbrev pub TakesMemory : Command → Type 0
+TakesMemory Super = ⊥
+TakesMemory (Dump choice) = ⊥
+TakesMemory (Resolve addr) = Unit {0}
+TakesMemory (Check read_data) = ⊥
+TakesMemory (Scrub write) = ⊥
+TakesMemory (Restore dest plan) = Unit {0}
+TakesMemory (Salvage dest plan) = Unit {0}
+TakesMemory (Send dest file plan) = Unit {0}
 
--- a command may want memory on its way: where the output does, or a command that writes
+-- a command may want memory on its way: where the output does, or the command
 abbrev pub MayWant : Command → CallAccount → Type 0
-MayWant command out = (out.ample ≡ false) ⊎ Writes command
+MayWant command out = (out.ample ≡ false) ⊎ TakesMemory command
+
+-- a command that calls the sink: a restore that isn't dry, and a send
+abbrev pub CallsSink : Command → Type 0
+CallsSink Super = ⊥
+CallsSink (Dump choice) = ⊥
+CallsSink (Resolve addr) = ⊥
+CallsSink (Check read_data) = ⊥
+CallsSink (Scrub write) = ⊥
+CallsSink (Restore dest plan) = plan.dry ≡ false
+CallsSink (Salvage dest plan) = Unit {0}
+CallsSink (Send dest file plan) = Unit {0}
 
 -- the word that a command cites is there
 abbrev pub HasWords : Command → ℕ → Type 0
 HasWords Super words = Unit {0}
 HasWords (Dump choice) words = Unit {0}
-HasWords Roots words = Unit {0}
+HasWords (Resolve addr) words = Unit {0}
 HasWords (Check read_data) words = Unit {0}
 HasWords (Scrub write) words = Unit {0}
 HasWords (Restore dest plan) words = dest < words
+HasWords (Salvage dest plan) words = dest < words
+HasWords (Send dest file plan) words = (dest < words) × (file < words)
+
+-- what a command asks for beside: a run that goes on after faults isn't dry, and the word that names a file is such a name
+abbrev pub IsFit : Command → Words → Type 0
+IsFit Super words = Unit {0}
+IsFit (Dump choice) words = Unit {0}
+IsFit (Resolve addr) words = Unit {0}
+IsFit (Check read_data) words = Unit {0}
+IsFit (Scrub write) words = Unit {0}
+IsFit (Restore dest plan) words = Unit {0}
+IsFit (Salvage dest plan) words = plan.dry ≡ false
+IsFit (Send dest file plan) words = IsStreamName (get_or words file [])
 
 -- whether a command writes into the images, which are opened for it then
 abbrev pub opens_to_write : Command → Bool
 opens_to_write Super = false
 opens_to_write (Dump choice) = false
-opens_to_write Roots = false
+opens_to_write (Resolve addr) = false
 opens_to_write (Check read_data) = false
 opens_to_write (Scrub write) = write
 opens_to_write (Restore dest plan) = false
+opens_to_write (Salvage dest plan) = false
+opens_to_write (Send dest file plan) = false
 
 -- the command that scrubs
 abbrev pub IsScrub : Command → Type 0
 IsScrub Super = ⊥
 IsScrub (Dump choice) = ⊥
-IsScrub Roots = ⊥
+IsScrub (Resolve addr) = ⊥
 IsScrub (Check read_data) = ⊥
 IsScrub (Scrub write) = Unit {0}
 IsScrub (Restore dest plan) = ⊥
+IsScrub (Salvage dest plan) = ⊥
+IsScrub (Send dest file plan) = ⊥
 
 -- a read, a write or a sync of a scrub failed on an image, of a rack that isn't sure: this was the last failed call
 pub record IsUnmended (layout : Layout) (old new : Seen) (slot : ℕ) : Type 0 where
@@ -120,7 +161,7 @@ ImageFails command old new slot = SuperUnread old new slot ⊎ (IsScrub command 
 
 -- The slots and the shelf of a rack are as before: the images may have been written. No opening failed, and the count of faults never falls.
 pub record KeepsRack (old new : Seen) : Type 0 where
-  pub same : new ≡ record old { held = new.held; unsynced = new.unsynced; account = new.account }
+  pub same : new ≡ record old { held = new.held; unsynced = new.unsynced; never_synced = new.never_synced; account = new.account }
   pub later : old.account.faults ≤ new.account.faults
   pub same_shut : new.account.shut ≡ old.account.shut
 

@@ -5,7 +5,7 @@ use Rattle.btr_rack.specs.Rack.{Shelf}
 use Rattle.btr_rack.specs.Out.{CallAccount}
 use Rattle.btr_restore.specs.Running.{Outside}
 use Rattle.btr_run.specs.Answers.{error_line}
-use Rattle.btr_run.specs.Commands.{command_outcome, MayCome, Writes}
+use Rattle.btr_run.specs.Commands.{command_outcome, CallsSink, MayCome, TakesMemory}
 use Rattle.btr_run.specs.Images.{taken, most_images}
 use Rattle.btr_run.specs.Outcomes.{Outcome, refused, Stands, OrBare, OrMemory, HasFirstPart, IsPrinted}
 use Rattle.btr_run.specs.Words.{Words, IsSentence, IsUsageAt, images_of}
@@ -52,9 +52,13 @@ pub record FollowsWords (words : Words) (answer : Answer) : Type 0 where
 abbrev pub MayFollow : Words → Outcome → Type 0
 MayFollow words outcome = (plan : Plan) × IsSentence plan words × MayCome plan.command outcome
 
--- memory may be wanted behind a first part of the text: where the output does, or where the command writes
+-- memory may be wanted after a first part of the text: where the output does, or the command
 abbrev pub MayWantBy : Words → CallAccount → Type 0
-MayWantBy words out = (out.ample ≡ false) ⊎ ((plan : Plan) × IsSentence plan words × Writes plan.command)
+MayWantBy words out = (out.ample ≡ false) ⊎ ((plan : Plan) × IsSentence plan words × TakesMemory plan.command)
+
+-- the words ask for calls of the sink: they are a restore that isn't dry
+abbrev pub AsksForSink : Words → Type 0
+AsksForSink words = (plan : Plan) × IsSentence plan words × CallsSink plan.command
 
 -- What was done by the time of this answer, whatever the images hold: the steps of the command and the line of its answer, or the line of a refusal; or
 -- the sink or the output failed, or memory was wanted, and a first part stands there.

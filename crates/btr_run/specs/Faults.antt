@@ -6,7 +6,7 @@ use Rattle.btr_volume.specs.declared.fault.OpenFault.TheVariants as opening
 use Rattle.btr_volume.specs.declared.stop.Stop.{Stop}
 use Rattle.btr_volume.specs.declared.stop.Stop.TheVariants as stop
 use Rattle.btr_run.specs.declared.answer.Answer.{Answer}
-use Rattle.btr_run.specs.declared.answer.Answer.TheVariants.{Lost, Malformed, Unmapped, Crosses, NoSuper, SumKind, Foreign, Twin, Unsupported, Geometry, LogPending, BadArray, BadChunk, Limit, NoTree, DeletionPending, BalancePending, MissingDevice, Unread, ImageFault, SinkFault, OutFault, Memory}
+use Rattle.btr_run.specs.declared.answer.Answer.TheVariants.{Lost, Malformed, Unmapped, Crosses, NoSuper, SumKind, Foreign, Twin, Diverged, Unsupported, Geometry, LogPending, BadArray, BadChunk, Limit, NoTree, DeletionPending, BalancePending, MissingDevice, Unread, ImageFault, SinkFault, OutFault, Memory}
 
 abbrev pub tree_answer : TreeFault → Answer
 tree_answer (tree.Lost addr) = Lost addr
@@ -21,6 +21,7 @@ open_answer (opening.NoSuper slot) = NoSuper slot
 open_answer (opening.SumKind kind) = SumKind kind
 open_answer (opening.Foreign slot) = Foreign slot
 open_answer (opening.Twin slot) = Twin slot
+open_answer (opening.Diverged slot) = Diverged slot
 open_answer (opening.Unsupported bits) = Unsupported bits
 open_answer opening.Geometry = Geometry
 open_answer opening.LogPending = LogPending

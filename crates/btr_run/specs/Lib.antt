@@ -1,11 +1,13 @@
 pub mod Numbers
 pub mod Restores
 pub mod Words
+pub mod Walk
 pub mod Text
 pub mod Answers
 pub mod Lines
 pub mod Faults
 pub mod Outcomes
+pub mod Stored
 pub mod Images
 pub mod Opening
 pub mod Behind
@@ -14,7 +16,11 @@ pub mod Filesystem
 pub mod Trees
 pub mod Checked
 pub mod Scrubbed
+pub mod Listed
 pub mod Restored
+pub mod Resolved
+pub mod Sent
+pub mod Salvaged
 pub mod Commands
 pub mod Causes
 pub mod Effects
@@ -22,3 +28,6 @@ pub mod Promise
 pub mod Order
 pub mod Agreeing
 pub mod Repaired
+pub mod Run
+pub mod CommandLine
+pub mod Program

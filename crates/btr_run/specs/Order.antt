@@ -8,7 +8,7 @@ use Rattle.btr_read.specs.Fate.{Agreed, choices}
 use Rattle.btr_restore.specs.Committed.{Commit, IsHonest, IsClosed, committed_choices}
 use Rattle.btr_restore.specs.InOrder as journey
 use Rattle.btr_restore.specs.Running.{Outside}
-use Rattle.btr_restore.specs.Step.{Step}
+use Rattle.btr_listing.specs.Step.{Step}
 use Rattle.btr_volume.specs.Maps.{table_of}
 use Rattle.btr_volume.specs.Start.{Images, Start, start_of, layout_by}
 use Rattle.btr_run.specs.Answers.{error_line}

@@ -7,7 +7,7 @@ use Rattle.btr_rack.specs.declared.error.SinkError.{SinkError}
 use Rattle.btr_restore.specs.Outcome.{text_of}
 use Rattle.btr_restore.specs.Restoring.{sink_after}
 use Rattle.btr_restore.specs.Running.{Outside}
-use Rattle.btr_restore.specs.Step.{Step, Line, part}
+use Rattle.btr_listing.specs.Step.{Step, Line, part}
 use Rattle.btr_run.specs.Answers.{error_line, output_answer}
 use Rattle.btr_run.specs.declared.answer.Answer.{Answer}
 use Rattle.btr_run.specs.declared.answer.Answer.TheVariants.{SinkFault, OutFault, Memory}
@@ -112,10 +112,10 @@ pub data How : Type 0 where
   OutFailed : How
   Wanted : How
 
--- what was done by then, and the answer that is due; memory may be wanted where May says so
+-- what was done by then, and the answer that is due; memory may be wanted where May says so, and the sink may fail behind the output
 abbrev pub HasEnded : Type 0 → Outside → Outside → Outcome → Answer → How → Type 0
 HasEnded May x y outcome result Whole = (result ≡ outcome.answer) × (y.sink_calls ≡ x.sink_calls) × (y.out_calls ≡ x.out_calls) × Stands x y outcome.steps []
-HasEnded May x y outcome result SinkFailed = (result ≡ SinkFault) × OneFailed x.sink_calls y.sink_calls × (y.out_calls ≡ x.out_calls) × StandsPartly x y outcome []
+HasEnded May x y outcome result SinkFailed = (result ≡ SinkFault) × OneFailed x.sink_calls y.sink_calls × ((y.out_calls ≡ x.out_calls) ⊎ OneFailed x.out_calls y.out_calls) × StandsPartly x y outcome []
 HasEnded May x y outcome result OutFailed = (result ≡ OutFault) × OneFailed x.out_calls y.out_calls × (y.sink_calls ≡ x.sink_calls) × StandsPartly x y outcome []
 HasEnded May x y outcome result Wanted = (result ≡ Memory) × May × (y.sink_calls ≡ x.sink_calls) × (y.out_calls ≡ x.out_calls) × StandsPartly x y outcome []
 

@@ -5,7 +5,7 @@ use Rattle.btr_chunk.specs.declared.stripe.Stripe.{Stripe}
 use Rattle.btr_mend.specs.Writes.{Write}
 use Rattle.btr_read.specs.Fate.{Fault}
 use Rattle.btr_scrub.specs.Filesystem as scrubbed
-use Rattle.btr_scrub.specs.Repair.{effect, first_missing, meeting, stood_tally, tally, writes}
+use Rattle.btr_scrub.specs.Repair.{effect, first_missing, meeting, stood_tally, tally}
 use Rattle.btr_scrub.specs.declared.tally.Tally.{Tally}
 use Rattle.btr_volume.specs.Start.{Images}
 use Rattle.btr_run.specs.Checked.{found}
@@ -64,9 +64,9 @@ unfoldable pub scrubbed_images : Images → Images
 scrubbed_images images = scrubbed_in images (filesystem_of images)
 
 abbrev pub writes_in : Images → Result Filesystem Answer → List Write
-writes_in images (Ok fs) = writes images (filesystem_as fs)
+writes_in images (Ok fs) = (effect true images (filesystem_as fs)).writes
 writes_in images (Err answer) = []
 
--- the writes that mend the filesystem of some images, in their order
+-- the writes that mend the filesystem of some images, in their order: none where a device isn't given, or the checked blocks can't be listed
 unfoldable pub mending_writes : Images → List Write
 mending_writes images = writes_in images (filesystem_of images)

@@ -1,17 +1,19 @@
 -- The sentences of the command line, and where other words go wrong.
-use Rattle.std.specs.Prelude.{◌≡◌, ℕ, ◌+◌, ◌<◌, ◌≤◌, Bool, true, false, IsTrue, not, ◌==◌, if◌then◌else◌, List, [], ◌∷◌, ◌++◌, length, take, drop, codes, All, Option, Some, None, is_some}
-use Rattle.std.specs.Option.{option_and_then, option_map}
-use Rattle.std.specs.Str.{bytes_eq}
+use Rattle.std.specs.Prelude.{◌≡◌, ℕ, ◌+◌, ◌<◌, ◌≤◌, Bool, true, false, IsTrue, not, ◌&&◌, nat_le, ◌==◌, List, [], ◌∷◌, ◌++◌, length, take, drop, codes, All}
 use Rattle.btr_files.specs.declared.plan.RestorePlan.{RestorePlan}
-use Rattle.btr_run.specs.Numbers.{IsNumber, number_of}
-use Rattle.btr_run.specs.declared.plan.Command.{Command}
-use Rattle.btr_run.specs.Restores.{AreFree, OneOption, no_options, options_words, plan_by, with_dry, with_options, with_root, with_snapshots, with_verbose, words_in}
+use Rattle.btr_rack.specs.Name.{is_bad}
+use Rattle.btr_run.specs.Numbers.{IsNumber}
+use Rattle.btr_run.specs.Restores.{AreFree, OneOption, id_alone, no_options, options_words, plan_by, send_by, with_options}
 use Rattle.btr_run.specs.declared.options.Options.{Options}
-use Rattle.btr_run.specs.declared.plan.Command.TheVariants.{Super, Dump, Roots, Check as checking, Scrub as scrubbing, Restore as restoring}
-use Rattle.btr_run.specs.declared.plan.DumpChoice.TheVariants.{All as all_trees, Block, Tree, RootLines}
+use Rattle.btr_run.specs.declared.part.Part.{Part as declared_part}
+use Rattle.btr_run.specs.declared.part.Part.TheVariants as declared
+use Rattle.btr_run.specs.declared.place.Read.{Read}
+use Rattle.btr_run.specs.declared.plan.Command.{Command}
+use Rattle.btr_run.specs.declared.plan.Command.TheVariants as command
+use Rattle.btr_run.specs.declared.plan.DumpChoice.TheVariants as dump
 use Rattle.btr_run.specs.declared.plan.Plan.{Plan}
-use Rattle.btr_run.specs.declared.progress.Progress.{Progress}
-use Rattle.btr_run.specs.declared.progress.Progress.TheVariants.{Start, Inspect, DumpTree, Address, TreeId, Check, Scrub, ScrubStart, Restore, RootId, FirstImage, Images}
+use Rattle.btr_run.specs.declared.sentence.Sentence.{Sentence}
+use Rattle.btr_run.specs.declared.sentence.Sentence.TheVariants.{Super, DumpAll, DumpBlock, DumpTree, DumpRoots, Resolve, Check, CheckData, Scrub, ScrubRead, Roots, Restore, Send}
 
 abbrev pub Words : Type 0
 Words = List (List ℕ)
@@ -24,47 +26,121 @@ is_name (first ∷ rest) = not (first == 45)
 abbrev pub IsName : List ℕ → Type 0
 IsName word = IsTrue (is_name word)
 
--- the words that ask for a dump, with an option
-abbrev pub dump_words : Words → Words
-dump_words option = codes "inspect-internal" ∷ codes "dump-tree" ∷ option
+-- the name of a file that is made in a folder: such a name, without a `/` or a zero byte and neither `.` nor `..`, of at most 255 bytes
+abbrev pub is_file : List ℕ → Bool
+is_file word = is_name word && (not (is_bad word) && nat_le (length word) 255)
 
--- the words that ask for a scrub, with an option
-abbrev pub scrub_words : Words → Words
-scrub_words option = codes "scrub" ∷ codes "start" ∷ option
+-- what stands at one place of a sentence: a word itself, a number of 64 bits, options and behind them the destination's name, or the name of a file in it
+pub data Part : Type 0 where
+  Word : List ℕ → Part
+  Number : Part
+  Destination : Part
+  File : Part
 
--- the words ask to restore, with some options, into a destination
-pub record AsksRestore (dest : ℕ) (plan : RestorePlan) (words : Words) : Type 0 where
+-- the same, of the program's table
+abbrev pub part_of : declared_part → Part
+part_of (declared.Word word) = Word word.now
+part_of declared.Number = Number
+part_of declared.Destination = Destination
+part_of declared.File = File
+
+-- the sentences: what stands at the places of each, before the names of one or more images
+abbrev pub parts_of : Sentence → List Part
+parts_of Super = Word (codes "super") ∷ []
+parts_of DumpAll = Word (codes "inspect-internal") ∷ Word (codes "dump-tree") ∷ []
+parts_of DumpBlock = Word (codes "inspect-internal") ∷ Word (codes "dump-tree") ∷ Word (codes "-b") ∷ Number ∷ []
+parts_of DumpTree = Word (codes "inspect-internal") ∷ Word (codes "dump-tree") ∷ Word (codes "-t") ∷ Number ∷ []
+parts_of DumpRoots = Word (codes "inspect-internal") ∷ Word (codes "dump-tree") ∷ Word (codes "-r") ∷ []
+parts_of Resolve = Word (codes "inspect-internal") ∷ Word (codes "logical-resolve") ∷ Number ∷ []
+parts_of Check = Word (codes "check") ∷ []
+parts_of CheckData = Word (codes "check") ∷ Word (codes "--check-data-csum") ∷ []
+parts_of Scrub = Word (codes "scrub") ∷ Word (codes "start") ∷ []
+parts_of ScrubRead = Word (codes "scrub") ∷ Word (codes "start") ∷ Word (codes "-r") ∷ []
+parts_of Roots = Word (codes "restore") ∷ Word (codes "-l") ∷ []
+parts_of Restore = Word (codes "restore") ∷ Destination ∷ []
+parts_of Send = Word (codes "send") ∷ Destination ∷ File ∷ []
+
+-- a restore, which may go on behind blocks that can't be had
+abbrev pub restore_of : Bool → ℕ → RestorePlan → Command
+restore_of true dest plan = command.Salvage dest (record plan { dry = false })
+restore_of false dest plan = command.Restore dest plan
+
+-- what each asks for, by what is read of its words
+abbrev pub command_of : Sentence → Read → Command
+command_of Super read = command.Super
+command_of DumpAll read = command.Dump dump.All
+command_of DumpBlock read = command.Dump (dump.Block read.number)
+command_of DumpTree read = command.Dump (dump.Tree read.number)
+command_of DumpRoots read = command.Dump dump.RootLines
+command_of Resolve read = command.Resolve read.number
+command_of Check read = command.Check false
+command_of CheckData read = command.Check true
+command_of Scrub read = command.Scrub true
+command_of ScrubRead read = command.Scrub false
+command_of Roots read = command.Dump dump.RootLines
+command_of Restore read = restore_of read.options.salvage read.name (plan_by read.options)
+command_of Send read = command.Send read.name read.file (send_by read.options)
+
+-- the images that a sentence names: one or more
+abbrev pub AreImages : Words → Type 0
+AreImages [] = ⊥
+AreImages (first ∷ more) = All IsName (first ∷ more)
+
+-- options, each of which isn't among those before it, and behind them the destination's name
+pub record TakesDestination (at : ℕ) (words : Words) (old new : Read) : Type 0 where
   pub options : List OneOption
   pub name : List ℕ
-  pub free : AreFree no_options options
+  pub free : AreFree old.options options
   pub named : IsName name
-  pub words_are : words ≡ codes "restore" ∷ (options_words options ++ name ∷ [])
-  pub dest_is : dest ≡ 1 + length (options_words options)
-  pub plan_is : plan ≡ plan_by (with_options no_options options)
+  pub words_are : words ≡ options_words options ++ name ∷ []
+  pub read_is : new ≡ record old { options = with_options old.options options; name = at + length (options_words options) }
 
--- these words ask for a command; the names of its images follow
-abbrev pub Asks : Command → Words → Type 0
-Asks Super words = words ≡ codes "super" ∷ []
-Asks (Dump all_trees) words = words ≡ dump_words []
-Asks (Dump (Block addr)) words = (word : List ℕ) × IsNumber addr word × (words ≡ dump_words (codes "-b" ∷ word ∷ []))
-Asks (Dump (Tree id)) words = (word : List ℕ) × IsNumber id word × (words ≡ dump_words (codes "-t" ∷ word ∷ []))
-Asks (Dump RootLines) words = words ≡ dump_words (codes "-r" ∷ [])
-Asks (checking false) words = words ≡ codes "check" ∷ []
-Asks (checking true) words = words ≡ codes "check" ∷ codes "--check-data-csum" ∷ []
-Asks (scrubbing true) words = words ≡ scrub_words []
-Asks (scrubbing false) words = words ≡ scrub_words (codes "-r" ∷ [])
-Asks Roots words = words ≡ codes "restore" ∷ codes "-l" ∷ []
-Asks (restoring dest plan) words = AsksRestore dest plan words
+-- one part of a sentence takes these words, the first of which has this number, and more is read then than before
+abbrev pub Takes : Part → ℕ → Words → Read → Read → Type 0
+Takes (Word this) at words old new = (words ≡ this ∷ []) × (new ≡ old)
+Takes Number at words old new = (n : ℕ) × (word : List ℕ) × IsNumber n word × (words ≡ word ∷ []) × (new ≡ record old { number = n })
+Takes Destination at words old new = TakesDestination at words old new
+Takes File at words old new = (word : List ℕ) × IsTrue (is_file word) × (words ≡ word ∷ []) × (new ≡ record old { file = at })
+
+-- the parts of a sentence take these words, one behind another, and the images' names come last
+abbrev pub Reads : List Part → ℕ → Words → Read → Read → Type 0
+Reads [] at words old new = AreImages words × (new ≡ record old { images = at })
+Reads (part ∷ parts) at words old new =
+    (taken : Words) × (rest : Words) × (mid : Read) × (words ≡ taken ++ rest) × Takes part at taken old mid × Reads parts (at + length taken) rest mid new
+
+-- before the first word nothing is read
+abbrev pub nothing : Read
+nothing = record { number = 0; options = no_options; name = 0; file = 0; images = 0 }
+
+-- .. but that a send takes no option but an id
+abbrev pub options_of : Sentence → Options
+options_of Send = id_alone
+options_of sentence = no_options
+
+abbrev pub nothing_of : Sentence → Read
+nothing_of sentence = record nothing { options = options_of sentence }
+
+-- the plan of a sentence
+abbrev pub plan_for : Sentence → Read → Plan
+plan_for sentence read = record { command = command_of sentence read; images = read.images }
+
+-- the words are a sentence of this form, and this is read of them
+abbrev pub IsRead : Sentence → Words → Read → Type 0
+IsRead sentence words read = Reads (parts_of sentence) 0 words (nothing_of sentence) read
+
+-- the words are no sentence of this form, and so many of them, and no more, begin one
+pub record IsShort (sentence : Sentence) (words : Words) (at : ℕ) : Type 0 where
+  pub none : (read : Read) → ¬ IsRead sentence words read
+  pub within : at ≤ length words
+  pub begins : (rest : Words) × (read : Read) × IsRead sentence (take at words ++ rest) read
+  pub longest : (n : ℕ) → at < n → n ≤ length words → (rest : Words) (read : Read) → ¬ IsRead sentence (take n words ++ rest) read
 
 -- the words ask for a command and name one or more images
 pub record IsSentence (plan : Plan) (words : Words) : Type 0 where
-  pub head : Words
-  pub first : List ℕ
-  pub more : Words
-  pub asks : Asks plan.command head
-  pub images : plan.images ≡ length head
-  pub named : All IsName (first ∷ more)
-  pub words_are : words ≡ head ++ first ∷ more
+  pub sentence : Sentence
+  pub read : Read
+  pub is_read : IsRead sentence words read
+  pub plan_is : plan ≡ plan_for sentence read
 
 -- the names of the images
 abbrev pub images_of : Plan → Words → Words
@@ -82,76 +158,3 @@ pub record IsUsageAt (words : Words) (at : ℕ) : Type 0 where
   pub within : at ≤ length words
   pub begins : Begins (take at words)
   pub longest : (n : ℕ) → at < n → n ≤ length words → ¬ Begins (take n words)
-
--- the plan of a command that so many words ask for
-abbrev pub plan_for : Command → ℕ → Plan
-plan_for command images = record { command = command; images = images }
-
--- the place behind all the words that ask for a command, so many
-abbrev pub behind_all : Command → ℕ → Progress
-behind_all command images = FirstImage (plan_for command images)
-
--- the place behind `-l`, which no other option stands before
-abbrev pub roots_place : Options → Option Progress
-roots_place given = if words_in given == 1 then Some (behind_all Roots 2) else None
-
--- the place behind `-r`, which may stand there once
-abbrev pub root_place : Options → Option Progress
-root_place given = if is_some given.root then None else Some (RootId given)
-
--- the place behind the destination
-abbrev pub dest_place : Options → List ℕ → Option Progress
-dest_place given word = if is_name word then Some (behind_all (restoring (words_in given) (plan_by given)) (words_in given + 1)) else None
-
--- the place behind one more word, where some sentence has it here
-abbrev pub next_of : Progress → List ℕ → Option Progress
-next_of Start word =
-    if bytes_eq word (codes "super") then Some (behind_all Super 1)
-    else if bytes_eq word (codes "inspect-internal") then Some Inspect
-    else if bytes_eq word (codes "check") then Some Check
-    else if bytes_eq word (codes "scrub") then Some Scrub
-    else if bytes_eq word (codes "restore") then Some (Restore no_options)
-    else None
-next_of Inspect word = if bytes_eq word (codes "dump-tree") then Some DumpTree else None
-next_of DumpTree word =
-    if bytes_eq word (codes "-b") then Some Address
-    else if bytes_eq word (codes "-t") then Some TreeId
-    else if bytes_eq word (codes "-r") then Some (behind_all (Dump RootLines) 3)
-    else if is_name word then Some (Images (plan_for (Dump all_trees) 2))
-    else None
-next_of Address word = option_map (λ addr. behind_all (Dump (Block addr)) 4) (number_of word)
-next_of TreeId word = option_map (λ id. behind_all (Dump (Tree id)) 4) (number_of word)
-next_of Check word =
-    if bytes_eq word (codes "--check-data-csum") then Some (behind_all (checking true) 2)
-    else if is_name word then Some (Images (plan_for (checking false) 1))
-    else None
-next_of Scrub word = if bytes_eq word (codes "start") then Some ScrubStart else None
-next_of ScrubStart word =
-    if bytes_eq word (codes "-r") then Some (behind_all (scrubbing false) 3)
-    else if is_name word then Some (Images (plan_for (scrubbing true) 2))
-    else None
-next_of (Restore given) word =
-    if bytes_eq word (codes "-l") then roots_place given
-    else if bytes_eq word (codes "-r") then root_place given
-    else if bytes_eq word (codes "-s") then option_map Restore (with_snapshots given)
-    else if bytes_eq word (codes "-v") then option_map Restore (with_verbose given)
-    else if bytes_eq word (codes "-D") then option_map Restore (with_dry given)
-    else dest_place given word
-next_of (RootId given) word = option_map Restore (option_and_then (λ id. with_root id given) (number_of word))
-next_of (FirstImage plan) word = if is_name word then Some (Images plan) else None
-next_of (Images plan) word = if is_name word then Some (Images plan) else None
-
--- the plan of the words that led here, where they are a sentence
-abbrev pub plan_of : Progress → Option Plan
-plan_of Start = None
-plan_of Inspect = None
-plan_of DumpTree = None
-plan_of Address = None
-plan_of TreeId = None
-plan_of Check = None
-plan_of Scrub = None
-plan_of ScrubStart = None
-plan_of (Restore given) = None
-plan_of (RootId given) = None
-plan_of (FirstImage plan) = None
-plan_of (Images plan) = Some plan

@@ -32,6 +32,8 @@ pub enum Answer {
     Foreign(usize),
     /// The image in this slot repeats the device of an earlier one.
     Twin(usize),
+    /// The image in this slot and the newest one were each written without the other.
+    Diverged(usize),
     /// These incompatible features aren't supported.
     Unsupported(u64),
     /// The sizes of sectors or nodes, or a level, aren't supported.
@@ -82,6 +84,7 @@ impl Answer {
             Answer::SumKind(_) => 3,
             Answer::Foreign(_) => 3,
             Answer::Twin(_) => 3,
+            Answer::Diverged(_) => 3,
             Answer::Unsupported(_) => 3,
             Answer::Geometry => 3,
             Answer::LogPending => 3,
@@ -148,6 +151,7 @@ impl From<OpenFault> for Answer {
             OpenFault::SumKind(kind) => Answer::SumKind(kind),
             OpenFault::Foreign(slot) => Answer::Foreign(slot),
             OpenFault::Twin(slot) => Answer::Twin(slot),
+            OpenFault::Diverged(slot) => Answer::Diverged(slot),
             OpenFault::Unsupported(bits) => Answer::Unsupported(bits),
             OpenFault::Geometry => Answer::Geometry,
             OpenFault::LogPending => Answer::LogPending,

@@ -37,17 +37,17 @@ pub(crate) fn show_findings<R: Rack, O: Out>(
 {
     let mut volume = open_filesystem(alloc, rack)?;
     let findings = check(alloc, read_data, rack, &mut volume)?;
-    put_findings(&findings, out)?;
-    Ok(answer_for(findings.len()))
+    let count = put_findings(findings, out)?;
+    Ok(answer_for(count))
 }
 
 // The answer where so many findings were put.
-fn answer_for(count: usize) -> Answer
+fn answer_for(count: u64) -> Answer
     ensures { result ≡ found count }
 {
     if count == 0 {
         Answer::Done { skipped: 0 }
     } else {
-        Answer::Found(count as u64)
+        Answer::Found(count)
     }
 }

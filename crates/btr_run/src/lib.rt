@@ -7,20 +7,28 @@
 
 mod answer;
 mod checking;
+mod command_line;
 mod commands;
 mod filesystem;
 mod newest;
 mod opening;
 mod options;
+mod part;
+mod place;
 mod plan;
-mod progress;
 mod refusal;
+mod resolving;
 mod restoring;
 mod running;
+mod salvaging;
 mod scrubbing;
+mod sending;
+mod sentence;
+mod starting;
 mod text;
 mod trees;
 
 pub use answer::Answer;
-pub use refusal::NO_MEMORY;
+pub use command_line::CommandLine;
 pub use running::run;
+pub use starting::program;

@@ -1,8 +1,9 @@
-// The options of `restore`.
+// The options of `restore`, of which `send` takes the id of a subvolume alone.
 ghost use Rattle.std.specs.Prelude.{◌≡◌};
-ghost use Rattle.btr_run.specs.Restores.{no_options, plan_by, with_dry, with_root, with_snapshots, with_verbose, words_in};
+ghost use Rattle.btr_run.specs.Restores.{id_alone, no_options, plan_by, send_by, with_dry, with_root, with_salvage, with_snapshots, with_verbose};
 
 use btr_files::RestorePlan;
+use btr_send::SendPlan;
 
 // The subvolume that is restored where none is asked for.
 const TOP_TREE: u64 = 5;
@@ -18,6 +19,8 @@ pub(crate) struct Options {
     pub(crate) verbose: bool,
     /// `-D`: nothing is written.
     pub(crate) dry: bool,
+    /// `-i`: goes on after blocks that can't be had.
+    pub(crate) salvage: bool,
 }
 
 impl Options {
@@ -30,6 +33,20 @@ impl Options {
             snapshots: false,
             verbose: false,
             dry: false,
+            salvage: false,
+        }
+    }
+
+    /// All but an id: none of these may come any more.
+    pub(crate) fn id_alone() -> Options
+        ensures { result ≡ id_alone }
+    {
+        Options {
+            root: None,
+            snapshots: true,
+            verbose: true,
+            dry: true,
+            salvage: true,
         }
     }
 
@@ -75,27 +92,41 @@ impl Options {
         }
     }
 
-    /// With `-D`; `None` where it was given.
+    /// With `-D`; `None` where it was given, or `-i`.
     pub(crate) fn with_dry(self) -> Option<Options>
         ensures { result ≡ with_dry self }
     {
-        if self.dry {
+        if self.dry || self.salvage {
             None
         } else {
             Some(Options { dry: true, ..self })
         }
     }
 
-    /// How many words `restore` and these options are.
-    pub(crate) fn words(&self) -> usize
-        ensures { result ≡ words_in self.now }
+    /// With `-i`; `None` where it was given, or `-D`.
+    pub(crate) fn with_salvage(self) -> Option<Options>
+        ensures { result ≡ with_salvage self }
     {
-        let root = if self.root.is_some() { 2 } else { 0 };
-        let flags = self.snapshots as usize + self.verbose as usize + self.dry as usize;
-        1 + root + flags
+        if self.dry || self.salvage {
+            None
+        } else {
+            Some(Options {
+                salvage: true,
+                ..self
+            })
+        }
     }
 
-    /// What they ask for.
+    /// What they ask of a send.
+    pub(crate) fn send_plan(&self) -> SendPlan
+        ensures { result ≡ send_by self.now }
+    {
+        SendPlan {
+            root: self.root.unwrap_or(TOP_TREE),
+        }
+    }
+
+    /// What they ask of a restore.
     pub(crate) fn plan(&self) -> RestorePlan
         ensures { result ≡ plan_by self.now }
     {

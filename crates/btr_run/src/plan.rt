@@ -4,24 +4,43 @@ ghost use Rattle.std.specs.String.{string_bytes};
 ghost use Rattle.btr_run.specs.Commands.{opens_to_write};
 ghost use Rattle.btr_run.specs.Words.{IsSentence, IsUsageAt};
 
-use crate::progress::Progress;
+use crate::sentence::Sentence;
 use btr_files::RestorePlan;
+use btr_send::SendPlan;
 
 /// What the program is to do.
 #[derive(Clone, Copy, Debug, PartialEq, Eq)]
 pub enum Command {
     /// `super`: print the newest valid superblock.
     Super,
-    /// `inspect-internal dump-tree`: print trees.
+    /// `inspect-internal dump-tree`, and `restore -l`: print trees.
     Dump(DumpChoice),
-    /// `restore -l`: print the roots of all trees.
-    Roots,
+    /// `inspect-internal logical-resolve`: print whose bytes are at this logical address.
+    Resolve(u64),
     /// `check`: print what is wrong with the filesystem; with `read_data`, the sectors that have a checksum are read too.
-    Check { read_data: bool },
+    Check {
+        read_data: bool,
+    },
     /// `scrub start`: read each copy of each checked block, and with `write` write the bad ones anew; without it, `-r`, images are only read.
-    Scrub { write: bool },
+    Scrub {
+        write: bool,
+    },
     /// `restore`: write the directories and files of a subvolume into the destination that the word of this number names.
-    Restore { dest: usize, plan: RestorePlan },
+    Restore {
+        dest: usize,
+        plan: RestorePlan,
+    },
+    /// `restore -i`: the same, on after blocks that can't be had, which are named.
+    Salvage {
+        dest: usize,
+        plan: RestorePlan,
+    },
+    /// `send`: write a subvolume as one stream, into the file that the word of the second number names, in the folder of that of the first.
+    Send {
+        dest: usize,
+        file: usize,
+        plan: SendPlan,
+    },
 }
 
 impl Command {
@@ -32,15 +51,17 @@ impl Command {
         match self {
             Command::Super => false,
             Command::Dump(_) => false,
-            Command::Roots => false,
+            Command::Resolve(_) => false,
             Command::Check { .. } => false,
             Command::Scrub { write } => *write,
             Command::Restore { .. } => false,
+            Command::Salvage { .. } => false,
+            Command::Send { .. } => false,
         }
     }
 }
 
-/// What `inspect-internal dump-tree` prints.
+/// Which trees are printed.
 #[derive(Clone, Copy, Debug, PartialEq, Eq)]
 pub enum DumpChoice {
     /// The root tree, the chunk tree, and the tree of each ROOT_ITEM.
@@ -49,7 +70,7 @@ pub enum DumpChoice {
     Block(u64),
     /// `-t`: the tree of this id.
     Tree(u64),
-    /// `-r`: a line for each tree.
+    /// `-r`, and `restore -l`: a line for each tree.
     RootLines,
 }
 
@@ -67,16 +88,18 @@ impl Plan {
         ensures sentence { IfOk result (λ plan. IsSentence plan (map string_bytes words.now)) }
         ensures usage { IfErr result (λ at. IsUsageAt (map string_bytes words.now) at) }
     {
-        let mut progress = Progress::Start;
-        for (at, word) in words.iter().enumerate() {
-            progress = match progress.behind(word.as_str()) {
-                Some(next) => next,
-                None => return Err(at),
-            };
+        let mut longest = 0;
+        for sentence in Sentence::ALL.iter() {
+            match sentence.read(words) {
+                Ok(read) => {
+                    return Ok(Plan {
+                        command: sentence.command(&read),
+                        images: read.images,
+                    });
+                }
+                Err(at) => longest = longest.max(at),
+            }
         }
-        match progress.plan() {
-            Some(plan) => Ok(plan),
-            None => Err(words.len()),
-        }
+        Err(longest)
     }
 }

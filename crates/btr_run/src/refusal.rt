@@ -1,5 +1,5 @@
 // The line of a refusal.
-ghost use Rattle.std.specs.Prelude.{◌≡◌, ◌++◌, codes};
+ghost use Rattle.std.specs.Prelude.{◌≡◌, ◌++◌, ℕ, codes, IsOk};
 ghost use Rattle.btr_rack.specs.Out.{Puts, Counts};
 ghost use Rattle.btr_run.specs.Answers.{error_line, which_text};
 ghost use Rattle.btr_run.specs.Lines.{line_text};
@@ -9,8 +9,8 @@ use btr_rack::{Out, SinkError};
 use btr_text::{Piece, put_pieces};
 use btr_volume::Which;
 
-/// The line for want of memory, which takes none.
-pub const NO_MEMORY: &[u8] = b"error: no memory\n";
+// The line for want of memory, which takes none.
+const NO_MEMORY: &[u8] = b"error: no memory\n";
 
 // A line, or nothing.
 #[derive(Clone, Copy)]
@@ -66,6 +66,7 @@ fn line_of(answer: Answer) -> Line
             b" belongs to another filesystem\n",
         ),
         Answer::Twin(slot) => Line::Number(b"error: image ", slot as u64, b" repeats a device\n"),
+        Answer::Diverged(slot) => Line::Number(b"error: image ", slot as u64, b" has diverged\n"),
         Answer::Unsupported(bits) => Line::Bits(b"error: unsupported features ", bits),
         Answer::Geometry => Line::Words(b"error: unsupported geometry\n"),
         Answer::LogPending => Line::Words(b"error: a log tree is pending\n"),
@@ -88,7 +89,11 @@ fn line_of(answer: Answer) -> Line
 pub(crate) fn put_refusal<O: Out>(answer: Answer, out: &mut O) -> Result<(), SinkError>
     ensures text { Puts (O.text out.old) (O.text out.new) (error_line answer) result }
     ensures account { Counts (O.account out.old) (O.account out.new) result }
+    ensures silent { (skipped : ℕ) → answer ≡ Answer.Done skipped → IsOk result }
 {
+    if let Answer::Done { skipped: _ } = answer {
+        return Ok(());
+    }
     put_line(line_of(answer), out)
 }
 

@@ -1,13 +1,14 @@
 // The command `restore`, where it writes files.
 ghost use Rattle.std.specs.Prelude.{◌≡◌, ◌<◌, length, IfSome};
 ghost use Rattle.btr_rack.specs.Sink.{NotStarted};
-ghost use Rattle.btr_restore.specs.Running.{outside};
+ghost use Rattle.btr_restore.specs.Running.{KeepsSink, outside};
 ghost use Rattle.btr_run.specs.Answers.{answer_of};
 ghost use Rattle.btr_run.specs.Behind.{AnyFault, IfSteady, IsBehind};
 ghost use Rattle.btr_run.specs.Filesystem.{MayMend};
 ghost use Rattle.btr_run.specs.Order.{InOrder};
 ghost use Rattle.btr_run.specs.Outcomes.{Comes, OrBare, OrMemory};
 ghost use Rattle.btr_run.specs.Restored.{IsRestored, restored};
+ghost use Rattle.btr_run.specs.Stored.{IsStored};
 
 use crate::answer::Answer;
 use crate::filesystem::open_filesystem;
@@ -20,7 +21,7 @@ use std::alloc::Global;
 /// left out, and one of the counts.
 ///
 /// An error is the answer of what stopped it: a refusal of opening, before anything is done; that there is no such subvolume, or a tree or a file that
-/// can't be read on, behind all before it; the sink's, or the output's.
+/// can't be read on, behind all before it; the sink's, or the output's. What waits in the sink is stored before any but the sink's.
 pub(crate) fn restore_files<R: Rack, T: TreeSink, O: Out>(
     alloc: Global,
     plan: &RestorePlan,
@@ -42,6 +43,8 @@ pub(crate) fn restore_files<R: Rack, T: TreeSink, O: Out>(
         InOrder plan.now dest.now images (R.seen rack.old) (R.seen rack.new)
         (outside (T.sink tree.old) (T.account tree.old) (O.text out.old) (O.account out.old))
         (outside (T.sink tree.new) (T.account tree.new) (O.text out.new) (O.account out.new)) (answer_of result)) }
+    ensures stored { IsStored (T.waits tree.new) (answer_of result) }
+    ensures dry { KeepsSink plan.now.dry tree.old tree.new }
     ensures cause { IsBehind MayMend AnyFault (R.seen rack.old) (R.seen rack.new) (answer_of result) }
 {
     opened_then();

@@ -34,11 +34,12 @@ fn mends(rt: &impl Abort, alloc: Global, number: u64) -> Result<(), CallFault> {
     Ok(())
 }
 
-// The calls that read the chunk tree's block, when the volume is opened and when its trees are walked. Between them the root tree's block is read, and
-// behind them those of the extents, the devices, the files and the checksums.
-const CHUNK_TREE: [u64; 2] = [3, 5];
+// The calls that read the chunk tree's block, when the volume is opened and when its trees are walked. Between them the root tree's block is read: both of
+// its copies, to see whether images have diverged, and then as its tree's. After them come the blocks of the extents, the devices, the files and the
+// checksums.
+const CHUNK_TREE: [u64; 2] = [3, 7];
 
-const LAST: u64 = 9;
+const LAST: u64 = 11;
 
 #[test]
 fn calls_that_fail(rt: HostRuntime) -> Result<(), CallFault> {

@@ -7,7 +7,7 @@ mod together;
 mod trees;
 
 use crate::answers::answers;
-use btr_calls::CallFault;
+use btr_calls::{CallFault, call};
 use btr_make::{RowVolume, row, seal};
 use btr_rack::MemRack;
 use std::alloc::Global;
@@ -163,7 +163,40 @@ fn sound_volumes(rt: HostRuntime) -> Result<(), CallFault> {
             0,
         )?;
     }
-    tells(&rt, rt.alloc(), RowVolume::V1, &names::ORPHAN, 0)
+    for case in [names::ORPHAN, names::REMOVED, names::INODE_CACHE] {
+        tells(&rt, rt.alloc(), RowVolume::V1, &case, 0)?;
+    }
+    Ok(())
+}
+
+// A directory without links is being removed only where its orphan item stands.
+#[test]
+fn a_directory_that_is_left_over(rt: HostRuntime) -> Result<(), CallFault> {
+    tells(&rt, rt.alloc(), RowVolume::V1, &names::LEFT_OVER, 1)
+}
+
+// The length of a compressed extent, of which one bit is wrong: of the sectors behind it only those of its chunk are named.
+const FLIPPED: Case = Case {
+    block: FILES,
+    is_sealed: true,
+    pokes: &[Poke {
+        at: 14790,
+        bytes: &[0, 0x10, 0, 0, 0, 1, 0, 0],
+    }],
+    text: b"extent-length 16785408 4096 1099511631872\nsum-missing 5 261 16789504\n",
+};
+
+#[test]
+fn a_length_that_is_far_too_large(rt: HostRuntime) -> Result<(), CallFault> {
+    let mut rack = edited(rt.alloc(), RowVolume::V2, &[FLIPPED])?;
+    let told = call(rt.alloc(), &mut rack, &["check", "a"])?;
+    assert!(rt; told.text.starts_with(FLIPPED.text));
+    assert!(rt;
+        told.text
+            .ends_with(b"sum-missing 5 261 20967424\nfindings 1022\n")
+    );
+    assert_eq!(rt; told.code, 1);
+    Ok(())
 }
 
 #[test]

@@ -72,3 +72,19 @@ fn a_failing_destination(rt: HostRuntime) -> Result<(), CallFault> {
     }
     Ok(())
 }
+
+// Where the first block of `a` is missing, what waits of it is stored: the fourteenth call.
+#[test]
+fn a_destination_that_fails_behind_a_missing_block(rt: HostRuntime) -> Result<(), CallFault> {
+    let alloc = rt.alloc();
+    let mut rack = row(alloc, RowVolume::W5)?;
+    let words = ["restore", "out", "b"];
+    let told = call_where(alloc, &mut rack, &words, Failing::Destination(14))?;
+    assert_eq!(rt; told.answer, Answer::SinkFault);
+    assert_eq!(rt;
+        told.text.as_slice(),
+        b"error: the destination failed\n".as_slice()
+    );
+    assert_eq!(rt; told.rows.as_slice(), FOUR);
+    Ok(())
+}

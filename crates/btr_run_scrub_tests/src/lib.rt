@@ -7,3 +7,5 @@ mod answers;
 mod mending;
 #[cfg(test)]
 mod scrubbing;
+#[cfg(test)]
+mod turns;

@@ -25,8 +25,12 @@ fn with_names(
     Ok(all)
 }
 
-// Scrubs images. They are on the shelf again.
-fn scrub(alloc: Global, rack: &mut MemRack, names: &[&'static str]) -> Result<Told, CallFault> {
+/// Scrubs images. They are on the shelf again.
+pub(crate) fn scrub(
+    alloc: Global,
+    rack: &mut MemRack,
+    names: &[&'static str],
+) -> Result<Told, CallFault> {
     let all = with_names(alloc, &["scrub", "start"], names)?;
     let told = call(alloc, rack, &all)?;
     rack.close_all();
@@ -64,8 +68,8 @@ fn is_same(right: &MemRack, rack: &MemRack, name: &str, index: u64) -> bool {
     right.page(name, index) == rack.page(name, index)
 }
 
-// The first page of an image that isn't the same in two racks.
-fn differing_page(right: &MemRack, rack: &MemRack, name: &str) -> Option<u64> {
+/// The first page of an image that isn't the same in two racks.
+pub(crate) fn differing_page(right: &MemRack, rack: &MemRack, name: &str) -> Option<u64> {
     for index in 0..PAGES {
         if !is_same(right, rack, name, index) {
             return Some(index);
@@ -285,8 +289,8 @@ fn spoiled_images_are_mended(rt: HostRuntime) -> Result<(), CallFault> {
     mend_spoiled(&rt, rt.alloc(), &SPOILED_TRIPLE)
 }
 
-// Asserts that all files can be restored. The images are on the shelf again.
-fn restores_all(
+/// Asserts that all files can be restored. The images are on the shelf again.
+pub(crate) fn restores_all(
     rt: &impl Abort,
     alloc: Global,
     rack: &mut MemRack,

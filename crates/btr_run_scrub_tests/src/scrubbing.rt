@@ -1,7 +1,7 @@
 // Scrubs by the words of the command line, over images in memory.
 use crate::answers::answers;
 use btr_calls::CallFault;
-use btr_make::{RowVolume, row};
+use btr_make::{RowVolume, row, seal};
 use btr_rack::MemRack;
 use std::alloc::Global;
 use std::process::Abort;
@@ -47,38 +47,44 @@ const COPY: Place = Place {
     off: 2146404,
 };
 
+// Scrubs a volume with a bad copy, in which a byte was another one: only reading, writing, and again.
+fn mends_copy(
+    rt: &impl Abort,
+    alloc: Global,
+    rack: &mut MemRack,
+    place: Place,
+    right: u8,
+) -> Result<(), CallFault> {
+    let reads = ["scrub", "start", "-r", "a"];
+    let writes = ["scrub", "start", "a"];
+    scrubs(rt, alloc, rack, &reads, FOUND, place, !right)?;
+    scrubs(rt, alloc, rack, &writes, REPAIRED, place, right)?;
+    scrubs(rt, alloc, rack, &writes, CLEAN, place, right)
+}
+
 #[test]
 fn a_bad_copy(rt: HostRuntime) -> Result<(), CallFault> {
     let alloc = rt.alloc();
     let rack = &mut row(alloc, RowVolume::V1d)?;
     let right = turn(rack, COPY.image, COPY.off)?;
-    scrubs(
-        &rt,
-        alloc,
-        rack,
-        &["scrub", "start", "-r", "a"],
-        FOUND,
-        COPY,
-        !right,
-    )?;
-    scrubs(
-        &rt,
-        alloc,
-        rack,
-        &["scrub", "start", "a"],
-        REPAIRED,
-        COPY,
-        right,
-    )?;
-    scrubs(
-        &rt,
-        alloc,
-        rack,
-        &["scrub", "start", "a"],
-        CLEAN,
-        COPY,
-        right,
-    )
+    mends_copy(&rt, alloc, rack, COPY, right)
+}
+
+// The second copy of the same leaf, and a byte of it that no item holds.
+const SECOND: u64 = 6340608;
+
+const UNUSED: Place = Place {
+    image: "a",
+    off: SECOND + 5000,
+};
+
+#[test]
+fn a_copy_that_passes_and_differs(rt: HostRuntime) -> Result<(), CallFault> {
+    let alloc = rt.alloc();
+    let rack = &mut row(alloc, RowVolume::V1d)?;
+    let right = turn(rack, UNUSED.image, UNUSED.off)?;
+    seal(rack, UNUSED.image, SECOND, 16384)?;
+    mends_copy(&rt, alloc, rack, UNUSED, right)
 }
 
 const PARITY: Place = Place {

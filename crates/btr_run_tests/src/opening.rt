@@ -1,6 +1,6 @@
 // Filesystems that aren't opened, by the first reason.
 use crate::answers::answers;
-use btr_calls::{CallFault, super_of};
+use btr_calls::{CallFault, call, super_of};
 use btr_make::{RowVolume, put_super, row};
 use btr_rack::MemRack;
 use btr_super::Super;
@@ -116,4 +116,27 @@ fn one_device_twice(rt: HostRuntime) -> Result<(), CallFault> {
     let text = b"error: image 1 repeats a device\n";
     refuses_other(&rt, rt.alloc(), &first, &LISTED, text)?;
     refuses_other(&rt, rt.alloc(), &first, &["check", "a", "b"], text)
+}
+
+#[test]
+fn images_written_each_alone(rt: HostRuntime) -> Result<(), CallFault> {
+    let mut other = super_of(rt.alloc(), RowVolume::M1, "b")?;
+    other.bytes_used = 1;
+    let text = b"error: image 1 has diverged\n";
+    for all in [
+        &LISTED[..],
+        &["check", "a", "b"],
+        &["scrub", "start", "a", "b"],
+        &["inspect-internal", "dump-tree", "a", "b"],
+    ] {
+        refuses_other(&rt, rt.alloc(), &other, all, text)?;
+    }
+    let told = call(
+        rt.alloc(),
+        &mut with_other(rt.alloc(), &other)?,
+        &["super", "a", "b"],
+    )?;
+    assert_eq!(rt; told.code, 0);
+    assert!(rt; told.text.starts_with(b"slot 0 place 65536\n"));
+    Ok(())
 }

@@ -46,8 +46,12 @@ fn sample(generation: u64, csum_type: u16) -> Super {
         devid: 1,
         dev_uuid: [0; 16],
         label,
+        cache_generation: 0,
+        uuid_tree_generation: 0,
         metadata_uuid: [0; 16],
+        reserved: [0; 224],
         array: [0; 2048],
+        backups: [0; 1237],
     }
 }
 

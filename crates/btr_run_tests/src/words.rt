@@ -5,10 +5,12 @@ use btr_rack::MemRack;
 use std::alloc::Global;
 use std::process::Abort;
 
-// The words before an option of `inspect-internal dump-tree`.
+// The words before an option of `inspect-internal dump-tree`, and those before an address.
 const INSPECT: &str = "inspect-internal";
 
 const DUMP: &str = "dump-tree";
+
+const RESOLVE: &str = "logical-resolve";
 
 const DATA: &str = "--check-data-csum";
 
@@ -59,6 +61,13 @@ const BEHIND_INSPECT: &[Row] = &[
         b"error: usage error at word 2\n",
     ),
     (&[INSPECT, DUMP, "-b"], b"error: usage error at word 3\n"),
+    (&[INSPECT, RESOLVE], b"error: usage error at word 2\n"),
+    (&[INSPECT, RESOLVE, "a"], b"error: usage error at word 2\n"),
+    (&[INSPECT, RESOLVE, "0"], b"error: usage error at word 3\n"),
+    (
+        &[INSPECT, RESOLVE, "0", "-b", "a"],
+        b"error: usage error at word 3\n",
+    ),
     (
         &[INSPECT, DUMP, "-b", "007", "a"],
         b"error: usage error at word 3\n",

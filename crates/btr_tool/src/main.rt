@@ -1,14 +1,16 @@
-//! The program: `run` over the words of the command line and the real images, destination and output.
+//! The program: `btr_run::program` over the words of the command line and the real images, destination and output.
 //!
-//! What it does is the contract of `btr_run::run`. It copies the words, and ends with the status of the answer.
+//! It ends without a line in two ways, both with the status of a failed output: where a standard descriptor that was closed can't be held, and where the
+//! output refuses the line.
 #![tactic(auto)]
 
 mod standard;
 mod words;
 
+use crate::words::SystemWords;
 use btr_ahead::AheadRack;
-use btr_rack::{FileRack, FolderTree, Out, StdOut};
-use btr_run::{Answer, NO_MEMORY, run};
+use btr_rack::{FileRack, FolderTree, StdOut};
+use btr_run::{Answer, program};
 use std::process::ExitCode;
 
 fn main(rt: HostRuntime) -> ExitCode {
@@ -16,17 +18,9 @@ fn main(rt: HostRuntime) -> ExitCode {
         return ExitCode::from(Answer::OutFault.code());
     };
     let alloc = rt.alloc();
+    let mut rack = AheadRack::new(FileRack::new(&rt, alloc), alloc);
+    let mut tree = FolderTree::new(&rt, alloc);
     let mut out = StdOut::new(&rt);
-    let answer = match words::words(&rt, alloc) {
-        Ok(words) => {
-            let mut rack = AheadRack::new(FileRack::new(&rt, alloc), alloc);
-            let mut tree = FolderTree::new(&rt, alloc);
-            run(alloc, &words, &mut rack, &mut tree, &mut out)
-        }
-        Err(_) => match out.put(NO_MEMORY) {
-            Ok(()) => Answer::Memory,
-            Err(_) => Answer::OutFault,
-        },
-    };
-    ExitCode::from(answer.code())
+    let words = SystemWords { system: &rt };
+    ExitCode::from(program(alloc, &words, &mut rack, &mut tree, &mut out))
 }

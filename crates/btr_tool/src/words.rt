@@ -1,41 +1,24 @@
 // The words of the command line, as the system gives them.
-use std::alloc::{AllocError, Global};
+ghost use Rattle.std.specs.Prelude.{◌≤◌, length, IfOk};
+
+use btr_run::CommandLine;
 use std::env::{Env, FillError};
 
-/// The words behind the program's name. A word that isn't UTF-8 is passed on as an empty one, which no
-/// sentence has at any place.
-pub(crate) fn words(rt: &impl Env, alloc: Global) -> Result<Vec<String>, AllocError> {
-    let mut words = Vec::new(alloc);
-    for i in 1..usize::MAX {
-        match word(rt, alloc, i)? {
-            Some(bytes) => words.push(text(alloc, bytes))?,
-            None => break,
-        }
-    }
-    Ok(words)
+/// The words behind the program's name. What they are no contract can say.
+#[derive(Clone, Copy)]
+pub(crate) struct SystemWords<'a, E> {
+    pub(crate) system: &'a E,
 }
 
-// The bytes of a word, where there is one of this number.
-fn word(rt: &impl Env, alloc: Global, i: usize) -> Result<Option<Vec<u8>>, AllocError> {
-    let mut capacity = 256usize;
-    for _ in 0..usize::BITS {
-        let mut bytes = Vec::new(alloc);
-        bytes.resize(capacity, 0)?;
-        match rt.arg(i, &mut bytes) {
-            Ok(len) => {
-                bytes.truncate(len);
-                return Ok(Some(bytes));
-            }
-            Err(FillError::NotPresent) => return Ok(None),
-            Err(FillError::TooLong) => capacity = capacity.saturating_add(capacity),
-        }
-    }
-    Err(AllocError)
-}
+impl<'a, E: Env> CommandLine for SystemWords<'a, E> {
+    ghost use Rattle.std.specs.Prelude.{None};
 
-fn text(alloc: Global, bytes: Vec<u8>) -> String {
-    match String::from_utf8(bytes) {
-        Ok(text) => text,
-        Err(_) => String::new(alloc),
+    ghost told = { λ words. None };
+
+    fn word(&self, number: usize, buffer: &mut [u8]) -> Result<usize, FillError> {
+        match number.checked_add(1) {
+            Some(behind_name) => self.system.arg(behind_name, buffer),
+            None => Err(FillError::NotPresent),
+        }
     }
 }

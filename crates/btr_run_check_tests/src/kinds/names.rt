@@ -191,6 +191,97 @@ pub(super) const ORPHAN: Case = Case {
     text: b"no findings\n",
 };
 
+// the mode of inode 300: a directory
+const DIRECTORY: Poke = Poke {
+    at: 14939,
+    bytes: &[0xed, 0x41, 0, 0],
+};
+
+// directory 300 has an entry `q` under a hash and an entry `r` at index 2, and no inode has a reference for them
+const ENTRY_ITEMS: Poke = Poke {
+    at: 726,
+    bytes: &[
+        0x2c, 1, 0, 0, 0, 0, 0, 0, 0x54, 5, 0, 0, 0, 0, 0, 0, 0, 0xa3, 0x39, 0, 0, 0x1f, 0, 0, 0,
+        0x2c, 1, 0, 0, 0, 0, 0, 0, 0x60, 2, 0, 0, 0, 0, 0, 0, 0, 0x84, 0x39, 0, 0, 0x1f, 0, 0, 0,
+    ],
+};
+
+const ENTRIES: Poke = Poke {
+    at: 14825,
+    bytes: &[
+        1, 1, 0, 0, 0, 0, 0, 0, 1, 0, 0, 0, 0, 0, 0, 0, 0, 7, 0, 0, 0, 0, 0, 0, 0, 0, 0, 1, 0, 2,
+        b'r', 1, 1, 0, 0, 0, 0, 0, 0, 1, 0, 0, 0, 0, 0, 0, 0, 0, 7, 0, 0, 0, 0, 0, 0, 0, 0, 0, 1,
+        0, 1, b'q',
+    ],
+};
+
+// a directory without links and without an orphan item, whose entries and size are wrong
+pub(super) const LEFT_OVER: Case = Case {
+    block: FILES,
+    is_sealed: true,
+    pokes: &[
+        Poke {
+            at: 96,
+            bytes: &[0x1b, 0, 0, 0],
+        },
+        NO_LINKS,
+        DIRECTORY,
+        ENTRY_ITEMS,
+        ENTRIES,
+    ],
+    text: b"entry-item 5 300 2\nentry-index 5 300 5\nentry-ref 5 300 2\nentry-mode 5 300 2\ndir-size 5 300 0 2\norphan 5 300\nfindings 6\n",
+};
+
+// the same directory, which its orphan item says is being removed
+pub(super) const REMOVED: Case = Case {
+    block: FILES,
+    is_sealed: true,
+    pokes: &[
+        Poke {
+            at: 96,
+            bytes: &[0x1c, 0, 0, 0],
+        },
+        NO_LINKS,
+        DIRECTORY,
+        ENTRY_ITEMS,
+        ENTRIES,
+        Poke {
+            at: 776,
+            bytes: &[
+                0xfb, 0xff, 0xff, 0xff, 0xff, 0xff, 0xff, 0xff, 0x30, 0x2c, 1, 0, 0, 0, 0, 0, 0,
+                0x84, 0x39, 0, 0, 0, 0, 0, 0,
+            ],
+        },
+    ],
+    text: b"no findings\n",
+};
+
+// the item of the old inode cache, which states one link and has no name
+pub(super) const INODE_CACHE: Case = Case {
+    block: FILES,
+    is_sealed: true,
+    pokes: &[
+        Poke {
+            at: 96,
+            bytes: &[0x19, 0, 0, 0],
+        },
+        NO_LINKS,
+        Poke {
+            at: 701,
+            bytes: &[0xf4, 0xff, 0xff, 0xff, 0xff, 0xff, 0xff, 0xff],
+        },
+        Poke {
+            at: 14927,
+            bytes: &[1, 0, 0, 0],
+        },
+        Poke {
+            at: 14939,
+            bytes: &[0x80, 0x81, 0, 0],
+        },
+    ],
+    text: b"no findings\n",
+};
+
 // 23: no ROOT_BACKREF
 pub(super) const SUBVOLUME: Case = Case {
     block: ROOTS,

@@ -93,79 +93,79 @@ returns-in_err-findings-clause-agreed g c =
     let gives = answer_gives c.from_residual-in_err-findings.result (stop_answer end) c.from_residual-in_err-findings.ensures.1 in
     stopped_agreed c.args.read_data old mid new c.in_ok-volume.ensures.reads volume c.in_ok-volume.ensures.opened end ran.quiet result gives (stop_calm end ran.quiet) (g.O.Out.text c.args.out.now) (g.O.Out.account c.args.out.now) ran.told
 
-pub returns-in_err-put_findings-clause-effect : goal.returns-in_err-put_findings-clause-effect
-returns-in_err-put_findings-clause-effect g c =
+pub returns-in_err-count-clause-effect : goal.returns-in_err-count-clause-effect
+returns-in_err-count-clause-effect g c =
     let old = g.R.Rack.seen c.args.rack.now in
     let mid = g.R.Rack.seen c.open_filesystem.new.rack in
     let new = g.R.Rack.seen c.check.new.rack in
     let volume = c.in_ok-volume.volume in
-    let all = c.in_ok-findings.findings.items in
+    let all = c.in_ok-findings.findings in
     let ran = c.in_ok-findings.ensures.ran in
-    let fault = c.in_err-put_findings.field-0.0 in
+    let fault = c.in_err-count.field-0.0 in
     let put : Result Unit SinkError = Err fault in
-    let result = answer_of c.from_residual-in_err-put_findings.result in
-    let due = answer_gives c.from_residual-in_err-put_findings.result (output_answer fault) c.from_residual-in_err-put_findings.ensures.1 in
+    let result = answer_of c.from_residual-in_err-count.result in
+    let due = answer_gives c.from_residual-in_err-count.result (output_answer fault) c.from_residual-in_err-count.ensures.1 in
     let text = g.O.Out.text c.args.out.now in
     let text' = g.O.Out.text c.put_findings.new.out in
     let before = g.O.Out.account c.args.out.now in
     let after = g.O.Out.account c.put_findings.new.out in
-    let puts = subst (λ l. Puts text text' (findings_text l) put) c.deref.ensures.value c.in_err-put_findings.ensures.text in
-    let counts = c.in_err-put_findings.ensures.account in
+    let puts = c.in_err-count.ensures.text in
+    let counts = c.in_err-count.ensures.account in
     listed_effect c.args.read_data old mid new c.in_ok-volume.ensures.reads ran.reads all put result due text text' before after puts counts volume c.in_ok-volume.ensures.content
     (steadily volume.store.layout mid new (λ B. (refusal (record { sup = volume.sup; chunks = volume.store.layout.chunks; blocks = B }) ≡ None) × (all ≡ findings c.args.read_data (record { sup = volume.sup; chunks = volume.store.layout.chunks; blocks = B }))) ran.told)
 
-pub returns-in_err-put_findings-clause-told : goal.returns-in_err-put_findings-clause-told
-returns-in_err-put_findings-clause-told g c =
+pub returns-in_err-count-clause-told : goal.returns-in_err-count-clause-told
+returns-in_err-count-clause-told g c =
     let old = g.R.Rack.seen c.args.rack.now in
     let mid = g.R.Rack.seen c.open_filesystem.new.rack in
     let new = g.R.Rack.seen c.check.new.rack in
     let volume = c.in_ok-volume.volume in
-    let all = c.in_ok-findings.findings.items in
+    let all = c.in_ok-findings.findings in
     let ran = c.in_ok-findings.ensures.ran in
-    let fault = c.in_err-put_findings.field-0.0 in
+    let fault = c.in_err-count.field-0.0 in
     let put : Result Unit SinkError = Err fault in
-    let result = answer_of c.from_residual-in_err-put_findings.result in
-    let due = answer_gives c.from_residual-in_err-put_findings.result (output_answer fault) c.from_residual-in_err-put_findings.ensures.1 in
+    let result = answer_of c.from_residual-in_err-count.result in
+    let due = answer_gives c.from_residual-in_err-count.result (output_answer fault) c.from_residual-in_err-count.ensures.1 in
     let text = g.O.Out.text c.args.out.now in
     let text' = g.O.Out.text c.put_findings.new.out in
     let before = g.O.Out.account c.args.out.now in
     let after = g.O.Out.account c.put_findings.new.out in
-    let puts = subst (λ l. Puts text text' (findings_text l) put) c.deref.ensures.value c.in_err-put_findings.ensures.text in
-    let counts = c.in_err-put_findings.ensures.account in
+    let puts = c.in_err-count.ensures.text in
+    let counts = c.in_err-count.ensures.account in
     listed_told c.args.read_data old mid new c.in_ok-volume.ensures.reads ran.reads all put result due text text' before after puts counts
 
-pub returns-in_err-put_findings-clause-cause : goal.returns-in_err-put_findings-clause-cause
-returns-in_err-put_findings-clause-cause g c =
+pub returns-in_err-count-clause-cause : goal.returns-in_err-count-clause-cause
+returns-in_err-count-clause-cause g c =
     let old = g.R.Rack.seen c.args.rack.now in
     let mid = g.R.Rack.seen c.open_filesystem.new.rack in
     let new = g.R.Rack.seen c.check.new.rack in
     let volume = c.in_ok-volume.volume in
-    let all = c.in_ok-findings.findings.items in
+    let all = c.in_ok-findings.findings in
     let ran = c.in_ok-findings.ensures.ran in
-    let fault = c.in_err-put_findings.field-0.0 in
+    let fault = c.in_err-count.field-0.0 in
     let put : Result Unit SinkError = Err fault in
-    let result = answer_of c.from_residual-in_err-put_findings.result in
-    let due = answer_gives c.from_residual-in_err-put_findings.result (output_answer fault) c.from_residual-in_err-put_findings.ensures.1 in
+    let result = answer_of c.from_residual-in_err-count.result in
+    let due = answer_gives c.from_residual-in_err-count.result (output_answer fault) c.from_residual-in_err-count.ensures.1 in
     listed_behind c.args.read_data old mid new c.in_ok-volume.ensures.reads ran.reads all put result due
 
-pub returns-in_err-put_findings-clause-agreed : goal.returns-in_err-put_findings-clause-agreed
-returns-in_err-put_findings-clause-agreed g c =
+pub returns-in_err-count-clause-agreed : goal.returns-in_err-count-clause-agreed
+returns-in_err-count-clause-agreed g c =
     let old = g.R.Rack.seen c.args.rack.now in
     let mid = g.R.Rack.seen c.open_filesystem.new.rack in
     let new = g.R.Rack.seen c.check.new.rack in
     let volume = c.in_ok-volume.volume in
-    let all = c.in_ok-findings.findings.items in
+    let all = c.in_ok-findings.findings in
     let ran = c.in_ok-findings.ensures.ran in
-    let fault = c.in_err-put_findings.field-0.0 in
+    let fault = c.in_err-count.field-0.0 in
     let put : Result Unit SinkError = Err fault in
-    let result = answer_of c.from_residual-in_err-put_findings.result in
-    let due = answer_gives c.from_residual-in_err-put_findings.result (output_answer fault) c.from_residual-in_err-put_findings.ensures.1 in
+    let result = answer_of c.from_residual-in_err-count.result in
+    let due = answer_gives c.from_residual-in_err-count.result (output_answer fault) c.from_residual-in_err-count.ensures.1 in
     let text = g.O.Out.text c.args.out.now in
     let text' = g.O.Out.text c.put_findings.new.out in
     let before = g.O.Out.account c.args.out.now in
     let after = g.O.Out.account c.put_findings.new.out in
-    let puts = subst (λ l. Puts text text' (findings_text l) put) c.deref.ensures.value c.in_err-put_findings.ensures.text in
-    let counts = c.in_err-put_findings.ensures.account in
+    let puts = c.in_err-count.ensures.text in
+    let counts = c.in_err-count.ensures.account in
     listed_agreed c.args.read_data old mid new c.in_ok-volume.ensures.reads volume c.in_ok-volume.ensures.opened all result text text' before after
     (listed c.args.read_data old mid new c.in_ok-volume.ensures.reads ran.reads all put result due text text' before after puts counts (λ outcome. outcome ≡ showing (listing all)) refl) ran.told
 
@@ -175,18 +175,17 @@ returns-clause-effect g c =
     let mid = g.R.Rack.seen c.open_filesystem.new.rack in
     let new = g.R.Rack.seen c.check.new.rack in
     let volume = c.in_ok-volume.volume in
-    let all = c.in_ok-findings.findings.items in
+    let all = c.in_ok-findings.findings in
     let ran = c.in_ok-findings.ensures.ran in
     let put : Result Unit SinkError = Ok tt in
     let result = c.answer_for.result in
-    let counted : c.in_ok-findings.findings.len ≡ length all = omega (arith, c.in_ok-findings.findings.ok.0) in
-    let due = c.answer_for.ensures ∙ ap found (c.len.ensures ∙ counted) in
+    let due = c.answer_for.ensures ∙ ap found c.in_ok-count.ensures.count in
     let text = g.O.Out.text c.args.out.now in
     let text' = g.O.Out.text c.put_findings.new.out in
     let before = g.O.Out.account c.args.out.now in
     let after = g.O.Out.account c.put_findings.new.out in
-    let puts = subst (λ l. Puts text text' (findings_text l) put) c.deref.ensures.value c.in_ok-put_findings.ensures.text in
-    let counts = c.in_ok-put_findings.ensures.account in
+    let puts = c.in_ok-count.ensures.text in
+    let counts = c.in_ok-count.ensures.account in
     listed_effect c.args.read_data old mid new c.in_ok-volume.ensures.reads ran.reads all put result due text text' before after puts counts volume c.in_ok-volume.ensures.content
     (steadily volume.store.layout mid new (λ B. (refusal (record { sup = volume.sup; chunks = volume.store.layout.chunks; blocks = B }) ≡ None) × (all ≡ findings c.args.read_data (record { sup = volume.sup; chunks = volume.store.layout.chunks; blocks = B }))) ran.told)
 
@@ -196,18 +195,17 @@ returns-clause-told g c =
     let mid = g.R.Rack.seen c.open_filesystem.new.rack in
     let new = g.R.Rack.seen c.check.new.rack in
     let volume = c.in_ok-volume.volume in
-    let all = c.in_ok-findings.findings.items in
+    let all = c.in_ok-findings.findings in
     let ran = c.in_ok-findings.ensures.ran in
     let put : Result Unit SinkError = Ok tt in
     let result = c.answer_for.result in
-    let counted : c.in_ok-findings.findings.len ≡ length all = omega (arith, c.in_ok-findings.findings.ok.0) in
-    let due = c.answer_for.ensures ∙ ap found (c.len.ensures ∙ counted) in
+    let due = c.answer_for.ensures ∙ ap found c.in_ok-count.ensures.count in
     let text = g.O.Out.text c.args.out.now in
     let text' = g.O.Out.text c.put_findings.new.out in
     let before = g.O.Out.account c.args.out.now in
     let after = g.O.Out.account c.put_findings.new.out in
-    let puts = subst (λ l. Puts text text' (findings_text l) put) c.deref.ensures.value c.in_ok-put_findings.ensures.text in
-    let counts = c.in_ok-put_findings.ensures.account in
+    let puts = c.in_ok-count.ensures.text in
+    let counts = c.in_ok-count.ensures.account in
     listed_told c.args.read_data old mid new c.in_ok-volume.ensures.reads ran.reads all put result due text text' before after puts counts
 
 pub returns-clause-cause : goal.returns-clause-cause
@@ -216,12 +214,11 @@ returns-clause-cause g c =
     let mid = g.R.Rack.seen c.open_filesystem.new.rack in
     let new = g.R.Rack.seen c.check.new.rack in
     let volume = c.in_ok-volume.volume in
-    let all = c.in_ok-findings.findings.items in
+    let all = c.in_ok-findings.findings in
     let ran = c.in_ok-findings.ensures.ran in
     let put : Result Unit SinkError = Ok tt in
     let result = c.answer_for.result in
-    let counted : c.in_ok-findings.findings.len ≡ length all = omega (arith, c.in_ok-findings.findings.ok.0) in
-    let due = c.answer_for.ensures ∙ ap found (c.len.ensures ∙ counted) in
+    let due = c.answer_for.ensures ∙ ap found c.in_ok-count.ensures.count in
     listed_behind c.args.read_data old mid new c.in_ok-volume.ensures.reads ran.reads all put result due
 
 pub returns-clause-agreed : goal.returns-clause-agreed
@@ -230,17 +227,16 @@ returns-clause-agreed g c =
     let mid = g.R.Rack.seen c.open_filesystem.new.rack in
     let new = g.R.Rack.seen c.check.new.rack in
     let volume = c.in_ok-volume.volume in
-    let all = c.in_ok-findings.findings.items in
+    let all = c.in_ok-findings.findings in
     let ran = c.in_ok-findings.ensures.ran in
     let put : Result Unit SinkError = Ok tt in
     let result = c.answer_for.result in
-    let counted : c.in_ok-findings.findings.len ≡ length all = omega (arith, c.in_ok-findings.findings.ok.0) in
-    let due = c.answer_for.ensures ∙ ap found (c.len.ensures ∙ counted) in
+    let due = c.answer_for.ensures ∙ ap found c.in_ok-count.ensures.count in
     let text = g.O.Out.text c.args.out.now in
     let text' = g.O.Out.text c.put_findings.new.out in
     let before = g.O.Out.account c.args.out.now in
     let after = g.O.Out.account c.put_findings.new.out in
-    let puts = subst (λ l. Puts text text' (findings_text l) put) c.deref.ensures.value c.in_ok-put_findings.ensures.text in
-    let counts = c.in_ok-put_findings.ensures.account in
+    let puts = c.in_ok-count.ensures.text in
+    let counts = c.in_ok-count.ensures.account in
     listed_agreed c.args.read_data old mid new c.in_ok-volume.ensures.reads volume c.in_ok-volume.ensures.opened all result text text' before after
     (listed c.args.read_data old mid new c.in_ok-volume.ensures.reads ran.reads all put result due text text' before after puts counts (λ outcome. outcome ≡ showing (listing all)) refl) ran.told

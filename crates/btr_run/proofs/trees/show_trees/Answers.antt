@@ -7,7 +7,7 @@ use Rattle.btr_run.specs.Trees.{IsTreesOutcome, trees_in, trees_outcome}
 use Rattle.btr_run.specs.declared.answer.Answer.TheVariants.{Done}
 use Rattle.btr_run.proofs.Agreements.{shown_agreed, unopened_agreed}
 use Rattle.btr_run.proofs.Coming.{answer_gives, shows_also}
-use Rattle.btr_run.proofs.Ending.{when_told}
+use Rattle.btr_run.proofs.Coming.{when_told}
 use Rattle.btr_run.proofs.TreesShown.{unopened_effect, unopened_told, unopened_behind, shown_effect, shown_told, shown_behind}
 use Rattle.btr_run.proofs.trees.show_trees.Goals as goal
 

@@ -1,0 +1,86 @@
+-- The words that the plan of a sentence cites are there.
+use Rattle.std.proofs.Common.{ℕ, Bool, true, false, ◌+◌, ◌<◌, ◌≤◌, List, [], ◌∷◌, length, sym, ap, subst, arith}
+use Rattle.std.proofs.lemmas.List.{length-append, length-drop}
+use Rattle.btr_run.specs.Commands.{HasWords}
+use Rattle.btr_run.specs.Restores.{options_words, plan_by}
+use Rattle.btr_run.specs.Words.{Destination, File, IsSentence, Number, Part, Reads, TakesDestination, Word, Words, command_of, images_of, nothing_of, parts_of, restore_of}
+use Rattle.btr_run.specs.declared.place.Read.{Read}
+use Rattle.btr_run.specs.declared.plan.Plan.{Plan}
+use Rattle.btr_run.specs.declared.sentence.Sentence.{Sentence}
+use Rattle.btr_run.specs.declared.sentence.Sentence.TheVariants.{Super, DumpAll, DumpBlock, DumpTree, DumpRoots, Resolve, Check, CheckData, Scrub, ScrubRead, Roots, Restore, Send}
+
+-- the word of the first image
+images_there : (left : List Part) (at : ℕ) (words : Words) (old new : Read) → Reads left at words old new → new.images < at + length words
+images_there [] at [] old new reads = absurd reads.0
+images_there [] at (first ∷ more) old new reads = subst (λ n. n < at + length (first ∷ more)) (sym (ap (λ (r : Read). r.images) reads.1)) (omega arith)
+images_there (part ∷ left) at words old new reads =
+    omega (arith, images_there left (at + length reads.0) reads.1 reads.2 new reads.5, ap (λ (l : Words). length l) reads.3, length-append reads.0 reads.1)
+
+-- .. and of the destination, and of the file in it
+abbrev pub AreThere : Read → ℕ → Type 0
+AreThere read bound = (read.name < bound) × (read.file < bound)
+
+names_there : (left : List Part) (at : ℕ) (words : Words) (old new : Read) (bound : ℕ) → Reads left at words old new → AreThere old bound → at + length words ≤ bound
+    → AreThere new bound
+names_there [] at words old new bound reads before within = subst (λ r. AreThere r bound) (sym reads.1) before
+names_there (Word this ∷ left) at words old new bound reads before within =
+    names_there left (at + length reads.0) reads.1 reads.2 new bound reads.5 (subst (λ r. AreThere r bound) (sym reads.4.1) before)
+    (omega (arith, within, ap (λ (l : Words). length l) reads.3, length-append reads.0 reads.1))
+names_there (Number ∷ left) at words old new bound reads before within =
+    names_there left (at + length reads.0) reads.1 reads.2 new bound reads.5 (subst (λ r. AreThere r bound) (sym reads.4.4) before)
+    (omega (arith, within, ap (λ (l : Words). length l) reads.3, length-append reads.0 reads.1))
+names_there (File ∷ left) at words old new bound reads before within =
+    names_there left (at + length reads.0) reads.1 reads.2 new bound reads.5
+    (subst (λ r. AreThere r bound) (sym reads.4.3)
+    (before.0, omega (arith, within, ap (λ (l : Words). length l) reads.3, length-append reads.0 reads.1, ap (λ (l : Words). length l) reads.4.2)))
+    (omega (arith, within, ap (λ (l : Words). length l) reads.3, length-append reads.0 reads.1))
+names_there (Destination ∷ left) at words old new bound reads before within =
+    names_there left (at + length reads.0) reads.1 reads.2 new bound reads.5 (subst (λ r. AreThere r bound) (sym d.read_is) (inside, before.1))
+    (omega (arith, within, ap (λ (l : Words). length l) reads.3, length-append reads.0 reads.1))
+  where
+    d : TakesDestination at reads.0 old reads.2
+    d = reads.4
+
+    inside : at + length (options_words d.options) < bound
+    inside = omega (
+      arith,
+      within,
+      ap (λ (l : Words). length l) reads.3,
+      length-append reads.0 reads.1,
+      ap (λ (l : Words). length l) d.words_are,
+      length-append (options_words d.options) (d.name ∷ []),
+    )
+
+-- the words that a sentence's command cites
+cited : (sentence : Sentence) (read : Read) (n : ℕ) → AreThere read n → HasWords (command_of sentence read) n
+cited Super read n lt = tt
+cited DumpAll read n lt = tt
+cited DumpBlock read n lt = tt
+cited DumpTree read n lt = tt
+cited DumpRoots read n lt = tt
+cited Resolve read n lt = tt
+cited Check read n lt = tt
+cited CheckData read n lt = tt
+cited Scrub read n lt = tt
+cited ScrubRead read n lt = tt
+cited Roots read n lt = tt
+cited Restore read n lt = of read.options.salvage
+  where
+    of : (salvage : Bool) → HasWords (restore_of salvage read.name (plan_by read.options)) n
+    of true = lt.0
+    of false = lt.0
+cited Send read n lt = lt
+
+module _ (plan : Plan) (words : Words) (s : IsSentence plan words) where
+  there : s.read.images < 0 + length words
+  there = images_there (parts_of s.sentence) 0 words (nothing_of s.sentence) s.read s.is_read
+
+  pub first_image : plan.images < length words
+  first_image = subst (λ (p : Plan). p.images < length words) (sym s.plan_is) (omega (arith, there))
+
+  pub some_image : 0 < length (images_of plan words)
+  some_image = omega (arith, first_image, length-drop plan.images words)
+
+  pub has_words : HasWords plan.command (length words)
+  has_words = subst (λ (p : Plan). HasWords p.command (length words)) (sym s.plan_is)
+      (cited s.sentence s.read (length words) (names_there (parts_of s.sentence) 0 words (nothing_of s.sentence) s.read (length words) s.is_read (omega (arith, there), omega (arith, there)) (omega arith)))

@@ -1,0 +1,254 @@
+-- What resolving an address comes to.
+use Rattle.std.proofs.Common.{◌≡◌, ◌⊎◌, inl, inr, ℕ, true, List, [], ◌∷◌, ◌++◌, map, fold, Option, Some, None, Result, Ok, Err, refl, sym, ap, ◌∙◌, subst}
+use Rattle.std.specs.Option.{IfSome, option_to_list}
+use Rattle.std.proofs.lemmas.List.{append-nil, map-append}
+use Rattle.btr_listing.specs.Step.{Step, Line}
+use Rattle.btr_listing.specs.Step as step
+use Rattle.btr_prog.specs.Answers.{Breaks, Follows, Halt, Leaves, Fault as halt_fault, Unread as halt_unread, Broke, Names, no_part}
+use Rattle.btr_prog.specs.Prog.{Mark, Wants, Does, Run, exec, steps_of, wants_of}
+use Rattle.btr_rack.specs.Out.{Adds, CallAccount}
+use Rattle.btr_rack.specs.Rack.{Seen, OnlyReads}
+use Rattle.btr_rack.specs.Sink.{NotStarted, Sink}
+use Rattle.btr_read.specs.Fate.{Agreed, Fault, fate}
+use Rattle.btr_read.specs.Layout.{Layout}
+use Rattle.btr_read.specs.declared.want.Want.{Want}
+use Rattle.btr_resolve.specs.Resolving.{resolved}
+use Rattle.btr_resolve.specs.Running as call
+use Rattle.btr_restore.specs.Outcome.{text_of}
+use Rattle.btr_restore.specs.Restoring.{StopCause, SinkCounts, OutCounts, ended, sink_after}
+use Rattle.btr_restore.specs.Running.{Outside, outside}
+use Rattle.btr_volume.specs.Lookup.{Program}
+use Rattle.btr_volume.specs.Start.{Images}
+use Rattle.btr_volume.specs.declared.stop.Stop.{Stop}
+use Rattle.btr_volume.specs.declared.stop.Stop.TheVariants as stop
+use Rattle.btr_volume.specs.declared.volume.Volume.{Volume}
+use Rattle.btr_walk.specs.Reading.{Map, UnreadBlock, unread_by}
+use Rattle.btr_walk.specs.declared.fault.TreeFault.{TreeFault}
+use Rattle.btr_walk.specs.declared.fault.TreeFault.TheVariants as tree
+use Rattle.btr_run.specs.Agreeing.{AreAgreed, IsResolvedOrUnread}
+use Rattle.btr_run.specs.Behind.{AnyFault, IfSteady, IsBehind}
+use Rattle.btr_run.specs.Filesystem.{MayMend, OpensAs, OpensFilesystem, filesystem_in, filesystem_of}
+use Rattle.btr_run.specs.Listed.{BesideSinks, lined, line_mark, listed_by, stopped_answer}
+use Rattle.btr_run.specs.Outcomes.{Outcome, refused, Comes, Stands, OrBare, OrMemory}
+use Rattle.btr_run.specs.Resolved.{IsResolved, none_left_out, owners_run, resolve_outcome, resolved_in}
+use Rattle.btr_run.specs.declared.answer.Answer.{Answer}
+use Rattle.btr_run.proofs.Listings as listings
+use Rattle.btr_run.proofs.TreesShown.{steadily, told_agreed}
+
+-- lines as steps
+abbrev put_lines : List (List ℕ) → List Step
+put_lines lines = map (λ line. Line line) lines
+
+-- they call no sink
+lines_sink : (lines : List (List ℕ)) (s : Sink) → s ≡ fold sink_after s (put_lines lines)
+lines_sink [] s = refl
+lines_sink (line ∷ lines) s = lines_sink lines s
+
+-- .. and their text is theirs
+lines_text : (lines : List (List ℕ)) → call.whole lines ≡ text_of (put_lines lines)
+lines_text [] = refl
+lines_text (line ∷ lines) = ap (λ l. line ++ l) (lines_text lines)
+
+lines_stand : (lines : List (List ℕ)) (s : Sink) (c : CallAccount) (text text' : Option (List ℕ)) (calls calls' : CallAccount) → Adds text text' (call.whole lines)
+    → Stands (outside s c text calls) (outside s c text' calls') (put_lines lines) []
+lines_stand lines s c text text' calls calls' adds =
+    record { sink = lines_sink lines s; text = subst (Adds text text') (lines_text lines ∙ sym (append-nil (text_of (put_lines lines)))) adds }
+
+-- ---- a run of lines
+
+steps_lined : (ms : List (Mark Want (List ℕ))) → put_lines (steps_of ms) ≡ steps_of (map line_mark ms)
+steps_lined [] = refl
+steps_lined (Wants w ∷ ms) = steps_lined ms
+steps_lined (Does line ∷ ms) = ap (λ l. Line line ∷ l) (steps_lined ms)
+
+wants_lined : (ms : List (Mark Want (List ℕ))) → wants_of ms ≡ wants_of (map line_mark ms)
+wants_lined [] = refl
+wants_lined (Wants w ∷ ms) = ap (λ l. w ∷ l) (wants_lined ms)
+wants_lined (Does line ∷ ms) = wants_lined ms
+
+-- what is left of a line that is broken off
+abbrev left_line : Option (List ℕ) → Option Step
+left_line None = None
+left_line (Some line) = Some (Line line)
+
+left_lined : (before : List (List ℕ)) (left : Option (List ℕ)) → put_lines (before ++ option_to_list left) ≡ put_lines before ++ option_to_list (left_line left)
+left_lined before None = map-append (λ line. Line line) before []
+left_lined before (Some line) = map-append (λ line. Line line) before (line ∷ [])
+
+part_leaves : (left : Option (List ℕ)) (ms : List (Mark Want (List ℕ))) → Leaves call.part left ms → Leaves step.part (left_line left) (map line_mark ms)
+part_leaves None ms leaves = tt
+part_leaves (Some line) [] leaves = leaves
+part_leaves (Some line) (Wants w ∷ ms) leaves = leaves
+part_leaves (Some line) (Does whole ∷ ms) leaves = (leaves.0, ap left_line leaves.1)
+
+none_leaves : (left : Option (List ℕ)) (ms : List (Mark Want (List ℕ))) → Leaves no_part left ms → Leaves no_part (left_line left) (map line_mark ms)
+none_leaves None ms leaves = tt
+none_leaves (Some line) [] leaves = leaves
+none_leaves (Some line) (Wants w ∷ ms) leaves = leaves
+none_leaves (Some line) (Does whole ∷ ms) leaves = (leaves.0, ap left_line leaves.1)
+
+module _ {A : Type 0} (Is : UnreadBlock → Want → Type 0) (r : Run Want Fault (List ℕ) A) (done : List (List ℕ)) where
+  breaks_lined : (part : List ℕ → ℕ → Option (List ℕ)) (part' : Step → ℕ → Option Step) (P : List Want → Type 0)
+      → ((left : Option (List ℕ)) (ms : List (Mark Want (List ℕ))) → Leaves part left ms → Leaves part' (left_line left) (map line_mark ms))
+      → Breaks part P r done → Breaks part' P (lined r) (put_lines done)
+  breaks_lined part part' P leaves b = record {
+    before = map line_mark b.before;
+    behind = map line_mark b.behind;
+    left = left_line b.left;
+    place = ap (map line_mark) b.place ∙ map-append line_mark b.before b.behind;
+    steps = ap put_lines b.steps ∙ left_lined (steps_of b.before) b.left ∙ ap (λ l. l ++ option_to_list (left_line b.left)) (steps_lined b.before);
+    leaves = leaves b.left b.behind b.leaves;
+    holds = subst P (wants_lined b.before) b.holds;
+  }
+
+  -- what follows a run follows it so, its lines being steps
+  follows_lined : (answer : Result A (Halt Fault UnreadBlock)) → Follows Is call.part [] r done answer → Follows Is step.part [] (lined r) (put_lines done) answer
+  follows_lined (Ok a) f = (ap put_lines f.0 ∙ steps_lined r.marks, f.1)
+  follows_lined (Err (halt_fault x)) f = (ap put_lines f.0 ∙ steps_lined r.marks, f.1)
+  follows_lined (Err (halt_unread u)) f = breaks_lined no_part no_part (λ ws. Names Is u ([] ++ ws)) none_leaves f
+  follows_lined (Err Broke) f = breaks_lined call.part step.part (λ ws. Unit {0}) part_leaves f
+
+-- ---- the call
+
+-- an address in a filesystem that isn't opened
+pub bare : (addr : ℕ) (images : Images) (a : Answer) → filesystem_of images ≡ Err a → resolve_outcome addr images ≡ refused a
+unfolding resolve_outcome
+bare addr images a none = ap (resolved_in addr images) none
+
+-- its causes and counts, in the words of a listing
+module _ (layout : Layout) (old new : Seen) where
+  cause_is : (e : Result ℕ Stop) → call.StopCause layout old new e → StopCause layout old new e
+  cause_is (Ok n) cause = tt
+  cause_is (Err (stop.Tree f)) cause = cause
+  cause_is (Err (stop.NoTree id)) cause = absurd cause
+  cause_is (Err (stop.Deletion id)) cause = cause
+  cause_is (Err stop.Balance) cause = cause
+  cause_is (Err (stop.Missing id)) cause = cause
+  cause_is (Err (stop.Image slot)) cause = cause
+  cause_is (Err stop.Sink) cause = absurd cause
+  cause_is (Err stop.Out) cause = tt
+  cause_is (Err stop.Memory) cause = tt
+
+  no_sink : (c : CallAccount) (e : Result ℕ Stop) → call.StopCause layout old new e → SinkCounts c c e
+  no_sink c (Ok n) cause = refl
+  no_sink c (Err (stop.Tree f)) cause = refl
+  no_sink c (Err (stop.NoTree id)) cause = refl
+  no_sink c (Err (stop.Deletion id)) cause = refl
+  no_sink c (Err stop.Balance) cause = refl
+  no_sink c (Err (stop.Missing id)) cause = refl
+  no_sink c (Err (stop.Image slot)) cause = refl
+  no_sink c (Err stop.Sink) cause = absurd cause
+  no_sink c (Err stop.Out) cause = refl
+  no_sink c (Err stop.Memory) cause = refl
+
+  counts_are : (calls calls' : CallAccount) (e : Result ℕ Stop) → call.StopCause layout old new e → call.StopCounts calls calls' e → OutCounts calls calls' e
+  counts_are calls calls' (Ok n) cause counts = counts
+  counts_are calls calls' (Err (stop.Tree f)) cause counts = counts
+  counts_are calls calls' (Err (stop.NoTree id)) cause counts = counts
+  counts_are calls calls' (Err (stop.Deletion id)) cause counts = counts
+  counts_are calls calls' (Err stop.Balance) cause counts = counts
+  counts_are calls calls' (Err (stop.Missing id)) cause counts = counts
+  counts_are calls calls' (Err (stop.Image slot)) cause counts = counts
+  counts_are calls calls' (Err stop.Sink) cause counts = absurd cause
+  counts_are calls calls' (Err stop.Out) cause counts = counts
+  counts_are calls calls' (Err stop.Memory) cause counts = counts
+
+  halts_are : (r : Run Want Fault Step ℕ) (done : List Step) (e : Result ℕ Stop) → call.StopCause layout old new e
+      → Follows (unread_by layout old new) step.part [] r done (call.ended e) → Follows (unread_by layout old new) step.part [] r done (ended e)
+  halts_are r done (Ok n) cause f = f
+  halts_are r done (Err (stop.Tree x)) cause f = f
+  halts_are r done (Err (stop.NoTree id)) cause f = absurd cause
+  halts_are r done (Err (stop.Deletion id)) cause f = f
+  halts_are r done (Err stop.Balance) cause f = f
+  halts_are r done (Err (stop.Missing id)) cause f = f
+  halts_are r done (Err (stop.Image slot)) cause f = f
+  halts_are r done (Err stop.Sink) cause f = f
+  halts_are r done (Err stop.Out) cause f = f
+  halts_are r done (Err stop.Memory) cause f = f
+
+  no_tree : (id : ℕ) (e : Result ℕ Stop) → e ≡ Err (stop.NoTree id) → call.StopCause layout old new e → ⊥
+  no_tree id e is cause = subst (call.StopCause layout old new) is cause
+
+-- The filesystem is open, and the address was resolved.
+module _ (addr : ℕ) (old mid new : Seen) (first : OnlyReads old mid) (volume after : Volume) (text text' : Option (List ℕ)) (calls calls' : CallAccount) (answer : Answer) (result : Result ℕ Stop)
+    (is : answer ≡ stopped_answer none_left_out result)
+    (ran : call.Ran (resolved volume.sup volume.store.layout.chunks addr) (call.world mid volume text calls) (call.world new after text' calls') result) where
+  abbrev layout : Layout
+  layout = volume.store.layout
+
+  abbrev run : Images → Run Want Fault Step ℕ
+  run images = owners_run addr images (filesystem_in volume)
+
+  abbrev done : List Step
+  done = put_lines ran.lines
+
+  abbrev x : Sink → CallAccount → Outside
+  x s c = outside s c text calls
+
+  abbrev y : Sink → CallAccount → Outside
+  y s c = outside s c text' calls'
+
+  did : (s : Sink) (c : CallAccount) → Stands (x s c) (y s c) done []
+  did s c = lines_stand ran.lines s c text text' calls calls' ran.adds
+
+  follows : (B : Map) → Follows (unread_by layout mid new) call.part [] (exec B (resolved volume.sup layout.chunks addr)) ran.lines (call.ended result)
+      → Follows (unread_by layout mid new) step.part [] (lined (exec B (resolved volume.sup layout.chunks addr))) done (ended result)
+  follows B f =
+      halts_are layout mid new (lined (exec B (resolved volume.sup layout.chunks addr))) done result ran.cause
+      (follows_lined (unread_by layout mid new) (exec B (resolved volume.sup layout.chunks addr)) ran.lines (call.ended result) f)
+
+  abbrev IsFollowed : Map → Type 0
+  IsFollowed B = Follows (unread_by layout mid new) call.part [] (exec B (resolved volume.sup layout.chunks addr)) ran.lines (call.ended result)
+
+  is_resolved : (images : Images) → filesystem_of images ≡ Ok (filesystem_in volume) → resolve_outcome addr images ≡ listed_by none_left_out (run images)
+  unfolding resolve_outcome
+  is_resolved images opened = ap (resolved_in addr images) opened
+
+  pub resolved_effect : IfSteady old.held old.account mid.account (λ images. OpensFilesystem images (Ok volume))
+      → BesideSinks text calls text' calls' (λ a b. IfSteady old.held old.account new.account (λ images. Comes (Unit {0}) (OrMemory (λ outcome. resolve_outcome addr images ≡ outcome)) a b answer))
+  resolved_effect opens s c =
+      listings.listed_effect none_left_out layout mid new (x s c) (y s c) done (did s c) result (cause_is layout mid new result ran.cause) (no_sink layout mid new c result ran.cause)
+      (counts_are layout mid new calls calls' result ran.cause ran.calls) old first ran.reads volume refl answer is run (resolve_outcome addr) is_resolved
+      (when_followed mid.held (steadily layout mid new IsFollowed ran.content)) opens
+    where
+      when_followed : (held : Option Images) → IfSteady held mid.account new.account (λ images. IsFollowed (fate images layout))
+          → IfSteady held mid.account new.account (λ images. Follows (unread_by layout mid new) step.part [] (run images) done (ended result))
+      when_followed None f = tt
+      when_followed (Some images) f = λ steady. follows (fate images layout) (f steady)
+
+  pub resolved_told : BesideSinks text calls text' calls' (λ a b. Comes (Unit {0}) (OrBare IsResolved) a b answer)
+  resolved_told s c =
+      listings.listed_told none_left_out layout mid new (x s c) (y s c) done (did s c) result (cause_is layout mid new result ran.cause) (no_sink layout mid new c result ran.cause)
+      (counts_are layout mid new calls calls' result ran.cause ran.calls) old first ran.reads volume refl answer is IsResolved
+      (λ n. record { lines = ran.lines; are = refl; ends = inl refl }) (λ f. record { lines = ran.lines; are = refl; ends = inr (f, refl) })
+      (λ id none. absurd (no_tree layout mid new id result none ran.cause))
+
+  pub resolved_agreed : IfSome old.held (λ images. OpensAs images old mid (Ok volume))
+      → BesideSinks text calls text' calls' (λ a b. IfSome old.held (λ images. AreAgreed images → Comes (Unit {0}) (IsResolvedOrUnread addr images) a b answer))
+  resolved_agreed opens s c =
+      listings.listed_agreed none_left_out layout mid new (x s c) (y s c) done (did s c) result (cause_is layout mid new result ran.cause) (no_sink layout mid new c result ran.cause)
+      (counts_are layout mid new calls calls' result ran.cause ran.calls) old first ran.reads volume refl answer is (λ images r. run images ≡ r) (IsResolvedOrUnread addr)
+      (λ images opened r same. inl (is_resolved images opened ∙ ap (listed_by none_left_out) same))
+      (λ images opened r same u upto rest place named. inr (inl (record {
+        fs = filesystem_in volume;
+        opened = opened;
+        upto = listings.lists_up_to layout mid new (run images) u upto rest (ap (λ (q : Run Want Fault Step ℕ). q.marks) same ∙ place) named;
+      })))
+      (when_agreed mid.held (told_agreed layout mid new IsFollowed ran.content)) opens
+    where
+      when_agreed : (held : Option Images) → IfSome held (λ images. Agreed images layout → IsFollowed (fate images layout))
+          → IfSome held (λ images. Agreed images layout → (r : Run Want Fault Step ℕ) × (run images ≡ r) × Follows (unread_by layout mid new) step.part [] r done (ended result))
+      when_agreed None f = tt
+      when_agreed (Some images) f = λ agreed. (run images, refl, follows (fate images layout) (f agreed))
+
+  -- whatever the sink is
+  some_sink : Sink
+  some_sink = record { stage = NotStarted; depth = 0; tree = None }
+
+  some_calls : CallAccount
+  some_calls = record { faults = 0; sure = true; ample = true }
+
+  pub resolved_behind : IsBehind MayMend AnyFault old new answer
+  resolved_behind =
+      listings.listed_behind none_left_out layout mid new (x some_sink some_calls) (y some_sink some_calls) done (did some_sink some_calls) result
+      (cause_is layout mid new result ran.cause) (no_sink layout mid new some_calls result ran.cause) (counts_are layout mid new calls calls' result ran.cause ran.calls) old first ran.reads volume refl answer is
