@@ -10,9 +10,9 @@ _btrfs_offline_words() {
     mapfile -t COMPREPLY < <(compgen -W "${*:2}" -- "$1")
 }
 
-# _btrfs_offline_restore CURRENT FIRST: the words behind `restore`, which stands at FIRST
+# _btrfs_offline_restore CURRENT FIRST: the words after `restore`, which stands at FIRST
 _btrfs_offline_restore() {
-    local current=$1 at word options=' -r -s -v -D '
+    local current=$1 at word options=' -r -s -v -D -i '
     for ((at = $2 + 1; at < COMP_CWORD; at++)); do
         word=${COMP_WORDS[at]}
         case $word in
@@ -22,8 +22,13 @@ _btrfs_offline_restore() {
             at=$((at + 1))
             options=${options/ -r / }
             ;;
-        -s | -v | -D)
+        -s | -v)
             options=${options/ $word / }
+            ;;
+        -D | -i)
+            # they exclude each other
+            options=${options/ -D / }
+            options=${options/ -i / }
             ;;
         *)
             # -l, or DEST: images follow
@@ -48,7 +53,7 @@ _btrfs_offline() {
         first=$((first + 1))
     done
     if ((COMP_CWORD <= first)); then
-        _btrfs_offline_words "$current" super inspect-internal check scrub restore help --help -h --version --build
+        _btrfs_offline_words "$current" super inspect-internal check scrub restore send help --help -h --version --build
         return
     fi
     command=${COMP_WORDS[first]}
@@ -62,7 +67,14 @@ _btrfs_offline() {
         ;;
     inspect-internal)
         if ((COMP_CWORD == first + 1)); then
-            _btrfs_offline_words "$current" dump-tree --help -h
+            _btrfs_offline_words "$current" dump-tree logical-resolve --help -h
+        elif [[ ${COMP_WORDS[first + 1]} == logical-resolve ]]; then
+            # the address is a number, and images follow it
+            if [[ $current == -* ]]; then
+                ((COMP_CWORD == first + 2)) && _btrfs_offline_words "$current" --help -h
+            elif ((COMP_CWORD > first + 2)); then
+                _btrfs_offline_images "$current"
+            fi
         elif ((COMP_CWORD == first + 3)) && [[ ${COMP_WORDS[first + 2]} == -[bt] ]]; then
             return
         elif [[ $current == -* ]]; then
@@ -89,6 +101,13 @@ _btrfs_offline() {
         ;;
     restore)
         _btrfs_offline_restore "$current" "$first"
+        ;;
+    send)
+        if ((COMP_CWORD == first + 1)) && [[ $current == -* ]]; then
+            _btrfs_offline_words "$current" -r --help -h
+        elif [[ $current != -* ]]; then
+            _btrfs_offline_images "$current"
+        fi
         ;;
     esac
 }

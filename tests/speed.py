@@ -1,5 +1,5 @@
 #!/usr/bin/env python3
-"""Times the built program beside btrfs-progs, and prints the table "All commands beside btrfs-progs" of docs/SPEED.md.
+"""Times the built program beside btrfs-progs, and prints the table "All commands beside btrfs-progs" of docs/SPEED-LOG.md.
 
     python3 tests/speed.py --program $PWD/crates/btr_tool/out/launcher/btr_tool [--times 5] [--only ROW] [--warm] [--keep]
         [--work DIR]

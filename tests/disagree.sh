@@ -1,0 +1,142 @@
+#!/bin/bash
+# Makes filesystems whose images disagree, by mkfs.btrfs and the kernel, and holds the program to them:
+#
+#     tests/disagree.sh PROGRAM [FOLDER]
+#
+# Diverged: two parts of a mirrored filesystem are each mounted alone and written. Every command but `super` has to refuse images of both, and each part
+# alone has to be restored as its mount showed. Behind: one device is missing while files with and without checksums are written over in place, and comes
+# back. `restore` has to write the newest bytes, by all images and by each other set of images that is enough. With SCRUB=1, `scrub start` over all images
+# has to leave what `restore` wrote before it as it was, also by each such set, and `btrfs check` finds nothing.
+#
+# ONLY="NAME.." makes these sets alone, and KEEP=1 keeps them. It needs root, loop devices, a kernel with btrfs, and btrfs-progs. The gate doesn't run it.
+set -u
+program=$(readlink -f "${1:?tests/disagree.sh PROGRAM [FOLDER]}")
+room=${2:-$(mktemp -d)}
+mkdir -p "$room"
+failed=0
+passed=0
+
+# Counts whether what was said is what was wanted.
+holds() {
+    if [ "$2" = "$3" ]; then passed=$((passed + 1)); else failed=$((failed + 1)) && echo "$1: $2 (wanted: $3)"; fi
+}
+
+# Attaches the images to loop devices, in their order, and has the kernel know of these alone.
+attach() {
+    devices=()
+    for image in "$@"; do devices+=("$(losetup -f --show "$image")"); done
+    btrfs device scan "${devices[@]}" >/dev/null
+}
+
+detach() {
+    for device in "${devices[@]}"; do btrfs device scan --forget "$device" >/dev/null 2>&1; losetup -d "$device"; done
+}
+
+# Mounts some images by these options, has a function write there, and keeps what another mount shows then.
+written() {
+    local at=$1 options=$2 writes=$3
+    shift 3
+    attach "$@"
+    mount -o "$options" "${devices[0]}" "$at/mount" && "$writes" "$at/mount"
+    umount "$at/mount"
+    mount -o "ro,$options" "${devices[0]}" "$at/mount"
+    rm -rf "$at/shown" && cp -a "$at/mount" "$at/shown"
+    umount "$at/mount"
+    detach
+}
+
+# Files with checksums, and files without, each larger than an element.
+first() {
+    mkdir "$1/plain" "$1/summed"
+    chattr +C "$1/plain"
+    for i in $(seq 1 12); do
+        head -c $((i * 40000)) /dev/urandom >"$1/plain/$i"
+        head -c $((i * 40000)) /dev/urandom >"$1/summed/$i"
+    done
+}
+
+# Half of those without are written over in place, by different pieces in different rows.
+over_plain() {
+    for i in $(seq 2 2 12); do dd if=/dev/urandom of="$1/plain/$i" bs=4096 count=4 seek=$((i * 2)) conv=notrunc status=none; done
+}
+
+# .. and half of those with checksums, which are written anew.
+over() {
+    over_plain "$1"
+    for i in $(seq 2 2 12); do dd if=/dev/urandom of="$1/summed/$i" bs=4096 count=4 seek=$((i * 2)) conv=notrunc status=none; done
+}
+
+# The files that a restore by some images gave otherwise than they were shown.
+differing() {
+    local at=$1
+    shift
+    rm -rf "$at/restored" && mkdir "$at/restored"
+    "$program" restore "$at/restored" "$@" >"$at/said"
+    (cd "$at/shown" && find . -type f | while IFS= read -r file; do cmp -s "$file" "$at/restored/$file" || echo "$file"; done) | wc -l
+}
+
+one() {
+    case " ${ONLY:-$1} " in *" $1 "*) ;; *) return ;; esac
+    local name=$1 count=$2 profile=$3
+    at="$room/$name"
+    rm -rf "$at" && mkdir -p "$at/mount"
+    images=()
+    for i in $(seq 1 "$count"); do truncate -s "${SIZE:-300M}" "$at/$i" && images+=("$at/$i"); done
+    mkfs.btrfs -q -f -d "$profile" -m "$profile" "${images[@]}" >"$at/log" 2>&1 || { echo "$name: not made here" && return; }
+    written "$at" defaults first "${images[@]}"
+    "$4" "$name"
+    [ -n "${KEEP:-}" ] || rm -rf "$at"
+}
+
+# All images but the last are mounted and written, and all but the first of a copy: the last one of these is then given beside the others.
+diverged() {
+    local name=$1 last=$((${#images[@]} - 1)) copies=() given said
+    for image in "${images[@]}"; do cp --sparse=always "$image" "$image.copy" && copies+=("$image.copy"); done
+    written "$at" degraded over "${images[@]:0:last}" && mv "$at/shown" "$at/one"
+    written "$at" degraded over "${copies[@]:1}" && mv "$at/shown" "$at/other"
+    given=("${images[@]:0:last}" "${copies[last]}")
+    for command in check 'scrub start -r' 'scrub start' "restore $at/none" 'restore -l' 'inspect-internal dump-tree'; do
+        # shellcheck disable=SC2086
+        said=$("$program" $command "${given[@]}")
+        holds "$name: $command, status" "$?" 3
+        holds "$name: $command" "$said" "error: image $last has diverged"
+    done
+    "$program" super "${given[@]}" >/dev/null
+    holds "$name: super" "$?" 0
+    mv "$at/one" "$at/shown" && holds "$name: the first images" "$(differing "$at" "${images[@]:0:last}")" 0 && rm -rf "$at/shown"
+    mv "$at/other" "$at/shown" && holds "$name: the others" "$(differing "$at" "${copies[@]:1}")" 0
+}
+
+# One device is missing for a while; each of them in turn. (With parity, Linux 6.18 can fail to write a file anew meanwhile.)
+behind() {
+    local name=$1 writes=over
+    case $name in *raid5 | *raid6) writes=over_plain ;; esac
+    for missing in "${!images[@]}"; do
+        for i in "${!images[@]}"; do cp --sparse=always "${images[i]}" "$at/before$i"; done
+        written "$at" degraded "$writes" "${images[@]:0:missing}" "${images[@]:missing+1}"
+        holds "$name: restore by all images, $missing older" "$(differing "$at" "${images[@]}")" 0
+        holds "$name: restore without image $missing" "$(differing "$at" "${images[@]:0:missing}" "${images[@]:missing+1}")" 0
+        if [ -n "${SCRUB:-}" ]; then
+            "$program" scrub start "${images[@]}" >"$at/said"
+            holds "$name: restore after scrub, $missing older" "$(differing "$at" "${images[@]}")" 0
+            for i in "${!images[@]}"; do
+                holds "$name: restore after scrub without image $i, $missing older" "$(differing "$at" "${images[@]:0:i}" "${images[@]:i+1}")" 0
+            done
+            attach "${images[@]}"
+            btrfs check --check-data-csum "${devices[0]}" >>"$at/log" 2>&1
+            holds "$name: btrfs check after scrub, $missing older" "$?" 0
+            detach
+        fi
+        for i in "${!images[@]}"; do mv "$at/before$i" "${images[i]}"; done
+    done
+}
+
+one diverged-raid1 2 raid1 diverged
+one diverged-raid10 4 raid10 diverged
+one behind-raid1 2 raid1 behind
+one behind-raid1c3 3 raid1c3 behind
+one behind-raid10 4 raid10 behind
+one behind-raid5 3 raid5 behind
+one behind-raid6 4 raid6 behind
+echo "$passed passed, $failed failed"
+[ "$failed" = 0 ]
