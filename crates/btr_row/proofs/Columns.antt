@@ -40,9 +40,15 @@ none_lost images column (t ∷ ts) = by (accepted images t) (meets column t) (li
     by (Some x) true rest all e = e
     by (Some x) false rest all e = e
 
-pub decided_is : (images : Images) (layout : Layout) (row : Row) (column : ℕ) (met broken : Bool) → met ≡ list_any (meets column) row.blocks → broken ≡ list_any (λ t. is_lost images t && meets column t) row.blocks → (met && not broken) ≡ is_decided images layout row column
+pub decided_is : (images : Images) (layout : Layout) (row : Row) (column : ℕ) (met broken : Bool) → met ≡ list_any (meets column) row.blocks → broken ≡ (row.kept column || list_any (λ t. is_lost images t && meets column t) row.blocks) → (met && not broken) ≡ is_decided images layout row column
 decided_is images layout row column met broken e h =
-    ap (λ b. b && not broken) e ∙ ap (λ b. list_any (meets column) row.blocks && not b) h ∙ ap (λ b. list_any (meets column) row.blocks && b) (none_lost images column row.blocks)
+    ap (λ b. b && not broken) e ∙ ap (λ b. list_any (meets column) row.blocks && not b) h
+    ∙ ap (λ b. list_any (meets column) row.blocks && b) (neither (row.kept column) (list_any (λ t. is_lost images t && meets column t) row.blocks))
+    ∙ ap (λ b. list_any (meets column) row.blocks && (not (row.kept column) && b)) (none_lost images column row.blocks)
+  where
+    neither : (a b : Bool) → not (a || b) ≡ (not a && not b)
+    neither true b = refl
+    neither false b = refl
 
 -- ---- ranges
 

@@ -82,6 +82,10 @@ any_one p xs x = list_any-append p xs (x ∷ []) ∙ ap (λ b. list_any p xs || 
     or_false true = refl
     or_false false = refl
 
+either_more : (a b c : Bool) → ((a || b) || c) ≡ (a || (b || c))
+either_more true b c = refl
+either_more false b c = refl
+
 module _ (images : Images) (layout : Layout) (row : Row) (ts : List Target) (t : Target) (old new : List ℕ) (judged judged' : Judged) (verdict : Verdict)
     (none : mirrors t.chunk ≡ None) (range : Range) (stands : range_of t (Slice t.at.index) ≡ Some range)
     (below : t.at.index < slice_count row) (inside : t.at.rest + size_of t ≤ 65536) (room : slice_count row * 65536 ≤ length old)
@@ -141,9 +145,10 @@ module _ (images : Images) (layout : Layout) (row : Row) (ts : List Target) (t :
     lost = counts.lost ∙ ap (λ n. n + cond verdict.lost 1 0) so_far.lost ∙ ap (λ b. count_by (is_lost images) ts + cond b 1 0) fits.lost ∙ sym (count_push (is_lost images) ts t);
     met = λ c lt. counts.met c lt ∙ ap (λ b. b || meets_spot c verdict.spot) (so_far.met c lt) ∙ ap (λ b. list_any (meets c) ts || b) (meets_same c) ∙ sym (any_one (meets c) ts t);
     broken = λ c lt. counts.broken c lt ∙ ap (λ b. b || (verdict.lost && meets_spot c verdict.spot)) (so_far.broken c lt)
-        ∙ ap (λ b. list_any (λ t. is_lost images t && meets c t) ts || (b && meets_spot c verdict.spot)) fits.lost
-        ∙ ap (λ b. list_any (λ t. is_lost images t && meets c t) ts || (is_lost images t && b)) (meets_same c)
-        ∙ sym (any_one (λ t. is_lost images t && meets c t) ts t);
+        ∙ either_more (row.kept c) (list_any (λ t. is_lost images t && meets c t) ts) (verdict.lost && meets_spot c verdict.spot)
+        ∙ ap (λ b. row.kept c || (list_any (λ t. is_lost images t && meets c t) ts || (b && meets_spot c verdict.spot))) fits.lost
+        ∙ ap (λ b. row.kept c || (list_any (λ t. is_lost images t && meets c t) ts || (is_lost images t && b))) (meets_same c)
+        ∙ ap (λ b. row.kept c || b) (sym (any_one (λ t. is_lost images t && meets c t) ts t));
   }
 
 -- ---- wants and blocks
@@ -198,7 +203,7 @@ same_front xs ys n a b e le most =
     sym (whole xs) ∙ ap (λ zs. slice_range zs a b) (cut ∙ e) ∙ whole ys
 
 pub judged_none : (images : Images) (layout : Layout) (row : Row) (old new : List ℕ) → HoldsRow images layout row old → slice_count row ≤ element_count row → (n : ℕ) → slice_count row * 65536 ≤ n → take n new ≡ slice_range old 0 (0 + n)
-    → (judged : Judged) → judged.bad ≡ 0 → judged.rebuilt ≡ 0 → judged.lost ≡ 0 → ((c : ℕ) → c < 16 → get_or judged.met c false ≡ false) → ((c : ℕ) → c < 16 → get_or judged.broken c false ≡ false)
+    → (judged : Judged) → judged.bad ≡ 0 → judged.rebuilt ≡ 0 → judged.lost ≡ 0 → ((c : ℕ) → c < 16 → get_or judged.met c false ≡ false) → ((c : ℕ) → c < 16 → get_or judged.broken c false ≡ row.kept c)
     → AreJudged images layout row [] new judged
 judged_none images layout row old new holds most n room e judged bad rebuilt lost met broken = record {
   slices = λ i lt.
@@ -208,8 +213,12 @@ judged_none images layout row old new holds most n room e judged bad rebuilt los
   rebuilt = rebuilt;
   lost = lost;
   met = met;
-  broken = broken;
+  broken = λ c lt. broken c lt ∙ sym (or_none (row.kept c));
 }
+  where
+    or_none : (b : Bool) → (b || false) ≡ b
+    or_none true = refl
+    or_none false = refl
 
 -- none of sixteen
 pub none_of_sixteen : (c : ℕ) → c < 16 → get_or (replicate 16 false) c false ≡ false

@@ -14,7 +14,7 @@ use Rattle.btr_read.specs.declared.want.Want.{Want}
 use Rattle.btr_mend.specs.Blocks.{accepted, bad_parts, block_writes, is_good, is_lost}
 use Rattle.btr_mend.specs.Writes.{Images}
 use Rattle.btr_row.specs.Rows.{Row, element, meets, slice_count, with_block}
-use Rattle.btr_row.specs.Mending.{IsOn, IsRowOf}
+use Rattle.btr_row.specs.Mending.{AreKept, IsOn, IsRowOf}
 use Rattle.btr_row.specs.Memory.{HoldsRow, IsSpot, IsStripeOf, element_in}
 use Rattle.btr_row.specs.declared.judged.Judged.{Judged}
 use Rattle.btr_row.specs.declared.judging.Verdict.{Verdict}
@@ -80,10 +80,10 @@ pub record AreJudged (images : Images) (layout : Layout) (row : Row) (ts : List 
   pub rebuilt : judged.rebuilt ≡ sum_by (λ t. length (block_writes images t)) ts
   pub lost : judged.lost ≡ count_by (is_lost images) ts
   pub met : (column : ℕ) → column < 16 → slice_index_or judged.met column false ≡ list_any (meets column) ts
-  pub broken : (column : ℕ) → column < 16 → slice_index_or judged.broken column false ≡ list_any (λ t. is_lost images t && meets column t) ts
+  pub broken : (column : ℕ) → column < 16 → slice_index_or judged.broken column false ≡ (row.kept column || list_any (λ t. is_lost images t && meets column t) ts)
 
 -- the wanted blocks of a row in memory were judged
-abbrev pub JudgesRow : Layout → FullStripe → List Want → List ℕ → List ℕ → Judged → Type 0
-JudgesRow layout stripe wants old new judged =
-    (images : Images) (row : Row) → IsStripeOf layout stripe row → IsRowOf layout stripe.chunk stripe.number wants row → HoldsRow images layout row old
+abbrev pub JudgesRow : Layout → FullStripe → List Want → List Bool → List ℕ → List ℕ → Judged → Type 0
+JudgesRow layout stripe wants kept old new judged =
+    (images : Images) (row : Row) → IsStripeOf layout stripe row → IsRowOf layout stripe.chunk stripe.number wants row → AreKept kept row → HoldsRow images layout row old
     → AreJudged images layout row row.blocks new judged

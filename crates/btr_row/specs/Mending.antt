@@ -1,5 +1,5 @@
 -- What mending a full stripe did.
-use Rattle.std.specs.Prelude.{◌≡◌, ℕ, ◌+◌, ◌*◌, ◌≤◌, Bool, List, [], false, length, map, Option, None, IfSome, IsSome, IsSomeAnd, Some, Result, Ok, Err, if◌then◌else◌, count_by}
+use Rattle.std.specs.Prelude.{◌≡◌, ℕ, ◌+◌, ◌*◌, ◌≤◌, Bool, List, [], false, length, map, Option, None, IfSome, IsSome, IsSomeAnd, Some, Result, Ok, Err, if◌then◌else◌, count_by, slice_index_or, ◌<◌}
 use Rattle.std.specs.List.{All, sum_by}
 use Rattle.btr_chunk.specs.Chunk.{mirrors, stripe_length}
 use Rattle.btr_chunk.specs.Mapping.{HasPart}
@@ -53,6 +53,10 @@ pub record IsRowOf (layout : Layout) (start number : ℕ) (wants : List Want) (r
 pub record IsRow (layout : Layout) (start number : ℕ) (wants : List Want) : Type 0 where
   pub row : Row
   pub is : IsRowOf layout start number wants row
+
+-- the columns of a row whose parities are kept are those that are flagged
+abbrev pub AreKept : List Bool → Row → Type 0
+AreKept flags row = (column : ℕ) → column < 16 → slice_index_or flags column false ≡ row.kept column
 
 -- a buffer has room for the elements of a row
 pub record HasRoom (buffer : RowBuffer) (count : ℕ) : Type 0 where

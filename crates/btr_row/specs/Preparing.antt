@@ -8,7 +8,7 @@ use Rattle.btr_mend.specs.Turns.{TakesTurns}
 use Rattle.btr_mend.specs.Writes.{Does, Images, Write}
 use Rattle.btr_mend.specs.declared.mended.MendFault.{MendFault}
 use Rattle.btr_row.specs.Rows.{Row, parities_writes, rebuilt_writes}
-use Rattle.btr_row.specs.Mending.{IsOfRow, IsRowOf}
+use Rattle.btr_row.specs.Mending.{AreKept, IsOfRow, IsRowOf}
 use Rattle.btr_row.specs.Memory.{HoldsRow, IsStripeOf}
 use Rattle.btr_row.specs.Judging.{AreJudged}
 use Rattle.btr_row.specs.Writing.{KnowsParity, told_writes}
@@ -30,9 +30,9 @@ pub record TellsRow (layout : Layout) (row : Row) (judged : Judged) (buffer : Ro
   pub untold : told ≡ None → held ≡ None
 
 -- where the wanted blocks' row is told, it was prepared
-abbrev pub Prepares : Layout → FullStripe → List Want → Seen → RowBuffer → Judged → Type 0
-Prepares layout stripe wants rack buffer judged =
-    (images : Images) (row : Row) → rack.held ≡ Some images → IsStripeOf layout stripe row → IsRowOf layout stripe.chunk stripe.number wants row
+abbrev pub Prepares : Layout → FullStripe → List Want → List Bool → Seen → RowBuffer → Judged → Type 0
+Prepares layout stripe wants kept rack buffer judged =
+    (images : Images) (row : Row) → rack.held ≡ Some images → IsStripeOf layout stripe row → IsRowOf layout stripe.chunk stripe.number wants row → AreKept kept row
     → IsPrepared images layout row judged buffer
 
 -- what was prepared stands in another buffer too

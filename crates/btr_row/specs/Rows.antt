@@ -18,11 +18,12 @@ use Rattle.btr_read.specs.Layout.{Layout, device_in}
 use Rattle.btr_mend.specs.Blocks.{accepted, block_writes}
 use Rattle.btr_mend.specs.Writes.{Write}
 
--- a full stripe: a row of a chunk, and the checked blocks in it
+-- a full stripe: a row of a chunk, the checked blocks in it, and the columns whose parities are kept as they are
 pub record Row : Type 0 where
   pub chunk : Chunk
   pub number : ℕ
   pub blocks : List Target
+  pub kept : ℕ → Bool
 
 abbrev pub slice_count : Row → ℕ
 slice_count row = data_count row.chunk.profile (length row.chunk.stripes)
@@ -74,9 +75,10 @@ module _ (images : List (List ℕ)) (layout : Layout) where
   element_with given row Q = parity_q 65536 (slices_with given row)
   element_with given row (Mirror i) = []
 
-  -- a column is decided: it meets a checked block, and none that is lost
+  -- a column is decided: it meets a checked block, its parities aren't to be kept, and it meets none that is lost
   abbrev pub is_decided : Row → ℕ → Bool
-  is_decided row column = list_any (meets column) row.blocks && list_all (λ t. not (meets column t) || is_some (accepted images t)) row.blocks
+  is_decided row column =
+      list_any (meets column) row.blocks && (not (row.kept column) && list_all (λ t. not (meets column t) || is_some (accepted images t)) row.blocks)
 
   -- a parity of the new data differs from that in the image
   abbrev pub differs : Row → Part → ℕ → Bool

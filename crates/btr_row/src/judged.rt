@@ -22,7 +22,7 @@ pub(crate) struct Judged {
     pub(crate) lost: u64,
     // By column, whether it meets a block.
     pub(crate) met: [bool; 16],
-    // By column, whether it meets a block that is lost.
+    // By column, whether its parities are to be kept, or it meets a block that is lost.
     pub(crate) broken: [bool; 16],
 }
 
@@ -75,10 +75,11 @@ fn counted(judged: &Judged, verdict: &Verdict) -> Judged
     }
 }
 
-// Judges the blocks of a row as it was read, and makes the new data.
+// Judges the blocks of a row as it was read, and makes the new data. The parities of some columns are to be kept.
 pub(crate) fn judge(
     wants: &[Want],
     stripe: &FullStripe,
+    kept: [bool; 16],
     store: &Store,
     old: &[u8],
     new: &mut [u8],
@@ -91,7 +92,7 @@ pub(crate) fn judge(
     requires new_room { OfRow store.now.layout stripe.now (λ row. length row.chunk.stripes * 65536 ≤ length new.old) }
     requires block { 65536 ≤ length block.old }
     requires spare { 65536 ≤ length spare.old }
-    ensures judged { JudgesRow store.now.layout stripe.now wants.now old.now new.new result }
+    ensures judged { JudgesRow store.now.layout stripe.now wants.now kept old.now new.new result }
     ensures long { length new.new ≡ length new.old }
     ensures block_long { length block.new ≡ length block.old }
     ensures spare_long { length spare.new ≡ length spare.old }
@@ -102,7 +103,7 @@ pub(crate) fn judge(
         rebuilt: 0,
         lost: 0,
         met: [false; 16],
-        broken: [false; 16],
+        broken: kept,
     };
     for want in wants {
         let verdict = judge_block(want, stripe, store, old, new, block, spare);

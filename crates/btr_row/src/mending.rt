@@ -4,7 +4,7 @@ ghost use Rattle.btr_read.specs.Serves.{Serves};
 ghost use Rattle.btr_read.specs.Store.{SameLoans};
 ghost use Rattle.btr_mend.specs.Writes.{AreWritable};
 ghost use Rattle.btr_row.specs.Rows.{Row};
-ghost use Rattle.btr_row.specs.Mending.{HasRoom, HasRoomFor, IsRow, IsRowOf, MendsRow};
+ghost use Rattle.btr_row.specs.Mending.{AreKept, HasRoom, HasRoomFor, IsRow, IsRowOf, MendsRow};
 
 use crate::applying::{count_parities, write_row};
 use crate::preparing::prepare;
@@ -17,7 +17,7 @@ use btr_read::{Store, Want};
 /// Mends a full stripe (`docs/FORMAT.md`, "Full stripes"). The row is read whole, one call for each element, and every choice is made from
 /// those bytes. Each checked block that doesn't pass at its own place is written over with the bytes of its first candidate that passes, in the order
 /// of the wants, and then each sector of P, and of Q, that differs from that of the new data, in the columns of 4096 bytes that meet a checked block
-/// and none that is lost; one write each. Where there are both, the marked images are synced between them, by ascending slot, and their marks taken away: so
+/// and none that is lost, and aren't to be kept; one write each. Where there are both, the marked images are synced between them, by ascending slot, and their marks taken away: so
 /// wherever the writes are stopped, or power fails, nothing of a parity is stored before all blocks are. Where the row is only to be read, nothing is
 /// written. The slots that were written are marked.
 ///
@@ -47,11 +47,11 @@ pub fn mend_row<R: Rack>(
     ensures serves { Serves (R.seen rack.new) store.new }
     ensures loans { SameLoans store.old store.new }
     ensures room { (elements : ℕ) → HasRoom buffer.old elements → HasRoom buffer.new elements }
-    ensures mends { (row : Row) → IsRowOf store.old.layout at.chunk at.number wants.now row
+    ensures mends { (row : Row) → IsRowOf store.old.layout at.chunk at.number wants.now row → AreKept at.kept row
         → MendsRow store.old.layout row write marks.old marks.new (R.seen rack.old) (R.seen rack.new) result }
 {
     let stripe = full_stripe(at.chunk, at.number, at.nodesize, store);
-    let judged = match prepare(wants, &stripe, rack, store, buffer) {
+    let judged = match prepare(wants, &stripe, at.kept, rack, store, buffer) {
         Ok(judged) => judged,
         Err(fault) => return Err(fault),
     };

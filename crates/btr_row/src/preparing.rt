@@ -43,6 +43,7 @@ fn make_parities(shape: &Shape, new: &[u8], p: &mut [u8], q: &mut [u8])
 pub(crate) fn prepare<R: Rack>(
     wants: &[Want],
     stripe: &FullStripe,
+    kept: [bool; 16],
     rack: &mut R,
     store: &Store,
     buffer: &mut RowBuffer,
@@ -53,7 +54,7 @@ pub(crate) fn prepare<R: Rack>(
     requires room { OfRow store.now.layout stripe.now (λ row. HasRoom buffer.old (length row.chunk.stripes)) }
     ensures reads { OnlyReads (R.seen rack.old) (R.seen rack.new) }
     ensures room { (elements : ℕ) → HasRoom buffer.old elements → HasRoom buffer.new elements }
-    ensures prepared { IfOk result (Prepares store.now.layout stripe.now wants.now (R.seen rack.old) buffer.new) }
+    ensures prepared { IfOk result (Prepares store.now.layout stripe.now wants.now kept (R.seen rack.old) buffer.new) }
     ensures account { AccountsRow store.now.layout stripe.now (R.seen rack.old) (R.seen rack.new) result }
 {
     match read_row(stripe, rack, store, &mut buffer.elements) {
@@ -63,6 +64,7 @@ pub(crate) fn prepare<R: Rack>(
     let judged = judge(
         wants,
         stripe,
+        kept,
         store,
         &buffer.elements,
         &mut buffer.slices,

@@ -46,6 +46,7 @@ use Rattle.btr_scrub.proofs.RowWrites.{IsBlockOf, IsRowIn, row_short, row_stays,
 use Rattle.btr_scrub.proofs.Scrubbing.{IsUnmoved}
 use Rattle.btr_scrub.proofs.Shorts.{Short, block_short, shorts_keep_if}
 use Rattle.btr_scrub.proofs.Writes.{any_flat, any_map}
+use Rattle.btr_scrub.specs.Plain.{KeptColumns}
 
 -- ---- which chunk a byte of a device is of
 
@@ -102,7 +103,7 @@ in_take (suc n) (y ∷ xs) x (inr i) = let r = in_take n xs x i in (suc r.0, ome
 
 -- ---- a chunk of the table
 
-module _ (layout : Layout) (table : IsTable layout.chunks) (own : HaveOwnSlots layout.devices) (none : first_missing layout ≡ None) (number : ℕ) (chunk : Chunk) (there : slice_get layout.chunks number ≡ Some chunk) (wants : List Want) where
+module _ (kept : KeptColumns) (layout : Layout) (table : IsTable layout.chunks) (own : HaveOwnSlots layout.devices) (none : first_missing layout ≡ None) (number : ℕ) (chunk : Chunk) (there : slice_get layout.chunks number ≡ Some chunk) (wants : List Want) where
   sound : IsChunk chunk
   sound = (table.sound number chunk there).0
 
@@ -142,7 +143,7 @@ module _ (layout : Layout) (table : IsTable layout.chunks) (own : HaveOwnSlots l
     pub blocks : (t : Target) → In t row.blocks → IsBlockOf layout row t
 
   -- an element stands, as no device is missing
-  pub element_stands : (r : ℕ) (q : Part) → mirrors chunk ≡ None → r * 65536 + 65536 ≤ stripe_length chunk → HasPart chunk.profile (length chunk.stripes) q → IsSome (range_in_element layout (row_of (targets layout wants) chunk r) q 0 65536)
+  pub element_stands : (r : ℕ) (q : Part) → mirrors chunk ≡ None → r * 65536 + 65536 ≤ stripe_length chunk → HasPart chunk.profile (length chunk.stripes) q → IsSome (range_in_element layout (row_of kept (targets layout wants) chunk r) q 0 65536)
   element_stands r q parity inside has =
       let at0 : Elements = record { row = r; index = 0; rest = 0 } in
       let p = placed_part chunk q at0 sound has (record { index = data_count-some chunk.profile (length chunk.stripes) (facts chunk sound).count; inside = omega (arith, inside) }) in
@@ -159,7 +160,7 @@ module _ (layout : Layout) (table : IsTable layout.chunks) (own : HaveOwnSlots l
       some_if None e = absurd (false≢true (sym e))
       some_if (Some r) e = refl
 
-  pub row_is : (r : ℕ) → mirrors chunk ≡ None → r * 65536 + 65536 ≤ stripe_length chunk → OfRows (row_of (targets layout wants) chunk r)
+  pub row_is : (r : ℕ) → mirrors chunk ≡ None → r * 65536 + 65536 ≤ stripe_length chunk → OfRows (row_of kept (targets layout wants) chunk r)
   row_is r parity inside = record {
     is = record {
       chunk_number = number;
@@ -177,22 +178,22 @@ module _ (layout : Layout) (table : IsTable layout.chunks) (own : HaveOwnSlots l
         record { is = is; chunk = (start_same t is (eqb-true t.chunk.start chunk.start both.0)).1; number = eqb-true t.at.row r both.1 };
   }
 
-  of_rows : (parity : mirrors chunk ≡ None) (row : Row) → In row (rows_in (targets layout wants) chunk) → OfRows row
+  of_rows : (parity : mirrors chunk ≡ None) (row : Row) → In row (rows_in kept (targets layout wants) chunk) → OfRows row
   of_rows parity row i =
       let n = stripe_length chunk / 65536 in
-      let listed : rows_in (targets layout wants) chunk ≡ map (row_of (targets layout wants) chunk) (range_with_len 0 n) = ap (λ o. cond (is_none o) (map (row_of (targets layout wants) chunk) (range_with_len 0 n)) []) parity in
-      let r = of_mapped (row_of (targets layout wants) chunk) row (range_with_len 0 n) (subst (In row) listed i) in
+      let listed : rows_in kept (targets layout wants) chunk ≡ map (row_of kept (targets layout wants) chunk) (range_with_len 0 n) = ap (λ o. cond (is_none o) (map (row_of kept (targets layout wants) chunk) (range_with_len 0 n)) []) parity in
+      let r = of_mapped (row_of kept (targets layout wants) chunk) row (range_with_len 0 n) (subst (In row) listed i) in
       let lt = in_below n r.0 r.1 in
       subst OfRows r.2 (row_is r.0 parity (omega (arith, lt)))
 
   module _ (images : Images) (lengths : HaveLengths images layout) where
     -- each byte that is written lies in the chunk
-    pub chunk_byte : (slot off : ℕ) → list_any (λ (w : Write). covers slot off w.range) (chunk_writes_for layout chunk wants images) ≡ true → InChunk layout number slot off
+    pub chunk_byte : (slot off : ℕ) → list_any (λ (w : Write). covers slot off w.range) (chunk_writes_for kept layout chunk wants images) ≡ true → InChunk layout number slot off
     chunk_byte slot off h = by (mirrors chunk) refl h
       where
-        by : (o : Option ℕ) → mirrors chunk ≡ o → list_any (λ (w : Write). covers slot off w.range) (cond (is_none o) (rows_writes layout (rows_in (targets layout wants) chunk) images) (blocks_writes (blocks_in layout chunk wants) images)) ≡ true → InChunk layout number slot off
+        by : (o : Option ℕ) → mirrors chunk ≡ o → list_any (λ (w : Write). covers slot off w.range) (cond (is_none o) (rows_writes layout (rows_in kept (targets layout wants) chunk) images) (blocks_writes (blocks_in layout chunk wants) images)) ≡ true → InChunk layout number slot off
         by None parity h =
-            let f = any_flat (λ (w : Write). covers slot off w.range) (row_writes images layout) (rows_in (targets layout wants) chunk) h in
+            let f = any_flat (λ (w : Write). covers slot off w.range) (row_writes images layout) (rows_in kept (targets layout wants) chunk) h in
             let of = of_rows parity f.0 f.1 in
             let w = written_row layout f.0 table of.is images slot off of.blocks f.2 in
             let same = number_same w.1.number of.is.chunk_number f.0.chunk w.1.there of.is.there in
@@ -204,11 +205,11 @@ module _ (layout : Layout) (table : IsTable layout.chunks) (own : HaveOwnSlots l
             subst (λ k. InChunk layout k slot off) of.number_is (copy_in_chunk layout f.0 slot off table of.is b)
 
     -- .. and has at most as many bytes as its range
-    pub chunk_short : All (Short images) (chunk_writes_for layout chunk wants images)
+    pub chunk_short : All (Short images) (chunk_writes_for kept layout chunk wants images)
     chunk_short = by (mirrors chunk) refl
       where
-        by : (o : Option ℕ) → mirrors chunk ≡ o → All (Short images) (cond (is_none o) (rows_writes layout (rows_in (targets layout wants) chunk) images) (blocks_writes (blocks_in layout chunk wants) images))
-        by None parity = flat_short images (row_writes images layout) (rows_in (targets layout wants) chunk) (λ row i. let of = of_rows parity row i in row_short layout row table of.is images lengths of.blocks)
+        by : (o : Option ℕ) → mirrors chunk ≡ o → All (Short images) (cond (is_none o) (rows_writes layout (rows_in kept (targets layout wants) chunk) images) (blocks_writes (blocks_in layout chunk wants) images))
+        by None parity = flat_short images (row_writes images layout) (rows_in kept (targets layout wants) chunk) (λ row i. let of = of_rows parity row i in row_short layout row table of.is images lengths of.blocks)
         by (Some n) copies = flat_short images (block_writes images) (blocks_in layout chunk wants) (λ t i. block_short images layout lengths t (of_chunk t i).is)
 
     -- what is told of a block counts the same
@@ -232,10 +233,10 @@ module _ (layout : Layout) (table : IsTable layout.chunks) (own : HaveOwnSlots l
 
     -- nothing of the chunk was written: what is to be written and counted there is as before
     pub chunk_stays : (write : Bool) (images' : Images) (ranges : List Range) → KeepsOutside ranges images images' → ((slot off : ℕ) → InChunk layout number slot off → list_any (covers slot off) ranges ≡ false)
-        → (chunk_writes_for layout chunk wants images' ≡ chunk_writes_for layout chunk wants images) × ((x : Tally) → chunk_count_for layout write chunk wants images' x ≡ chunk_count_for layout write chunk wants images x)
+        → (chunk_writes_for kept layout chunk wants images' ≡ chunk_writes_for kept layout chunk wants images) × ((x : Tally) → chunk_count_for kept layout write chunk wants images' x ≡ chunk_count_for kept layout write chunk wants images x)
     chunk_stays write images' ranges keeps free = (by_writes (mirrors chunk) refl, λ x. by_counts x (mirrors chunk) refl)
       where
-        each_row : (parity : mirrors chunk ≡ None) (r : Row) → In r (rows_in (targets layout wants) chunk) → RowAlike images images' layout r
+        each_row : (parity : mirrors chunk ≡ None) (r : Row) → In r (rows_in kept (targets layout wants) chunk) → RowAlike images images' layout r
         each_row parity r i =
             let of = of_rows parity r i in
             row_stays layout r table of.is images lengths images' ranges of.blocks keeps
@@ -252,43 +253,43 @@ module _ (layout : Layout) (table : IsTable layout.chunks) (own : HaveOwnSlots l
             byte t is n k has lt slot off None e c = absurd c
             byte t is n k has lt slot off (Some range) e c = of_range layout t k slot off range is (has_mirror t n k has lt) e c
 
-        by_writes : (o : Option ℕ) → mirrors chunk ≡ o → cond (is_none o) (rows_writes layout (rows_in (targets layout wants) chunk) images') (blocks_writes (blocks_in layout chunk wants) images')
-            ≡ cond (is_none o) (rows_writes layout (rows_in (targets layout wants) chunk) images) (blocks_writes (blocks_in layout chunk wants) images)
-        by_writes None parity = flat_same (row_writes images' layout) (row_writes images layout) (rows_in (targets layout wants) chunk) (λ r i. row_writes_alike images images' layout r (each_row parity r i))
+        by_writes : (o : Option ℕ) → mirrors chunk ≡ o → cond (is_none o) (rows_writes layout (rows_in kept (targets layout wants) chunk) images') (blocks_writes (blocks_in layout chunk wants) images')
+            ≡ cond (is_none o) (rows_writes layout (rows_in kept (targets layout wants) chunk) images) (blocks_writes (blocks_in layout chunk wants) images)
+        by_writes None parity = flat_same (row_writes images' layout) (row_writes images layout) (rows_in kept (targets layout wants) chunk) (λ r i. row_writes_alike images images' layout r (each_row parity r i))
         by_writes (Some n) copies = flat_same (block_writes images') (block_writes images) (blocks_in layout chunk wants) (λ t i. writes_alike images images' t (each_block n copies t i))
 
-        by_counts : (x : Tally) (o : Option ℕ) → mirrors chunk ≡ o → cond (is_none o) (rows_count layout write (rows_in (targets layout wants) chunk) images' x) (blocks_count write (blocks_in layout chunk wants) images' x)
-            ≡ cond (is_none o) (rows_count layout write (rows_in (targets layout wants) chunk) images x) (blocks_count write (blocks_in layout chunk wants) images x)
-        by_counts x None parity = fold_same (count_row images' layout write) (count_row images layout write) (rows_in (targets layout wants) chunk) x (λ r i z. row_counts_alike write images' r z (each_row parity r i))
+        by_counts : (x : Tally) (o : Option ℕ) → mirrors chunk ≡ o → cond (is_none o) (rows_count layout write (rows_in kept (targets layout wants) chunk) images' x) (blocks_count write (blocks_in layout chunk wants) images' x)
+            ≡ cond (is_none o) (rows_count layout write (rows_in kept (targets layout wants) chunk) images x) (blocks_count write (blocks_in layout chunk wants) images x)
+        by_counts x None parity = fold_same (count_row images' layout write) (count_row images layout write) (rows_in kept (targets layout wants) chunk) x (λ r i z. row_counts_alike write images' r z (each_row parity r i))
         by_counts x (Some n) copies = fold_same (count_block images' write) (count_block images write) (blocks_in layout chunk wants) x (λ t i z. block_counts_alike write images' t z (each_block n copies t i))
 
 -- ---- the chunks before one
 
-module _ (layout : Layout) (table : IsTable layout.chunks) (own : HaveOwnSlots layout.devices) (none : first_missing layout ≡ None) (wants : List Want) (images : Images) (lengths : HaveLengths images layout) (number : ℕ) (chunk : Chunk) (there : slice_get layout.chunks number ≡ Some chunk) where
-  before_short : All (Short images) (all_writes_for layout (take number layout.chunks) wants images)
-  before_short = flat_short images (λ c. chunk_writes_for layout c wants images) (take number layout.chunks)
-      (λ c i. let j = in_take number layout.chunks c i in chunk_short layout table own none j.0 c j.2 wants images lengths)
+module _ (kept : KeptColumns) (layout : Layout) (table : IsTable layout.chunks) (own : HaveOwnSlots layout.devices) (none : first_missing layout ≡ None) (wants : List Want) (images : Images) (lengths : HaveLengths images layout) (number : ℕ) (chunk : Chunk) (there : slice_get layout.chunks number ≡ Some chunk) where
+  before_short : All (Short images) (all_writes_for kept layout (take number layout.chunks) wants images)
+  before_short = flat_short images (λ c. chunk_writes_for kept layout c wants images) (take number layout.chunks)
+      (λ c i. let j = in_take number layout.chunks c i in chunk_short kept layout table own none j.0 c j.2 wants images lengths)
 
-  before_free : (slot off : ℕ) → InChunk layout number slot off → list_any (covers slot off) (map (λ (w : Write). w.range) (all_writes_for layout (take number layout.chunks) wants images)) ≡ false
-  before_free slot off b = by (list_any (covers slot off) (map (λ (w : Write). w.range) (all_writes_for layout (take number layout.chunks) wants images))) refl
+  before_free : (slot off : ℕ) → InChunk layout number slot off → list_any (covers slot off) (map (λ (w : Write). w.range) (all_writes_for kept layout (take number layout.chunks) wants images)) ≡ false
+  before_free slot off b = by (list_any (covers slot off) (map (λ (w : Write). w.range) (all_writes_for kept layout (take number layout.chunks) wants images))) refl
     where
-      by : (c : Bool) → list_any (covers slot off) (map (λ (w : Write). w.range) (all_writes_for layout (take number layout.chunks) wants images)) ≡ c
-          → list_any (covers slot off) (map (λ (w : Write). w.range) (all_writes_for layout (take number layout.chunks) wants images)) ≡ false
+      by : (c : Bool) → list_any (covers slot off) (map (λ (w : Write). w.range) (all_writes_for kept layout (take number layout.chunks) wants images)) ≡ c
+          → list_any (covers slot off) (map (λ (w : Write). w.range) (all_writes_for kept layout (take number layout.chunks) wants images)) ≡ false
       by false e = e
       by true e =
-          let any : list_any (λ (w : Write). covers slot off w.range) (all_writes_for layout (take number layout.chunks) wants images) ≡ true = sym (any_map (covers slot off) (λ (w : Write). w.range) (all_writes_for layout (take number layout.chunks) wants images)) ∙ e in
-          let f = any_flat (λ (w : Write). covers slot off w.range) (λ c. chunk_writes_for layout c wants images) (take number layout.chunks) any in
+          let any : list_any (λ (w : Write). covers slot off w.range) (all_writes_for kept layout (take number layout.chunks) wants images) ≡ true = sym (any_map (covers slot off) (λ (w : Write). w.range) (all_writes_for kept layout (take number layout.chunks) wants images)) ∙ e in
+          let f = any_flat (λ (w : Write). covers slot off w.range) (λ c. chunk_writes_for kept layout c wants images) (take number layout.chunks) any in
           let j = in_take number layout.chunks f.0 f.1 in
-          let in_j = chunk_byte layout table own none j.0 f.0 j.2 wants images lengths slot off f.2 in
+          let in_j = chunk_byte kept layout table own none j.0 f.0 j.2 wants images lengths slot off f.2 in
           let same = one_chunk layout j.0 number slot off table own in_j b in
           absurd (omega (arith, same, j.1))
 
 -- what was written in the chunks before one leaves what is to be written and counted there
-pub chunk_unmoved : (layout : Layout) (write : Bool) (wants : List Want) (held : Option Images) (number : ℕ) (chunk : Chunk) → IsTable layout.chunks → HaveOwnSlots layout.devices → first_missing layout ≡ None → slice_get layout.chunks number ≡ Some chunk
+pub chunk_unmoved : (kept : KeptColumns) (layout : Layout) (write : Bool) (wants : List Want) (held : Option Images) (number : ℕ) (chunk : Chunk) → IsTable layout.chunks → HaveOwnSlots layout.devices → first_missing layout ≡ None → slice_get layout.chunks number ≡ Some chunk
     → ((images : Images) → held ≡ Some images → HaveLengths images layout)
-    → IsUnmoved layout write (all_writes_for layout (take number layout.chunks) wants) (chunk_writes_for layout chunk wants) (chunk_count_for layout write chunk wants) held
-chunk_unmoved layout write wants held number chunk table own none there lengths images e =
-    let ws = all_writes_for layout (take number layout.chunks) wants images in
+    → IsUnmoved layout write (all_writes_for kept layout (take number layout.chunks) wants) (chunk_writes_for kept layout chunk wants) (chunk_count_for kept layout write chunk wants) held
+chunk_unmoved kept layout write wants held number chunk table own none there lengths images e =
+    let ws = all_writes_for kept layout (take number layout.chunks) wants images in
     let l = lengths images e in
-    chunk_stays layout table own none number chunk there wants images l write (fold write_on images (writes_if write ws)) (map (λ (w : Write). w.range) ws)
-    (shorts_keep_if write images ws (before_short layout table own none wants images l number chunk there)) (before_free layout table own none wants images l number chunk there)
+    chunk_stays kept layout table own none number chunk there wants images l write (fold write_on images (writes_if write ws)) (map (λ (w : Write). w.range) ws)
+    (shorts_keep_if write images ws (before_short kept layout table own none wants images l number chunk there)) (before_free kept layout table own none wants images l number chunk there)

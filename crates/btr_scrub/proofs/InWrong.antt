@@ -38,6 +38,7 @@ use Rattle.btr_scrub.proofs.RowWrites.{sector_inside}
 use Rattle.btr_scrub.proofs.SoundRows.{CanBeHad, right_is_sound, right_there, sound_row}
 use Rattle.btr_scrub.proofs.Writes.{mapped}
 use Rattle.btr_scrub.proofs.Wrong.{bad_block_is_wrong, differing_parity_is_wrong}
+use Rattle.btr_scrub.specs.Plain.{KeptColumns}
 
 pub of_filter_map : {X Y : Type 0} (g : X → Option Y) (y : Y) (xs : List X) → In y (filter_map g xs) → (x : X) × In x xs × (g x ≡ Some y)
 of_filter_map g y [] i = absurd i
@@ -76,8 +77,8 @@ over_part images t w i = by (accepted images t) refl i
         let m = mapped (λ (range : Range). record { range = range; bytes = bytes }) (range_of t f.0) w f.2 in
         record { bytes = bytes; accepts = e; part = f.0; own = bad.0; unsound = not_bad (is_sound images t f.0) bad.1; range = m.1 ∙ ap Some (ap (λ (v : Write). v.range) m.2) }
 
-module _ (images : Images) (layout : Layout) (C : Committed) (wants : List Want) (table : IsTable layout.chunks) (own : HaveOwnSlots layout.devices) (none : first_missing layout ≡ None) (lengths : HaveLengths images layout)
-    (had : CanBeHad images layout C wants) (apart : AreApart layout 0 wants) where
+module _ (kept : KeptColumns) (images : Images) (layout : Layout) (C : Committed) (wants : List Want) (table : IsTable layout.chunks) (own : HaveOwnSlots layout.devices) (none : first_missing layout ≡ None) (lengths : HaveLengths images layout)
+    (had : CanBeHad kept images layout C wants) (apart : AreApart layout 0 wants) where
   abbrev ts : List Target
   ts = targets layout wants
 
@@ -87,14 +88,14 @@ module _ (images : Images) (layout : Layout) (C : Committed) (wants : List Want)
       let o = over_part images t w i in
       any_in (λ q. (range_of t q ≡ Some w.range) × ((C t.want ≡ Some (element images t q)) → ⊥)) (own_parts t) o.part o.own (
         o.range,
-        λ right. false≢true (sym o.unsound ∙ right_is_sound images layout C wants table own none lengths had t among is o.part o.bytes o.accepts right),
+        λ right. false≢true (sym o.unsound ∙ right_is_sound kept images layout C wants table own none lengths had t among is o.part o.bytes o.accepts right),
       )
 
   -- ---- a full stripe
 
   module _ (number : ℕ) (chunk : Chunk) (there : slice_get layout.chunks number ≡ Some chunk) (r : ℕ) (parity : mirrors chunk ≡ None) (inside : r * 65536 + 65536 ≤ stripe_length chunk) where
     abbrev row : Row
-    row = row_of ts chunk r
+    row = row_of kept ts chunk r
 
     own_slice : (t : Target) (q : Part) → mirrors t.chunk ≡ None → In q (own_parts t) → part.Slice t.at.index ≡ q
     own_slice t q none i = by (subst (λ o. In q (option_map_or (λ copies. map part.Mirror (range_with_len 0 copies)) o (part.Slice t.at.index ∷ []))) none i)
@@ -105,7 +106,7 @@ module _ (images : Images) (layout : Layout) (C : Committed) (wants : List Want)
 
     wrong_block : (t : Target) → In t row.blocks → (w : Write) → In w (block_writes images t) → LiesInWrong images layout C row w.range
     wrong_block t among w i =
-        let sound = sound_row images layout C wants table own none lengths had apart number chunk there r parity inside in
+        let sound = sound_row kept images layout C wants table own none lengths had apart number chunk there r parity inside in
         let block = sound.blocks t among in
         let o = over_part images t w i in
         let slice = own_slice t o.part block.in_row.parity o.own in
@@ -117,14 +118,14 @@ module _ (images : Images) (layout : Layout) (C : Committed) (wants : List Want)
         let len : w.range.len ≡ size_of t = ap (λ (x : Range). x.len) same in (
           part.Slice t.at.index,
           has,
-          bad_block_is_wrong images layout C row t sound among (right_there images layout C wants table own none lengths had apart number chunk there r parity inside t among).0 (ap (is_sound images t) slice ∙ o.unsound),
+          bad_block_is_wrong images layout C row t sound among (right_there kept images layout C wants table own none lengths had apart number chunk there r parity inside t among).0 (ap (is_sound images t) slice ∙ o.unsound),
           subst (λ x. IfSome x (LiesIn w.range)) (sym e.element) (record { slot = ap (λ (x : Range). x.slot) same; from = omega (arith, off); to = omega (arith, off, len, block.lies.inside) }),
         )
 
     wrong_parity : (q : Part) → In q (parities chunk.profile) → (w : Write) → In w (parity_writes images layout row q) → LiesInWrong images layout C row w.range
     wrong_parity q among w i =
-        let sound = sound_row images layout C wants table own none lengths had apart number chunk there r parity inside in
-        let of = row_is layout table own none number chunk there wants r parity inside in
+        let sound = sound_row kept images layout C wants table own none lengths had apart number chunk there r parity inside in
+        let of = row_is kept layout table own none number chunk there wants r parity inside in
         let has = parity_has chunk.profile (length chunk.stripes) q parity among in
         let f = of_filter_map (sector_write images layout row q) w (differing images layout row q) i in
         let column = f.0 in
@@ -135,7 +136,7 @@ module _ (images : Images) (layout : Layout) (C : Committed) (wants : List Want)
         let whole : range_in_element layout row q (column * 4096) 4096 ≡ Some w.range = m.1 ∙ ap Some (ap (λ (v : Write). v.range) m.2) in (
           q,
           has.0,
-          differing_parity_is_wrong images layout C row q column sound (λ t j. (right_there images layout C wants table own none lengths had apart number chunk there r parity inside t j).1) (is_parity q has.1) few both.0 both.1,
+          differing_parity_is_wrong images layout C row q column sound (λ t j. (right_there kept images layout C wants table own none lengths had apart number chunk there r parity inside t j).1) (is_parity q has.1) few both.0 both.1,
           sector_inside layout row table of.is q column w.range has.0 few whole,
         )
 
@@ -149,28 +150,28 @@ module _ (images : Images) (layout : Layout) (C : Committed) (wants : List Want)
 
   -- a range lies in a wrong element of a full stripe, or is a copy that isn't the committed one
   abbrev pub IsWrong : Range → Type 0
-  IsWrong range = ((chunk : Chunk) × In chunk layout.chunks × ((row : Row) × In row (rows_in ts chunk) × LiesInWrong images layout C row range)) ⊎ ((t : Target) × In t ts × IsOfWrongCopy images C range t)
+  IsWrong range = ((chunk : Chunk) × In chunk layout.chunks × ((row : Row) × In row (rows_in kept ts chunk) × LiesInWrong images layout C row range)) ⊎ ((t : Target) × In t ts × IsOfWrongCopy images C range t)
 
-  in_chunk : (number : ℕ) (chunk : Chunk) → slice_get layout.chunks number ≡ Some chunk → In chunk layout.chunks → (w : Write) → In w (chunk_writes_for layout chunk wants images) → IsWrong w.range
+  in_chunk : (number : ℕ) (chunk : Chunk) → slice_get layout.chunks number ≡ Some chunk → In chunk layout.chunks → (w : Write) → In w (chunk_writes_for kept layout chunk wants images) → IsWrong w.range
   in_chunk number chunk there among w i = by (mirrors chunk) refl i
     where
-      by : (o : Option ℕ) → mirrors chunk ≡ o → In w (cond (is_none o) (rows_writes layout (rows_in ts chunk) images) (blocks_writes (blocks_in layout chunk wants) images)) → IsWrong w.range
+      by : (o : Option ℕ) → mirrors chunk ≡ o → In w (cond (is_none o) (rows_writes layout (rows_in kept ts chunk) images) (blocks_writes (blocks_in layout chunk wants) images)) → IsWrong w.range
       by None parity i =
           let n = stripe_length chunk / 65536 in
-          let f = of_flat (row_writes images layout) w (rows_in ts chunk) i in
-          let listed : rows_in ts chunk ≡ map (row_of ts chunk) (range_with_len 0 n) = ap (λ o. cond (is_none o) (map (row_of ts chunk) (range_with_len 0 n)) []) parity in
-          let r = of_mapped (row_of ts chunk) f.0 (range_with_len 0 n) (subst (In f.0) listed f.1) in
+          let f = of_flat (row_writes images layout) w (rows_in kept ts chunk) i in
+          let listed : rows_in kept ts chunk ≡ map (row_of kept ts chunk) (range_with_len 0 n) = ap (λ o. cond (is_none o) (map (row_of kept ts chunk) (range_with_len 0 n)) []) parity in
+          let r = of_mapped (row_of kept ts chunk) f.0 (range_with_len 0 n) (subst (In f.0) listed f.1) in
           let lt = in_below n r.0 r.1 in
           inl (chunk, among, (f.0, f.1, subst (λ row. LiesInWrong images layout C row w.range) r.2 (wrong_row number chunk there r.0 parity (omega (arith, lt)) w (subst (λ row. In w (row_writes images layout row)) (sym r.2) f.2))))
       by (Some n) copies i =
           let f = of_flat (block_writes images) w (blocks_in layout chunk wants) i in
-          let of = of_chunk layout table own none number chunk there wants f.0 f.1 in
+          let of = of_chunk kept layout table own none number chunk there wants f.0 f.1 in
           let among = (passing_filter (is_in_chunk chunk) f.0 ts f.1).0 in
           inr (f.0, among, wrong_copy f.0 among of.is w f.2)
 
-  pub range_is_wrong : (range : Range) → In range (map (λ (w : Write). w.range) (all_writes_for layout layout.chunks wants images)) → IsWrong range
+  pub range_is_wrong : (range : Range) → In range (map (λ (w : Write). w.range) (all_writes_for kept layout layout.chunks wants images)) → IsWrong range
   range_is_wrong range i =
-      let w = of_mapped (λ (w : Write). w.range) range (all_writes_for layout layout.chunks wants images) i in
-      let f = of_flat (λ c. chunk_writes_for layout c wants images) w.0 layout.chunks w.1 in
+      let w = of_mapped (λ (w : Write). w.range) range (all_writes_for kept layout layout.chunks wants images) i in
+      let f = of_flat (λ c. chunk_writes_for kept layout c wants images) w.0 layout.chunks w.1 in
       let j = at_in f.0 layout.chunks f.1 in
       subst IsWrong w.2 (in_chunk j.0 f.0 j.1 f.1 w.0 f.2)

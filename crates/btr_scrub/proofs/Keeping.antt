@@ -54,6 +54,7 @@ use Rattle.btr_scrub.proofs.SoundRows.{address_is}
 use Rattle.btr_scrub.proofs.Staying.{covered, range_same}
 use Rattle.btr_scrub.proofs.Survival.{of_filter, some_of}
 use Rattle.btr_scrub.proofs.Writes.{any_flat, any_map}
+use Rattle.btr_scrub.specs.Plain.{KeptColumns}
 
 -- ---- images that differ in ranges
 
@@ -156,12 +157,15 @@ module _ (images : Images) (layout : Layout) (wants : List Want) (row : Row) (he
   inside : row.number * 65536 + 65536 ≤ stripe_length row.chunk
   inside = omega (arith, here.is_row.position.inside)
 
-  of : OfRows layout here.table here.own_slots here.given here.is_row.number row.chunk here.is_row.there wants row
-  of = subst (OfRows layout here.table here.own_slots here.given here.is_row.number row.chunk here.is_row.there wants) (sym here.is_row.made)
-      (row_is layout here.table here.own_slots here.given here.is_row.number row.chunk here.is_row.there wants row.number here.is_row.parity inside)
+  abbrev kept : KeptColumns
+  kept chunk number = row.kept
+
+  of : OfRows kept layout here.table here.own_slots here.given here.is_row.number row.chunk here.is_row.there wants row
+  of = subst (λ bs. OfRows kept layout here.table here.own_slots here.given here.is_row.number row.chunk here.is_row.there wants (record { chunk = row.chunk; number = row.number; blocks = bs; kept = row.kept })) (sym here.is_row.made)
+      (row_is kept layout here.table here.own_slots here.given here.is_row.number row.chunk here.is_row.there wants row.number here.is_row.parity inside)
 
   among : (t : Target) → In t row.blocks → In t ts
-  among t i = of_filter (is_in_row row.chunk row.number) t ts (subst (λ (r : Row). In t r.blocks) here.is_row.made i)
+  among t i = of_filter (is_in_row row.chunk row.number) t ts (subst (In t) here.is_row.made i)
 
   rebuilt_short : All (Short images) (rebuilt_writes images layout row)
   rebuilt_short = left_short images (rebuilt_writes images layout row) (parities_writes images layout row) (row_short layout row here.table of.is images here.lengths of.blocks)

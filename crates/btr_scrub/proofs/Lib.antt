@@ -37,6 +37,8 @@ pub mod RowNumbers
 pub mod NextRow
 pub mod Rowwise
 pub mod OneRow
+pub mod PlainRuns
+pub mod Keepings
 pub mod Told
 pub mod Outside
 pub mod SoundRows

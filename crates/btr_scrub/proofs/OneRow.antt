@@ -1,5 +1,5 @@
 -- One full stripe of the table, as it was mended.
-use Rattle.std.proofs.Common.{◌≡◌, ℕ, ◌+◌, ◌*◌, Bool, true, false, leb, cond, List, [], length, slice_get, Option, Some, None, IfSome, IsSomeAnd, is_some, Result, Ok, Err, refl, sym, ap, ◌∙◌, subst, inl, inr, arith}
+use Rattle.std.proofs.Common.{◌≡◌, ℕ, ◌+◌, ◌*◌, ◌≤◌, count_by, get_or, is_none, Bool, true, false, leb, cond, List, [], length, slice_get, Option, Some, None, IfSome, IsSomeAnd, is_some, Result, Ok, Err, refl, sym, ap, ◌∙◌, subst, inl, inr, arith}
 use Rattle.std.proofs.lemmas.List.{length-map}
 use Rattle.std.proofs.lemmas.Option.{same_Some, slice_get_within}
 use Rattle.std.specs.List.{Any}
@@ -20,22 +20,26 @@ use Rattle.btr_read.specs.Candidates.{Target, range_on}
 use Rattle.btr_read.specs.Cause.{LiesIn}
 use Rattle.btr_read.specs.Fate.{Fault, sought, sought_at, sought_in}
 use Rattle.btr_read.specs.Layout.{Layout, device_in}
+use Rattle.btr_read.specs.Serves.{Serves}
+use Rattle.btr_read.specs.Store.{Blocks, SameLoans}
 use Rattle.btr_read.specs.Want.{addr_of, len_of}
 use Rattle.btr_read.specs.declared.want.Want.{Want}
 use Rattle.btr_mend.specs.Syncing.{IsSyncOr, plain}
-use Rattle.btr_mend.specs.Writes.{Images, Write, writes_if}
+use Rattle.btr_mend.specs.Writes.{AreWritable, Images, Write, writes_if}
 use Rattle.btr_mend.specs.declared.mended.MendFault.{MendFault}
-use Rattle.btr_row.specs.Mending.{HasRoom, IsFullStripe, IsOfRow, IsRowOf, MendsRow, is_at, mended_row}
+use Rattle.btr_row.specs.Mending.{AreKept, HasRoom, IsFullStripe, IsOfRow, IsOn, IsRow, IsRowOf, MendsRow, is_at, mended_row}
 use Rattle.btr_row.specs.Rows.{Row, range_in_element, row_writes}
 use Rattle.btr_row.specs.declared.buffer.RowBuffer.{RowBuffer}
 use Rattle.btr_row.specs.declared.mended.MendedRow.{MendedRow}
 use Rattle.btr_scrub.specs.Leaves.{LiesInStripe}
-use Rattle.btr_scrub.specs.Scrubbing.{HasRooms, IsOfScrub, Scrubs, counted_row}
+use Rattle.btr_scrub.specs.Repair.{first_missing}
+use Rattle.btr_scrub.specs.Scrubbing.{CanMend, HasRooms, IsOfScrub, Scrubs, counted_row}
 use Rattle.btr_scrub.specs.declared.tally.Tally.{Tally}
 use Rattle.btr_mend.proofs.Turning.{strands_same}
 use Rattle.btr_row.proofs.Elements.{range_stands, stands_on}
 use Rattle.btr_scrub.proofs.Positions.{find_at}
 use Rattle.btr_scrub.proofs.Scrubbing.{does_fault, does_value, does_weaker, tell, told}
+use Rattle.btr_scrub.proofs.Lists.{all_from, all_in}
 use Rattle.btr_scrub.proofs.Some.{any_at}
 
 -- the number of its chunk
@@ -47,6 +51,32 @@ has_room layout buffer start number wants row rooms is = let n = chunk_number la
 
 pub as_many : (layout : Layout) (start number : ℕ) (wants : List Want) (row : Row) → IsRowOf layout start number wants row → length wants ≡ length row.blocks
 as_many layout start number wants row is = sym (length-map wants (sought layout)) ∙ ap length is.blocks ∙ length-map row.blocks is_at
+
+-- some blocks' row, whose kept columns are those that are flagged
+pub flagged : (layout : Layout) (start number : ℕ) (wants : List Want) (flags : List Bool) → IsRow layout start number wants → (row : Row) × IsRowOf layout start number wants row × AreKept flags row
+flagged layout start number wants flags h =
+    let r = h.row in
+    let s = h.is.stripe in
+    let row : Row = record { chunk = r.chunk; number = r.number; blocks = r.blocks; kept = λ column. get_or flags column false } in (
+      row,
+      record {
+        stripe = record { chunk = s.chunk; number_is = s.number_is; parity = s.parity; inside = s.inside; stand = s.stand };
+        blocks = h.is.blocks;
+        lie = all_from (IsOn row) r.blocks (λ t i. let on = all_in (IsOn r) r.blocks t h.is.lie i in record { chunk = on.chunk; number = on.number });
+      },
+      λ column lt. refl,
+    )
+
+-- behind a call that left the slots, the layout and the loans all blocks can be mended still
+pub still_ready : (write : Bool) (a b : Seen) (old new : Blocks) (m n : List Bool) → CanMend write a old m → Serves b new → SameLoans old new → b.slots ≡ a.slots → length n ≡ length m → CanMend write b new n
+still_ready write a b old new m n can serves same slots long = record {
+  serves = serves;
+  room = subst (λ l. 2 ≤ count_by is_none l) (sym same.loans) can.room;
+  writable = λ w. subst AreWritable (sym slots) (can.writable w);
+  slots = long ∙ can.slots ∙ sym (ap length slots);
+  table = subst (λ (l : Layout). IsTable l.chunks) (sym same.layout) can.table;
+  given = ap first_missing same.layout ∙ can.given;
+}
 
 -- a range in an element lies in a stripe of the table
 pub row_in_stripe : (layout : Layout) (start number : ℕ) (row : Row) (range : Range) → IsTable layout.chunks → IsFullStripe layout start number row → IsOfRow layout row range → LiesInStripe layout range

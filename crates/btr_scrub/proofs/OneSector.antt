@@ -88,9 +88,9 @@ met_of addr found = Emit (sector_met addr found) (Return tt)
 
 -- a sector was listed with the checksum that was looked up
 pub gathers_sector : (s : Super) (sums : Option TreeRoot) (addr : ℕ) (old new : Seen) (vol vol' : Volume) (x y : Gathered) (sum : Sum) → length sum.bytes ≡ 32 → Serves new vol'.store → OnlyReads old new → SameVolume vol vol'
-    → Looks vol.store.layout old new (sum_at (kind_in s) sums addr) (Ok (Some sum)) → AddsTo x.list y.list (Sector addr (stored_sum (kind_in s) sum.bytes)) → y.unchecked ≡ x.unchecked
+    → Looks vol.store.layout old new (sum_at (kind_in s) sums addr) (Ok (Some sum)) → AddsTo x.list y.list (Sector addr (stored_sum (kind_in s) sum.bytes)) → y.unchecked ≡ x.unchecked → y.plain ≡ x.plain
     → Gathers (sector s sums addr) (scene old vol x) (scene new vol' y) (Ok tt)
-gathers_sector s sums addr old new vol vol' x y sum long serves reads same l added count =
+gathers_sector s sums addr old new vol vol' x y sum long serves reads same l added count plain =
     let layout = vol.store.layout in
     let kind = kind_in s in
     let p = sum_at kind sums addr in
@@ -100,7 +100,7 @@ gathers_sector s sums addr old new vol vol' x y sum long serves reads same l add
       volume = same;
       serves = serves;
       done = met;
-      lists = lists_added x y (Sector addr (stored_sum kind sum.bytes)) added count;
+      lists = lists_added x y (Sector addr (stored_sum kind sum.bytes)) added count plain;
       content = drawn layout (λ B. Follows {S = ⊥} (unread_by layout old new) no_part [] (exec B p) [] (Ok (Some sum))) (λ B. Follows (unread_by layout old new) no_part [] (exec B (sector s sums addr)) met (Ok tt))
           (λ B f.
           let stored = is_stored B kind addr sum sums f.1 in

@@ -47,6 +47,7 @@ use Rattle.btr_scrub.proofs.SoundRows.{CanBeHad, is_row, right_is_sound, right_t
 use Rattle.btr_scrub.proofs.Staying.{row_outlives_writes}
 use Rattle.btr_scrub.proofs.Survival.{in_filter, some_of}
 use Rattle.btr_scrub.proofs.Writes.{any_filter_map, any_flat, any_map, mapped, row_writes_are_wrong}
+use Rattle.btr_scrub.specs.Plain.{KeptColumns}
 
 -- blocks that are apart and have an address in common are the same
 pub same_block : (layout : Layout) (wants : List Want) (end : ℕ) (t u : Target) (one other : ℕ) → AreApart layout end wants → In t (targets layout wants) → In u (targets layout wants)
@@ -93,13 +94,13 @@ at_member [] i x e = cc
 at_member (y ∷ xs) zero x e = inl (same_Some y x e)
 at_member (y ∷ xs) (suc i) x e = inr (at_member xs i x e)
 
-module _ (images : Images) (layout : Layout) (C : Committed) (wants : List Want) (table : IsTable layout.chunks) (own : HaveOwnSlots layout.devices) (none : first_missing layout ≡ None) (lengths : HaveLengths images layout)
-    (had : CanBeHad images layout C wants) (apart : AreApart layout 0 wants) where
+module _ (kept : KeptColumns) (images : Images) (layout : Layout) (C : Committed) (wants : List Want) (table : IsTable layout.chunks) (own : HaveOwnSlots layout.devices) (none : first_missing layout ≡ None) (lengths : HaveLengths images layout)
+    (had : CanBeHad kept images layout C wants) (apart : AreApart layout 0 wants) where
   abbrev ts : List Target
   ts = targets layout wants
 
   abbrev ws : List Write
-  ws = all_writes_for layout layout.chunks wants images
+  ws = all_writes_for kept layout layout.chunks wants images
 
   abbrev ranges : List Range
   ranges = map (λ (w : Write). w.range) ws
@@ -126,28 +127,28 @@ module _ (images : Images) (layout : Layout) (C : Committed) (wants : List Want)
     parity : mirrors chunk ≡ None
     row : ℕ
     inside : row * 65536 + 65536 ≤ stripe_length chunk
-    written : list_any (covered_at slot off) (row_writes images layout (row_of ts chunk row)) ≡ true
+    written : list_any (covered_at slot off) (row_writes images layout (row_of kept ts chunk row)) ≡ true
 
-  for_chunk : (slot off number : ℕ) (chunk : Chunk) → slice_get layout.chunks number ≡ Some chunk → list_any (covered_at slot off) (chunk_writes_for layout chunk wants images) ≡ true → ForCopies slot off ⊎ ForRow slot off
+  for_chunk : (slot off number : ℕ) (chunk : Chunk) → slice_get layout.chunks number ≡ Some chunk → list_any (covered_at slot off) (chunk_writes_for kept layout chunk wants images) ≡ true → ForCopies slot off ⊎ ForRow slot off
   for_chunk slot off number chunk there h = by (mirrors chunk) refl h
     where
-      by : (o : Option ℕ) → mirrors chunk ≡ o → list_any (covered_at slot off) (cond (is_none o) (rows_writes layout (rows_in ts chunk) images) (blocks_writes (blocks_in layout chunk wants) images)) ≡ true → ForCopies slot off ⊎ ForRow slot off
+      by : (o : Option ℕ) → mirrors chunk ≡ o → list_any (covered_at slot off) (cond (is_none o) (rows_writes layout (rows_in kept ts chunk) images) (blocks_writes (blocks_in layout chunk wants) images)) ≡ true → ForCopies slot off ⊎ ForRow slot off
       by None parity h =
           let n = stripe_length chunk / 65536 in
-          let f = any_flat (covered_at slot off) (row_writes images layout) (rows_in ts chunk) h in
-          let listed : rows_in ts chunk ≡ map (row_of ts chunk) (range_with_len 0 n) = ap (λ o. cond (is_none o) (map (row_of ts chunk) (range_with_len 0 n)) []) parity in
-          let r = of_mapped (row_of ts chunk) f.0 (range_with_len 0 n) (subst (In f.0) listed f.1) in
+          let f = any_flat (covered_at slot off) (row_writes images layout) (rows_in kept ts chunk) h in
+          let listed : rows_in kept ts chunk ≡ map (row_of kept ts chunk) (range_with_len 0 n) = ap (λ o. cond (is_none o) (map (row_of kept ts chunk) (range_with_len 0 n)) []) parity in
+          let r = of_mapped (row_of kept ts chunk) f.0 (range_with_len 0 n) (subst (In f.0) listed f.1) in
           let lt = in_below n r.0 r.1 in
           inr (record { number = number; chunk = chunk; there = there; parity = parity; row = r.0; inside = omega (arith, lt); written = subst (λ row. list_any (covered_at slot off) (row_writes images layout row) ≡ true) (sym r.2) f.2 })
       by (Some n) copies h =
           let f = any_flat (covered_at slot off) (block_writes images) (blocks_in layout chunk wants) h in
-          let of = of_chunk layout table own none number chunk there wants f.0 f.1 in
+          let of = of_chunk kept layout table own none number chunk there wants f.0 f.1 in
           inl (record { block = f.0; among = (passing_filter (is_in_chunk chunk) f.0 ts f.1).0; is = of.is; copies = n; has = ap mirrors of.chunk_is ∙ copies; written = f.2 })
 
   for_what : (slot off : ℕ) → list_any (covers slot off) ranges ≡ true → ForCopies slot off ⊎ ForRow slot off
   for_what slot off h =
       let any : list_any (covered_at slot off) ws ≡ true = sym (any_map (covers slot off) (λ (w : Write). w.range) ws) ∙ h in
-      let f = any_flat (covered_at slot off) (λ c. chunk_writes_for layout c wants images) layout.chunks any in
+      let f = any_flat (covered_at slot off) (λ c. chunk_writes_for kept layout c wants images) layout.chunks any in
       let j = at_in f.0 layout.chunks f.1 in
       for_chunk slot off j.0 f.0 j.1 f.2
 
@@ -170,11 +171,11 @@ module _ (images : Images) (layout : Layout) (C : Committed) (wants : List Want)
 
   in_wrong : (slot off : ℕ) → ForRow slot off → IsInWrong images layout C ts slot off
   in_wrong slot off f =
-      let row = row_of ts f.chunk f.row in
+      let row = row_of kept ts f.chunk f.row in
       row_writes_are_wrong images layout C ts row slot off table
-      (is_row images layout C wants table own none lengths had apart f.number f.chunk f.there f.row f.parity f.inside)
-      (sound_row images layout C wants table own none lengths had apart f.number f.chunk f.there f.row f.parity f.inside)
-      (right_there images layout C wants table own none lengths had apart f.number f.chunk f.there f.row f.parity f.inside)
+      (is_row kept images layout C wants table own none lengths had apart f.number f.chunk f.there f.row f.parity f.inside)
+      (sound_row kept images layout C wants table own none lengths had apart f.number f.chunk f.there f.row f.parity f.inside)
+      (right_there kept images layout C wants table own none lengths had apart f.number f.chunk f.there f.row f.parity f.inside)
       (any_map (covers slot off) (λ (w : Write). w.range) (row_writes images layout row) ∙ f.written)
 
   avoid : AvoidRight images layout C ts ranges
@@ -186,26 +187,26 @@ module _ (images : Images) (layout : Layout) (C : Committed) (wants : List Want)
     fits : t.at.row * 65536 + 65536 ≤ stripe_length t.chunk
     fits = omega (arith, row_fits layout table is.number t.chunk is.there parity (addr_of t.want) is.held, ap (λ (e : Elements). e.row) is.at)
 
-    mine : In t (row_of ts t.chunk t.at.row).blocks
+    mine : In t (row_of kept ts t.chunk t.at.row).blocks
     mine = in_filter (is_in_row t.chunk t.at.row) t ts among (and_from (eqb t.chunk.start t.chunk.start) (eqb t.at.row t.at.row) (eq-eqb t.chunk.start t.chunk.start refl) (eq-eqb t.at.row t.at.row refl))
 
     some_blocks : (bs : List Target) → In t bs → bs ≢ []
     some_blocks [] i e = i
     some_blocks (b ∷ bs) i e = cc
 
-    few : HasFewWrong images layout C (row_of ts t.chunk t.at.row)
+    few : HasFewWrong images layout C (row_of kept ts t.chunk t.at.row)
     few =
         let n = stripe_length t.chunk / 65536 in
-        let listed : rows_in ts t.chunk ≡ map (row_of ts t.chunk) (range_with_len 0 n) = ap (λ o. cond (is_none o) (map (row_of ts t.chunk) (range_with_len 0 n)) []) parity in
-        had.rows t.chunk (row_of ts t.chunk t.at.row) (at_member layout.chunks is.number t.chunk is.there)
-        (subst (In (row_of ts t.chunk t.at.row)) (sym listed) (in_map (row_of ts t.chunk) t.at.row (range_with_len 0 n) (below_in 0 n t.at.row (omega arith) (omega (arith, fits)))))
-        (some_blocks (row_of ts t.chunk t.at.row).blocks mine)
+        let listed : rows_in kept ts t.chunk ≡ map (row_of kept ts t.chunk) (range_with_len 0 n) = ap (λ o. cond (is_none o) (map (row_of kept ts t.chunk) (range_with_len 0 n)) []) parity in
+        had.rows t.chunk (row_of kept ts t.chunk t.at.row) (at_member layout.chunks is.number t.chunk is.there)
+        (subst (In (row_of kept ts t.chunk t.at.row)) (sym listed) (in_map (row_of kept ts t.chunk) t.at.row (range_with_len 0 n) (below_in 0 n t.at.row (omega arith) (omega (arith, fits)))))
+        (some_blocks (row_of kept ts t.chunk t.at.row).blocks mine)
 
     row_outlives : (left : Images) → KeepsOutside ranges images left → StandsFor left C t
     row_outlives left keeps =
-        row_outlives_writes images left layout C ts (row_of ts t.chunk t.at.row) ranges t table own lengths
-        (is_row images layout C wants table own none lengths had apart is.number t.chunk is.there t.at.row parity fits) avoid keeps
-        (sound_row images layout C wants table own none lengths had apart is.number t.chunk is.there t.at.row parity fits) few mine
+        row_outlives_writes images left layout C ts (row_of kept ts t.chunk t.at.row) ranges t table own lengths
+        (is_row kept images layout C wants table own none lengths had apart is.number t.chunk is.there t.at.row parity fits) avoid keeps
+        (sound_row kept images layout C wants table own none lengths had apart is.number t.chunk is.there t.at.row parity fits) few mine
 
   -- ---- blocks with copies
 
@@ -239,7 +240,7 @@ module _ (images : Images) (layout : Layout) (C : Committed) (wants : List Want)
               sym (copy_of_range layout t j.0 slot off m.0 is mirror there cover)
               ∙ same_copy layout t slot off table own is (of_range layout t j.0 slot off m.0 is mirror there cover) (byte slot off c)
               ∙ copy_of_range layout t k slot off range is (has_mirror t n k has lt) whole c in
-              not_bad (is_sound images t f.0) bad.1 (ap (is_sound images t) (sym j.2 ∙ ap Mirror same) ∙ right_is_sound images layout C wants table own none lengths had t among is (Mirror k) bytes e right)
+              not_bad (is_sound images t f.0) bad.1 (ap (is_sound images t) (sym j.2 ∙ ap Mirror same) ∙ right_is_sound kept images layout C wants table own none lengths had t among is (Mirror k) bytes e right)
 
       -- nor those of any other
       not_written : (slot off : ℕ) → covers slot off range ≡ true → ForCopies slot off ⊎ ForRow slot off → ⊥
@@ -248,9 +249,9 @@ module _ (images : Images) (layout : Layout) (C : Committed) (wants : List Want)
           let same : t ≡ f.block = same_block layout wants 0 t f.block s.one s.other apart among f.among s.below s.under s.same in
           not_own slot off c (subst (λ u. list_any (covered_at slot off) (block_writes images u) ≡ true) (sym same) f.written)
       not_written slot off c (inr f) =
-          let of = row_is layout table own none f.number f.chunk f.there wants f.row f.parity f.inside in
-          let w = written_row layout (row_of ts f.chunk f.row) table of.is images slot off of.blocks f.written in
-          let number : is.number ≡ w.1.number = one_chunk layout is.number w.1.number slot off table own (copy_in_chunk layout t slot off table is (byte slot off c)) (element_in_chunk layout (row_of ts f.chunk f.row) w.0 slot off table w.1) in
+          let of = row_is kept layout table own none f.number f.chunk f.there wants f.row f.parity f.inside in
+          let w = written_row layout (row_of kept ts f.chunk f.row) table of.is images slot off of.blocks f.written in
+          let number : is.number ≡ w.1.number = one_chunk layout is.number w.1.number slot off table own (copy_in_chunk layout t slot off table is (byte slot off c)) (element_in_chunk layout (row_of kept ts f.chunk f.row) w.0 slot off table w.1) in
           let chunk : t.chunk ≡ f.chunk = same_Some t.chunk f.chunk (sym is.there ∙ ap (slice_get layout.chunks) number ∙ w.1.there) in
           false≢true (sym (ap is_some f.parity) ∙ ap (λ k. is_some (mirrors k)) (sym chunk) ∙ ap is_some has)
 

@@ -170,7 +170,7 @@ module _ (images images' : Images) (layout : Layout) (row : Row) (none : mirrors
 
   decided_same : (column : ℕ) → is_decided images' layout row column ≡ is_decided images layout row column
   decided_same column =
-      ap (λ b. list_any (meets column) row.blocks && b)
+      ap (λ b. list_any (meets column) row.blocks && (not (row.kept column) && b))
       (all_same (λ t. not (meets column t) || is_some (accepted images' t)) (λ t. not (meets column t) || is_some (accepted images t)) row.blocks (λ t i. ap (λ o. not (meets column t) || is_some o) (blocks t i).accepted))
 
   parity_same : (q : Part) → In q (parities row.chunk.profile) → parity_writes images' layout row q ≡ parity_writes images layout row q

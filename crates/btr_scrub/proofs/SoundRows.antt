@@ -36,16 +36,17 @@ use Rattle.btr_scrub.proofs.Lists.{all_in}
 use Rattle.btr_scrub.proofs.Positions.{striped_position}
 use Rattle.btr_scrub.proofs.RowWrites.{IsBlockOf, in_one_element}
 use Rattle.btr_scrub.proofs.Survival.{elements_are_slices, in_filter, of_filter, some_of}
+use Rattle.btr_scrub.specs.Plain.{KeptColumns}
 
 -- what is known of the blocks of some wants, which can all be had
-pub record CanBeHad (images : Images) (layout : Layout) (C : Committed) (wants : List Want) : Type 0 where
+pub record CanBeHad (kept : KeptColumns) (images : Images) (layout : Layout) (C : Committed) (wants : List Want) : Type 0 where
   pub bytes : AreBytes images
   pub pass : AllPass layout C
   pub honest : IsHonest images layout C
   pub committed : (t : Target) → In t (targets layout wants) → IsSome (C t.want)
   pub slices : (t : Target) → In t (targets layout wants) → IfSome (C t.want) (IsSlice (size_of t))
   pub copies : (t : Target) → In t (targets layout wants) → HasRightCopy images C t
-  pub rows : (chunk : Chunk) (row : Row) → In chunk layout.chunks → In row (rows_in (targets layout wants) chunk) → (row.blocks ≢ []) → HasFewWrong images layout C row
+  pub rows : (chunk : Chunk) (row : Row) → In chunk layout.chunks → In row (rows_in kept (targets layout wants) chunk) → (row.blocks ≢ []) → HasFewWrong images layout C row
 
 -- ---- the blocks of a slice
 
@@ -106,7 +107,7 @@ module _ (layout : Layout) (p q : Target → Bool) (base : ℕ) where
 
 -- ---- the row of a number
 
-module _ (images : Images) (layout : Layout) (C : Committed) (wants : List Want) (table : IsTable layout.chunks) (own : HaveOwnSlots layout.devices) (none : first_missing layout ≡ None) (lengths : HaveLengths images layout) (had : CanBeHad images layout C wants) where
+module _ (kept : KeptColumns) (images : Images) (layout : Layout) (C : Committed) (wants : List Want) (table : IsTable layout.chunks) (own : HaveOwnSlots layout.devices) (none : first_missing layout ≡ None) (lengths : HaveLengths images layout) (had : CanBeHad kept images layout C wants) where
   -- committed bytes of a block pass
   pub right_passes : (t : Target) → IsSought layout t → RightPasses C t
   right_passes t is = subst (λ s. IfSome (C t.want) (λ bytes. passes s t.want bytes ≡ true)) (sym is.setting) (had.pass t.want)
@@ -139,10 +140,10 @@ module _ (images : Images) (layout : Layout) (C : Committed) (wants : List Want)
 
   module _ (apart : AreApart layout 0 wants) (number : ℕ) (chunk : Chunk) (there : slice_get layout.chunks number ≡ Some chunk) (r : ℕ) (parity : mirrors chunk ≡ None) (inside : r * 65536 + 65536 ≤ stripe_length chunk) where
     abbrev row : Row
-    row = row_of (targets layout wants) chunk r
+    row = row_of kept (targets layout wants) chunk r
 
-    of : OfRows layout table own none number chunk there wants row
-    of = row_is layout table own none number chunk there wants r parity inside
+    of : OfRows kept layout table own none number chunk there wants row
+    of = row_is kept layout table own none number chunk there wants r parity inside
 
     pub is_row : IsRowOf layout (targets layout wants) row
     is_row = record { number = of.is.chunk_number; there = of.is.there; parity = of.is.parity; position = of.is.position; made = refl }

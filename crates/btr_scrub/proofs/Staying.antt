@@ -3,21 +3,22 @@ use Rattle.std.proofs.Common.{◌≡◌, ◌⊎◌, ℕ, ◌+◌, ◌-◌, ◌<�
 use Rattle.std.proofs.lemmas.Bool.{false≢true, and_from, eq-eqb, le-leb, lt-ltb}
 use Rattle.std.proofs.lemmas.List.{ext_get_or, get_or-take, get_or-drop}
 use Rattle.std.proofs.lemmas.Option.{same_Some}
-use Rattle.std.specs.List.{list_any}
+use Rattle.std.specs.List.{filter, list_any}
 use Rattle.std.specs.Option.{option_map_or}
 use Rattle.btr_chunk.specs.Chunk.{mirrors}
 use Rattle.btr_chunk.specs.Mapping.{place_at, stripe_of}
 use Rattle.btr_chunk.specs.Table.{IsTable}
 use Rattle.btr_chunk.specs.declared.place.Part.{Part}
+use Rattle.btr_chunk.specs.declared.place.Part.TheVariants as part
 use Rattle.btr_rack.specs.Rack.{bytes_of, image_of, range_in}
 use Rattle.btr_rack.specs.declared.place.Place.{Place as Range}
 use Rattle.btr_read.specs.Candidates.{Target}
 use Rattle.btr_read.specs.Layout.{HaveOwnSlots, Layout, device_in}
 use Rattle.btr_read.proofs.Pieces.{length-slice_range}
 use Rattle.btr_scrub.specs.Places.{IsOfElement}
-use Rattle.btr_scrub.specs.Repair.{covers, row_of}
-use Rattle.btr_scrub.specs.Right.{Committed, IsRight}
-use Rattle.btr_row.specs.Rows.{Row, range_in_element}
+use Rattle.btr_scrub.specs.Repair.{covers, is_in_row}
+use Rattle.btr_scrub.specs.Right.{Committed, IsRight, committed_for}
+use Rattle.btr_row.specs.Rows.{Row, element_with, range_in_element}
 use Rattle.btr_scrub.specs.Staying.{AvoidRight, IsInCopies, IsInWrong, IsRowOf, RightStays, RowOutlivesWrites}
 use Rattle.btr_row.proofs.Elements.{range_stands, stands_on}
 use Rattle.btr_chunk.specs.Apart.{LiesIn}
@@ -34,14 +35,26 @@ range_same xs ys a b le long same =
     (λ i below. let lt : i < b - a = omega (arith, below, lx) in
     get_or-take (b - a) (drop a xs) i 0 lt ∙ get_or-drop a xs i 0 ∙ same (a + i) (omega arith) (omega (arith, lt)) ∙ sym (get_or-take (b - a) (drop a ys) i 0 lt ∙ get_or-drop a ys i 0))
 
+-- an element doesn't hang on the columns whose parities are kept
+kept_apart : (images : Images) (layout : Layout) (given : Target → Option (List ℕ)) (row : Row) (kept : ℕ → Bool) (q : Part)
+    → element_with images layout given (record { chunk = row.chunk; number = row.number; blocks = row.blocks; kept = kept }) q ≡ element_with images layout given row q
+kept_apart images layout given row kept (part.Mirror i) = refl
+kept_apart images layout given row kept (part.Slice i) = refl
+kept_apart images layout given row kept part.P = refl
+kept_apart images layout given row kept part.Q = refl
+
 module _ (images : Images) (layout : Layout) (C : Committed) (blocks : List Target) (table : IsTable layout.chunks) (own : HaveOwnSlots layout.devices) (row : Row) (is_row : IsRowOf layout blocks row) (q : Part)
     (right : IsRight images layout C row q) (slot off : ℕ) (of : IsOfElement layout row q slot off) where
   -- a byte of a right element lies in no wrong one
   not_wrong : IsInWrong images layout C blocks slot off → ⊥
   not_wrong w =
       let same = elements_apart layout row w.row q w.part slot off table own of w.of in
-      let rows : row ≡ w.row = is_row.made ∙ ap (λ c. row_of blocks c row.number) same.0 ∙ ap (row_of blocks w.row.chunk) same.1 ∙ sym w.is_row.made in
-      w.wrong (subst (λ p. IsRight images layout C w.row p) same.2 (subst (λ r. IsRight images layout C r q) rows right))
+      let blocks_same : row.blocks ≡ w.row.blocks = is_row.made ∙ ap (λ c. filter (is_in_row c row.number) blocks) same.0 ∙ ap (λ n. filter (is_in_row w.row.chunk n) blocks) same.1 ∙ sym w.is_row.made in
+      let mine : IsRight images layout C (record { chunk = w.row.chunk; number = w.row.number; blocks = w.row.blocks; kept = row.kept }) q =
+      subst (λ bs. IsRight images layout C (record { chunk = w.row.chunk; number = w.row.number; blocks = bs; kept = row.kept }) q) blocks_same
+      (subst (λ n. IsRight images layout C (record { chunk = w.row.chunk; number = n; blocks = row.blocks; kept = row.kept }) q) same.1
+      (subst (λ c. IsRight images layout C (record { chunk = c; number = row.number; blocks = row.blocks; kept = row.kept }) q) same.0 right)) in
+      w.wrong (subst (λ p. IsRight images layout C w.row p) same.2 (mine ∙ kept_apart images layout (committed_for C) w.row row.kept q))
 
   -- nor in a chunk with copies
   not_copies : IsInCopies layout slot off → ⊥

@@ -22,7 +22,7 @@ use Rattle.btr_row.specs.Rows.{Row, parities, parity_writes}
 use Rattle.btr_scrub.specs.Gathering.{checked_among, count_met}
 use Rattle.btr_scrub.specs.Glue.{In}
 use Rattle.btr_scrub.specs.Order.{IsSought}
-use Rattle.btr_scrub.specs.Repair.{blocks, is_in_chunk, is_in_row, is_unchecked, met, row_of, rows_in, stood, stood_tally, tally}
+use Rattle.btr_scrub.specs.Repair.{blocks, columns_kept, is_in_chunk, is_in_row, is_unchecked, met, row_of, rows_in, stood, stood_tally, tally}
 use Rattle.btr_scrub.specs.Scrubbing.{all_count_for, blocks_count, count_block, count_row, count_row_of, counted_row, rows_count}
 use Rattle.btr_scrub.specs.Units.{Checked, Met, Unchecked}
 use Rattle.btr_scrub.specs.Whole.{ListedCounts, first_tally}
@@ -34,6 +34,7 @@ use Rattle.btr_scrub.proofs.Positions.{is_sought}
 use Rattle.btr_scrub.proofs.RowNumbers.{all_rows, row_fits, same_start}
 use Rattle.btr_scrub.proofs.Sums.{IsOnce, sum_flat, sum_map, sum_one, sum_parts, sum_parts_of, sum_zero}
 use Rattle.btr_scrub.proofs.Told.{targets_met}
+use Rattle.btr_scrub.specs.Plain.{KeptColumns}
 
 -- ---- counts that stand still
 
@@ -48,7 +49,7 @@ rises get step f (x ∷ xs) t n h e =
     let whole : n + f x + sum_by f xs ≡ n + sum_by f (x ∷ xs) = omega (arith, sum_by-cons f x xs) in
     rises get step f xs (step t x) (n + f x) (λ y i. h y (inr i)) (h x (inl refl) t n e) ∙ ap stood whole
 
-module _ (images : Images) (layout : Layout) (write : Bool) (ts : List Target) where
+module _ (kept : KeptColumns) (images : Images) (layout : Layout) (write : Bool) (ts : List Target) where
   -- a count, and what a block and a full stripe add to it
   record Adds (get : Tally → ℕ) (of_block : Target → ℕ) (of_row : Row → ℕ) : Type 0 where
     block : (u : Tally) (m : ℕ) (t : Target) → get u ≡ stood m → get (count_block images write u t) ≡ stood (m + of_block t)
@@ -56,17 +57,17 @@ module _ (images : Images) (layout : Layout) (write : Bool) (ts : List Target) w
 
   -- what a chunk adds
   abbrev of_chunk : (Target → ℕ) → (Row → ℕ) → Chunk → ℕ
-  of_chunk of_block of_row chunk = cond (is_none (mirrors chunk)) (sum_by of_row (rows_in ts chunk)) (sum_by of_block (filter (is_in_chunk chunk) ts))
+  of_chunk of_block of_row chunk = cond (is_none (mirrors chunk)) (sum_by of_row (rows_in kept ts chunk)) (sum_by of_block (filter (is_in_chunk chunk) ts))
 
   abbrev count_chunk : Tally → Chunk → Tally
-  count_chunk u chunk = cond (is_none (mirrors chunk)) (rows_count layout write (rows_in ts chunk) images u) (blocks_count write (filter (is_in_chunk chunk) ts) images u)
+  count_chunk u chunk = cond (is_none (mirrors chunk)) (rows_count layout write (rows_in kept ts chunk) images u) (blocks_count write (filter (is_in_chunk chunk) ts) images u)
 
   chunk_adds : (get : Tally → ℕ) (of_block : Target → ℕ) (of_row : Row → ℕ) → Adds get of_block of_row → (chunk : Chunk) (u : Tally) (m : ℕ) → get u ≡ stood m → get (count_chunk u chunk) ≡ stood (m + of_chunk of_block of_row chunk)
   chunk_adds get of_block of_row adds chunk u m e = by (is_none (mirrors chunk))
     where
-      by : (b : Bool) → get (cond b (rows_count layout write (rows_in ts chunk) images u) (blocks_count write (filter (is_in_chunk chunk) ts) images u))
-          ≡ stood (m + cond b (sum_by of_row (rows_in ts chunk)) (sum_by of_block (filter (is_in_chunk chunk) ts)))
-      by true = rises get (count_row images layout write) of_row (rows_in ts chunk) u m (λ r i v k e. adds.row v k r e) e
+      by : (b : Bool) → get (cond b (rows_count layout write (rows_in kept ts chunk) images u) (blocks_count write (filter (is_in_chunk chunk) ts) images u))
+          ≡ stood (m + cond b (sum_by of_row (rows_in kept ts chunk)) (sum_by of_block (filter (is_in_chunk chunk) ts)))
+      by true = rises get (count_row images layout write) of_row (rows_in kept ts chunk) u m (λ r i v k e. adds.row v k r e) e
       by false = rises get (count_block images write) of_block (filter (is_in_chunk chunk) ts) u m (λ t i v k e. adds.block v k t e) e
 
   all_add : (get : Tally → ℕ) (of_block : Target → ℕ) (of_row : Row → ℕ) → Adds get of_block of_row → (chunks : List Chunk) (u : Tally) (m : ℕ) → get u ≡ stood m → get (fold count_chunk u chunks) ≡ stood (m + sum_by (of_chunk of_block of_row) chunks)
@@ -135,7 +136,7 @@ module _ (images : Images) (layout : Layout) (write : Bool) (ts : List Target) w
   parity_in r = sum_by (λ part. length (parity_writes images layout r part)) (parities r.chunk.profile)
 
   parity_none : (r : Row) → r.blocks ≡ [] → parity_in r ≡ 0
-  parity_none r is = sum_zero (λ part. length (parity_writes images layout r part)) (parities r.chunk.profile) (λ q i. ap (λ bs. length (parity_writes images layout (record { chunk = r.chunk; number = r.number; blocks = bs }) q)) is)
+  parity_none r is = sum_zero (λ part. length (parity_writes images layout r part)) (parities r.chunk.profile) (λ q i. ap (λ bs. length (parity_writes images layout (record { chunk = r.chunk; number = r.number; blocks = bs; kept = r.kept }) q)) is)
 
   parity_add : Adds (λ (t : Tally). t.parity) (λ t. 0) parity_in
   parity_add = record {
@@ -175,9 +176,9 @@ module _ (images : Images) (layout : Layout) (write : Bool) (ts : List Target) w
     range_at a (suc n) (suc i) lt = range_at (a + 1) n i (omega (arith, lt)) ∙ ap Some (omega arith)
 
     in_rows : (number : ℕ) (chunk : Chunk) → slice_get layout.chunks number ≡ Some chunk → mirrors chunk ≡ None → (f : Target → ℕ)
-        → sum_by (in_row f) (rows_in ts chunk) ≡ sum_by f (filter (is_in_chunk chunk) ts)
+        → sum_by (in_row f) (rows_in kept ts chunk) ≡ sum_by f (filter (is_in_chunk chunk) ts)
     in_rows number chunk there parity f =
-        ap (sum_by (in_row f)) (all_rows ts chunk parity) ∙ sum_map (in_row f) (row_of ts chunk) (range_with_len 0 n)
+        ap (sum_by (in_row f)) (all_rows kept ts chunk parity) ∙ sum_map (in_row f) (row_of kept ts chunk) (range_with_len 0 n)
         ∙ sum_parts_of f (is_in_row chunk) (is_in_chunk chunk) (range_with_len 0 n) ts once (λ t k e. ap (λ b. b && eqb t.at.row k) e)
       where
         n : ℕ
@@ -211,27 +212,27 @@ module _ (images : Images) (layout : Layout) (write : Bool) (ts : List Target) w
     chunk_sum : (f : Target → ℕ) (chunk : Chunk) → In chunk layout.chunks → of_chunk f (in_row f) chunk ≡ sum_by f (filter (is_in_chunk chunk) ts)
     chunk_sum f chunk i = let j = at_in chunk layout.chunks i in by j.0 j.1 (mirrors chunk) refl
       where
-        by : (number : ℕ) → slice_get layout.chunks number ≡ Some chunk → (o : Option ℕ) → mirrors chunk ≡ o → cond (is_none o) (sum_by (in_row f) (rows_in ts chunk)) (sum_by f (filter (is_in_chunk chunk) ts)) ≡ sum_by f (filter (is_in_chunk chunk) ts)
+        by : (number : ℕ) → slice_get layout.chunks number ≡ Some chunk → (o : Option ℕ) → mirrors chunk ≡ o → cond (is_none o) (sum_by (in_row f) (rows_in kept ts chunk)) (sum_by f (filter (is_in_chunk chunk) ts)) ≡ sum_by f (filter (is_in_chunk chunk) ts)
         by number there None parity = in_rows number chunk there parity f
         by number there (Some n) copies = refl
 
     all_sum : (f : Target → ℕ) → sum_by (of_chunk f (in_row f)) layout.chunks ≡ sum_by f ts
     all_sum f = sum_same (of_chunk f (in_row f)) (λ chunk. sum_by f (filter (is_in_chunk chunk) ts)) layout.chunks (chunk_sum f) ∙ sum_parts f is_in_chunk layout.chunks ts once_chunk
 
-    parity_sum : sum_by (of_chunk (λ t. 0) parity_in) layout.chunks ≡ sum_by parity_in (flat_map (rows_in ts) layout.chunks)
-    parity_sum = sum_same (of_chunk (λ t. 0) parity_in) (λ chunk. sum_by parity_in (rows_in ts chunk)) layout.chunks (λ chunk i. by chunk (mirrors chunk) refl) ∙ sym (sum_flat parity_in (rows_in ts) layout.chunks)
+    parity_sum : sum_by (of_chunk (λ t. 0) parity_in) layout.chunks ≡ sum_by parity_in (flat_map (rows_in kept ts) layout.chunks)
+    parity_sum = sum_same (of_chunk (λ t. 0) parity_in) (λ chunk. sum_by parity_in (rows_in kept ts chunk)) layout.chunks (λ chunk i. by chunk (mirrors chunk) refl) ∙ sym (sum_flat parity_in (rows_in kept ts) layout.chunks)
       where
-        by : (chunk : Chunk) (o : Option ℕ) → mirrors chunk ≡ o → cond (is_none o) (sum_by parity_in (rows_in ts chunk)) (sum_by (λ t. 0) (filter (is_in_chunk chunk) ts)) ≡ sum_by parity_in (rows_in ts chunk)
+        by : (chunk : Chunk) (o : Option ℕ) → mirrors chunk ≡ o → cond (is_none o) (sum_by parity_in (rows_in kept ts chunk)) (sum_by (λ t. 0) (filter (is_in_chunk chunk) ts)) ≡ sum_by parity_in (rows_in kept ts chunk)
         by chunk None parity = refl
         by chunk (Some n) copies =
             sum_zero (λ t. 0) (filter (is_in_chunk chunk) ts) (λ t i. refl)
-            ∙ sym (ap (λ o. sum_by parity_in (cond (is_none o) (map (row_of ts chunk) (range_with_len 0 (stripe_length chunk / 65536))) [])) copies)
+            ∙ sym (ap (λ o. sum_by parity_in (cond (is_none o) (map (row_of kept ts chunk) (range_with_len 0 (stripe_length chunk / 65536))) [])) copies)
 
     nothing_sum : sum_by (of_chunk (λ t. 0) (λ r. 0)) layout.chunks ≡ 0
     nothing_sum = sum_zero (of_chunk (λ t. 0) (λ r. 0)) layout.chunks (λ chunk i. by chunk (is_none (mirrors chunk)))
       where
-        by : (chunk : Chunk) (b : Bool) → cond b (sum_by (λ r. 0) (rows_in ts chunk)) (sum_by (λ t. 0) (filter (is_in_chunk chunk) ts)) ≡ 0
-        by chunk true = sum_zero (λ r. 0) (rows_in ts chunk) (λ r i. refl)
+        by : (chunk : Chunk) (b : Bool) → cond b (sum_by (λ r. 0) (rows_in kept ts chunk)) (sum_by (λ t. 0) (filter (is_in_chunk chunk) ts)) ≡ 0
+        by chunk true = sum_zero (λ r. 0) (rows_in kept ts chunk) (λ r i. refl)
         by chunk false = sum_zero (λ t. 0) (filter (is_in_chunk chunk) ts) (λ t i. refl)
 
     -- ---- the tally
@@ -258,8 +259,8 @@ module _ (images : Images) (layout : Layout) (write : Bool) (ts : List Target) w
       lost_are : all.lost ≡ stood (count_by (is_lost images) ts)
       lost_are = counted_all (λ (t : Tally). t.lost) (λ t. cond (is_lost images t) 1 0) (in_row (λ t. cond (is_lost images t) 1 0)) 0 (count_by (is_lost images) ts) lost_add refl (omega (arith, all_sum (λ t. cond (is_lost images t) 1 0)))
 
-      parity_are : all.parity ≡ stood (sum_by parity_in (flat_map (rows_in ts) layout.chunks))
-      parity_are = counted_all (λ (t : Tally). t.parity) (λ t. 0) parity_in 0 (sum_by parity_in (flat_map (rows_in ts) layout.chunks)) parity_add refl (omega (arith, parity_sum))
+      parity_are : all.parity ≡ stood (sum_by parity_in (flat_map (rows_in kept ts) layout.chunks))
+      parity_are = counted_all (λ (t : Tally). t.parity) (λ t. 0) parity_in 0 (sum_by parity_in (flat_map (rows_in kept ts) layout.chunks)) parity_add refl (omega (arith, parity_sum))
 
       unchecked_are : all.unchecked ≡ stood unchecked
       unchecked_are = counted_all (λ (t : Tally). t.unchecked) (λ t. 0) (λ r. 0) unchecked unchecked unchecked_add refl (omega (arith, nothing_sum))
@@ -277,16 +278,19 @@ same_tally a b blocks bad repaired lost parity unchecked = λ i. record { blocks
 
 pub listed_counts : ListedCounts
 listed_counts images fs write table =
-    ap (λ n. all_count_for layout write layout.chunks wants images (first_tally n)) (unchecked_among ms 0 ∙ ap stood whole)
-    ∙ ap (λ ts. fold (count_chunk images layout write ts) (first_tally (stood unchecked)) layout.chunks) (targets_met layout ms)
-    ∙ same_tally (fold (count_chunk images layout write us) (first_tally (stood unchecked)) layout.chunks) (stood_tally (tally images fs write))
-    (blocks_are images layout write us table placed unchecked)
-    (bad_are images layout write us table placed unchecked)
-    (repaired_are images layout write us table placed unchecked)
-    (lost_are images layout write us table placed unchecked)
-    (parity_are images layout write us table placed unchecked)
-    (unchecked_are images layout write us table placed unchecked)
+    ap (λ n. all_count_for kept layout write layout.chunks wants images (first_tally n)) (unchecked_among ms 0 ∙ ap stood whole)
+    ∙ ap (λ ts. fold (count_chunk kept images layout write ts) (first_tally (stood unchecked)) layout.chunks) (targets_met layout ms)
+    ∙ same_tally (fold (count_chunk kept images layout write us) (first_tally (stood unchecked)) layout.chunks) (stood_tally (tally images fs write))
+    (blocks_are kept images layout write us table placed unchecked)
+    (bad_are kept images layout write us table placed unchecked)
+    (repaired_are kept images layout write us table placed unchecked)
+    (lost_are kept images layout write us table placed unchecked)
+    (parity_are kept images layout write us table placed unchecked)
+    (unchecked_are kept images layout write us table placed unchecked)
   where
+    kept : KeptColumns
+    kept = columns_kept images fs
+
     layout : Layout
     layout = fs.layout
 

@@ -8,7 +8,7 @@ use Rattle.btr_mend.specs.Blocks.{block_writes}
 use Rattle.btr_row.specs.Rows.{row_writes}
 use Rattle.btr_scrub.specs.Gathering.{checked_among}
 use Rattle.btr_scrub.specs.Order.{targets}
-use Rattle.btr_scrub.specs.Repair.{checked_target, is_in_chunk, met, ok_or_none, rows_in}
+use Rattle.btr_scrub.specs.Repair.{checked_target, columns_kept, is_in_chunk, met, ok_or_none, rows_in}
 use Rattle.btr_scrub.specs.Units.{Checked, Met, Unchecked}
 use Rattle.btr_scrub.specs.Whole.{ListedWrites}
 
@@ -19,4 +19,4 @@ targets_met layout (Unchecked addr ∷ ms) = targets_met layout ms
 
 pub listed_writes : ListedWrites
 listed_writes images fs =
-    ap (λ ts. flat_map (λ chunk. cond (is_none (mirrors chunk)) (flat_map (row_writes images fs.layout) (rows_in ts chunk)) (flat_map (block_writes images) (filter (is_in_chunk chunk) ts))) fs.layout.chunks) (targets_met fs.layout (met images fs))
+    ap (λ ts. flat_map (λ chunk. cond (is_none (mirrors chunk)) (flat_map (row_writes images fs.layout) (rows_in (columns_kept images fs) ts chunk)) (flat_map (block_writes images) (filter (is_in_chunk chunk) ts))) fs.layout.chunks) (targets_met fs.layout (met images fs))

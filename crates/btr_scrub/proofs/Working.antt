@@ -39,6 +39,7 @@ use Rattle.btr_scrub.proofs.Firsts.{drop_one}
 use Rattle.btr_scrub.proofs.Positions.{is_sought}
 use Rattle.btr_scrub.proofs.RowAgreeing.{map_same}
 use Rattle.btr_scrub.proofs.Scrubbing.{IsUnmoved, does_cut, does_next, held_after, if_append, recast, tell, told}
+use Rattle.btr_scrub.specs.Plain.{KeptColumns}
 
 -- ---- one chunk
 
@@ -178,7 +179,7 @@ take_one xs i x e = ap (λ n. take n xs) (add-one i) ∙ take_suc xs i x e
 split_at : {X : Type 0} (xs : List X) (i : ℕ) (x : X) → slice_get xs i ≡ Some x → xs ≡ take i xs ++ x ∷ drop (i + 1) xs
 split_at xs i x e = sym (take-append-drop i xs) ∙ ap (λ ys. take i xs ++ ys) (drop_one xs i x e)
 
-module _ (layout : Layout) (wants : List Want) where
+module _ (kept : KeptColumns) (layout : Layout) (wants : List Want) where
   -- the chunks before one are past, mended and synced
   pub record ChunksPast (write : Bool) (left : List Want) (number : ℕ) (old new : Seen) (tally tally' : Tally) : Type 0 where
     pub past : List Want
@@ -187,25 +188,25 @@ module _ (layout : Layout) (wants : List Want) where
     pub end : ℕ
     pub passed : (j : ℕ) (c : Chunk) → j < number → slice_get layout.chunks j ≡ Some c → c.start + c.length ≤ end
     pub apart : AreApart layout end left
-    pub done : Works {A = Unit {0}} layout write (all_writes_for layout (take number layout.chunks) wants) (all_count_for layout write (take number layout.chunks) wants) old new tally tally' (Ok tt)
+    pub done : Works {A = Unit {0}} layout write (all_writes_for kept layout (take number layout.chunks) wants) (all_count_for kept layout write (take number layout.chunks) wants) old new tally tally' (Ok tt)
 
-module _ (layout : Layout) (table : IsTable layout.chunks) (wants : List Want) where
+module _ (kept : KeptColumns) (layout : Layout) (table : IsTable layout.chunks) (wants : List Want) where
   -- what is written in a chunk is so for the blocks that are left, where those past lie in none of its rows
   pub left_for : (write : Bool) (chunk : Chunk) (past left : List Want) → wants ≡ past ++ left → ((t : Target) → In t (targets layout past) → is_in_chunk chunk t ≡ false) → (images : Images)
-      → (chunk_writes_for layout chunk left images ≡ chunk_writes_for layout chunk wants images) × ((x : Tally) → chunk_count_for layout write chunk left images x ≡ chunk_count_for layout write chunk wants images x)
+      → (chunk_writes_for kept layout chunk left images ≡ chunk_writes_for kept layout chunk wants images) × ((x : Tally) → chunk_count_for kept layout write chunk left images x ≡ chunk_count_for kept layout write chunk wants images x)
   left_for write chunk past left split outside images =
       let both : targets layout wants ≡ targets layout past ++ targets layout left = ap (targets layout) split ∙ filter_map-append (λ w. ok_or_none (sought layout w)) past left in
       let blocks : blocks_in layout chunk wants ≡ blocks_in layout chunk left =
       ap (filter (is_in_chunk chunk)) both ∙ filter-append (is_in_chunk chunk) (targets layout past) (targets layout left) ∙ ap (λ xs. xs ++ blocks_in layout chunk left) (filter_none (is_in_chunk chunk) (targets layout past) outside) in
-      let in_rows : (r : ℕ) → row_of (targets layout wants) chunk r ≡ row_of (targets layout left) chunk r = λ r. ap (λ bs. record { chunk = chunk; number = r; blocks = bs }) (
+      let in_rows : (r : ℕ) → row_of kept (targets layout wants) chunk r ≡ row_of kept (targets layout left) chunk r = λ r. ap (λ bs. record { chunk = chunk; number = r; blocks = bs; kept = kept chunk r }) (
       ap (filter (is_in_row chunk r)) both ∙ filter-append (is_in_row chunk r) (targets layout past) (targets layout left)
       ∙ ap (λ xs. xs ++ filter (is_in_row chunk r) (targets layout left)) (filter_none (is_in_row chunk r) (targets layout past) (λ t i. ap (λ b. b && eqb t.at.row r) (outside t i)))) in
-      let rs : rows_in (targets layout wants) chunk ≡ rows_in (targets layout left) chunk = ap (λ xs. cond (is_none (mirrors chunk)) xs []) (map_same (row_of (targets layout wants) chunk) (row_of (targets layout left) chunk) (range_with_len 0 (stripe_length chunk / 65536)) (λ r _. in_rows r)) in (
-        sym (ap (λ x. cond (is_none (mirrors chunk)) (rows_writes layout x images) (blocks_writes (blocks_in layout chunk wants) images)) rs ∙ ap (λ x. cond (is_none (mirrors chunk)) (rows_writes layout (rows_in (targets layout left) chunk) images) (blocks_writes x images)) blocks),
-        λ y. sym (ap (λ x. cond (is_none (mirrors chunk)) (rows_count layout write x images y) (blocks_count write (blocks_in layout chunk wants) images y)) rs ∙ ap (λ x. cond (is_none (mirrors chunk)) (rows_count layout write (rows_in (targets layout left) chunk) images y) (blocks_count write x images y)) blocks),
+      let rs : rows_in kept (targets layout wants) chunk ≡ rows_in kept (targets layout left) chunk = ap (λ xs. cond (is_none (mirrors chunk)) xs []) (map_same (row_of kept (targets layout wants) chunk) (row_of kept (targets layout left) chunk) (range_with_len 0 (stripe_length chunk / 65536)) (λ r _. in_rows r)) in (
+        sym (ap (λ x. cond (is_none (mirrors chunk)) (rows_writes layout x images) (blocks_writes (blocks_in layout chunk wants) images)) rs ∙ ap (λ x. cond (is_none (mirrors chunk)) (rows_writes layout (rows_in kept (targets layout left) chunk) images) (blocks_writes x images)) blocks),
+        λ y. sym (ap (λ x. cond (is_none (mirrors chunk)) (rows_count layout write x images y) (blocks_count write (blocks_in layout chunk wants) images y)) rs ∙ ap (λ x. cond (is_none (mirrors chunk)) (rows_count layout write (rows_in kept (targets layout left) chunk) images y) (blocks_count write x images y)) blocks),
       )
 
-  pub chunks_none : (write : Bool) (a : Seen) (tally : Tally) → AreApart layout 0 wants → ChunksPast layout wants write wants 0 a a tally tally
+  pub chunks_none : (write : Bool) (a : Seen) (tally : Tally) → AreApart layout 0 wants → ChunksPast kept layout wants write wants 0 a a tally tally
   chunks_none write a tally apart = record {
     past = [];
     split = refl;
@@ -237,17 +238,17 @@ module _ (layout : Layout) (table : IsTable layout.chunks) (wants : List Want) w
         same_chunk : (c : Chunk) → Some c ≡ Some chunk → c ≡ chunk
         same_chunk c e = cc
 
-    module _ (write : Bool) (left left' : List Want) (a b z : Seen) (tally tally' tally'' : Tally) (h : ChunksPast layout wants write left number a b tally tally')
-        (unmoved : IsUnmoved layout write (all_writes_for layout (take number layout.chunks) wants) (chunk_writes_for layout chunk wants) (chunk_count_for layout write chunk wants) a.held) where
-      both : (r : Result (Unit {0}) MendFault) → Works layout write (chunk_writes_for layout chunk left) (chunk_count_for layout write chunk left) b z tally' tally'' r
-          → Works layout write (λ i. all_writes_for layout (take number layout.chunks) wants i ++ chunk_writes_for layout chunk wants i) (λ i y. chunk_count_for layout write chunk wants i (all_count_for layout write (take number layout.chunks) wants i y)) a z tally tally'' r
+    module _ (write : Bool) (left left' : List Want) (a b z : Seen) (tally tally' tally'' : Tally) (h : ChunksPast kept layout wants write left number a b tally tally')
+        (unmoved : IsUnmoved layout write (all_writes_for kept layout (take number layout.chunks) wants) (chunk_writes_for kept layout chunk wants) (chunk_count_for kept layout write chunk wants) a.held) where
+      both : (r : Result (Unit {0}) MendFault) → Works layout write (chunk_writes_for kept layout chunk left) (chunk_count_for kept layout write chunk left) b z tally' tally'' r
+          → Works layout write (λ i. all_writes_for kept layout (take number layout.chunks) wants i ++ chunk_writes_for kept layout chunk wants i) (λ i y. chunk_count_for kept layout write chunk wants i (all_count_for kept layout write (take number layout.chunks) wants i y)) a z tally tally'' r
       both r one =
           let same = left_for write chunk h.past left h.split (λ t i. h.outside t number chunk i (omega arith) there) in
-          works_then layout write (all_writes_for layout (take number layout.chunks) wants) (chunk_writes_for layout chunk wants) (all_count_for layout write (take number layout.chunks) wants) (chunk_count_for layout write chunk wants) a b z tally tally' tally'' tt r unmoved h.done
-          (works_as layout write (chunk_writes_for layout chunk left) (chunk_writes_for layout chunk wants) (chunk_count_for layout write chunk left) (chunk_count_for layout write chunk wants) b z tally' tally'' r (λ images e. ((same images).0, (same images).1 tally')) one)
+          works_then layout write (all_writes_for kept layout (take number layout.chunks) wants) (chunk_writes_for kept layout chunk wants) (all_count_for kept layout write (take number layout.chunks) wants) (chunk_count_for kept layout write chunk wants) a b z tally tally' tally'' tt r unmoved h.done
+          (works_as layout write (chunk_writes_for kept layout chunk left) (chunk_writes_for kept layout chunk wants) (chunk_count_for kept layout write chunk left) (chunk_count_for kept layout write chunk wants) b z tally' tally'' r (λ images e. ((same images).0, (same images).1 tally')) one)
 
       -- one chunk more
-      pub chunks_more : IsPastChunk layout chunk left left' → Works layout write (chunk_writes_for layout chunk left) (chunk_count_for layout write chunk left) b z tally' tally'' (Ok (tt {0})) → ChunksPast layout wants write left' (number + 1) a z tally tally''
+      pub chunks_more : IsPastChunk layout chunk left left' → Works layout write (chunk_writes_for kept layout chunk left) (chunk_count_for kept layout write chunk left) b z tally' tally'' (Ok (tt {0})) → ChunksPast kept layout wants write left' (number + 1) a z tally tally''
       chunks_more p one = record {
         past = h.past ++ p.past;
         split = h.split ∙ ap (λ ws. h.past ++ ws) p.split ∙ sym (append_assoc h.past p.past left');
@@ -261,8 +262,8 @@ module _ (layout : Layout) (table : IsTable layout.chunks) (wants : List Want) w
           | inr above ↦ let same : j ≡ number = omega (arith, lt, above) in omega (arith, ap (λ (c : Chunk). c.start + c.length) (same_chunk c (sym e ∙ ap (slice_get layout.chunks) same ∙ there)))
         ];
         apart = p.behind;
-        done = works_as layout write (λ i. all_writes_for layout (take number layout.chunks) wants i ++ chunk_writes_for layout chunk wants i) (all_writes_for layout (take (number + 1) layout.chunks) wants)
-            (λ i y. chunk_count_for layout write chunk wants i (all_count_for layout write (take number layout.chunks) wants i y)) (all_count_for layout write (take (number + 1) layout.chunks) wants) a z tally tally'' (Ok (tt {0}))
+        done = works_as layout write (λ i. all_writes_for kept layout (take number layout.chunks) wants i ++ chunk_writes_for kept layout chunk wants i) (all_writes_for kept layout (take (number + 1) layout.chunks) wants)
+            (λ i y. chunk_count_for kept layout write chunk wants i (all_count_for kept layout write (take number layout.chunks) wants i y)) (all_count_for kept layout write (take (number + 1) layout.chunks) wants) a z tally tally'' (Ok (tt {0}))
             (λ images e. (sym (writes_one images), sym (counts_one images tally))) (both (Ok (tt {0})) one);
       }
         where
@@ -276,31 +277,31 @@ module _ (layout : Layout) (table : IsTable layout.chunks) (wants : List Want) w
               by false q = q
               by true q = absurd (omega (arith, (table.apart number k chunk c (omega (arith, le)) there e).0, (facts chunk (table.sound number chunk there).0).some, eqb-true t.chunk.start c.start q, ap (λ (x : Chunk). x.start) mine))
 
-          writes_one : (images : Images) → all_writes_for layout (take (number + 1) layout.chunks) wants images ≡ all_writes_for layout (take number layout.chunks) wants images ++ chunk_writes_for layout chunk wants images
+          writes_one : (images : Images) → all_writes_for kept layout (take (number + 1) layout.chunks) wants images ≡ all_writes_for kept layout (take number layout.chunks) wants images ++ chunk_writes_for kept layout chunk wants images
           writes_one images =
-              ap (λ cs. all_writes_for layout cs wants images) (take_one layout.chunks number chunk there)
-              ∙ flat_map-append (λ c. chunk_writes_for layout c wants images) (take number layout.chunks) (chunk ∷ [])
-              ∙ ap (λ ws. all_writes_for layout (take number layout.chunks) wants images ++ ws) (append-nil (chunk_writes_for layout chunk wants images))
+              ap (λ cs. all_writes_for kept layout cs wants images) (take_one layout.chunks number chunk there)
+              ∙ flat_map-append (λ c. chunk_writes_for kept layout c wants images) (take number layout.chunks) (chunk ∷ [])
+              ∙ ap (λ ws. all_writes_for kept layout (take number layout.chunks) wants images ++ ws) (append-nil (chunk_writes_for kept layout chunk wants images))
 
-          counts_one : (images : Images) (x : Tally) → all_count_for layout write (take (number + 1) layout.chunks) wants images x ≡ chunk_count_for layout write chunk wants images (all_count_for layout write (take number layout.chunks) wants images x)
+          counts_one : (images : Images) (x : Tally) → all_count_for kept layout write (take (number + 1) layout.chunks) wants images x ≡ chunk_count_for kept layout write chunk wants images (all_count_for kept layout write (take number layout.chunks) wants images x)
           counts_one images x =
-              ap (λ cs. all_count_for layout write cs wants images x) (take_one layout.chunks number chunk there)
-              ∙ fold_append (λ tally c. chunk_count_for layout write c wants images tally) x (take number layout.chunks) (chunk ∷ [])
+              ap (λ cs. all_count_for kept layout write cs wants images x) (take_one layout.chunks number chunk there)
+              ∙ fold_append (λ tally c. chunk_count_for kept layout write c wants images tally) x (take number layout.chunks) (chunk ∷ [])
 
       -- a halt in it
-      pub chunks_cut : (e : MendFault) → Works {A = Unit {0}} layout write (chunk_writes_for layout chunk left) (chunk_count_for layout write chunk left) b z tally' tally'' (Err e)
-          → Works {A = Unit {0}} layout write (all_writes_for layout layout.chunks wants) (all_count_for layout write layout.chunks wants) a z tally tally'' (Err e)
+      pub chunks_cut : (e : MendFault) → Works {A = Unit {0}} layout write (chunk_writes_for kept layout chunk left) (chunk_count_for kept layout write chunk left) b z tally' tally'' (Err e)
+          → Works {A = Unit {0}} layout write (all_writes_for kept layout layout.chunks wants) (all_count_for kept layout write layout.chunks wants) a z tally tally'' (Err e)
       chunks_cut x one =
           let rest = drop (number + 1) layout.chunks in
-          works_as layout write (λ i. (all_writes_for layout (take number layout.chunks) wants i ++ chunk_writes_for layout chunk wants i) ++ all_writes_for layout rest wants i) (all_writes_for layout layout.chunks wants)
-          (all_count_for layout write layout.chunks wants) (all_count_for layout write layout.chunks wants) a z tally tally'' (Err x)
+          works_as layout write (λ i. (all_writes_for kept layout (take number layout.chunks) wants i ++ chunk_writes_for kept layout chunk wants i) ++ all_writes_for kept layout rest wants i) (all_writes_for kept layout layout.chunks wants)
+          (all_count_for kept layout write layout.chunks wants) (all_count_for kept layout write layout.chunks wants) a z tally tally'' (Err x)
           (λ images e. (
-            sym (ap (λ cs. all_writes_for layout cs wants images) (split_at layout.chunks number chunk there) ∙ flat_map-append (λ c. chunk_writes_for layout c wants images) (take number layout.chunks) (chunk ∷ rest)
-                ∙ sym (append_assoc (all_writes_for layout (take number layout.chunks) wants images) (chunk_writes_for layout chunk wants images) (all_writes_for layout rest wants images))),
+            sym (ap (λ cs. all_writes_for kept layout cs wants images) (split_at layout.chunks number chunk there) ∙ flat_map-append (λ c. chunk_writes_for kept layout c wants images) (take number layout.chunks) (chunk ∷ rest)
+                ∙ sym (append_assoc (all_writes_for kept layout (take number layout.chunks) wants images) (chunk_writes_for kept layout chunk wants images) (all_writes_for kept layout rest wants images))),
             refl,
           ))
-          (works_cut layout write (λ i. all_writes_for layout (take number layout.chunks) wants i ++ chunk_writes_for layout chunk wants i) (all_writes_for layout rest wants)
-          (λ i y. chunk_count_for layout write chunk wants i (all_count_for layout write (take number layout.chunks) wants i y)) (all_count_for layout write layout.chunks wants) a z tally tally'' x (both (Err x) one))
+          (works_cut layout write (λ i. all_writes_for kept layout (take number layout.chunks) wants i ++ chunk_writes_for kept layout chunk wants i) (all_writes_for kept layout rest wants)
+          (λ i y. chunk_count_for kept layout write chunk wants i (all_count_for kept layout write (take number layout.chunks) wants i y)) (all_count_for kept layout write layout.chunks wants) a z tally tally'' x (both (Err x) one))
 
 -- ---- what can be mended, behind syncs
 

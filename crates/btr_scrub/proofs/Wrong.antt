@@ -153,7 +153,8 @@ column_fits c lt = omega (arith, lt)
 
 pub differing_parity_is_wrong : DifferingParityIsWrong
 differing_parity_is_wrong images layout C row q c sound right parity few decided differ is =
-    let all = (and_parts (list_any (meets c) row.blocks) (list_all (λ t. not (meets c t) || is_some (accepted images t)) row.blocks) decided).1 in
+    let none_lost = list_all (λ t. not (meets c t) || is_some (accepted images t)) row.blocks in
+    let all = (and_parts (not (row.kept c)) none_lost (and_parts (list_any (meets c) row.blocks) (not (row.kept c) && none_lost) decided).1).1 in
     let agrees = λ (i : ℕ) (t : Target) (among : In t (blocks_at row i)). by i t among all in
     let same = all_columns images layout (accepted images) (committed_for C) c row few agrees (λ i lt. sound.bytes (part.Slice i) (slice_there images layout C row sound i lt)) in
     let equal : column_of c (element images layout row q) ≡ column_of c (element_with images layout (accepted images) row q) = ap (column_of c) is ∙ sym (parts q parity same) in

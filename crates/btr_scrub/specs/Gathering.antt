@@ -17,6 +17,7 @@ use Rattle.btr_volume.specs.declared.stop.Stop.{Stop}
 use Rattle.btr_volume.specs.declared.stop.Stop.TheVariants.{NoTree, Tree, Deletion, Balance, Missing, Image, Sink, Out, Memory}
 use Rattle.btr_volume.specs.declared.volume.Volume.{Volume}
 use Rattle.btr_scrub.specs.Listed.{IsList, kept_wants}
+use Rattle.btr_scrub.specs.Plain.{plain_among}
 use Rattle.btr_scrub.specs.Units.{Meeting, Met, Checked, Unchecked, is_crossing}
 use Rattle.btr_scrub.specs.declared.extent.Extent.{Extent}
 use Rattle.btr_scrub.specs.declared.gathered.Gathered.{Gathered}
@@ -38,6 +39,7 @@ pub record Lists (old new : Gathered) (done : List Met) : Type 0 where
   pub kind : new.list.kind ≡ old.list.kind
   pub wants : kept_wants new.list ≡ kept_wants old.list ++ checked_among done
   pub unchecked : new.unchecked ≡ fold count_met old.unchecked done
+  pub plain : new.plain ≡ old.plain ++ plain_among done
 
 -- how a stop ends a run: by its fault, or at any place
 abbrev pub stop_halt : Stop → Halt fate.Fault UnreadBlock
@@ -117,11 +119,12 @@ pub record Reaches {A : Type 0} (p q : Meeting A) (x y : Scene) : Type 0 where
   pub lists : Lists x.list y.list done
   pub content : Tells x.vol.store.layout x.rack y.rack (λ B. (before : List (Mark Want Met)) × (exec B p ≡ prepend before (exec B q)) × (done ≡ steps_of before))
 
--- blocks were listed: the wants of those that are checked, and the count of the sectors without a checksum
+-- blocks were listed: the wants of those that are checked, and the count and the addresses of the sectors without a checksum
 pub record AreListed (gathered : Gathered) (done : List Met) : Type 0 where
   pub is_list : IsList gathered.list
   pub wants : kept_wants gathered.list ≡ checked_among done
   pub unchecked : gathered.unchecked ≡ fold count_met 0 done
+  pub plain : gathered.plain ≡ plain_among done
 
 abbrev pub ListsDone : Result Gathered Stop → List Met → Type 0
 ListsDone (Ok gathered) done = AreListed gathered done

@@ -1,5 +1,6 @@
 pub mod Filesystem
 pub mod Units
+pub mod Plain
 pub mod Repair
 pub mod Devices
 pub mod Leaves

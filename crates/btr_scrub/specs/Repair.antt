@@ -19,6 +19,7 @@ use Rattle.btr_volume.specs.declared.stop.Stop.{Stop}
 use Rattle.btr_volume.specs.declared.stop.Stop.TheVariants as stop
 use Rattle.btr_scrub.specs.declared.tally.Tally.{Tally}
 use Rattle.btr_scrub.specs.Filesystem.{Filesystem}
+use Rattle.btr_scrub.specs.Plain.{KeptColumns, is_kept, plain_among}
 use Rattle.btr_scrub.specs.Units.{Met, Checked, Unchecked, units}
 use Rattle.btr_mend.specs.Blocks.{bad_parts, is_lost, block_writes}
 use Rattle.btr_row.specs.Rows.{Row, parities, parity_writes, row_writes}
@@ -59,12 +60,12 @@ abbrev pub is_in_row : Chunk → ℕ → Target → Bool
 is_in_row chunk number t = is_in_chunk chunk t && (t.at.row == number)
 
 -- the row of a number, with those of the blocks that lie in it
-abbrev pub row_of : List Target → Chunk → ℕ → Row
-row_of blocks chunk number = record { chunk = chunk; number = number; blocks = filter (is_in_row chunk number) blocks }
+abbrev pub row_of : KeptColumns → List Target → Chunk → ℕ → Row
+row_of kept blocks chunk number = record { chunk = chunk; number = number; blocks = filter (is_in_row chunk number) blocks; kept = kept chunk number }
 
 -- the full stripes of a chunk; with copies there are none
-abbrev pub rows_in : List Target → Chunk → List Row
-rows_in blocks chunk = if is_none (mirrors chunk) then map (row_of blocks chunk) (range_with_len 0 (stripe_length chunk / 65536)) else []
+abbrev pub rows_in : KeptColumns → List Target → Chunk → List Row
+rows_in kept blocks chunk = if is_none (mirrors chunk) then map (row_of kept blocks chunk) (range_with_len 0 (stripe_length chunk / 65536)) else []
 
 -- the byte at a place of a slot
 abbrev pub byte_at : List (List ℕ) → ℕ → ℕ → ℕ
@@ -90,14 +91,18 @@ module _ (images : List (List ℕ)) (fs : Filesystem) where
   abbrev pub blocks : List Target
   blocks = filter_map (checked_target fs.layout) met
 
+  -- the columns whose parities are kept as they are, for the sake of the plain sectors
+  abbrev pub columns_kept : KeptColumns
+  columns_kept = is_kept fs.layout (plain_among met)
+
   abbrev pub rows : List Row
-  rows = flat_map (rows_in blocks) fs.layout.chunks
+  rows = flat_map (rows_in columns_kept blocks) fs.layout.chunks
 
   -- the writes in a chunk: block by block where there are copies, and full stripe by full stripe where there is parity
   abbrev pub chunk_writes : Chunk → List Write
   chunk_writes chunk =
       if is_none (mirrors chunk)
-      then flat_map (row_writes images fs.layout) (rows_in blocks chunk)
+      then flat_map (row_writes images fs.layout) (rows_in columns_kept blocks chunk)
       else flat_map (block_writes images) (filter (is_in_chunk chunk) blocks)
 
   -- the writes in their order

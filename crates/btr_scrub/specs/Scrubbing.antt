@@ -25,6 +25,7 @@ use Rattle.btr_row.specs.declared.mended.MendedRow.{MendedRow}
 use Rattle.btr_scrub.specs.Glue.{In}
 use Rattle.btr_scrub.specs.Leaves.{LiesInStripe}
 use Rattle.btr_scrub.specs.Order.{AreApart, targets}
+use Rattle.btr_scrub.specs.Plain.{KeptColumns}
 use Rattle.btr_scrub.specs.Repair.{first_missing, is_in_chunk, rows_in, stood}
 use Rattle.btr_scrub.specs.declared.tally.Tally.{Tally}
 
@@ -146,20 +147,20 @@ rows_count layout write rs images tally = fold (count_row images layout write) t
 -- ---- one chunk
 
 -- the writes in a chunk for those of some blocks that lie in it: block by block where there are copies, and full stripe by full stripe where there is parity
-abbrev pub chunk_writes_for : Layout → Chunk → List Want → Images → List Write
-chunk_writes_for layout chunk wants images =
-    if is_none (mirrors chunk) then rows_writes layout (rows_in (targets layout wants) chunk) images else blocks_writes (blocks_in layout chunk wants) images
+abbrev pub chunk_writes_for : KeptColumns → Layout → Chunk → List Want → Images → List Write
+chunk_writes_for kept layout chunk wants images =
+    if is_none (mirrors chunk) then rows_writes layout (rows_in kept (targets layout wants) chunk) images else blocks_writes (blocks_in layout chunk wants) images
 
-abbrev pub chunk_count_for : Layout → Bool → Chunk → List Want → Images → Tally → Tally
-chunk_count_for layout write chunk wants images tally =
-    if is_none (mirrors chunk) then rows_count layout write (rows_in (targets layout wants) chunk) images tally else blocks_count write (blocks_in layout chunk wants) images tally
+abbrev pub chunk_count_for : KeptColumns → Layout → Bool → Chunk → List Want → Images → Tally → Tally
+chunk_count_for kept layout write chunk wants images tally =
+    if is_none (mirrors chunk) then rows_count layout write (rows_in kept (targets layout wants) chunk) images tally else blocks_count write (blocks_in layout chunk wants) images tally
 
 -- .. and in all chunks
-abbrev pub all_writes_for : Layout → List Chunk → List Want → Images → List Write
-all_writes_for layout chunks wants images = flat_map (λ chunk. chunk_writes_for layout chunk wants images) chunks
+abbrev pub all_writes_for : KeptColumns → Layout → List Chunk → List Want → Images → List Write
+all_writes_for kept layout chunks wants images = flat_map (λ chunk. chunk_writes_for kept layout chunk wants images) chunks
 
-abbrev pub all_count_for : Layout → Bool → List Chunk → List Want → Images → Tally → Tally
-all_count_for layout write chunks wants images tally = fold (λ tally chunk. chunk_count_for layout write chunk wants images tally) tally chunks
+abbrev pub all_count_for : KeptColumns → Layout → Bool → List Chunk → List Want → Images → Tally → Tally
+all_count_for kept layout write chunks wants images tally = fold (λ tally chunk. chunk_count_for kept layout write chunk wants images tally) tally chunks
 
 -- ---- with syncs
 

@@ -1,6 +1,6 @@
 -- Why right elements stay: what is written lies in wrong elements, or in copies.
 use Rattle.std.specs.Prelude.{◌≡◌, ◌⊎◌, ℕ, true, List, map, None, Some, IsSome, slice_get}
-use Rattle.std.specs.List.{list_any}
+use Rattle.std.specs.List.{filter, list_any}
 use Rattle.btr_chunk.specs.Chunk.{mirrors}
 use Rattle.btr_chunk.specs.Mapping.{IsPosition}
 use Rattle.btr_chunk.specs.Table.{IsTable}
@@ -13,7 +13,7 @@ use Rattle.btr_scrub.specs.Glue.{In}
 use Rattle.btr_scrub.specs.Leaves.{KeepsOutside}
 use Rattle.btr_chunk.specs.Apart.{LiesIn}
 use Rattle.btr_scrub.specs.Places.{IsOfElement}
-use Rattle.btr_scrub.specs.Repair.{covers, row_of}
+use Rattle.btr_scrub.specs.Repair.{covers, is_in_row}
 use Rattle.btr_scrub.specs.Right.{Committed, HasFewWrong, IsRight, StandsFor}
 use Rattle.btr_row.specs.Rows.{Row, row_writes}
 use Rattle.btr_scrub.specs.Survival.{AcceptsRight, HaveLengths, IsSoundRow, KeepsRight, RightPasses}
@@ -25,7 +25,7 @@ pub record IsRowOf (layout : Layout) (blocks : List Target) (row : Row) : Type 0
   pub there : slice_get layout.chunks number ≡ Some row.chunk
   pub parity : mirrors row.chunk ≡ None
   pub position : IsPosition row.chunk (record { row = row.number; index = 0; rest = 65535 })
-  pub made : row ≡ row_of blocks row.chunk row.number
+  pub made : row.blocks ≡ filter (is_in_row row.chunk row.number) blocks
 
 -- a byte lies in a wrong element of such a row
 pub record IsInWrong (images : Images) (layout : Layout) (C : Committed) (blocks : List Target) (slot off : ℕ) : Type 0 where

@@ -4,7 +4,8 @@
 //! over it chunk by chunk. The layer above is promised exactly the blocks that `specs/Units.antt` says, in their order, or the first fault; and then
 //! exactly the writes that follow from what the images held as it began, or those up to a call that failed (`Whole`, `Scrubbing`). For one block with
 //! copies see `btr_mend`, and for one full stripe `btr_row`. `Repair` says what all of it comes to, and `Scrubbed` what a call answers and leaves, whatever
-//! failed. `Right`, `Survival` and `Staying` say that each block can be had from what is left, whatever bytes stand in the ranges that are written.
+//! failed. `Plain` says beside which sectors without a checksum parity is kept as it is. `Right`, `Survival` and `Staying` say that each block can be had
+//! from what is left, whatever bytes stand in the ranges that are written.
 #![tactic(auto)]
 
 mod chunks;
@@ -13,11 +14,13 @@ mod copied;
 mod extent;
 mod gathered;
 mod judging;
+mod kept;
 mod laws;
 mod listed;
 mod mending;
 mod missing;
 mod pages;
+mod plain;
 mod reader;
 mod rowed;
 mod run;
@@ -39,6 +42,7 @@ pub use laws::{
 };
 pub use listed::Listed;
 pub use missing::missing_device;
+pub use plain::Plain;
 pub use reader::{Reader, read_all};
 pub use tally::Tally;
 pub use units::list_blocks;

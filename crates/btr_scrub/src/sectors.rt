@@ -12,7 +12,7 @@ use btr_files::sum_of;
 use btr_rack::Rack;
 use btr_volume::{Stop, TreeRoot, Volume};
 
-// Lists a sector of data with its checksum, or counts it where it has none.
+// Lists a sector of data with its checksum, or among the plain ones where it has none, which are counted too.
 fn gather_sector<R: Rack>(
     sums: Option<&TreeRoot>,
     addr: u64,
@@ -29,10 +29,13 @@ fn gather_sector<R: Rack>(
 {
     match sum_of(sums, addr, rack, vol) {
         Err(fault) => Err(Stop::Tree(fault)),
-        Ok(None) => {
-            gathered.unchecked = gathered.unchecked.saturating_add(1);
-            Ok(())
-        }
+        Ok(None) => match gathered.plain.push(addr) {
+            Ok(()) => {
+                gathered.unchecked = gathered.unchecked.saturating_add(1);
+                Ok(())
+            }
+            Err(_) => Err(Stop::Memory),
+        },
         Ok(Some(sum)) => match gathered.list.push_sector(addr, &sum) {
             Ok(()) => Ok(()),
             Err(_) => Err(Stop::Memory),
@@ -40,7 +43,7 @@ fn gather_sector<R: Rack>(
     }
 }
 
-/// Lists so many sectors of data from an address on. Those that have no checksum are counted. Four slots are free.
+/// Lists so many sectors of data from an address on. Those that have no checksum are listed by themselves, and counted. Four slots are free.
 ///
 /// `Tree` where a block of the checksum tree can't be had or is malformed, and `Memory` for want of memory.
 pub(crate) fn gather_sectors<R: Rack>(

@@ -7,6 +7,7 @@ ghost use Rattle.btr_mend.specs.Writes.{AreWritable};
 ghost use Rattle.btr_volume.specs.Looking.{SameVolume};
 ghost use Rattle.btr_scrub.specs.Listed.{IsList, kept_wants};
 ghost use Rattle.btr_scrub.specs.Order.{AreApart};
+ghost use Rattle.btr_scrub.specs.Plain.{is_kept};
 ghost use Rattle.btr_scrub.specs.Repair.{first_missing};
 ghost use Rattle.btr_scrub.specs.Scrubbed.{IsSafe, IsScrubbed, called};
 ghost use Rattle.btr_scrub.specs.Scrubbing.{HasRooms, NoneIsWider};
@@ -90,7 +91,7 @@ fn mend_listed<R: Rack>(
     requires apart { AreApart vol.old.store.layout 0 (kept_wants gathered.now.list) }
     ensures serves { Serves (R.seen rack.new) vol.new.store }
     ensures volume { SameVolume vol.old vol.new }
-    ensures works { WorksOn vol.old.store.layout write (kept_wants gathered.now.list) gathered.now.unchecked
+    ensures works { WorksOn (is_kept vol.old.store.layout gathered.now.plain) vol.old.store.layout write (kept_wants gathered.now.list) gathered.now.unchecked
         (R.seen rack.old) (R.seen rack.new) result }
 {
     let Ok(mut room) = make_room(alloc, &vol.store) else {
@@ -104,6 +105,7 @@ fn mend_listed<R: Rack>(
     match mend_all(
         vol.sup.nodesize,
         write,
+        &gathered.plain,
         &mut blocks,
         rack,
         &mut vol.store,

@@ -44,6 +44,7 @@ fn row_of_sector(addr: u64, sum: Sum, nodesize: u32, rack: &MemRack, store: &Sto
             chunk: chunk.start,
             number: at.row,
             nodesize,
+            kept: [false; 16],
         }),
         Err(_) => None,
     }

@@ -8,8 +8,16 @@ const PAGE: u64 = 4096;
 
 const NODE: u64 = 16384;
 
+// Where the superblock stands, and the lowest byte of its generation, which is 7.
+const SUPER: u64 = 65536;
+
+const GENERATION: u64 = SUPER + 72;
+
 // Where the leaf of the chunk tree stands.
 const CHUNKS: u64 = 1048576;
+
+// Where the leaf of the extent tree stands.
+const EXTENTS: u64 = 2113536;
 
 // Where the leaf of the checksum tree stands.
 const SUMS: u64 = 2162688;
@@ -65,6 +73,11 @@ pub(super) enum Made {
     Raid1c4,
     /// `W5`, in which the first of the two sectors of data has no checksum.
     HalfSummed,
+    /// `W5`, whose second extent of data goes on without checksums: to the end of the first slice, and over the first sector of the other one. The
+    /// image of this name, if there is one, is older.
+    Unsummed5(&'static str),
+    /// The same in `W6`.
+    Unsummed6(&'static str),
     /// `W5`, in which the third page of the first slice of data is the superblock.
     BesideSuper,
     /// `V1d`, in which the second copy of the leaf of the checksum tree begins at the superblock.
@@ -78,9 +91,11 @@ impl Made {
     pub(super) fn names(self) -> &'static [&'static str] {
         match self {
             Made::Row(RowVolume::M1) => &["a", "b"],
-            Made::Row(RowVolume::W6) | Made::Raid0 | Made::Raid10 | Made::Raid1c4 => {
-                &["a", "b", "c", "d"]
-            }
+            Made::Row(RowVolume::W6)
+            | Made::Raid0
+            | Made::Raid10
+            | Made::Raid1c4
+            | Made::Unsummed6(_) => &["a", "b", "c", "d"],
             Made::Row(RowVolume::V1 | RowVolume::V1d) | Made::OverSuper => &["a"],
             _ => &["a", "b", "c"],
         }
@@ -174,6 +189,24 @@ const HALF_SUMMED: Shape = Shape {
         },
     ],
     pages: &[],
+};
+
+// The length of the second extent of data.
+const UNSUMMED5: Shape = Shape {
+    volume: RowVolume::W5,
+    changed: &["a", "b"],
+    leaf: EXTENTS,
+    fields: &[Field {
+        at: EXTENTS + 360,
+        size: 8,
+        value: 65536,
+    }],
+    pages: &[],
+};
+
+const UNSUMMED6: Shape = Shape {
+    volume: RowVolume::W6,
+    ..UNSUMMED5
 };
 
 // The length of the data chunk of `W5`, and where its first stripe begins.
@@ -275,6 +308,16 @@ fn build_row(alloc: Global, shape: &Shape) -> Result<MemRack, Fail> {
     Ok(rack)
 }
 
+// The same, where an image is older than the others: its superblock has a smaller generation.
+fn build_with_older(alloc: Global, shape: &Shape, older: &str) -> Result<MemRack, Fail> {
+    let mut rack = build_row(alloc, shape)?;
+    if !older.is_empty() {
+        rack.poke(older, GENERATION, &[6])?;
+        seal(&mut rack, older, SUPER, PAGE)?;
+    }
+    Ok(rack)
+}
+
 /// The images of a volume, on the shelf.
 pub(super) fn build(alloc: Global, which: Made) -> Result<MemRack, Fail> {
     let shape = match which {
@@ -283,6 +326,8 @@ pub(super) fn build(alloc: Global, which: Made) -> Result<MemRack, Fail> {
         Made::Raid10 => RAID10,
         Made::Raid1c4 => RAID1C4,
         Made::HalfSummed => HALF_SUMMED,
+        Made::Unsummed5(older) => return build_with_older(alloc, &UNSUMMED5, older),
+        Made::Unsummed6(older) => return build_with_older(alloc, &UNSUMMED6, older),
         Made::BesideSuper => BESIDE_SUPER,
         Made::OverSuper => OVER_SUPER,
         Made::Directories => return Ok(make(alloc, 10)?),

@@ -81,6 +81,86 @@ const DAMAGES: [Damage; 6] = [
     },
 ];
 
+// The counts where fifteen sectors more have no checksum.
+const UNSUMMED: Tally = Tally {
+    unchecked: 15,
+    ..CLEAN
+};
+
+// Parity beside sectors without a checksum.
+const BESIDE: [Damage; 6] = [
+    // P is left there, and made right in the next column, where there is none.
+    Damage {
+        volume: Made::Unsummed5(""),
+        mended: &[("c", 10489856)],
+        left: &[("c", 10485760)],
+        tally: Tally {
+            parity: 1,
+            ..UNSUMMED
+        },
+    },
+    // It is made right where an image is older, but not the sector's own.
+    Damage {
+        volume: Made::Unsummed5("a"),
+        mended: &[("c", 10485760), ("c", 10489856)],
+        left: &[],
+        tally: Tally {
+            parity: 2,
+            ..UNSUMMED
+        },
+    },
+    Damage {
+        volume: Made::Unsummed5("b"),
+        mended: &[("c", 10489856)],
+        left: &[("c", 10485760)],
+        tally: Tally {
+            parity: 1,
+            ..UNSUMMED
+        },
+    },
+    // The same with Q.
+    Damage {
+        volume: Made::Unsummed6(""),
+        mended: &[("c", 10489856), ("d", 10489856)],
+        left: &[("c", 10485760), ("d", 10485760)],
+        tally: Tally {
+            parity: 2,
+            ..UNSUMMED
+        },
+    },
+    Damage {
+        volume: Made::Unsummed6("a"),
+        mended: &[
+            ("c", 10485760),
+            ("d", 10485760),
+            ("c", 10489856),
+            ("d", 10489856),
+        ],
+        left: &[],
+        tally: Tally {
+            parity: 4,
+            ..UNSUMMED
+        },
+    },
+    Damage {
+        volume: Made::Unsummed6("b"),
+        mended: &[("c", 10489856), ("d", 10489856)],
+        left: &[("c", 10485760), ("d", 10485760)],
+        tally: Tally {
+            parity: 2,
+            ..UNSUMMED
+        },
+    },
+];
+
+#[test]
+fn parity_beside_sectors_without_a_checksum(rt: HostRuntime) -> Result<(), Fail> {
+    for damage in &BESIDE {
+        mends(&rt, rt.alloc(), damage)?;
+    }
+    Ok(())
+}
+
 #[test]
 fn full_stripes(rt: HostRuntime) -> Result<(), Fail> {
     for damage in &DAMAGES {

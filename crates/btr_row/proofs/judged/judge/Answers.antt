@@ -28,9 +28,9 @@ loop-want-init c = record {
   bad = omega arith;
   rebuilt = omega arith;
   lost = omega arith;
-  judged = λ images row of is holds.
+  judged = λ images row of is kept holds.
       judged_none images c.args.store.now.layout row c.args.old.now c.copy_front.new.front holds (omega arith) (c.args.stripe.now.shape.slices * 65536) (omega (arith, of.shape.slices)) c.copy_front.ensures.front
-      (record { bad = 0; rebuilt = 0; lost = 0; met = replicate 16 false; broken = replicate 16 false }) refl refl refl none_of_sixteen none_of_sixteen;
+      (record { bad = 0; rebuilt = 0; lost = 0; met = replicate 16 false; broken = c.args.kept }) refl refl refl none_of_sixteen kept;
 }
 
 pub judge_block-verdict-requires-clause-within : goal.judge_block-verdict-requires-clause-within
@@ -55,7 +55,7 @@ loop-want-preserved c =
       bad = omega (arith, e.bad, c.loop-want.invariant.bad, cond_few (not verdict.good));
       rebuilt = omega (arith, e.rebuilt, c.loop-want.invariant.rebuilt, cond_few (not verdict.good && not verdict.lost));
       lost = omega (arith, e.lost, c.loop-want.invariant.lost, cond_few verdict.lost);
-      judged = λ images row of is holds.
+      judged = λ images row of is kept holds.
           let layout = c.args.store.now.layout in
           let i = c.loop-want.want-index in
           let w = want_at layout c.args.wants.now row.blocks i _ is.blocks c.loop-want-test.true in
@@ -67,13 +67,13 @@ loop-want-preserved c =
           let below : t.at.index < slice_count row = omega (arith, fits.index, ap (λ c. data_count c.profile (length c.stripes)) on.chunk) in
           let room : slice_count row * 65536 ≤ length c.loop-want.new = omega (arith, c.requires.new_room row of, count.whole, c.loop-want.invariant.long) in
           let more = judged_more images layout row (take i row.blocks) t c.loop-want.new c.judge_block-verdict.new.new c.loop-want.judged c.counted-judged.result verdict
-          fits.parity range.0 range.1 below fits.inside room (c.loop-want.invariant.judged images row of is holds) fits
+          fits.parity range.0 range.1 below fits.inside room (c.loop-want.invariant.judged images row of is kept holds) fits
           (record { bad = e.bad; rebuilt = e.rebuilt; lost = e.lost; met = e.met; broken = e.broken }) fits.long in
           subst (λ ts. AreJudged images layout row ts c.judge_block-verdict.new.new c.counted-judged.result) (sym (take_more row.blocks i t w.below ∙ ap (λ x. take i row.blocks ++ x ∷ []) (w.at t))) more;
     }
 
 pub returns-clause-judged : goal.returns-clause-judged
-returns-clause-judged c = λ images row of is holds.
+returns-clause-judged c = λ images row of is kept holds.
     let long = same_count c.args.store.now.layout c.args.wants.now row.blocks is.blocks in
     subst (λ ts. AreJudged images c.args.store.now.layout row ts c.loop-want.new c.loop-want.judged) (take_all c.loop-want.want-index row.blocks (omega (arith, long, c.loop-want-test.false)))
-    (c.loop-want.invariant.judged images row of is holds)
+    (c.loop-want.invariant.judged images row of is kept holds)

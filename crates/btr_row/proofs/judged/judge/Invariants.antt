@@ -1,7 +1,7 @@
 use Rattle.std.proofs.Common.{◌≡◌, ◌≤◌, length, take}
 use Rattle.btr_mend.specs.Writes.{Images}
 use Rattle.btr_row.specs.Rows.{Row}
-use Rattle.btr_row.specs.Mending.{IsRowOf}
+use Rattle.btr_row.specs.Mending.{AreKept, IsRowOf}
 use Rattle.btr_row.specs.Memory.{HoldsRow, IsStripeOf}
 use Rattle.btr_row.specs.Judging.{AreJudged}
 use Rattle.btr_row.proofs.judged.judge.Given as goal
@@ -14,6 +14,6 @@ invariant-loop-want l = record {
   bad : l.judged.bad ≤ l.want-index;
   rebuilt : l.judged.rebuilt ≤ l.want-index;
   lost : l.judged.lost ≤ l.want-index;
-  judged : (images : Images) (row : Row) → IsStripeOf l.store.layout l.stripe row → IsRowOf l.store.layout l.stripe.chunk l.stripe.number l.wants row → HoldsRow images l.store.layout row l.old
+  judged : (images : Images) (row : Row) → IsStripeOf l.store.layout l.stripe row → IsRowOf l.store.layout l.stripe.chunk l.stripe.number l.wants row → AreKept l.fn.kept row → HoldsRow images l.store.layout row l.old
       → AreJudged images l.store.layout row (take l.want-index row.blocks) l.new l.judged;
 }

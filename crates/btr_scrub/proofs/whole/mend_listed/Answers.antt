@@ -3,6 +3,7 @@ use Rattle.btr_mend.specs.declared.mended.MendFault.TheVariants.{Memory}
 use Rattle.btr_scrub.specs.Listed.{kept_wants}
 use Rattle.btr_scrub.specs.Scrubbing.{all_count_for, all_writes_for}
 use Rattle.btr_scrub.specs.Whole.{first_tally}
+use Rattle.btr_scrub.specs.Plain.{is_kept}
 use Rattle.btr_scrub.proofs.Working.{works_nothing}
 use Rattle.btr_scrub.proofs.whole.mend_listed.Goals as goal
 
@@ -13,7 +14,7 @@ returns-in_default-clause-works g c =
     record {
       tally = first_tally c.args.gathered.now.unchecked;
       ended = Err Memory;
-      works = works_nothing layout c.args.write (all_writes_for layout layout.chunks wants) (all_count_for layout c.args.write layout.chunks wants) (g.R.Rack.seen c.args.rack.now) (first_tally c.args.gathered.now.unchecked);
+      works = works_nothing layout c.args.write (all_writes_for (is_kept layout c.args.gathered.now.plain) layout layout.chunks wants) (all_count_for (is_kept layout c.args.gathered.now.plain) layout c.args.write layout.chunks wants) (g.R.Rack.seen c.args.rack.now) (first_tally c.args.gathered.now.unchecked);
       says = refl;
     }
 
@@ -24,7 +25,7 @@ returns-in_default-vec-clause-works g c =
     record {
       tally = first_tally c.args.gathered.now.unchecked;
       ended = Err Memory;
-      works = works_nothing layout c.args.write (all_writes_for layout layout.chunks wants) (all_count_for layout c.args.write layout.chunks wants) (g.R.Rack.seen c.args.rack.now) (first_tally c.args.gathered.now.unchecked);
+      works = works_nothing layout c.args.write (all_writes_for (is_kept layout c.args.gathered.now.plain) layout layout.chunks wants) (all_count_for (is_kept layout c.args.gathered.now.plain) layout c.args.write layout.chunks wants) (g.R.Rack.seen c.args.rack.now) (first_tally c.args.gathered.now.unchecked);
       says = refl;
     }
 
