@@ -6,5 +6,7 @@ use Rattle.btr_refs.specs.declared.finding.Finding.{Finding}
 use Rattle.btr_refs.specs.Findings.{Adds, FoundSet}
 
 -- the first of some findings, one more
-pub added_more : (list : List Finding) (i : ℕ) (d : Finding) (a b c : FoundSet) → i < length list → Adds (take i list) a b → Adds (get_or list i d ∷ []) b c → Adds (take (i + 1) list) a c
-added_more list i d a b c below before here = adds_as (take i list ++ get_or list i d ∷ []) (take (i + 1) list) a c (sym (take_more list i d below)) (adds_then (take i list) (get_or list i d ∷ []) a b c before here)
+pub added_more : (list : List Finding) (i : ℕ) (d : Finding) (a b c : FoundSet) → i < length list → Adds (take i list) a b → Adds (get_or list i d ∷ []) b c
+    → Adds (take (i + 1) list) a c
+added_more list i d a b c below before here = adds_as (take i list ++ get_or list i d ∷ []) (take (i + 1) list) a c (sym (take_more list i d below))
+    (adds_then (take i list) (get_or list i d ∷ []) a b c before here)

@@ -1,5 +1,6 @@
 -- What is counted, one block more at a time.
-use Rattle.std.proofs.Common.{◌≡◌, ℕ, zero, suc, ◌+◌, ◌<◌, ◌≤◌, Bool, List, [], ◌∷◌, length, take, get_or, map, fold, flat_map, IsSomeAnd, Some, Result, Ok, Err, refl, sym, ap, ◌∙◌, subst, arith}
+use Rattle.std.proofs.Common.{◌≡◌, ℕ, zero, suc, ◌+◌, ◌<◌, ◌≤◌, Bool, List, [], ◌∷◌, length, take, get_or, map, fold, flat_map, IsSomeAnd, Some, Result, Ok}
+use Rattle.std.proofs.Common.{Err, refl, sym, ap, ◌∙◌, subst, arith}
 use Rattle.std.proofs.lemmas.List.{get_or-map, take_more, length-map}
 use Rattle.std.proofs.lemmas.List.Sums.{fold-append}
 use Rattle.std.specs.BTreeSet.{BTreeSet, contains}
@@ -38,11 +39,13 @@ at one = one.place
 
 module _ (B : Map) where
   -- a block that was read is the one that is there
-  pub block_counted : (want : Want) (place : RootPlace) (store : Blocks) (loan : Lent) (bytes : List ℕ) (by_address : Bool) (old new : Uses) → block_of store loan ≡ Some bytes
+  pub block_counted : (want : Want) (place : RootPlace) (store : Blocks) (loan : Lent) (bytes : List ℕ) (by_address : Bool) (old new : Uses)
+      → block_of store loan ≡ Some bytes
       → IsSomeAnd (block_of store loan) (λ block. B want ≡ Ok block) → ((block : List ℕ) → IsBlock B place block → B want ≡ Ok block)
       → new ≡ fold with_use old (block_uses by_address place.addr place.level bytes) → BlockCounts B place by_address old new (Ok tt)
   block_counted want place store loan bytes by_address old new held came same counted block there =
-      counted ∙ ap (λ b. fold with_use old (block_uses by_address place.addr place.level b)) (same_bytes bytes block (B want) (block_is store loan bytes (λ b. B want ≡ Ok b) held came) (same block there))
+      counted ∙ ap (λ b. fold with_use old (block_uses by_address place.addr place.level b))
+      (same_bytes bytes block (B want) (block_is store loan bytes (λ b. B want ≡ Ok b) held came) (same block there))
 
 module _ (B : Map) (places : List RootPlace) (full : BTreeSet ℕ) (old : Uses) where
   pub counted_none : CountedTo B 0 places full old old
@@ -59,20 +62,24 @@ module _ (B : Map) (places : List RootPlace) (full : BTreeSet ℕ) (old : Uses) 
     place_is = ap (λ l. get_or l i none) same ∙ get_or-map at blocks i (record { place = none; block = [] }) none inside
 
     is_there : AreThere B blocks → IsBlock B (get_or places i none) one.block
-    is_there there = subst (λ p. IsBlock B p one.block) (sym place_is) (all_at (λ (r : Reached). IsBlock B r.place r.block) blocks i (record { place = none; block = [] }) inside there)
+    is_there there = subst (λ p. IsBlock B p one.block) (sym place_is)
+        (all_at (λ (r : Reached). IsBlock B r.place r.block) blocks i (record { place = none; block = [] }) inside there)
 
   -- one block more
   pub counted_next : (i : ℕ) (none : RootPlace) (by_address : Bool) (now new : Uses) → i < length places → CountedTo B i places full old now
-      → by_address ≡ contains nat_cmp full (get_or places i none).addr → BlockCounts B (get_or places i none) by_address now new (Ok tt) → CountedTo B (i + 1) places full old new
+      → by_address ≡ contains nat_cmp full (get_or places i none).addr → BlockCounts B (get_or places i none) by_address now new (Ok tt)
+      → CountedTo B (i + 1) places full old new
   counted_next i none by_address now new below before by counts blocks same there extents is =
       let here = one i none below blocks same in
       let at-place = place_is i none below blocks same in
       counts here.block (is_there i none below blocks same there)
       ∙ ap (λ (p : RootPlace). fold with_use now (block_uses by_address p.addr p.level here.block)) at-place
-      ∙ ap (λ b. fold with_use now (block_uses b here.place.addr here.place.level here.block)) (by ∙ is (get_or places i none).addr ∙ ap (λ (p : RootPlace). refers_by_address extents p.addr) at-place)
+      ∙ ap (λ b. fold with_use now (block_uses b here.place.addr here.place.level here.block))
+      (by ∙ is (get_or places i none).addr ∙ ap (λ (p : RootPlace). refers_by_address extents p.addr) at-place)
       ∙ ap (λ u. fold with_use u (uses_of extents here)) (before blocks same there extents is)
       ∙ sym (fold-append with_use old (flat_map (uses_of extents) (take i blocks)) (uses_of extents here))
-      ∙ ap (fold with_use old) (sym (flat_more (uses_of extents) (take i blocks) here) ∙ ap (flat_map (uses_of extents)) (sym (take_more blocks i (record { place = none; block = [] }) (inside i none below blocks same))))
+      ∙ ap (fold with_use old) (sym (flat_more (uses_of extents) (take i blocks) here) ∙ ap (flat_map (uses_of extents))
+      (sym (take_more blocks i (record { place = none; block = [] }) (inside i none below blocks same))))
 
   -- the last block
   pub counted_end : (i : ℕ) (now : Uses) → length places ≤ i → CountedTo B i places full old now → BlocksCount B places full old now (Ok tt)
@@ -81,14 +88,18 @@ module _ (B : Map) (places : List RootPlace) (full : BTreeSet ℕ) (old : Uses) 
       before blocks same there extents is ∙ ap (λ l. fold with_use old (flat_map (uses_of extents) l)) (take_all blocks i (omega arith))
 
   -- a block could not be read
-  pub counted_stop : (i : ℕ) (none : RootPlace) (by_address : Bool) (now new last : Uses) (stop : Stop) → i < length places → BlockCounts B (get_or places i none) by_address now new (Err stop) → BlocksCount B places full old last (Err stop)
-  counted_stop i none by_address now new last stop below counts blocks same there extents is = counts (one i none below blocks same).block (is_there i none below blocks same there)
+  pub counted_stop : (i : ℕ) (none : RootPlace) (by_address : Bool) (now new last : Uses) (stop : Stop) → i < length places
+      → BlockCounts B (get_or places i none) by_address now new (Err stop) → BlocksCount B places full old last (Err stop)
+  counted_stop i none by_address now new last stop below counts blocks same there extents is = counts (one i none below blocks same).block
+      (is_there i none below blocks same there)
 
 module _ (B : Map) (trees : List TreeRoot) (places : List RootPlace) (full : BTreeSet ℕ) where
   -- the uses by trees and by blocks
-  pub uses_counted : (none roots all : Uses) → none ≡ no_uses → roots ≡ fold with_use none (map root_use trees) → BlocksCount B places full roots all (Ok tt) → UsesCount B trees places full (Ok all)
+  pub uses_counted : (none roots all : Uses) → none ≡ no_uses → roots ≡ fold with_use none (map root_use trees) → BlocksCount B places full roots all (Ok tt)
+      → UsesCount B trees places full (Ok all)
   uses_counted none roots all empty begun counts blocks same there extents is =
-      counts blocks same there extents is ∙ ap (λ u. fold with_use u (flat_map (uses_of extents) blocks)) (begun ∙ ap (λ u. fold with_use u (map root_use trees)) empty)
+      counts blocks same there extents is ∙ ap (λ u. fold with_use u (flat_map (uses_of extents) blocks))
+      (begun ∙ ap (λ u. fold with_use u (map root_use trees)) empty)
       ∙ sym (fold-append with_use no_uses (map root_use trees) (flat_map (uses_of extents) blocks))
 
   pub uses_stop : (roots all : Uses) (stop : Stop) → BlocksCount B places full roots all (Err stop) → UsesCount B trees places full (Err stop)

@@ -1,5 +1,6 @@
 -- Sectors that are looked up and read, one after another.
-use Rattle.std.proofs.Common.{◌≡◌, ℕ, zero, suc, ◌+◌, ◌*◌, ◌/◌, ◌%◌, ◌<◌, nat_lt, eqb, ◌≤◌, ◌^◌, Bool, true, false, ◌&&◌, List, [], ◌∷◌, ◌++◌, length, take, get_or, filter_map, flat_map, Option, Some, None, IfSome, IsSomeAnd, Result, Ok, Err, is_ok, refl, sym, ap, ◌∙◌, subst, arith}
+use Rattle.std.proofs.Common.{◌≡◌, ℕ, zero, suc, ◌+◌, ◌*◌, ◌/◌, ◌%◌, ◌<◌, nat_lt, eqb, ◌≤◌, ◌^◌, Bool, true, false, ◌&&◌, List, [], ◌∷◌, ◌++◌, length, take}
+use Rattle.std.proofs.Common.{get_or, filter_map, flat_map, Option, Some, None, IfSome, IsSomeAnd, Result, Ok, Err, is_ok, refl, sym, ap, ◌∙◌, subst, arith}
 use Rattle.std.proofs.lemmas.Bool.{ltb-true}
 use Rattle.std.proofs.lemmas.List.Elements.{filter_map-append}
 use Rattle.std.specs.List.{AllByRecursion, Contains, cons_option}
@@ -81,13 +82,17 @@ module _ (fs : Filesystem) (sums : Option TreeRoot) (sector : ℕ) where
   not_read fault is = is_bind ∙ ap (λ (r : Bytes). is_ok r.ending) (after-err looked fault by_sum is)
 
   -- and so it is by a checksum that is kept
-  pub kept_by : (ahead : SumsAhead) (sum : Sum) → ahead.kind ≡ kind_of_sums fs → kept_sum ahead sector ≡ Some sum → IsSummed fs.blocks sums ahead → ReadsBy fs sums sector (Some (want_by sector (Some sum)))
-  kept_by ahead sum same kept summed = read_by (Some sum) (subst (λ (k : SumKind). (exec fs.blocks (sum_at k sums sector)).ending ≡ Ok (Some sum)) same (summed sector sum kept))
+  pub kept_by : (ahead : SumsAhead) (sum : Sum) → ahead.kind ≡ kind_of_sums fs → kept_sum ahead sector ≡ Some sum → IsSummed fs.blocks sums ahead
+      → ReadsBy fs sums sector (Some (want_by sector (Some sum)))
+  kept_by ahead sum same kept summed = read_by (Some sum)
+      (subst (λ (k : SumKind). (exec fs.blocks (sum_at k sums sector)).ending ≡ Ok (Some sum)) same (summed sector sum kept))
 
-  pub found_by : (Is : UnreadBlock → Want → Type 0) (sum : Option Sum) (want : Want) → want ≡ want_by sector sum → Follows Is no_part [] looked [] (answer_of (Ok sum)) → ReadsBy fs sums sector (Some want)
+  pub found_by : (Is : UnreadBlock → Want → Type 0) (sum : Option Sum) (want : Want) → want ≡ want_by sector sum
+      → Follows Is no_part [] looked [] (answer_of (Ok sum)) → ReadsBy fs sums sector (Some want)
   found_by Is sum want same h = subst (λ w. ReadsBy fs sums sector (Some w)) (sym same) (read_by sum h.1)
 
-  pub fault_by : (Is : UnreadBlock → Want → Type 0) (f : TreeFault) → unread_stop f ≡ None → Follows Is no_part [] looked [] (answer_of (Err f)) → ReadsBy fs sums sector None
+  pub fault_by : (Is : UnreadBlock → Want → Type 0) (f : TreeFault) → unread_stop f ≡ None → Follows Is no_part [] looked [] (answer_of (Err f))
+      → ReadsBy fs sums sector None
   fault_by Is (Lost addr) e h = not_read (fate.Lost addr) h.1
   fault_by Is (Unread addr slot) e h = cc
   fault_by Is (Unmapped addr) e h = not_read (fate.Unmapped addr) h.1
@@ -119,7 +124,8 @@ stop_reading (Unmapped addr) stop e = cc
 stop_reading (Crosses addr) stop e = cc
 stop_reading (Malformed addr) stop e = cc
 
-pub stop_cause : (layout : Layout) (old new : Seen) (f : TreeFault) (stop : Stop) → unread_stop f ≡ Some stop → FaultCause layout old new f → StopUnread layout old new stop
+pub stop_cause : (layout : Layout) (old new : Seen) (f : TreeFault) (stop : Stop) → unread_stop f ≡ Some stop → FaultCause layout old new f
+    → StopUnread layout old new stop
 stop_cause layout old new (Lost addr) stop e h = cc
 stop_cause layout old new (Unread addr slot) stop e h = subst (StopUnread layout old new) (same_stop (stops.Tree (Unread addr slot)) stop e) h
 stop_cause layout old new (Unmapped addr) stop e h = cc
@@ -127,7 +133,8 @@ stop_cause layout old new (Crosses addr) stop e h = cc
 stop_cause layout old new (Malformed addr) stop e h = cc
 
 -- what holds of the images holds of their map
-tells_images : (layout : Layout) (old new : Seen) (P : Map → Type 0) → OnlyReads old new → ((sure : Sure) → OnMap layout P sure old.held) → Tells layout old new P
+tells_images : (layout : Layout) (old new : Seen) (P : Map → Type 0) → OnlyReads old new → ((sure : Sure) → OnMap layout P sure old.held)
+    → Tells layout old new P
 tells_images layout old new P reads h = record { calls = record { same = same_held reads; later = reads.later; content = λ sure steady. h sure } }
 
 held_as : (held : Option (List (List ℕ))) (P Q : List (List ℕ) → Type 0) → ((images : List (List ℕ)) → P images → Q images) → IfSome held P → IfSome held Q
@@ -149,7 +156,8 @@ first_passes : (xs : List (List ℕ)) (bytes : List ℕ) (addr : ℕ) → Contai
 first_passes [] bytes addr h = absurd (none_contained bytes h)
 first_passes (x ∷ xs) bytes addr h = refl
 
-some_passes : (images : List (List ℕ)) (addr : ℕ) (r : Result Target fate.Fault) (bytes : List ℕ) → Contains (passing_for images r) bytes → true ≡ is_ok (fate_of images addr r)
+some_passes : (images : List (List ℕ)) (addr : ℕ) (r : Result Target fate.Fault) (bytes : List ℕ) → Contains (passing_for images r) bytes
+    → true ≡ is_ok (fate_of images addr r)
 some_passes images addr (Err fault) bytes h = absurd (none_contained bytes h)
 some_passes images addr (Ok t) bytes h = first_passes (passing images t) bytes addr h
 
@@ -160,35 +168,50 @@ module _ (layout : Layout) (want : Want) (old new : Seen) (store : Blocks) (read
     where
       by : (o : Option (List ℕ)) → IsSomeAnd o (IsFetched layout want old new) → Tells layout old new (CanRead want true)
       by None h = absurd h
-      by (Some bytes) h = tells_images layout old new (CanRead want true) reads (λ sure. held_as old.held (λ images. Contains (passing_for images (sought layout want)) bytes) (λ images. true ≡ is_ok (fate.fate images layout want)) (λ images has. some_passes images (addr_of want) (sought layout want) bytes has) h.stand)
+      by (Some bytes) h = tells_images layout old new (CanRead want true) reads
+          (λ sure. held_as old.held (λ images. Contains (passing_for images (sought layout want)) bytes) (λ images. true ≡ is_ok (fate.fate images layout want))
+          (λ images has. some_passes images (addr_of want) (sought layout want) bytes has) h.stand)
 
   -- one that is lost, or has no position, doesn't
-  pub fetched_cannot : (f : ReadFault) → unread_stop (tree_fault f) ≡ None → FitsFetch layout want old new store (Err f) → Tells layout old new (CanRead want false)
-  fetched_cannot (read.Lost addr) e fits = tells_images layout old new (CanRead want false) reads (λ sure. held_as old.held (λ images. fate.fate images layout want ≡ Err (fate.Lost addr)) (λ images. false ≡ is_ok (fate.fate images layout want)) (λ images is. ap is_ok (sym is)) fits.2)
+  pub fetched_cannot : (f : ReadFault) → unread_stop (tree_fault f) ≡ None → FitsFetch layout want old new store (Err f)
+      → Tells layout old new (CanRead want false)
+  fetched_cannot (read.Lost addr) e fits = tells_images layout old new (CanRead want false) reads
+      (λ sure. held_as old.held (λ images. fate.fate images layout want ≡ Err (fate.Lost addr)) (λ images. false ≡ is_ok (fate.fate images layout want))
+      (λ images is. ap is_ok (sym is)) fits.2)
   fetched_cannot (read.Unread addr slot) e fits = cc
-  fetched_cannot (read.Unmapped addr) e fits = tells_images layout old new (CanRead want false) reads (λ sure. held_all old.held (λ images. false ≡ is_ok (fate.fate images layout want)) (λ images. ap (λ r. is_ok (fate_of images (addr_of want) r)) (sym fits)))
-  fetched_cannot (read.Crosses addr) e fits = tells_images layout old new (CanRead want false) reads (λ sure. held_all old.held (λ images. false ≡ is_ok (fate.fate images layout want)) (λ images. ap (λ r. is_ok (fate_of images (addr_of want) r)) (sym fits)))
+  fetched_cannot (read.Unmapped addr) e fits = tells_images layout old new (CanRead want false) reads
+      (λ sure. held_all old.held (λ images. false ≡ is_ok (fate.fate images layout want))
+      (λ images. ap (λ r. is_ok (fate_of images (addr_of want) r)) (sym fits)))
+  fetched_cannot (read.Crosses addr) e fits = tells_images layout old new (CanRead want false) reads
+      (λ sure. held_all old.held (λ images. false ≡ is_ok (fate.fate images layout want))
+      (λ images. ap (λ r. is_ok (fate_of images (addr_of want) r)) (sym fits)))
 
   -- and its cause
-  pub fetched_cause : (f : ReadFault) (stop : Stop) → unread_stop (tree_fault f) ≡ Some stop → FitsFetch layout want old new store (Err f) → StopUnread layout old new stop
+  pub fetched_cause : (f : ReadFault) (stop : Stop) → unread_stop (tree_fault f) ≡ Some stop → FitsFetch layout want old new store (Err f)
+      → StopUnread layout old new stop
   fetched_cause (read.Lost addr) stop e fits = cc
   fetched_cause (read.Unread addr slot) stop e fits = stop_cause layout old new (Unread addr slot) stop e (want, fits)
   fetched_cause (read.Unmapped addr) stop e fits = cc
   fetched_cause (read.Crosses addr) stop e fits = cc
 
 -- what may be said of a stop that may come at any place
-pub stop_tells : {A : Type 0} (layout : Layout) (old new : Seen) (P : Map → A → Type 0) (stop : Stop) → OnlyReads old new → is_outside stop ≡ true → Tells layout old new (λ B. Unless (P B) (Err stop))
-stop_tells layout old new P stop reads outside = tells_images layout old new (λ B. is_outside stop ≡ true) reads (λ sure. held_all old.held (λ images. is_outside stop ≡ true) (λ images. outside))
+pub stop_tells : {A : Type 0} (layout : Layout) (old new : Seen) (P : Map → A → Type 0) (stop : Stop) → OnlyReads old new → is_outside stop ≡ true
+    → Tells layout old new (λ B. Unless (P B) (Err stop))
+stop_tells layout old new P stop reads outside = tells_images layout old new (λ B. is_outside stop ≡ true) reads
+    (λ sure. held_all old.held (λ images. is_outside stop ≡ true) (λ images. outside))
 
 -- a sector is read by its want
-pub then_read : (fs : Filesystem) (sums : Option TreeRoot) (sector : ℕ) (want : Want) (r : Result Bool Stop) → ReadsBy fs sums sector (Some want) → Unless (λ can. can ≡ is_ok (fs.blocks want)) r → Unless (λ can. can ≡ is_readable fs sums sector) r
+pub then_read : (fs : Filesystem) (sums : Option TreeRoot) (sector : ℕ) (want : Want) (r : Result Bool Stop) → ReadsBy fs sums sector (Some want)
+    → Unless (λ can. can ≡ is_ok (fs.blocks want)) r → Unless (λ can. can ≡ is_readable fs sums sector) r
 then_read fs sums sector want (Ok can) by is = is ∙ sym by
 then_read fs sums sector want (Err stop) by is = is
 
 -- the finding on a sector
-pub sector_adds : (fs : Filesystem) (sums : Option TreeRoot) (sector : ℕ) (can : Bool) (row : Finding) (old new : FoundSet) → row ≡ found 31 (sector ∷ []) → Adds (option_to_list (unless can row)) old new → can ≡ is_readable fs sums sector → Adds (option_to_list (data_lost fs sums sector)) old new
+pub sector_adds : (fs : Filesystem) (sums : Option TreeRoot) (sector : ℕ) (can : Bool) (row : Finding) (old new : FoundSet) → row ≡ found 31 (sector ∷ [])
+    → Adds (option_to_list (unless can row)) old new → can ≡ is_readable fs sums sector → Adds (option_to_list (data_lost fs sums sector)) old new
 sector_adds fs sums sector can row old new same adds is =
-    adds_as (option_to_list (unless can row)) (option_to_list (data_lost fs sums sector)) old new (ap (λ f. option_to_list (unless can f)) same ∙ ap (λ b. option_to_list (unless b (found 31 (sector ∷ [])))) is) adds
+    adds_as (option_to_list (unless can row)) (option_to_list (data_lost fs sums sector)) old new
+    (ap (λ f. option_to_list (unless can f)) same ∙ ap (λ b. option_to_list (unless b (found 31 (sector ∷ [])))) is) adds
 
 sectors_long : (start count : ℕ) → length (sectors start count) ≡ count
 sectors_long start count = length-map-range_with_len (λ i. start + i * 4096) 0 count
@@ -198,17 +221,21 @@ sector_at start count i below = get_or-map-range_with_len (λ i. start + i * 409
 
 -- the sectors of a run, one more
 pub run_more : (fs : Filesystem) (sums : Option TreeRoot) (run : SumRun) (i : ℕ) (sector : ℕ) (a b c : FoundSet) → i < run.count → sector ≡ run.start + i * 4096
-    → Adds (filter_map (data_lost fs sums) (take i (run_sectors run))) a b → Adds (option_to_list (data_lost fs sums sector)) b c → Adds (filter_map (data_lost fs sums) (take (i + 1) (run_sectors run))) a c
+    → Adds (filter_map (data_lost fs sums) (take i (run_sectors run))) a b → Adds (option_to_list (data_lost fs sums sector)) b c
+    → Adds (filter_map (data_lost fs sums) (take (i + 1) (run_sectors run))) a c
 run_more fs sums run i sector a b c below is before here =
     let long : length (run_sectors run) ≡ run.count = sectors_long run.start run.count in
     let at : get_or (run_sectors run) i 0 ≡ run.start + i * 4096 = sector_at run.start run.count i below in
     adds_more (data_lost fs sums) (run_sectors run) i 0 a b c (omega (arith, long, below)) before
-    (adds_as (option_to_list (data_lost fs sums sector)) (option_to_list (data_lost fs sums (get_or (run_sectors run) i 0))) b c (ap (λ s. option_to_list (data_lost fs sums s)) (is ∙ sym at)) here)
+    (adds_as (option_to_list (data_lost fs sums sector)) (option_to_list (data_lost fs sums (get_or (run_sectors run) i 0))) b c
+    (ap (λ s. option_to_list (data_lost fs sums s)) (is ∙ sym at)) here)
 
-pub run_all : (fs : Filesystem) (sums : Option TreeRoot) (run : SumRun) (i : ℕ) (a b : FoundSet) → run.count ≤ i → Adds (filter_map (data_lost fs sums) (take i (run_sectors run))) a b → Adds (filter_map (data_lost fs sums) (run_sectors run)) a b
+pub run_all : (fs : Filesystem) (sums : Option TreeRoot) (run : SumRun) (i : ℕ) (a b : FoundSet) → run.count ≤ i
+    → Adds (filter_map (data_lost fs sums) (take i (run_sectors run))) a b → Adds (filter_map (data_lost fs sums) (run_sectors run)) a b
 run_all fs sums run i a b end h =
     let long : length (run_sectors run) ≡ run.count = sectors_long run.start run.count in
-    adds_as (filter_map (data_lost fs sums) (take i (run_sectors run))) (filter_map (data_lost fs sums) (run_sectors run)) a b (ap (filter_map (data_lost fs sums)) (take_all i (run_sectors run) (omega (arith, long, end)))) h
+    adds_as (filter_map (data_lost fs sums) (take i (run_sectors run))) (filter_map (data_lost fs sums) (run_sectors run)) a b
+    (ap (filter_map (data_lost fs sums)) (take_all i (run_sectors run) (omega (arith, long, end)))) h
 
 -- runs end below 2^64
 abbrev pub IsLow : SumRun → Type 0
@@ -225,15 +252,18 @@ low_at (x ∷ xs) (suc i) d below all = low_at xs i d (omega arith) all.1
 abbrev pub run_findings : Filesystem → Option TreeRoot → SumRun → List Finding
 run_findings fs sums run = filter_map (data_lost fs sums) (run_sectors run)
 
-rows_of : {X Y Z : Type 0} (rule : Y → Option Z) (make : X → List Y) (xs : List X) → flat_map (λ x. filter_map rule (make x)) xs ≡ filter_map rule (flat_map make xs)
+rows_of : {X Y Z : Type 0} (rule : Y → Option Z) (make : X → List Y) (xs : List X) → flat_map (λ x. filter_map rule (make x)) xs ≡ filter_map rule
+    (flat_map make xs)
 rows_of rule make [] = refl
 rows_of rule make (x ∷ xs) = ap (λ l. filter_map rule (make x) ++ l) (rows_of rule make xs) ∙ sym (filter_map-append rule (make x) (flat_map make xs))
 
 -- all runs of the checksum tree
-pub data_all : (fs : Filesystem) (sums : Option TreeRoot) (list : List SumRun) (i : ℕ) (a b : FoundSet) → length list ≤ i → list ≡ sum_runs fs → sums ≡ tree_of fs.sup fs.blocks 7 → Adds (flat_map (run_findings fs sums) (take i list)) a b → Adds (data_findings fs) a b
+pub data_all : (fs : Filesystem) (sums : Option TreeRoot) (list : List SumRun) (i : ℕ) (a b : FoundSet) → length list ≤ i → list ≡ sum_runs fs
+    → sums ≡ tree_of fs.sup fs.blocks 7 → Adds (flat_map (run_findings fs sums) (take i list)) a b → Adds (data_findings fs) a b
 data_all fs sums list i a b end is tree h =
     adds_as (flat_map (run_findings fs sums) (take i list)) (data_findings fs) a b
-    (ap (flat_map (run_findings fs sums)) (take_all i list end) ∙ rows_of (data_lost fs sums) run_sectors list ∙ ap (λ l. filter_map (data_lost fs sums) (flat_map run_sectors l)) is ∙ ap (λ t. filter_map (data_lost fs t) (flat_map run_sectors (sum_runs fs))) tree) h
+    (ap (flat_map (run_findings fs sums)) (take_all i list end) ∙ rows_of (data_lost fs sums) run_sectors list
+    ∙ ap (λ l. filter_map (data_lost fs sums) (flat_map run_sectors l)) is ∙ ap (λ t. filter_map (data_lost fs t) (flat_map run_sectors (sum_runs fs))) tree) h
 
 second_true : (a b : Bool) → (a && b) ≡ true → b ≡ true
 second_true true b is = is
@@ -253,7 +283,8 @@ runs_low kind (item ∷ items) =
     let some = nat_lt 0 (length item.body) in
     let whole = eqb (length item.body % sum_size kind) 0 in
     let low = nat_lt (item.key.offset + count * 4096) (2 ^ 64) in
-    low_if (typed && key && some && whole && low) (record { start = item.key.offset; count = count }) (runs_in kind items) (λ is. ltb-true (item.key.offset + count * 4096) (2 ^ 64) (second_true (typed && key && some && whole) low is)) (runs_low kind items)
+    low_if (typed && key && some && whole && low) (record { start = item.key.offset; count = count }) (runs_in kind items)
+    (λ is. ltb-true (item.key.offset + count * 4096) (2 ^ 64) (second_true (typed && key && some && whole) low is)) (runs_low kind items)
 
 pub are_low : (fs : Filesystem) (list : List SumRun) → list ≡ sum_runs fs → AreLow list
 are_low fs list is = subst AreLow (sym is) (runs_low (kind_of_sums fs) (tree_items fs 7))

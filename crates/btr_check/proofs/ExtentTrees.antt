@@ -95,7 +95,8 @@ module _ (fs : Filesystem) (only : OnlyLeft fs.blocks) (tree : TreeRoot) (is : t
       let run = exec fs.blocks (range first_key last_key tree.place) in
       let formed = ap (list_all (λ (item : TreeItem). is_formed item.key item.body)) law.0 ∙ all_formed (kind_of_sums fs) items sound.formed in
       collected_all fs.blocks fs.sup.nodesize tree.place law.1 formed
-      ∙ ap (λ (l : List TreeItem). kept_ok (record { nodesize = fs.sup.nodesize; refs = counts_of (stored_in l); extents = extents_in fs.sup.nodesize l })) law.0
+      ∙ ap (λ (l : List TreeItem). kept_ok (record
+      { nodesize = fs.sup.nodesize; refs = counts_of (stored_in l); extents = extents_in fs.sup.nodesize l })) law.0
 
   is_stored : (kept : Kept) → kept ≡ all → IsStoredOf fs kept
   is_stored kept e = record {
@@ -103,7 +104,8 @@ module _ (fs : Filesystem) (only : OnlyLeft fs.blocks) (tree : TreeRoot) (is : t
     extents = ap (λ (k : Kept). k.extents) e ∙ ap (extents_in fs.sup.nodesize) items_are;
   }
 
-  pub stored_reads : (Is : UnreadBlock → Want → Type 0) (r : Result Kept CollectFault) → Follows Is no_part [] (exec fs.blocks (stored_of fs.sup.nodesize tree.place)) [] (collect_answer r) → Unless (IsStoredOf fs) (stopped r)
+  pub stored_reads : (Is : UnreadBlock → Want → Type 0) (r : Result Kept CollectFault) → Follows Is no_part []
+      (exec fs.blocks (stored_of fs.sup.nodesize tree.place)) [] (collect_answer r) → Unless (IsStoredOf fs) (stopped r)
   stored_reads Is (Ok kept) h = is_stored kept (same_kept all kept (sym ends ∙ h.1))
   stored_reads Is (Err collect.Memory) h = refl
   stored_reads Is (Err (collect.Tree (Lost addr))) h = not_both all (fate.Lost addr) _ (sym ends ∙ h.1)

@@ -12,7 +12,8 @@ use Rattle.btr_check.specs.Walking.{Places, no_places, with_place}
 use Rattle.btr_check.specs.declared.places.Place.{Place}
 
 place_total : IsTotalOrder place_cmp
-place_total = then_total (on_total (λ (p : Place). p.addr) nat_cmp_total) (then_total (on_total (λ (p : Place). p.generation) nat_cmp_total) (on_total (λ (p : Place). p.level) nat_cmp_total))
+place_total = then_total (on_total (λ (p : Place). p.addr) nat_cmp_total)
+    (then_total (on_total (λ (p : Place). p.generation) nat_cmp_total) (on_total (λ (p : Place). p.level) nat_cmp_total))
 
 abbrev at : Reached → RootPlace
 at one = one.place
@@ -30,7 +31,8 @@ abbrev Same : List Place → Places → Type 0
 Same before places = (q : Place) → is_among places.keys q ≡ is_among before q
 
 -- one that was met, or that wasn't
-met_one : (before : List Place) (one : Reached) (more : List Reached) (places : Places) (b : Bool) → is_among before (place_of one.place) ≡ b → Same before places
+met_one : (before : List Place) (one : Reached) (more : List Reached) (places : Places) (b : Bool) → is_among before (place_of one.place) ≡ b
+    → Same before places
     → (kept more places).list ≡ places.list ++ met_first before more
     → (kept more (with_one places one.place)).list ≡ (places.list ++ one.place ∷ []) ++ met_first (place_of one.place ∷ before) more
     → (kept (one ∷ more) places).list ≡ places.list ++ met_first before (one ∷ more)

@@ -34,7 +34,8 @@ root_walked (mark ∷ marks) seen =
     record {
       wrong_is = rest.wrong_is ∙ first_more seen.wrong (wrong seen.kind mark) (filter_map (wrong seen.kind) marks)
           ∙ ap (λ l. or_first seen.wrong (first_of l)) (sym (one_more (wrong seen.kind mark) (filter_map (wrong seen.kind) marks)));
-      trees_are = rest.trees_are ∙ append_assoc seen.trees (trees_at mark) (filter_map tree_of_item (items_met marks)) ∙ ap (λ l. seen.trees ++ l) (trees_more mark marks);
+      trees_are = rest.trees_are ∙ append_assoc seen.trees (trees_at mark) (filter_map tree_of_item (items_met marks))
+          ∙ ap (λ l. seen.trees ++ l) (trees_more mark marks);
     }
 
 -- ranges that aren't apart, behind a last one if there is one
@@ -51,7 +52,8 @@ pub apart_all : (ranges : List FileRange) → apart_from None ranges ≡ filter_
 unfolding apart_from
 apart_all ranges = refl
 
-apart_more : (last next : Option FileRange) (ranges : List FileRange) → behind_last last next ++ apart_from (or_last last next) ranges ≡ apart_from last (option_to_list next ++ ranges)
+apart_more : (last next : Option FileRange) (ranges : List FileRange) → behind_last last next ++ apart_from (or_last last next) ranges ≡ apart_from last
+    (option_to_list next ++ ranges)
 unfolding apart_from
 apart_more None None ranges = refl
 apart_more None (Some next) ranges = refl
@@ -67,7 +69,8 @@ ranges_more (Left fault) marks = refl
 abbrev at : Reached → RootPlace
 at one = one.place
 
-places_more : (mark : Mark) (marks : List Mark) (places : Places) → fold with_place (place_met places mark) (map at (blocks_met marks)) ≡ fold with_place places (map at (blocks_met (mark ∷ marks)))
+places_more : (mark : Mark) (marks : List Mark) (places : Places) → fold with_place (place_met places mark) (map at (blocks_met marks)) ≡ fold with_place places
+    (map at (blocks_met (mark ∷ marks)))
 places_more (Block place block) marks places = refl
 places_more (Child addr place) marks places = refl
 places_more (Item item) marks places = refl
@@ -93,7 +96,8 @@ walked (mark ∷ marks) seen =
       kind_is = rest.kind_is;
       broken_is = rest.broken_is ∙ append_assoc seen.broken (option_to_list (broken seen.kind mark)) (filter_map (broken seen.kind) marks)
           ∙ ap (λ l. seen.broken ++ l) (sym (one_more (broken seen.kind mark) (filter_map (broken seen.kind) marks)));
-      overlapping_is = rest.overlapping_is ∙ append_assoc seen.overlapping (behind_last seen.last (range_at mark)) (apart_from (or_last seen.last (range_at mark)) (ranges_met marks))
+      overlapping_is = rest.overlapping_is ∙ append_assoc seen.overlapping (behind_last seen.last (range_at mark))
+          (apart_from (or_last seen.last (range_at mark)) (ranges_met marks))
           ∙ ap (λ l. seen.overlapping ++ l) (apart_more seen.last (range_at mark) (ranges_met marks) ∙ ap (apart_from seen.last) (ranges_more mark marks));
       places_are = rest.places_are ∙ places_more mark marks seen.places;
     }

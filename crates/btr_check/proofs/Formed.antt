@@ -41,7 +41,8 @@ stored_formed kind key body has =
     let parts = both_true (key_fits key) (body_fits (form_of key.kind) kind key body) fits in
     by (is_extent key.kind) (is_loose key.kind) refl refl parts.0 parts.1
   where
-    by : (a b : Bool) → is_extent key.kind ≡ a → is_loose key.kind ≡ b → key_fits key ≡ true → body_fits (form_of key.kind) kind key body ≡ true → is_formed key body ≡ true
+    by : (a b : Bool) → is_extent key.kind ≡ a → is_loose key.kind ≡ b → key_fits key ≡ true → body_fits (form_of key.kind) kind key body ≡ true
+        → is_formed key body ≡ true
     by true b extent loose good fits =
         ap (λ t. if t then key_fits key && extent_fits key.kind body else if is_loose key.kind then is_ok (loose_ref_of key body) else true) extent
         ∙ ap (λ t. t && extent_fits key.kind body) good ∙ ap (λ f. body_fits f kind key body) (sym (extent_form key.kind extent)) ∙ fits
@@ -52,8 +53,10 @@ stored_formed kind key body has =
         ap (λ t. if t then key_fits key && extent_fits key.kind body else if is_loose key.kind then is_ok (loose_ref_of key body) else true) extent
         ∙ ap (λ t. if t then is_ok (loose_ref_of key body) else true) loose
 
-pub all_formed : (kind : SumKind) (items : List TreeItem) → list_all (λ (item : TreeItem). has_form kind item.key item.body) items ≡ true → list_all (λ (item : TreeItem). is_formed item.key item.body) items ≡ true
+pub all_formed : (kind : SumKind) (items : List TreeItem) → list_all (λ (item : TreeItem). has_form kind item.key item.body) items ≡ true
+    → list_all (λ (item : TreeItem). is_formed item.key item.body) items ≡ true
 all_formed kind [] all = refl
 all_formed kind (item ∷ items) all =
     let both = both_true (has_form kind item.key item.body) (list_all (λ (other : TreeItem). has_form kind other.key other.body) items) all in
-    ap (λ b. b && list_all (λ (other : TreeItem). is_formed other.key other.body) items) (stored_formed kind item.key item.body both.0) ∙ all_formed kind items both.1
+    ap (λ b. b && list_all (λ (other : TreeItem). is_formed other.key other.body) items) (stored_formed kind item.key item.body both.0)
+    ∙ all_formed kind items both.1

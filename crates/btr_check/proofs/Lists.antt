@@ -1,5 +1,6 @@
 -- Lists, one element more at a time.
-use Rattle.std.proofs.Common.{◌≡◌, ℕ, ◌+◌, ◌<◌, Bool, true, false, List, [], ◌∷◌, ◌++◌, length, take, get_or, filter_map, Option, Some, None, IfSome, if◌then◌else◌, map, flat_map, eqb, eq-eqb, refl, sym, ap, ◌∙◌}
+use Rattle.std.proofs.Common.{◌≡◌, ℕ, ◌+◌, ◌<◌, Bool, true, false, List, [], ◌∷◌, ◌++◌, length, take, get_or, filter_map, Option, Some, None, IfSome}
+use Rattle.std.proofs.Common.{if◌then◌else◌, map, flat_map, eqb, eq-eqb, refl, sym, ap, ◌∙◌}
 use Rattle.std.proofs.lemmas.Bool.{ne_eqb}
 use Rattle.std.proofs.lemmas.Grind.{flat_map-append}
 use Rattle.std.proofs.lemmas.List.{take_more, append-nil}
@@ -37,10 +38,12 @@ first_one (Some y) = refl
 
 module _ {X Y : Type 0} (rule : X → Option Y) (xs : List X) where
   -- the first that a rule gives of some, one more
-  pub first_of_more : (i : ℕ) (d : X) → i < length xs → first_of (filter_map rule (take (i + 1) xs)) ≡ or_first (first_of (filter_map rule (take i xs))) (rule (get_or xs i d))
+  pub first_of_more : (i : ℕ) (d : X) → i < length xs → first_of (filter_map rule (take (i + 1) xs)) ≡ or_first (first_of (filter_map rule (take i xs)))
+      (rule (get_or xs i d))
   first_of_more i d below =
       ap (λ l. first_of (filter_map rule l)) (take_more xs i d below) ∙ ap first_of (filter_map-append rule (take i xs) (get_or xs i d ∷ []))
-      ∙ first_then (filter_map rule (take i xs)) (filter_map rule (get_or xs i d ∷ [])) ∙ ap (or_first (first_of (filter_map rule (take i xs)))) (first_one (rule (get_or xs i d)))
+      ∙ first_then (filter_map rule (take i xs)) (filter_map rule (get_or xs i d ∷ [])) ∙ ap (or_first (first_of (filter_map rule (take i xs))))
+      (first_one (rule (get_or xs i d)))
 
 last_snoc : (id : ℕ) (xs : List TreeRoot) (x : TreeRoot) → last_of id (xs ++ x ∷ []) ≡ (if eqb x.id id then Some x else last_of id xs)
 last_snoc id [] x = by (eqb x.id id)
@@ -55,15 +58,20 @@ last_snoc id (y ∷ xs) x = ap (λ o. or_here o (eqb y.id id) y) (last_snoc id x
     by false = refl
 
 -- the last tree of an id among some, one more
-pub last_more : (id : ℕ) (xs : List TreeRoot) (i : ℕ) (d : TreeRoot) → i < length xs → last_of id (take (i + 1) xs) ≡ (if eqb (get_or xs i d).id id then Some (get_or xs i d) else last_of id (take i xs))
+pub last_more : (id : ℕ) (xs : List TreeRoot) (i : ℕ) (d : TreeRoot) → i < length xs → last_of id
+    (take (i + 1) xs) ≡ (if eqb (get_or xs i d).id id then Some (get_or xs i d) else last_of id (take i xs))
 last_more id xs i d below = ap (last_of id) (take_more xs i d below) ∙ last_snoc id (take i xs) (get_or xs i d)
 
 -- the same by what a loop did
-pub last_taken : (id : ℕ) (xs : List TreeRoot) (i : ℕ) (d : TreeRoot) (last : Option TreeRoot) → i < length xs → (get_or xs i d).id ≡ id → last ≡ Some (get_or xs i d) → last ≡ last_of id (take (i + 1) xs)
-last_taken id xs i d last below same is = is ∙ sym (last_more id xs i d below ∙ ap (λ b. if b then Some (get_or xs i d) else last_of id (take i xs)) (eq-eqb _ _ same))
+pub last_taken : (id : ℕ) (xs : List TreeRoot) (i : ℕ) (d : TreeRoot) (last : Option TreeRoot) → i < length xs → (get_or xs i d).id ≡ id
+    → last ≡ Some (get_or xs i d) → last ≡ last_of id (take (i + 1) xs)
+last_taken id xs i d last below same is = is ∙ sym
+    (last_more id xs i d below ∙ ap (λ b. if b then Some (get_or xs i d) else last_of id (take i xs)) (eq-eqb _ _ same))
 
-pub last_kept : (id : ℕ) (xs : List TreeRoot) (i : ℕ) (d : TreeRoot) (last before : Option TreeRoot) → i < length xs → ((get_or xs i d).id ≡ id → ⊥) → last ≡ before → before ≡ last_of id (take i xs) → last ≡ last_of id (take (i + 1) xs)
-last_kept id xs i d last before below other is had = is ∙ had ∙ sym (last_more id xs i d below ∙ ap (λ b. if b then Some (get_or xs i d) else last_of id (take i xs)) (ne_eqb _ _ other))
+pub last_kept : (id : ℕ) (xs : List TreeRoot) (i : ℕ) (d : TreeRoot) (last before : Option TreeRoot) → i < length xs → ((get_or xs i d).id ≡ id → ⊥)
+    → last ≡ before → before ≡ last_of id (take i xs) → last ≡ last_of id (take (i + 1) xs)
+last_kept id xs i d last before below other is had = is ∙ had ∙ sym
+    (last_more id xs i d below ∙ ap (λ b. if b then Some (get_or xs i d) else last_of id (take i xs)) (ne_eqb _ _ other))
 
 pub first_mapped : {X Y : Type 0} (f : X → Y) (xs : List X) (ys : List Y) (x : X) → first_of xs ≡ Some x → first_of (map f xs ++ ys) ≡ Some (f x)
 first_mapped f [] ys x e = cc

@@ -37,12 +37,14 @@ or_turn false true c = refl
 or_turn false false c = refl
 
 module _ (nodesize : ℕ) (extent : Extent) (uses : List Use) (used : UsedExtents) (is : AreUsedBy uses used) where
-  by_kept : (one : Finding) → (list_any (is_by_block nodesize extent one) used.tree_blocks.keys || list_any (is_by_data nodesize extent one) used.data_extents.keys) ≡ is_one_of (extent_findings nodesize uses extent) one
+  by_kept : (one : Finding) → (list_any (is_by_block nodesize extent one) used.tree_blocks.keys || list_any
+      (is_by_data nodesize extent one) used.data_extents.keys) ≡ is_one_of (extent_findings nodesize uses extent) one
   by_kept one =
       ap (λ l. list_any (is_by_block nodesize extent one) l || list_any (is_by_data nodesize extent one) used.data_extents.keys) is.tree_blocks
       ∙ ap (λ l. list_any (is_by_block nodesize extent one) (used_by uses).tree_blocks || list_any (is_by_data nodesize extent one) l) is.data_extents
       ∙ used_any (is_by nodesize extent one) uses no_uses ∙ or_none (list_any (λ (u : Use). is_by nodesize extent one u.addr u.what) uses)
-      ∙ any_same (λ (u : Use). is_by nodesize extent one u.addr u.what) (λ u. is_one_of (misused_by nodesize extent u) one) (λ u. sym (if_any (eqb u.addr extent.addr) (misused nodesize extent u.what) one)) uses
+      ∙ any_same (λ (u : Use). is_by nodesize extent one u.addr u.what) (λ u. is_one_of (misused_by nodesize extent u) one)
+      (λ u. sym (if_any (eqb u.addr extent.addr) (misused nodesize extent u.what) one)) uses
       ∙ sym (any_of (misused_by nodesize extent) one uses)
 
   -- by the uses as tree blocks, and then by those as data
@@ -53,6 +55,8 @@ module _ (nodesize : ℕ) (extent : Extent) (uses : List Use) (used : UsedExtent
       → ((one : Finding) → has c one ≡ (list_any (is_by_data nodesize extent one) datas || has b one))
       → Adds (extent_findings nodesize uses extent) a c
   misused_all a b c blocks datas all_blocks all_datas first second one =
-      second one ∙ ap (λ r. r || has b one) (all_datas one) ∙ ap (λ r. list_any (is_by_data nodesize extent one) used.data_extents.keys || r) (first one ∙ ap (λ r. r || has a one) (all_blocks one))
-      ∙ or_turn (list_any (is_by_block nodesize extent one) used.tree_blocks.keys) (list_any (is_by_data nodesize extent one) used.data_extents.keys) (has a one)
+      second one ∙ ap (λ r. r || has b one) (all_datas one) ∙ ap (λ r. list_any (is_by_data nodesize extent one) used.data_extents.keys || r)
+      (first one ∙ ap (λ r. r || has a one) (all_blocks one))
+      ∙ or_turn (list_any (is_by_block nodesize extent one) used.tree_blocks.keys) (list_any (is_by_data nodesize extent one) used.data_extents.keys)
+      (has a one)
       ∙ ap (λ r. r || has a one) (by_kept one)

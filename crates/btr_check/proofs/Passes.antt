@@ -22,7 +22,8 @@ marks_items B None = refl
 marks_items B (Some tree) = refl
 
 -- a list that was collected
-pub collected : {X : Type 0} (read : TreeItem → Option X) → Collects read → (B : Map) (tree : Option TreeRoot) (none met : List X) → none ≡ [] → met ≡ fold (with_mark read) none (marks_if B tree)
+pub collected : {X : Type 0} (read : TreeItem → Option X) → Collects read → (B : Map) (tree : Option TreeRoot) (none met : List X) → none ≡ []
+    → met ≡ fold (with_mark read) none (marks_if B tree)
     → met ≡ filter_map read (items_if B tree)
 collected read law B tree none met empty is =
     is ∙ ap (λ l. fold (with_mark read) l (marks_if B tree)) empty ∙ law (marks_if B tree) ∙ ap (filter_map read) (marks_items B tree)
@@ -37,11 +38,13 @@ on_done P Q (Ok u) f h = f h
 on_done P Q (Err e) f h = tt
 
 -- behind calls that read, findings were put, or there was no memory
-pub ran_put : {A : Type 0} (P S : Filesystem → Type 0) (T : Filesystem → Type 0) (x y : World) (a : A) (done : Result (Unit {0}) Memory) (r : Result (Unit {0}) Stop) → Ran P x y (Ok a) → r ≡ or_memory done
+pub ran_put : {A : Type 0} (P S : Filesystem → Type 0) (T : Filesystem → Type 0) (x y : World) (a : A) (done : Result (Unit {0}) Memory)
+    (r : Result (Unit {0}) Stop) → Ran P x y (Ok a) → r ≡ or_memory done
     → ((B : Map) → P (filesystem x.vol B) → S (filesystem x.vol B) → OnOk done (T (filesystem x.vol B))) → Ran (λ fs. S fs → Unless (λ u. T fs) r) x y r
 ran_put {A} P S T x y a done r one is f = subst (λ t. Ran (λ fs. S fs → Unless (λ u. T fs) t) x y t) (sym is) (by done f)
   where
-    by : (done : Result (Unit {0}) Memory) → ((B : Map) → P (filesystem x.vol B) → S (filesystem x.vol B) → OnOk done (T (filesystem x.vol B))) → Ran (λ fs. S fs → Unless (λ u. T fs) (or_memory done)) x y (or_memory done)
+    by : (done : Result (Unit {0}) Memory) → ((B : Map) → P (filesystem x.vol B) → S (filesystem x.vol B) → OnOk done (T (filesystem x.vol B)))
+        → Ran (λ fs. S fs → Unless (λ u. T fs) (or_memory done)) x y (or_memory done)
     by (Ok u) f = ran_value {A = A} {C = Unit {0}} P (λ fs. S fs → T fs) x y a tt one f
     by (Err e) f = ran_refused {A = A} {C = Unit {0}} P (λ fs. S fs → is_outside stops.Memory ≡ true) x y a stops.Memory one tt tt (λ B p s. refl)
 
@@ -50,8 +53,9 @@ pub ran_memory : {C : Type 0} (S : Filesystem → Type 0) (x : World) → IsRead
 ran_memory {C} S x ready f =
     ran_refused {A = Unit {0}} {C = C} (λ fs. ⊤) S x x tt stops.Memory (ran_none (λ fs. ⊤) x tt ready (λ B. tt)) tt tt (λ B p. f B)
 
--- .. nor behind calls that read
-pub ran_no_memory : {A C : Type 0} (P S : Filesystem → Type 0) (x y : World) (a : A) → Ran P x y (Ok a) → ((B : Map) → S (filesystem x.vol B)) → Ran {A = C} S x y (Err stops.Memory)
+-- there was no memory behind calls that read
+pub ran_no_memory : {A C : Type 0} (P S : Filesystem → Type 0) (x y : World) (a : A) → Ran P x y (Ok a) → ((B : Map) → S (filesystem x.vol B))
+    → Ran {A = C} S x y (Err stops.Memory)
 ran_no_memory {A} {C} P S x y a one f = ran_refused {A = A} {C = C} P S x y a stops.Memory one tt tt (λ B p. f B)
 
 -- what holds on success, of two things that hold then

@@ -1,5 +1,6 @@
 -- What uses the extent at an address, among the uses in order.
-use Rattle.std.proofs.Common.{◌≡◌, ℕ, zero, suc, ◌+◌, ◌<◌, ◌&&◌, ◌||◌, not, Bool, true, false, List, [], ◌∷◌, filter, if◌then◌else◌, eqb, refl, sym, ap, ◌∙◌, arith}
+use Rattle.std.proofs.Common.{◌≡◌, ℕ, zero, suc, ◌+◌, ◌<◌, ◌&&◌, ◌||◌, not, Bool, true, false, List, [], ◌∷◌, filter, if◌then◌else◌, eqb, refl, sym, ap, ◌∙◌}
+use Rattle.std.proofs.Common.{arith}
 use Rattle.std.proofs.lemmas.Bool.{eqb-true}
 use Rattle.std.specs.BTreeMap.Range.{range_contains}
 use Rattle.std.specs.Cmp.{nat_cmp_is}
@@ -12,14 +13,16 @@ use Rattle.btr_refs.specs.declared.uses.BlockUse.{BlockUse}
 use Rattle.btr_refs.specs.declared.uses.DataUse.{DataUse}
 
 -- what holds of one holds of one that a test lets pass, where it passes all of which it may hold
-pub any_filter : {X : Type 0} (r c p : X → Bool) → ((x : X) → r x ≡ true → c x ≡ true) → (xs : List X) → list_any (λ x. r x && p x) (filter c xs) ≡ list_any (λ x. r x && p x) xs
+pub any_filter : {X : Type 0} (r c p : X → Bool) → ((x : X) → r x ≡ true → c x ≡ true) → (xs : List X)
+    → list_any (λ x. r x && p x) (filter c xs) ≡ list_any (λ x. r x && p x) xs
 any_filter r c p passes [] = refl
 any_filter r c p passes (x ∷ xs) = by (c x) (r x) refl refl (any_filter r c p passes xs)
   where
     by : (b a : Bool) → c x ≡ b → r x ≡ a → list_any (λ y. r y && p y) (filter c xs) ≡ list_any (λ y. r y && p y) xs
         → list_any (λ y. r y && p y) (if c x then x ∷ filter c xs else filter c xs) ≡ ((r x && p x) || list_any (λ y. r y && p y) xs)
     by true a is was rest = ap (λ t. list_any (λ y. r y && p y) (if t then x ∷ filter c xs else filter c xs)) is ∙ ap (λ t. (r x && p x) || t) rest
-    by false false is was rest = ap (λ t. list_any (λ y. r y && p y) (if t then x ∷ filter c xs else filter c xs)) is ∙ rest ∙ ap (λ t. (t && p x) || list_any (λ y. r y && p y) xs) (sym was)
+    by false false is was rest = ap (λ t. list_any (λ y. r y && p y) (if t then x ∷ filter c xs else filter c xs)) is ∙ rest
+        ∙ ap (λ t. (t && p x) || list_any (λ y. r y && p y) xs) (sym was)
     by false true is was rest = let yes : c x ≡ true = passes x was in cc
 
 zero_le : (n : ℕ) → is_le (nat_cmp 0 n) ≡ true
@@ -31,7 +34,8 @@ module _ (addr : ℕ) (block : BlockUse) (e : eqb block.addr addr ≡ true) wher
   from = record { addr = addr; level = 0 }
 
   begins : is_le (block_cmp from block) ≡ true
-  begins = ap (λ r. is_le (ordering_then r (nat_cmp 0 block.level))) (sym (nat_cmp_is addr block.addr Equal (sym (eqb-true block.addr addr e)))) ∙ zero_le block.level
+  begins = ap (λ r. is_le (ordering_then r (nat_cmp 0 block.level))) (sym (nat_cmp_is addr block.addr Equal (sym (eqb-true block.addr addr e))))
+      ∙ zero_le block.level
 
   -- the uses at an address are between it and the next one
   pub block_within : (next : ℕ) → next ≡ addr + 1 → range_contains block_cmp (Included from) (Excluded (record { addr = next; level = 0 })) block ≡ true

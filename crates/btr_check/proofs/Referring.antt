@@ -29,25 +29,30 @@ use Rattle.btr_check.specs.Uses.{all_uses, counted_refs, counts_of, difference_f
 use Rattle.btr_check.specs.Walking.{ArePlaces}
 
 -- where there is no extent tree, nothing is stored
-pub nothing_stored : (fs : Filesystem) (listed_trees : List TreeRoot) (kept : Kept) (size : ℕ) → Lists listed_trees fs → last_of 2 listed_trees ≡ None → kept ≡ nothing_kept size → IsStoredOf fs kept
+pub nothing_stored : (fs : Filesystem) (listed_trees : List TreeRoot) (kept : Kept) (size : ℕ) → Lists listed_trees fs → last_of 2 listed_trees ≡ None
+    → kept ≡ nothing_kept size → IsStoredOf fs kept
 nothing_stored fs listed_trees kept size lists none is =
     let items : items_if fs.blocks (last_of 2 listed_trees) ≡ words.tree_items fs 2 = ap (λ l. items_if fs.blocks (last_of 2 l)) lists in
     record {
       refs = ap (λ (k : Kept). k.refs) is ∙ ap (λ t. counts_of (stored_in (items_if fs.blocks t))) (sym none) ∙ ap (λ l. counts_of (stored_in l)) items;
-      extents = ap (λ (k : Kept). k.extents) is ∙ ap (λ t. extents_in fs.sup.nodesize (items_if fs.blocks t)) (sym none) ∙ ap (extents_in fs.sup.nodesize) items;
+      extents = ap (λ (k : Kept). k.extents) is ∙ ap (λ t. extents_in fs.sup.nodesize (items_if fs.blocks t)) (sym none)
+          ∙ ap (extents_in fs.sup.nodesize) items;
     }
 
 -- the references alone are kept of it
-pub refs_of : (fs : Filesystem) (stored : Kept) (kept : StoredRefs) → IsStoredOf fs stored → kept.refs.entries ≡ stored.refs → IsFull stored.extents kept.full → AreRefsOf fs kept
+pub refs_of : (fs : Filesystem) (stored : Kept) (kept : StoredRefs) → IsStoredOf fs stored → kept.refs.entries ≡ stored.refs → IsFull stored.extents kept.full
+    → AreRefsOf fs kept
 refs_of fs stored kept is same full = record {
   refs = same ∙ is.refs;
   full = λ addr. full addr ∙ ap (λ l. refers_by_address l addr) is.extents;
 }
 
 -- what its extents state differs from what it stores by these findings
-pub totals_put : (fs : Filesystem) (stored : Kept) (a b : FoundSet) → IsStoredOf fs stored → Adds (total_findings stored.extents stored.refs) a b → Adds (found_on_totals fs) a b
+pub totals_put : (fs : Filesystem) (stored : Kept) (a b : FoundSet) → IsStoredOf fs stored → Adds (total_findings stored.extents stored.refs) a b
+    → Adds (found_on_totals fs) a b
 totals_put fs stored a b is =
-    adds_as (total_findings stored.extents stored.refs) (found_on_totals fs) a b (ap (λ l. total_findings l stored.refs) is.extents ∙ ap (total_findings (words.extents fs)) is.refs)
+    adds_as (total_findings stored.extents stored.refs) (found_on_totals fs) a b
+    (ap (λ l. total_findings l stored.refs) is.extents ∙ ap (total_findings (words.extents fs)) is.refs)
 
 module _ (fs : Filesystem) (all : List TreeRoot) where
   abbrev blocks : List Reached
@@ -57,27 +62,33 @@ module _ (fs : Filesystem) (all : List TreeRoot) where
   blocks_there = first_there fs.blocks [] (flat_map (λ (tree : TreeRoot). blocks_met (whole fs.blocks tree.place)) all) (trees_there fs.blocks all)
 
   -- a block could not be read again
-  pub uses_stop_here : (places : List RootPlace) (stored : StoredRefs) (stop : Stop) → ArePlaces fs all places → AreRefsOf fs stored → UsesCount fs.blocks all places stored.full (Err stop) → is_outside stop ≡ true
+  pub uses_stop_here : (places : List RootPlace) (stored : StoredRefs) (stop : Stop) → ArePlaces fs all places → AreRefsOf fs stored
+      → UsesCount fs.blocks all places stored.full (Err stop) → is_outside stop ≡ true
   uses_stop_here places stored stop are kept counts = counts blocks are blocks_there (words.extents fs) kept.full
 
   -- all uses were counted
-  pub uses_are : (places : List RootPlace) (stored : StoredRefs) (forward : Uses) → AreAll all fs → ArePlaces fs all places → AreRefsOf fs stored → UsesCount fs.blocks all places stored.full (Ok forward) → forward ≡ used_by (all_uses fs)
+  pub uses_are : (places : List RootPlace) (stored : StoredRefs) (forward : Uses) → AreAll all fs → ArePlaces fs all places → AreRefsOf fs stored
+      → UsesCount fs.blocks all places stored.full (Ok forward) → forward ≡ used_by (all_uses fs)
   uses_are places stored forward all-are are kept counts =
       counts blocks are blocks_there (words.extents fs) kept.full
-      ∙ ap (λ t. fold with_use no_uses (map root_use t ++ flat_map (uses_of (words.extents fs)) (first_met [] (flat_map (λ (tree : TreeRoot). blocks_met (whole fs.blocks tree.place)) t)))) all-are
+      ∙ ap (λ t. fold with_use no_uses (map root_use t ++ flat_map (uses_of (words.extents fs))
+      (first_met [] (flat_map (λ (tree : TreeRoot). blocks_met (whole fs.blocks tree.place)) t)))) all-are
 
 -- the extents alone are kept of uses
-pub used_extents : (uses : List Use) (forward : Uses) (used : UsedExtents) → forward ≡ used_by uses → used.tree_blocks.keys ≡ forward.tree_blocks → used.data_extents.keys ≡ forward.data_extents → AreUsedBy uses used
+pub used_extents : (uses : List Use) (forward : Uses) (used : UsedExtents) → forward ≡ used_by uses → used.tree_blocks.keys ≡ forward.tree_blocks
+    → used.data_extents.keys ≡ forward.data_extents → AreUsedBy uses used
 used_extents uses forward used is blocks_are data_are = record {
   tree_blocks = blocks_are ∙ ap (λ (u : Uses). u.tree_blocks) is;
   data_extents = data_are ∙ ap (λ (u : Uses). u.data_extents) is;
 }
 
 -- what was counted differs from what is stored by these findings
-pub counts_put : (fs : Filesystem) (forward : Uses) (stored : StoredRefs) (a b : FoundSet) → forward ≡ used_by (all_uses fs) → AreRefsOf fs stored → Adds (count_findings forward.refs stored.refs.entries) a b → Adds (found_on_counts fs) a b
+pub counts_put : (fs : Filesystem) (forward : Uses) (stored : StoredRefs) (a b : FoundSet) → forward ≡ used_by (all_uses fs) → AreRefsOf fs stored
+    → Adds (count_findings forward.refs stored.refs.entries) a b → Adds (found_on_counts fs) a b
 counts_put fs forward stored a b is kept =
     adds_as (count_findings forward.refs stored.refs.entries) (found_on_counts fs) a b
-    (ap (λ refs. count_findings refs stored.refs.entries) (ap (λ (u : Uses). u.refs) is ∙ refs_all (all_uses fs) no_uses) ∙ ap (count_findings (counted_refs fs)) kept.refs)
+    (ap (λ refs. count_findings refs stored.refs.entries) (ap (λ (u : Uses). u.refs) is ∙ refs_all (all_uses fs) no_uses)
+    ∙ ap (count_findings (counted_refs fs)) kept.refs)
 
 or_assoc : (a b c : Bool) → (a || (b || c)) ≡ ((a || b) || c)
 or_assoc true b c = refl
@@ -90,7 +101,8 @@ adds_in_order xs ys a b c first second one =
     ∙ ap (λ r. r || has a one) (sym (any-in_order (xs ++ ys) one ∙ list_any-append (is_same one) xs ys))
 
 -- what is wrong with the extents by all that uses them was put behind the differences
-pub misused_put : (fs : Filesystem) (size : ℕ) (all : List Extent) (used : UsedExtents) (a b c : FoundSet) (done : Result (Unit {0}) Memory) → size ≡ fs.sup.nodesize → all ≡ words.extents fs → AreUsed fs used → Adds (difference_findings fs) a b
+pub misused_put : (fs : Filesystem) (size : ℕ) (all : List Extent) (used : UsedExtents) (a b c : FoundSet) (done : Result (Unit {0}) Memory)
+    → size ≡ fs.sup.nodesize → all ≡ words.extents fs → AreUsed fs used → Adds (difference_findings fs) a b
     → ((uses : List Use) → AreUsedBy uses used → OnOk done (Adds (flat_map (extent_findings size uses) all) b c)) → OnOk done (Adds (reference_findings fs) a c)
 misused_put fs size all used a b c done large are by first puts =
     let rest : List Finding = flat_map (extent_findings fs.sup.nodesize (all_uses fs)) (words.extents fs) in

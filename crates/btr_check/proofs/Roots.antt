@@ -29,13 +29,15 @@ both_ways key (Ok root) = refl
 both_ways key (Err fault) = refl
 
 -- the root that a ROOT_ITEM was read to have, if any
-pub tree_read : (key : Key) (body : List ℕ) (read : Result TreeRoot ItemFault) → key.kind ≡ 132 → read ≡ map_ok (described key) (root_item_of body) → result_ok read ≡ tree_in key body
+pub tree_read : (key : Key) (body : List ℕ) (read : Result TreeRoot ItemFault) → key.kind ≡ 132 → read ≡ map_ok (described key) (root_item_of body)
+    → result_ok read ≡ tree_in key body
 tree_read key body read is same =
     ap result_ok same ∙ both_ways key (root_item_of body)
     ∙ ap (λ b. if b then option_map (described key) (result_ok (root_item_of body)) else None) (sym (eq-eqb _ _ is))
 
 module _ (fs : Filesystem) (seen : RootSeen) (is : seen ≡ fold root_step (nothing_seen (kind_of_sums fs)) (whole fs.blocks (root_tree fs.sup).place)) where
-  walk : IsRootWalk (nothing_seen (kind_of_sums fs)) (fold root_step (nothing_seen (kind_of_sums fs)) (whole fs.blocks (root_tree fs.sup).place)) (whole fs.blocks (root_tree fs.sup).place)
+  walk : IsRootWalk (nothing_seen (kind_of_sums fs)) (fold root_step (nothing_seen (kind_of_sums fs)) (whole fs.blocks (root_tree fs.sup).place))
+      (whole fs.blocks (root_tree fs.sup).place)
   walk = root_walked (whole fs.blocks (root_tree fs.sup).place) (nothing_seen (kind_of_sums fs))
 
   -- a root tree with which nothing is wrong
@@ -49,10 +51,13 @@ module _ (fs : Filesystem) (seen : RootSeen) (is : seen ≡ fold root_step (noth
   -- and one that ends a check
   pub root_broken : (fault : BlockFault) → seen.wrong ≡ Some fault → refusal fs ≡ Some (fault_stop fault)
   unfolding walk
-  root_broken fault some = first_mapped fault_stop (root_faults fs) (list_refusals (listed fs.sup fs.blocks)) fault (sym walk.wrong_is ∙ ap (λ (s : RootSeen). s.wrong) (sym is) ∙ some)
+  root_broken fault some = first_mapped fault_stop (root_faults fs) (list_refusals (listed fs.sup fs.blocks)) fault
+      (sym walk.wrong_is ∙ ap (λ (s : RootSeen). s.wrong) (sym is) ∙ some)
 
 -- an item of the root tree was treated
-pub item_taken : (old : RootSeen) (found : Found) (fault : Option BlockFault) (trees : List TreeRoot) (result : Result (Unit {0}) Memory) → fault ≡ or_first old.wrong (wrong old.kind (Item (item_of found)))
-    → OnOk result (trees ≡ old.trees ++ option_to_list (tree_in found.key found.body.now)) → Takes root_step old (met.Item found) (record { kind = old.kind; wrong = fault; trees = trees }) result
+pub item_taken : (old : RootSeen) (found : Found) (fault : Option BlockFault) (trees : List TreeRoot) (result : Result (Unit {0}) Memory)
+    → fault ≡ or_first old.wrong (wrong old.kind (Item (item_of found)))
+    → OnOk result (trees ≡ old.trees ++ option_to_list (tree_in found.key found.body.now))
+    → Takes root_step old (met.Item found) (record { kind = old.kind; wrong = fault; trees = trees }) result
 item_taken old found fault trees (Ok u) one two = λ mark shows. (λ i. record { kind = old.kind; wrong = one i; trees = two i }) ∙ ap (root_step old) (sym shows)
 item_taken old found fault trees (Err e) one two = tt

@@ -31,14 +31,16 @@ same_filesystem : (a b : Volume) (B : Map) → SameVolume a b → filesystem b B
 same_filesystem a b B same = λ i. record { sup = same.sup i; chunks = ap (λ (layout : Layout). layout.chunks) same.store.layout i; blocks = B }
 
 -- causes of a later call
-fault_since : {a b : Seen} (c : Seen) (layout layout' : Layout) (f : TreeFault) → layout' ≡ layout → OnlyReads a b → FaultUnread layout' b c f → FaultUnread layout a c f
+fault_since : {a b : Seen} (c : Seen) (layout layout' : Layout) (f : TreeFault) → layout' ≡ layout → OnlyReads a b → FaultUnread layout' b c f
+    → FaultUnread layout a c f
 fault_since c layout layout' (Lost addr) e earlier h = tt
 fault_since c layout layout' (Unread addr slot) e earlier h = cause_since c layout layout' (Unread addr slot) e earlier h
 fault_since c layout layout' (Unmapped addr) e earlier h = tt
 fault_since c layout layout' (Crosses addr) e earlier h = tt
 fault_since c layout layout' (Malformed addr) e earlier h = tt
 
-stop_since : {a b : Seen} (c : Seen) (layout layout' : Layout) (stop : Stop) → layout' ≡ layout → OnlyReads a b → StopUnread layout' b c stop → StopUnread layout a c stop
+stop_since : {a b : Seen} (c : Seen) (layout layout' : Layout) (stop : Stop) → layout' ≡ layout → OnlyReads a b → StopUnread layout' b c stop
+    → StopUnread layout a c stop
 stop_since c layout layout' (NoTree id) e earlier h = tt
 stop_since c layout layout' (Tree f) e earlier h = fault_since c layout layout' f e earlier h
 stop_since c layout layout' (Deletion id) e earlier h = tt
@@ -49,7 +51,8 @@ stop_since c layout layout' Sink e earlier h = tt
 stop_since c layout layout' Out e earlier h = tt
 stop_since c layout layout' NoMemory e earlier h = tt
 
-unread_since : {A : Type 0} {a b : Seen} (c : Seen) (layout layout' : Layout) (r : Result A Stop) → layout' ≡ layout → OnlyReads a b → UnreadCause layout' b c r → UnreadCause layout a c r
+unread_since : {A : Type 0} {a b : Seen} (c : Seen) (layout layout' : Layout) (r : Result A Stop) → layout' ≡ layout → OnlyReads a b → UnreadCause layout' b c r
+    → UnreadCause layout a c r
 unread_since c layout layout' (Ok a) e earlier h = tt
 unread_since c layout layout' (Err stop) e earlier h = stop_since c layout layout' stop e earlier h
 
@@ -65,7 +68,8 @@ ran_none P x a ready h = record {
 }
 
 -- one call behind another
-pub ran_then : {A C : Type 0} (P Q S : Filesystem → Type 0) (x y z : World) (a : A) (r : Result C Stop) → Ran P x y (Ok a) → Ran Q y z r → ((B : Map) → P (filesystem x.vol B) → Q (filesystem x.vol B) → S (filesystem x.vol B)) → Ran S x z r
+pub ran_then : {A C : Type 0} (P Q S : Filesystem → Type 0) (x y z : World) (a : A) (r : Result C Stop) → Ran P x y (Ok a) → Ran Q y z r
+    → ((B : Map) → P (filesystem x.vol B) → Q (filesystem x.vol B) → S (filesystem x.vol B)) → Ran S x z r
 ran_then P Q S x y z a r one two f = record {
   reads = reads_more one.reads two.reads;
   volume = volume_then one.volume two.volume;
@@ -77,7 +81,8 @@ ran_then P Q S x y z a r one two f = record {
 }
 
 -- the same call with an answer of the same cause
-pub ran_as : {A C : Type 0} (P S : Filesystem → Type 0) (x y : World) (r : Result A Stop) (t : Result C Stop) → Ran P x y r → (UnreadCause x.vol.store.layout x.rack y.rack r → UnreadCause x.vol.store.layout x.rack y.rack t) → (StopsReading r → StopsReading t)
+pub ran_as : {A C : Type 0} (P S : Filesystem → Type 0) (x y : World) (r : Result A Stop) (t : Result C Stop) → Ran P x y r
+    → (UnreadCause x.vol.store.layout x.rack y.rack r → UnreadCause x.vol.store.layout x.rack y.rack t) → (StopsReading r → StopsReading t)
     → ((B : Map) → P (filesystem x.vol B) → S (filesystem x.vol B)) → Ran S x y t
 ran_as P S x y r t one cause quiet f = record {
   reads = one.reads;
@@ -89,15 +94,18 @@ ran_as P S x y r t one cause quiet f = record {
 }
 
 -- more may be said of it
-pub ran_more : {A : Type 0} (P S : Filesystem → Type 0) (x y : World) (r : Result A Stop) → Ran P x y r → ((B : Map) → P (filesystem x.vol B) → S (filesystem x.vol B)) → Ran S x y r
+pub ran_more : {A : Type 0} (P S : Filesystem → Type 0) (x y : World) (r : Result A Stop) → Ran P x y r
+    → ((B : Map) → P (filesystem x.vol B) → S (filesystem x.vol B)) → Ran S x y r
 ran_more P S x y r one f = ran_as P S x y r r one (λ c. c) (λ q. q) f
 
 -- another value was made of it
-pub ran_value : {A C : Type 0} (P S : Filesystem → Type 0) (x y : World) (a : A) (c : C) → Ran P x y (Ok a) → ((B : Map) → P (filesystem x.vol B) → S (filesystem x.vol B)) → Ran S x y (Ok c)
+pub ran_value : {A C : Type 0} (P S : Filesystem → Type 0) (x y : World) (a : A) (c : C) → Ran P x y (Ok a)
+    → ((B : Map) → P (filesystem x.vol B) → S (filesystem x.vol B)) → Ran S x y (Ok c)
 ran_value P S x y a c one f = ran_as P S x y (Ok a) (Ok c) one (λ h. tt) (λ h. tt) f
 
 -- its stop is the answer
-pub ran_stop : {A C : Type 0} (P S : Filesystem → Type 0) (x y : World) (stop : Stop) → Ran {A = A} P x y (Err stop) → ((B : Map) → P (filesystem x.vol B) → S (filesystem x.vol B)) → Ran {A = C} S x y (Err stop)
+pub ran_stop : {A C : Type 0} (P S : Filesystem → Type 0) (x y : World) (stop : Stop) → Ran {A = A} P x y (Err stop)
+    → ((B : Map) → P (filesystem x.vol B) → S (filesystem x.vol B)) → Ran {A = C} S x y (Err stop)
 ran_stop {A} {C} P S x y stop one f =
     let r : Result A Stop = Err stop in
     let t : Result C Stop = Err stop in
@@ -147,7 +155,9 @@ fault_quiet (block.Unmapped addr) = tt
 fault_quiet (block.Crosses addr) = tt
 
 -- what was read refuses the filesystem
-pub ran_refused : {A C : Type 0} (P S : Filesystem → Type 0) (x y : World) (a : A) (stop : Stop) → Ran P x y (Ok a) → StopUnread x.vol.store.layout x.rack y.rack stop → OfReading stop → ((B : Map) → P (filesystem x.vol B) → S (filesystem x.vol B)) → Ran {A = C} S x y (Err stop)
+pub ran_refused : {A C : Type 0} (P S : Filesystem → Type 0) (x y : World) (a : A) (stop : Stop) → Ran P x y (Ok a)
+    → StopUnread x.vol.store.layout x.rack y.rack stop → OfReading stop → ((B : Map) → P (filesystem x.vol B) → S (filesystem x.vol B))
+    → Ran {A = C} S x y (Err stop)
 ran_refused {A} {C} P S x y a stop one cause quiet f =
     let t : Result C Stop = Err stop in
     ran_as P S x y (Ok a) t one (λ h. cause) (λ h. quiet) f

@@ -19,27 +19,33 @@ use Rattle.btr_check.specs.Trees.{chunk_tree, last_of, items_if}
 
 module _ (fs : Filesystem) where
   -- what was collected of the tree that has the block groups
-  pub groups_are : Collects group_in → (trees : List TreeRoot) (tree : Option TreeRoot) (none met : List Group) → Lists trees fs → tree ≡ group_tree trees → none ≡ [] → met ≡ fold (with_mark group_in) none (marks_if fs.blocks tree) → met ≡ groups fs
+  pub groups_are : Collects group_in → (trees : List TreeRoot) (tree : Option TreeRoot) (none met : List Group) → Lists trees fs → tree ≡ group_tree trees
+      → none ≡ [] → met ≡ fold (with_mark group_in) none (marks_if fs.blocks tree) → met ≡ groups fs
   groups_are law trees tree none met lists is empty folded =
       collected group_in law fs.blocks tree none met empty folded ∙ ap (λ t. groups_in (items_if fs.blocks t)) (is ∙ ap group_tree lists)
 
-  pub groups_put : (chunks : List Chunk) (extent_list : List Extent) (group_list : List Group) (bytes : ℕ) (a b : FoundSet) → chunks ≡ fs.chunks → extent_list ≡ extents fs → group_list ≡ groups fs → bytes ≡ fs.sup.bytes_used
+  pub groups_put : (chunks : List Chunk) (extent_list : List Extent) (group_list : List Group) (bytes : ℕ) (a b : FoundSet) → chunks ≡ fs.chunks
+      → extent_list ≡ extents fs → group_list ≡ groups fs → bytes ≡ fs.sup.bytes_used
       → Adds (group_findings chunks extent_list group_list bytes) a b → Adds (found_on_groups fs) a b
   groups_put chunks extent_list group_list bytes a b one two three four adds =
       adds_as (group_findings chunks extent_list group_list bytes) (found_on_groups fs) a b (λ i. group_findings (one i) (two i) (three i) (four i)) adds
 
-  -- .. of the device tree
-  pub device_extents_are : Collects device_extent_in → (trees : List TreeRoot) (tree : Option TreeRoot) (none met : List DeviceExtent) → Lists trees fs → tree ≡ last_of 4 trees → none ≡ []
+  -- what is met in the device tree
+  pub device_extents_are : Collects device_extent_in → (trees : List TreeRoot) (tree : Option TreeRoot) (none met : List DeviceExtent) → Lists trees fs
+      → tree ≡ last_of 4 trees → none ≡ []
       → met ≡ fold (with_mark device_extent_in) none (marks_if fs.blocks tree) → met ≡ device_extents fs
   device_extents_are law trees tree none met lists is empty folded =
-      collected device_extent_in law fs.blocks tree none met empty folded ∙ ap (λ t. filter_map device_extent_in (items_if fs.blocks t)) (is ∙ ap (last_of 4) lists)
+      collected device_extent_in law fs.blocks tree none met empty folded ∙ ap (λ t. filter_map device_extent_in (items_if fs.blocks t))
+      (is ∙ ap (last_of 4) lists)
 
-  -- .. and of the chunk tree
-  pub devices_are : Collects device_in → (tree : TreeRoot) (none met : List StatedDevice) → tree ≡ chunk_tree fs.sup → none ≡ [] → met ≡ fold (with_mark device_in) none (marks_if fs.blocks (Some tree)) → met ≡ devices fs
+  -- what is met in the chunk tree
+  pub devices_are : Collects device_in → (tree : TreeRoot) (none met : List StatedDevice) → tree ≡ chunk_tree fs.sup → none ≡ []
+      → met ≡ fold (with_mark device_in) none (marks_if fs.blocks (Some tree)) → met ≡ devices fs
   devices_are law tree none met is empty folded =
       collected device_in law fs.blocks (Some tree) none met empty folded ∙ ap (λ t. filter_map device_in (items_if fs.blocks (Some t))) is
 
-  pub devices_put : (chunks : List Chunk) (extent_list : List DeviceExtent) (device_list : List StatedDevice) (a b : FoundSet) → chunks ≡ fs.chunks → extent_list ≡ device_extents fs → device_list ≡ devices fs
+  pub devices_put : (chunks : List Chunk) (extent_list : List DeviceExtent) (device_list : List StatedDevice) (a b : FoundSet) → chunks ≡ fs.chunks
+      → extent_list ≡ device_extents fs → device_list ≡ devices fs
       → Adds (device_findings chunks extent_list device_list) a b → Adds (found_on_devices fs) a b
   devices_put chunks extent_list device_list a b one two three adds =
       adds_as (device_findings chunks extent_list device_list) (found_on_devices fs) a b (λ i. device_findings (one i) (two i) (three i)) adds

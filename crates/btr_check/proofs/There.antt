@@ -1,9 +1,11 @@
 -- The blocks that tours meet are there.
-use Rattle.std.proofs.Common.{◌≡◌, ℕ, zero, suc, ◌-◌, Bool, true, false, List, [], ◌∷◌, ◌++◌, map, filter, flat_map, Option, Some, None, Result, Ok, Err, if◌then◌else◌, refl, sym, ap, subst}
+use Rattle.std.proofs.Common.{◌≡◌, ℕ, zero, suc, ◌-◌, Bool, true, false, List, [], ◌∷◌, ◌++◌, map, filter, flat_map, Option, Some, None, Result, Ok, Err}
+use Rattle.std.proofs.Common.{if◌then◌else◌, refl, sym, ap, subst}
 use Rattle.btr_node.specs.declared.node.Node.{Node}
 use Rattle.btr_node.specs.declared.node.Node.TheVariants.{Leaf, Inner}
 use Rattle.btr_read.specs.Fate.{Fault}
-use Rattle.btr_tour.specs.Tour.{Mark, Block, Child, Item, Left, Reached, child_spots, meets_keys, child_tour, node_tour, block_tour, under, tour_at, whole, first_key, blocks_met}
+use Rattle.btr_tour.specs.Tour.{Mark, Block, Child, Item, Left, Reached, child_spots, meets_keys, child_tour, node_tour, block_tour, under, tour_at, whole}
+use Rattle.btr_tour.specs.Tour.{first_key, blocks_met}
 use Rattle.btr_base.specs.Key.{last_key}
 use Rattle.btr_volume.specs.declared.root.TreeRoot.{TreeRoot}
 use Rattle.btr_walk.specs.declared.spot.Spot.{Spot}
@@ -37,19 +39,25 @@ module _ (B : Map) where
   items_there [] = tt
   items_there (item ∷ items) = items_there items
 
-  children_there : (tour : Spot → List Mark) → ((spot : Spot) → MarksThere (tour spot)) → (addr level : ℕ) (spots : List Spot) → MarksThere (flat_map (child_tour first_key last_key tour addr level) spots)
+  children_there : (tour : Spot → List Mark) → ((spot : Spot) → MarksThere (tour spot)) → (addr level : ℕ) (spots : List Spot)
+      → MarksThere (flat_map (child_tour first_key last_key tour addr level) spots)
   children_there tour each addr level [] = tt
-  children_there tour each addr level (spot ∷ spots) = marks_then (tour spot) (flat_map (child_tour first_key last_key tour addr level) spots) (each spot) (children_there tour each addr level spots)
+  children_there tour each addr level (spot ∷ spots) = marks_then (tour spot) (flat_map (child_tour first_key last_key tour addr level) spots) (each spot)
+      (children_there tour each addr level spots)
 
-  under_there : (tour : Spot → List Mark) → ((spot : Spot) → MarksThere (tour spot)) → (level : ℕ) (spot : Spot) (node : Node) → MarksThere (under first_key last_key tour level spot node)
+  under_there : (tour : Spot → List Mark) → ((spot : Spot) → MarksThere (tour spot)) → (level : ℕ) (spot : Spot) (node : Node)
+      → MarksThere (under first_key last_key tour level spot node)
   under_there tour each level spot (Leaf items) = items_there (items_within first_key last_key spot.addr items)
-  under_there tour each level spot (Inner pointers) = children_there tour each spot.addr (level - 1) (filter (meets_keys first_key last_key) (child_spots pointers spot.up))
+  under_there tour each level spot (Inner pointers) = children_there tour each spot.addr (level - 1)
+      (filter (meets_keys first_key last_key) (child_spots pointers spot.up))
 
-  node_there : (tour : Spot → List Mark) → ((spot : Spot) → MarksThere (tour spot)) → (level : ℕ) (spot : Spot) (block : List ℕ) (node : Option Node) → B (want_of level spot) ≡ Ok block → MarksThere (node_tour first_key last_key tour level spot block node)
+  node_there : (tour : Spot → List Mark) → ((spot : Spot) → MarksThere (tour spot)) → (level : ℕ) (spot : Spot) (block : List ℕ) (node : Option Node)
+      → B (want_of level spot) ≡ Ok block → MarksThere (node_tour first_key last_key tour level spot block node)
   node_there tour each level spot block None is = tt
   node_there tour each level spot block (Some node) is = (is, under_there tour each level spot node)
 
-  block_there : (tour : Spot → List Mark) → ((spot : Spot) → MarksThere (tour spot)) → (level : ℕ) (spot : Spot) (r : Result (List ℕ) Fault) → B (want_of level spot) ≡ r → MarksThere (block_tour first_key last_key tour level spot r)
+  block_there : (tour : Spot → List Mark) → ((spot : Spot) → MarksThere (tour spot)) → (level : ℕ) (spot : Spot) (r : Result (List ℕ) Fault)
+      → B (want_of level spot) ≡ r → MarksThere (block_tour first_key last_key tour level spot r)
   block_there tour each level spot (Err fault) is = tt
   block_there tour each level spot (Ok block) is = node_there tour each level spot block (judged level spot block) is
 
@@ -60,13 +68,16 @@ module _ (B : Map) where
   -- of all trees
   pub trees_there : (trees : List TreeRoot) → AreThere B (flat_map (λ (tree : TreeRoot). blocks_met (whole B tree.place)) trees)
   trees_there [] = tt
-  trees_there (tree ∷ trees) = there_then (blocks_met (whole B tree.place)) (flat_map (λ (other : TreeRoot). blocks_met (whole B other.place)) trees) (tour_there tree.place.level (root_spot tree.place)) (trees_there trees)
+  trees_there (tree ∷ trees) = there_then (blocks_met (whole B tree.place)) (flat_map (λ (other : TreeRoot). blocks_met (whole B other.place)) trees)
+      (tour_there tree.place.level (root_spot tree.place)) (trees_there trees)
 
   -- those that are met first are among them
   pub first_there : (before : List Place) (blocks : List Reached) → AreThere B blocks → AreThere B (first_met before blocks)
   first_there before [] all = tt
-  first_there before (one ∷ more) all = by (is_among before (place_of one.place)) (first_there before more all.1) (first_there (place_of one.place ∷ before) more all.1)
+  first_there before (one ∷ more) all = by (is_among before (place_of one.place)) (first_there before more all.1)
+      (first_there (place_of one.place ∷ before) more all.1)
     where
-      by : (b : Bool) → AreThere B (first_met before more) → AreThere B (first_met (place_of one.place ∷ before) more) → AreThere B (if b then first_met before more else one ∷ first_met (place_of one.place ∷ before) more)
+      by : (b : Bool) → AreThere B (first_met before more) → AreThere B (first_met (place_of one.place ∷ before) more)
+          → AreThere B (if b then first_met before more else one ∷ first_met (place_of one.place ∷ before) more)
       by true old new = old
       by false old new = (all.0, new)

@@ -1,5 +1,6 @@
 -- Trees that are walked, one after another.
-use Rattle.std.proofs.Common.{◌≡◌, ℕ, ◌+◌, ◌<◌, List, [], ◌∷◌, ◌++◌, length, take, get_or, map, fold, filter_map, flat_map, None, Result, Ok, Err, OnOk, sym, ap, ◌∙◌, subst}
+use Rattle.std.proofs.Common.{◌≡◌, ℕ, ◌+◌, ◌<◌, List, [], ◌∷◌, ◌++◌, length, take, get_or, map, fold, filter_map, flat_map, None, Result, Ok, Err, OnOk, sym}
+use Rattle.std.proofs.Common.{ap, ◌∙◌, subst}
 use Rattle.std.proofs.lemmas.List.{map-append, take_more}
 use Rattle.std.proofs.lemmas.List.Sums.{fold-append}
 use Rattle.btr_tour.specs.Tour.{Reached, whole, blocks_met}
@@ -35,7 +36,8 @@ module _ (fs : Filesystem) where
   }
 
   -- one tree more
-  pub walked_more : (before : List TreeRoot) (tree : TreeRoot) (old new : WalkSeen) → HasWalked fs before old → new ≡ fold walk_step (begun old) (whole fs.blocks tree.place) → HasWalked fs (before ++ tree ∷ []) new
+  pub walked_more : (before : List TreeRoot) (tree : TreeRoot) (old new : WalkSeen) → HasWalked fs before old
+      → new ≡ fold walk_step (begun old) (whole fs.blocks tree.place) → HasWalked fs (before ++ tree ∷ []) new
   walked_more before tree old new had is =
       let marks = whole fs.blocks tree.place in
       let w = walked marks (begun old) in
@@ -51,9 +53,15 @@ module _ (fs : Filesystem) where
       }
 
   -- the first trees of a list, one more
-  pub walked_next : (trees : List TreeRoot) (i : ℕ) (d : TreeRoot) (new : WalkSeen) → i < length trees → HasWalked fs (take i trees ++ get_or trees i d ∷ []) new → HasWalked fs (take (i + 1) trees) new
+  pub walked_next : (trees : List TreeRoot) (i : ℕ) (d : TreeRoot) (new : WalkSeen) → i < length trees
+      → HasWalked fs (take i trees ++ get_or trees i d ∷ []) new → HasWalked fs (take (i + 1) trees) new
   walked_next trees i d new below h = subst (λ l. HasWalked fs l new) (sym (take_more trees i d below)) h
 
   -- and what all of them come to
   pub walked_all : (trees : List TreeRoot) (seen : WalkSeen) → HasWalked fs trees seen → IsWalkOf fs trees seen
-  walked_all trees seen h = record { broken = h.broken; overlapping = h.overlapping; places = ap (λ (p : Places). p.list) h.places ∙ met_once (flat_map blocks trees) }
+  walked_all trees seen h = record {
+    broken = h.broken;
+    overlapping = h.overlapping;
+    places = ap (λ (p : Places). p.list) h.places
+        ∙ met_once (flat_map blocks trees);
+  }

@@ -22,7 +22,8 @@ only_walk : (found rules : List Finding) → is_nothing found ≡ false → or_r
 only_walk [] rules is = cc
 only_walk (finding ∷ found) rules is = refl
 
-module _ (fs : Filesystem) (listed_trees all : List TreeRoot) (lists : Lists listed_trees fs) (are : all ≡ chunk_tree fs.sup ∷ root_tree fs.sup ∷ listed_trees) where
+module _ (fs : Filesystem) (listed_trees all : List TreeRoot) (lists : Lists listed_trees fs)
+    (are : all ≡ chunk_tree fs.sup ∷ root_tree fs.sup ∷ listed_trees) where
   all_are : all ≡ trees fs.sup fs.blocks
   all_are = are ∙ ap (λ l. chunk_tree fs.sup ∷ root_tree fs.sup ∷ l) lists
 
@@ -39,12 +40,15 @@ module _ (fs : Filesystem) (listed_trees all : List TreeRoot) (lists : Lists lis
   }
 
   -- then all findings are those on what the trees say
-  pub rules_just : (read_data : Bool) (walk : WalkSeen) (old new : FoundSet) → ((one : Finding) → has old one ≡ false) → IsWalked listed_trees all walk fs → Adds (rule_findings read_data fs) old new → HasJust (all_findings read_data fs) new
+  pub rules_just : (read_data : Bool) (walk : WalkSeen) (old new : FoundSet) → ((one : Finding) → has old one ≡ false) → IsWalked listed_trees all walk fs
+      → Adds (rule_findings read_data fs) old new → HasJust (all_findings read_data fs) new
   rules_just read_data walk old new empty known adds =
-      adds_just (all_findings read_data fs) old new empty (adds_as (rule_findings read_data fs) (all_findings read_data fs) old new (sym (ap (λ l. or_rules l (rule_findings read_data fs)) known.sound)) adds)
+      adds_just (all_findings read_data fs) old new empty
+      (adds_as (rule_findings read_data fs) (all_findings read_data fs) old new (sym (ap (λ l. or_rules l (rule_findings read_data fs)) known.sound)) adds)
 
   -- else they are the walk's
-  pub walk_just : (read_data : Bool) (walk : WalkSeen) (old new : FoundSet) → ((one : Finding) → has old one ≡ false) → IsWalkOf fs all walk → is_nothing (walk.broken ++ walk.overlapping) ≡ false → Adds (walk.broken ++ walk.overlapping) old new
+  pub walk_just : (read_data : Bool) (walk : WalkSeen) (old new : FoundSet) → ((one : Finding) → has old one ≡ false) → IsWalkOf fs all walk
+      → is_nothing (walk.broken ++ walk.overlapping) ≡ false → Adds (walk.broken ++ walk.overlapping) old new
       → HasJust (all_findings read_data fs) new
   walk_just read_data walk old new empty walked unsound adds =
       let same = walk_is walk walked in

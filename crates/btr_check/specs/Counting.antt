@@ -55,4 +55,5 @@ module _ (B : Map) where
   abbrev pub UsesCount : List TreeRoot → List RootPlace → BTreeSet ℕ → Result Uses Stop → Type 0
   UsesCount trees places full result =
       (blocks : List Reached) → places ≡ places_of blocks → AreThere blocks
-      → (extents : List Extent) → IsFull extents full → Unless (λ forward. forward ≡ fold with_use no_uses (map root_use trees ++ flat_map (uses_of extents) blocks)) result
+      → (extents : List Extent) → IsFull extents full → Unless
+      (λ forward. forward ≡ fold with_use no_uses (map root_use trees ++ flat_map (uses_of extents) blocks)) result

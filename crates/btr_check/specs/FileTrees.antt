@@ -52,7 +52,8 @@ entries_if false tree entries names = names
 -- by the ranges of addresses that have checksums, what is missing of those of a tree was put
 abbrev pub AddsMissing : ℕ → FileTree → List Chunk → List Stretch → FoundSet → FoundSet → Result Bool Memory → Type 0
 AddsMissing tree met chunks sums old new result =
-    (runs : List SumRun) → HoldSame (map run_stretch runs) sums → IfOk result (λ paired. Adds (tree_missing chunks runs tree met.uses.loose met.uses.used) old new)
+    (runs : List SumRun) → HoldSame (map run_stretch runs) sums → IfOk result
+    (λ paired. Adds (tree_missing chunks runs tree met.uses.loose met.uses.used) old new)
 
 -- the entries of a tree that lead to subvolumes are kept where its names are paired
 abbrev pub KeepsEntries : ℕ → FileTree → Subvolumes → Subvolumes → Result Bool Memory → Type 0

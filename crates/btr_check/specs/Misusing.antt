@@ -22,7 +22,7 @@ module _ (nodesize : ℕ) (extent : Extent) (one : Finding) where
   abbrev pub is_by_data : DataUse → Bool
   is_by_data data_use = is_by data_use.addr (Data data_use.len)
 
--- .. by one of some uses
+-- a finding of an extent is by one of some uses
 abbrev pub by_blocks : ℕ → Extent → List BlockUse → Finding → Bool
 by_blocks nodesize extent blocks one = list_any (is_by_block nodesize extent one) blocks
 
@@ -35,7 +35,8 @@ misused_of nodesize extents uses = flat_map (extent_findings nodesize uses) exte
 
 -- some uses are all those of the extent at an address, and maybe others
 abbrev pub HasBlocksAt : ℕ → List BlockUse → List BlockUse → Type 0
-HasBlocksAt addr some all = (p : BlockUse → Bool) → list_any (λ block. (block.addr == addr) && p block) some ≡ list_any (λ block. (block.addr == addr) && p block) all
+HasBlocksAt addr some all = (p : BlockUse → Bool) → list_any (λ block. (block.addr == addr) && p block) some ≡ list_any
+    (λ block. (block.addr == addr) && p block) all
 
 abbrev pub HasDataAt : ℕ → List DataUse → List DataUse → Type 0
 HasDataAt addr some all = (p : DataUse → Bool) → list_any (λ one. (one.addr == addr) && p one) some ≡ list_any (λ one. (one.addr == addr) && p one) all

@@ -35,16 +35,16 @@ or_memory (Err e) = Err stops.Memory
 abbrev pub Lists : List TreeRoot → Filesystem → Type 0
 Lists trees fs = trees ≡ listed fs.sup fs.blocks
 
--- .. and the walk of all trees found nothing
+-- the same, where the walk of all trees found nothing
 pub record ListsSound (trees : List TreeRoot) (fs : Filesystem) : Type 0 where
   pub lists : Lists trees fs
   pub sound : walk_findings fs ≡ []
 
--- .. and all trees
+-- all trees of a filesystem
 abbrev pub AreAll : List TreeRoot → Filesystem → Type 0
 AreAll all fs = all ≡ trees fs.sup fs.blocks
 
--- .. and the extents
+-- the extents of a filesystem
 abbrev pub AreExtents : List Extent → Filesystem → Type 0
 AreExtents all fs = all ≡ extents fs
 
@@ -70,5 +70,6 @@ abbrev pub Puts : (Filesystem → Type 0) → (Filesystem → List Finding) → 
 Puts Known found old new result fs = Known fs → Unless (λ u. Adds (found fs) old new) result
 
 -- the same of a call that answers a value
-abbrev pub PutsAnd : {A : Type 0} → (Filesystem → Type 0) → (Filesystem → A → Type 0) → (Filesystem → List Finding) → FoundSet → FoundSet → Result A Stop → Filesystem → Type 0
+abbrev pub PutsAnd : {A : Type 0} → (Filesystem → Type 0) → (Filesystem → A → Type 0) → (Filesystem → List Finding) → FoundSet → FoundSet → Result A Stop
+    → Filesystem → Type 0
 PutsAnd Known Is found old new result fs = Known fs → Unless (λ a. Is fs a × Adds (found fs) old new) result

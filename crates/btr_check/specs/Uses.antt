@@ -41,7 +41,8 @@ extent_level extent what = level_differs extent.addr extent.level what
 
 -- what is wrong with an extent that is used so
 abbrev pub misused : ℕ → Extent → Used → List Finding
-misused nodesize extent what = option_to_list (extent_kind extent what) ++ option_to_list (extent_length nodesize extent what) ++ option_to_list (extent_level extent what)
+misused nodesize extent what = option_to_list (extent_kind extent what) ++ option_to_list (extent_length nodesize extent what) ++ option_to_list
+    (extent_level extent what)
 
 -- the same by a use, where it is one of this extent
 abbrev pub misused_by : ℕ → Extent → Use → List Finding

@@ -121,11 +121,13 @@ pub record HasWalked (fs : Filesystem) (trees : List TreeRoot) (seen : WalkSeen)
   pub kind : seen.kind ≡ kind_of_sums fs
   pub broken : seen.broken ≡ flat_map (tree_broken fs) trees
   pub overlapping : seen.overlapping ≡ flat_map (tree_overlapping fs) trees
-  pub places : seen.places ≡ fold with_place no_places (map (λ (one : Reached). one.place) (flat_map (λ (tree : TreeRoot). blocks_met (whole fs.blocks tree.place)) trees))
+  pub places : seen.places ≡ fold with_place no_places
+      (map (λ (one : Reached). one.place) (flat_map (λ (tree : TreeRoot). blocks_met (whole fs.blocks tree.place)) trees))
 
 -- these are the blocks that some trees reach, each once
 abbrev pub ArePlaces : Filesystem → List TreeRoot → List RootPlace → Type 0
-ArePlaces fs trees places = places ≡ map (λ (one : Reached). one.place) (first_met [] (flat_map (λ (tree : TreeRoot). blocks_met (whole fs.blocks tree.place)) trees))
+ArePlaces fs trees places = places ≡ map (λ (one : Reached). one.place)
+    (first_met [] (flat_map (λ (tree : TreeRoot). blocks_met (whole fs.blocks tree.place)) trees))
 
 -- what was walked of some trees: what is broken in them, the ranges of files that aren't apart, and the blocks that they reach, each once
 pub record IsWalkOf (fs : Filesystem) (trees : List TreeRoot) (seen : WalkSeen) : Type 0 where

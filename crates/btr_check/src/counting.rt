@@ -16,8 +16,8 @@ use btr_walk::{RootPlace, TreeFault};
 use std::alloc::Global;
 use std::collections::BTreeSet;
 
-/// The addresses of blocks that refer by their own address, as extents say. `Memory`: there is no memory for them.
-pub(crate) fn full_backrefs(alloc: Global, extents: &[Extent]) -> Result<BTreeSet<u64>, Memory>
+/// The addresses of blocks that refer by their own address, as extents say: what [`count_uses`] goes by. `Memory`: there is no memory for them.
+pub fn full_backrefs(alloc: Global, extents: &[Extent]) -> Result<BTreeSet<u64>, Memory>
     ensures { IfOk result (IsFull extents.now) }
 {
     let mut full = BTreeSet::new(alloc);

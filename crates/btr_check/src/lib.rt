@@ -39,7 +39,7 @@ mod walking;
 
 pub use adding::put_walk_findings;
 pub use checking::check;
-pub use counting::count_uses;
+pub use counting::{count_uses, full_backrefs};
 pub use text::put_findings;
 pub use trees::{all_trees, read_trees};
 pub use walk::Walk;

@@ -24,7 +24,8 @@ returns-in-Err-walk_trees g c =
     let y = world (g.R.Rack.seen c.walk_trees.new.rack) c.walk_trees.new.vol in
     let stop = c.in-Err-walk_trees.stop in
     record {
-      ran = ran_stop (λ fs. ⊤) (λ fs. Lists c.args.listed.now fs → is_outside stop ≡ true) x y stop c.in-Err-walk_trees.ensures.ran (λ B h lists. c.in-Err-walk_trees.ensures.outside);
+      ran = ran_stop (λ fs. ⊤) (λ fs. Lists c.args.listed.now fs → is_outside stop ≡ true) x y stop c.in-Err-walk_trees.ensures.ran
+          (λ B h lists. c.in-Err-walk_trees.ensures.outside);
     }
 
 pub returns-then-is_sound : goal.returns-then-is_sound
@@ -36,9 +37,12 @@ returns-then-is_sound g c =
     let walk = c.in-Ok-walk_trees.walk in
     let stop = c.in-Err-put_rules.stop in
     record {
-      ran = ran_stop {A = Unit {0}} (λ fs. Lists c.args.listed.now fs → is_outside stop ≡ true) (λ fs. Lists c.args.listed.now fs → is_outside stop ≡ true) x z stop
-          (ran_then {C = Unit {0}} (λ fs. IsWalkOf fs trees walk) (λ fs. IsWalked c.args.listed.now trees walk fs → is_outside stop ≡ true) (λ fs. Lists c.args.listed.now fs → is_outside stop ≡ true) x y z walk (Err stop) c.in-Ok-walk_trees.ensures.ran c.in-Err-put_rules.ensures.ran
-          (λ B p q lists. q (is_walked (filesystem c.args.vol.now B) c.args.listed.now trees lists (c.as_slice-trees.ensures.value ∙ c.in-Ok.ensures) walk p (sym c.is_sound.ensures ∙ c.if-is_sound.true))))
+      ran = ran_stop {A = Unit {0}} (λ fs. Lists c.args.listed.now fs → is_outside stop ≡ true)
+          (λ fs. Lists c.args.listed.now fs → is_outside stop ≡ true) x z stop
+          (ran_then {C = Unit {0}} (λ fs. IsWalkOf fs trees walk) (λ fs. IsWalked c.args.listed.now trees walk fs → is_outside stop ≡ true)
+          (λ fs. Lists c.args.listed.now fs → is_outside stop ≡ true) x y z walk (Err stop) c.in-Ok-walk_trees.ensures.ran c.in-Err-put_rules.ensures.ran
+          (λ B p q lists. q (is_walked (filesystem c.args.vol.now B) c.args.listed.now trees lists (c.as_slice-trees.ensures.value ∙ c.in-Ok.ensures) walk p
+          (sym c.is_sound.ensures ∙ c.if-is_sound.true))))
           (λ B h. h);
     }
 
@@ -50,14 +54,19 @@ returns-in-Ok-put_rules g c =
     let trees = c.as_slice-trees.result.now in
     let walk = c.in-Ok-walk_trees.walk in
     let found = c.put_rules.new.found in
-    let both = ran_then {C = Unit {0}} (λ fs. IsWalkOf fs trees walk) (λ fs. IsWalked c.args.listed.now trees walk fs → Adds (rule_findings c.args.read_data fs) c.new-found.result found)
-    (λ fs. Lists c.args.listed.now fs → HasJust (all_findings c.args.read_data fs) found) x y z walk (Ok tt) c.in-Ok-walk_trees.ensures.ran c.in-Ok-put_rules.ensures.ran
+    let both = ran_then {C = Unit {0}} (λ fs. IsWalkOf fs trees walk)
+    (λ fs. IsWalked c.args.listed.now trees walk fs → Adds (rule_findings c.args.read_data fs) c.new-found.result found)
+    (λ fs. Lists c.args.listed.now fs → HasJust (all_findings c.args.read_data fs) found) x y z walk
+    (Ok tt) c.in-Ok-walk_trees.ensures.ran c.in-Ok-put_rules.ensures.ran
     (λ B p q lists.
     let fs = filesystem c.args.vol.now B in
     let are = c.as_slice-trees.ensures.value ∙ c.in-Ok.ensures in
     let known = is_walked fs c.args.listed.now trees lists are walk p (sym c.is_sound.ensures ∙ c.if-is_sound.true) in
     rules_just fs c.args.listed.now trees lists are c.args.read_data walk c.new-found.result found c.new-found.ensures known (q known)) in
-    record { ran = ran_value {A = Unit {0}} (λ fs. Lists c.args.listed.now fs → HasJust (all_findings c.args.read_data fs) found) (λ fs. Lists c.args.listed.now fs → HasJust (all_findings c.args.read_data fs) found) x z tt found both (λ B h. h) }
+    record {
+      ran = ran_value {A = Unit {0}} (λ fs. Lists c.args.listed.now fs → HasJust (all_findings c.args.read_data fs) found)
+          (λ fs. Lists c.args.listed.now fs → HasJust (all_findings c.args.read_data fs) found) x z tt found both (λ B h. h);
+    }
 
 pub returns-in-Ok-put_walk_findings : goal.returns-in-Ok-put_walk_findings
 returns-in-Ok-put_walk_findings g c =
@@ -67,8 +76,10 @@ returns-in-Ok-put_walk_findings g c =
     let walk = c.in-Ok-walk_trees.walk in
     let found = c.put_walk_findings.new.found in
     record {
-      ran = ran_value (λ fs. IsWalkOf fs trees walk) (λ fs. Lists c.args.listed.now fs → HasJust (all_findings c.args.read_data fs) found) x y walk found c.in-Ok-walk_trees.ensures.ran
-          (λ B p lists. walk_just (filesystem c.args.vol.now B) c.args.listed.now trees lists (c.as_slice-trees.ensures.value ∙ c.in-Ok.ensures) c.args.read_data walk c.new-found.result found c.new-found.ensures p
+      ran = ran_value (λ fs. IsWalkOf fs trees walk) (λ fs. Lists c.args.listed.now fs → HasJust
+          (all_findings c.args.read_data fs) found) x y walk found c.in-Ok-walk_trees.ensures.ran
+          (λ B p lists. walk_just (filesystem c.args.vol.now B) c.args.listed.now trees lists
+          (c.as_slice-trees.ensures.value ∙ c.in-Ok.ensures) c.args.read_data walk c.new-found.result found c.new-found.ensures p
           (sym c.is_sound.ensures ∙ c.if-is_sound.false) c.in-Ok-put_walk_findings.ensures);
     }
 
@@ -77,5 +88,6 @@ returns g c =
     let x = world (g.R.Rack.seen c.args.rack.now) c.args.vol.now in
     let y = world (g.R.Rack.seen c.walk_trees.new.rack) c.walk_trees.new.vol in
     record {
-      ran = ran_no_memory (λ fs. IsWalkOf fs c.as_slice-trees.result.now c.in-Ok-walk_trees.walk) (λ fs. Lists c.args.listed.now fs → is_outside NoMemory ≡ true) x y c.in-Ok-walk_trees.walk c.in-Ok-walk_trees.ensures.ran (λ B lists. refl);
+      ran = ran_no_memory (λ fs. IsWalkOf fs c.as_slice-trees.result.now c.in-Ok-walk_trees.walk)
+          (λ fs. Lists c.args.listed.now fs → is_outside NoMemory ≡ true) x y c.in-Ok-walk_trees.walk c.in-Ok-walk_trees.ensures.ran (λ B lists. refl);
     }

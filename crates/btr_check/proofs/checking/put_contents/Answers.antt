@@ -18,7 +18,8 @@ returns-in-Err g c =
     let y = world (g.R.Rack.seen c.put_data_if.new.rack) c.put_data_if.new.vol in
     let stop = c.in-Err.stop in
     record {
-      ran = ran_stop (λ fs. Lists c.args.listed.now fs × IsRunsOf fs c.args.runs → is_outside stop ≡ true) (λ fs. Lists c.args.listed.now fs × IsRunsOf fs c.args.runs → is_outside stop ≡ true) x y stop c.in-Err.ensures.ran (λ B h. h);
+      ran = ran_stop (λ fs. Lists c.args.listed.now fs × IsRunsOf fs c.args.runs → is_outside stop ≡ true)
+          (λ fs. Lists c.args.listed.now fs × IsRunsOf fs c.args.runs → is_outside stop ≡ true) x y stop c.in-Err.ensures.ran (λ B h. h);
     }
 
 pub returns : goal.returns
@@ -26,7 +27,9 @@ returns g c =
     let x = world (g.R.Rack.seen c.args.rack.now) c.args.vol.now in
     let y = world (g.R.Rack.seen c.put_data_if.new.rack) c.put_data_if.new.vol in
     record {
-      ran = ran_no_memory {A = Unit {0}} (λ fs. Lists c.args.listed.now fs × IsRunsOf fs c.args.runs → Adds (data_if c.args.read_data fs) c.args.found.now c.put_data_if.new.found) (λ fs. Lists c.args.listed.now fs × IsRunsOf fs c.args.runs → is_outside NoMemory ≡ true)
+      ran = ran_no_memory {A = Unit {0}} (λ fs. Lists c.args.listed.now fs × IsRunsOf fs c.args.runs
+          → Adds (data_if c.args.read_data fs) c.args.found.now c.put_data_if.new.found)
+          (λ fs. Lists c.args.listed.now fs × IsRunsOf fs c.args.runs → is_outside NoMemory ≡ true)
           x y tt c.in-Ok.ensures.ran (λ B known. refl);
     }
 
@@ -40,9 +43,13 @@ returns-in-Ok-sum_cover g c =
     let two = c.put_data_if.new.found in
     let three = c.put_files.new.found in
     record {
-      ran = ran_then {A = Unit {0}} {C = Unit {0}} (λ fs. Lists c.args.listed.now fs × IsRunsOf fs c.args.runs → Adds (data_if c.args.read_data fs) one two) (Puts (λ fs. Lists c.args.listed.now fs × IsCoverOf fs sums) found_on_files two three c.put_files.result)
-          (Puts (λ fs. Lists c.args.listed.now fs × IsRunsOf fs c.args.runs) (λ fs. data_if c.args.read_data fs ++ found_on_files fs) one three c.put_files.result) x y z tt c.put_files.result c.in-Ok.ensures.ran c.put_files.ensures.ran
-          (λ B p q known. unless_more (λ u. Adds (found_on_files (filesystem c.args.vol.now B)) two three) (λ u. Adds (data_if c.args.read_data (filesystem c.args.vol.now B) ++ found_on_files (filesystem c.args.vol.now B)) one three) c.put_files.result
+      ran = ran_then {A = Unit {0}} {C = Unit {0}} (λ fs. Lists c.args.listed.now fs × IsRunsOf fs c.args.runs → Adds (data_if c.args.read_data fs) one two)
+          (Puts (λ fs. Lists c.args.listed.now fs × IsCoverOf fs sums) found_on_files two three c.put_files.result)
+          (Puts (λ fs. Lists c.args.listed.now fs × IsRunsOf fs c.args.runs)
+          (λ fs. data_if c.args.read_data fs ++ found_on_files fs) one three c.put_files.result) x y z tt c.put_files.result c.in-Ok.ensures.ran
+          c.put_files.ensures.ran
+          (λ B p q known. unless_more (λ u. Adds (found_on_files (filesystem c.args.vol.now B)) two three)
+          (λ u. Adds (data_if c.args.read_data (filesystem c.args.vol.now B) ++ found_on_files (filesystem c.args.vol.now B)) one three) c.put_files.result
           (λ u h. adds_then (data_if c.args.read_data (filesystem c.args.vol.now B)) (found_on_files (filesystem c.args.vol.now B)) one two three (p known) h)
           (q (known.0, subst (λ l. HoldSame (map run_stretch l) sums) (c.as_slice.ensures ∙ known.1) c.in-Ok-sum_cover.ensures)));
     }

@@ -21,10 +21,14 @@ returns-then-read_data g c =
     let a = c.args.found.now in
     let b = c.put_data_findings.new.found in
     record {
-      ran = ran_more (λ fs. c.as_slice.result.now ≡ sum_runs fs → tree_behind c.as_ref.result ≡ tree_of fs.sup fs.blocks 7 → Unless (λ u. Adds (data_findings fs) a b) c.put_data_findings.result)
-          (Puts (λ fs. Lists c.args.listed.now fs × IsRunsOf fs c.args.runs.now) (data_if c.args.read_data) a b c.put_data_findings.result) x y c.put_data_findings.result c.put_data_findings.ensures.ran
-          (λ B h known. unless_more (λ u. Adds (data_findings (filesystem c.args.vol.now B)) a b) (λ u. Adds (data_if c.args.read_data (filesystem c.args.vol.now B)) a b) c.put_data_findings.result
-          (λ u adds. adds_as (data_findings (filesystem c.args.vol.now B)) (data_if c.args.read_data (filesystem c.args.vol.now B)) a b (ap (λ r. data_if r (filesystem c.args.vol.now B)) (sym c.if-read_data.true)) adds)
+      ran = ran_more (λ fs. c.as_slice.result.now ≡ sum_runs fs → tree_behind c.as_ref.result ≡ tree_of fs.sup fs.blocks 7
+          → Unless (λ u. Adds (data_findings fs) a b) c.put_data_findings.result)
+          (Puts (λ fs. Lists c.args.listed.now fs × IsRunsOf fs c.args.runs.now)
+          (data_if c.args.read_data) a b c.put_data_findings.result) x y c.put_data_findings.result c.put_data_findings.ensures.ran
+          (λ B h known. unless_more (λ u. Adds (data_findings (filesystem c.args.vol.now B)) a b)
+          (λ u. Adds (data_if c.args.read_data (filesystem c.args.vol.now B)) a b) c.put_data_findings.result
+          (λ u adds. adds_as (data_findings (filesystem c.args.vol.now B)) (data_if c.args.read_data (filesystem c.args.vol.now B)) a b
+          (ap (λ r. data_if r (filesystem c.args.vol.now B)) (sym c.if-read_data.true)) adds)
           (h (c.as_slice.ensures ∙ known.1) (behind_copied c.as_ref.result ∙ c.as_ref.ensures.value ∙ c.last_of-tree.ensures ∙ ap (last_of 7) known.0)));
     }
 
@@ -32,6 +36,8 @@ pub returns-else-read_data : goal.returns-else-read_data
 returns-else-read_data g c =
     let a = c.args.found.now in
     record {
-      ran = ran_none (Puts (λ fs. Lists c.args.listed.now fs × IsRunsOf fs c.args.runs.now) (data_if c.args.read_data) a a (Ok tt)) (world (g.R.Rack.seen c.args.rack.now) c.args.vol.now) tt c.requires.ready
-          (λ B known. adds_as [] (data_if c.args.read_data (filesystem c.args.vol.now B)) a a (ap (λ r. data_if r (filesystem c.args.vol.now B)) (sym c.if-read_data.false)) (adds_none a));
+      ran = ran_none (Puts (λ fs. Lists c.args.listed.now fs × IsRunsOf fs c.args.runs.now) (data_if c.args.read_data) a a (Ok tt))
+          (world (g.R.Rack.seen c.args.rack.now) c.args.vol.now) tt c.requires.ready
+          (λ B known. adds_as [] (data_if c.args.read_data (filesystem c.args.vol.now B)) a a
+          (ap (λ r. data_if r (filesystem c.args.vol.now B)) (sym c.if-read_data.false)) (adds_none a));
     }

@@ -30,7 +30,8 @@ returns-in-Err-put_groups g c =
     let stop = c.in-Err-put_groups.stop in
     record {
       ran = ran_stop {A = Unit {0}} (λ fs. known fs → is_outside stop ≡ true) (λ fs. known fs → is_outside stop ≡ true) x z stop
-          (ran_then {C = Unit {0}} (λ fs. known fs → AreExtents extents.items fs × Adds (reference_findings fs) c.args.found.now c.put_references.new.found) (λ fs. Lists c.args.listed.now fs × AreExtents all fs → is_outside stop ≡ true) (λ fs. known fs → is_outside stop ≡ true)
+          (ran_then {C = Unit {0}} (λ fs. known fs → AreExtents extents.items fs × Adds (reference_findings fs) c.args.found.now c.put_references.new.found)
+          (λ fs. Lists c.args.listed.now fs × AreExtents all fs → is_outside stop ≡ true) (λ fs. known fs → is_outside stop ≡ true)
           x y z extents (Err stop) c.in-Ok.ensures.ran c.in-Err-put_groups.ensures.ran (λ B p q k. q (k.lists, c.as_slice-all.ensures.value ∙ (p k).0)))
           (λ B h. h);
     }
@@ -48,16 +49,26 @@ returns g c =
     let two = c.put_references.new.found in
     let three = c.put_groups.new.found in
     let four = c.put_sums.new.found in
-    let to_three = ran_then {C = Unit {0}} (λ fs. known fs → AreExtents extents.items fs × Adds (reference_findings fs) one two) (λ fs. Lists c.args.listed.now fs × AreExtents all fs → Adds (found_on_groups fs) two three)
-    (λ fs. known fs → AreExtents all fs × Adds (reference_findings fs ++ found_on_groups fs) one three) x y z extents (Ok tt) c.in-Ok.ensures.ran c.in-Ok-put_groups.ensures.ran
+    let to_three = ran_then {C = Unit {0}} (λ fs. known fs → AreExtents extents.items fs × Adds (reference_findings fs) one two)
+    (λ fs. Lists c.args.listed.now fs × AreExtents all fs → Adds (found_on_groups fs) two three)
+    (λ fs. known fs → AreExtents all fs × Adds (reference_findings fs ++ found_on_groups fs) one three) x y z extents
+    (Ok tt) c.in-Ok.ensures.ran c.in-Ok-put_groups.ensures.ran
     (λ B p q k.
-    let are = c.as_slice-all.ensures.value ∙ (p k).0 in
-    (are, adds_then (reference_findings (filesystem c.args.vol.now B)) (found_on_groups (filesystem c.args.vol.now B)) one two three (p k).1 (q (k.lists, are)))) in
+    let are = c.as_slice-all.ensures.value ∙ (p k).0 in (
+      are,
+      adds_then (reference_findings (filesystem c.args.vol.now B)) (found_on_groups (filesystem c.args.vol.now B)) one two three (p k).1
+          (q (k.lists, are)),
+    )) in
     record {
       ran = ran_then {A = Unit {0}} (λ fs. known fs → AreExtents all fs × Adds (reference_findings fs ++ found_on_groups fs) one three)
           (λ fs. Lists c.args.listed.now fs × AreExtents all fs → Unless (λ runs. IsRunsOf fs runs × Adds (found_on_sums fs) three four) c.put_sums.result)
-          (λ fs. known fs → Unless (λ runs. IsRunsOf fs runs × Adds (found_on_extents fs) one four) c.put_sums.result) x z w tt c.put_sums.result to_three c.put_sums.ensures.ran
+          (λ fs. known fs → Unless (λ runs. IsRunsOf fs runs × Adds (found_on_extents fs) one four) c.put_sums.result) x z w tt c.put_sums.result to_three
+          c.put_sums.ensures.ran
           (λ B p q k. unless_more _ _ c.put_sums.result
-          (λ runs h. (h.0, adds_then (reference_findings (filesystem c.args.vol.now B) ++ found_on_groups (filesystem c.args.vol.now B)) (found_on_sums (filesystem c.args.vol.now B)) one three four (p k).1 h.1))
+          (λ runs h. (
+            h.0,
+            adds_then (reference_findings (filesystem c.args.vol.now B) ++ found_on_groups (filesystem c.args.vol.now B))
+                (found_on_sums (filesystem c.args.vol.now B)) one three four (p k).1 h.1,
+          ))
           (q (k.lists, (p k).0)));
     }

@@ -17,7 +17,8 @@ returns-in-Err g c =
     let y = world (g.R.Rack.seen c.put_extents.new.rack) c.put_extents.new.vol in
     let known : Filesystem → Type 0 = IsWalked c.args.listed.now c.args.trees.now c.args.walk in
     record {
-      ran = ran_stop (λ fs. known fs → is_outside c.in-Err.stop ≡ true) (λ fs. known fs → is_outside c.in-Err.stop ≡ true) x y c.in-Err.stop c.in-Err.ensures.ran (λ B h. h);
+      ran = ran_stop (λ fs. known fs → is_outside c.in-Err.stop ≡ true)
+          (λ fs. known fs → is_outside c.in-Err.stop ≡ true) x y c.in-Err.stop c.in-Err.ensures.ran (λ B h. h);
     }
 
 pub returns-in-Err-put_devices : goal.returns-in-Err-put_devices
@@ -29,7 +30,8 @@ returns-in-Err-put_devices g c =
     let runs = c.in-Ok.runs in
     let stop = c.in-Err-put_devices.stop in
     record {
-      ran = ran_then (λ fs. known fs → IsRunsOf fs runs × Adds (found_on_extents fs) c.args.found.now c.put_extents.new.found) (λ fs. Lists c.args.listed.now fs → is_outside stop ≡ true) (λ fs. known fs → is_outside stop ≡ true)
+      ran = ran_then (λ fs. known fs → IsRunsOf fs runs × Adds (found_on_extents fs) c.args.found.now c.put_extents.new.found)
+          (λ fs. Lists c.args.listed.now fs → is_outside stop ≡ true) (λ fs. known fs → is_outside stop ≡ true)
           x y z runs (Err stop) c.in-Ok.ensures.ran c.in-Err-put_devices.ensures.ran (λ B p q k. q k.lists);
     }
 
@@ -46,13 +48,22 @@ returns-in-Ok-put_devices g c =
     let three = c.put_devices.new.found in
     let four = c.put_contents.new.found in
     let rest : Filesystem → List Finding = λ fs. data_if c.args.read_data fs ++ found_on_files fs in
-    let to_three = ran_then {C = Unit {0}} (λ fs. known fs → IsRunsOf fs runs × Adds (found_on_extents fs) one two) (λ fs. Lists c.args.listed.now fs → Adds (found_on_devices fs) two three)
-    (λ fs. known fs → IsRunsOf fs runs × Adds (found_on_extents fs ++ found_on_devices fs) one three) x y z runs (Ok tt) c.in-Ok.ensures.ran c.in-Ok-put_devices.ensures.ran
-    (λ B p q k. ((p k).0, adds_then (found_on_extents (filesystem c.args.vol.now B)) (found_on_devices (filesystem c.args.vol.now B)) one two three (p k).1 (q k.lists))) in
+    let to_three = ran_then {C = Unit {0}} (λ fs. known fs → IsRunsOf fs runs × Adds (found_on_extents fs) one two)
+    (λ fs. Lists c.args.listed.now fs → Adds (found_on_devices fs) two three)
+    (λ fs. known fs → IsRunsOf fs runs × Adds (found_on_extents fs ++ found_on_devices fs) one three) x y z runs
+    (Ok tt) c.in-Ok.ensures.ran c.in-Ok-put_devices.ensures.ran
+    (λ B p q k. (
+      (p k).0,
+      adds_then (found_on_extents (filesystem c.args.vol.now B)) (found_on_devices (filesystem c.args.vol.now B)) one two three (p k).1
+          (q k.lists),
+    )) in
     record {
-      ran = ran_then {A = Unit {0}} {C = Unit {0}} (λ fs. known fs → IsRunsOf fs runs × Adds (found_on_extents fs ++ found_on_devices fs) one three) (Puts (λ fs. Lists c.args.listed.now fs × IsRunsOf fs runs) rest three four c.put_contents.result)
+      ran = ran_then {A = Unit {0}} {C = Unit {0}} (λ fs. known fs → IsRunsOf fs runs × Adds (found_on_extents fs ++ found_on_devices fs) one three)
+          (Puts (λ fs. Lists c.args.listed.now fs × IsRunsOf fs runs) rest three four c.put_contents.result)
           (Puts known (rule_findings c.args.read_data) one four c.put_contents.result) x z w tt c.put_contents.result to_three c.put_contents.ensures.ran
-          (λ B p q k. unless_more (λ u. Adds (rest (filesystem c.args.vol.now B)) three four) (λ u. Adds (rule_findings c.args.read_data (filesystem c.args.vol.now B)) one four) c.put_contents.result
-          (λ u h. adds_then (found_on_extents (filesystem c.args.vol.now B) ++ found_on_devices (filesystem c.args.vol.now B)) (rest (filesystem c.args.vol.now B)) one three four (p k).1 h)
+          (λ B p q k. unless_more (λ u. Adds (rest (filesystem c.args.vol.now B)) three four)
+          (λ u. Adds (rule_findings c.args.read_data (filesystem c.args.vol.now B)) one four) c.put_contents.result
+          (λ u h. adds_then (found_on_extents (filesystem c.args.vol.now B) ++ found_on_devices (filesystem c.args.vol.now B))
+          (rest (filesystem c.args.vol.now B)) one three four (p k).1 h)
           (q (k.lists, (p k).0)));
     }

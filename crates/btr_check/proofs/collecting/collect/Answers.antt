@@ -19,7 +19,8 @@ returns-in-Ok g c =
     let x = world (g.R.Rack.seen c.args.rack.now) c.args.vol.now in
     let y = world (g.R.Rack.seen c.visit_tree.new.rack) c.visit_tree.new.vol in
     record {
-      ran = ran_value (λ fs. c.visit_tree.new.visitor ≡ fold g.V.Visitor.step c.args.visitor (whole fs.blocks c.in-Some.tree.place)) (λ fs. c.visit_tree.new.visitor ≡ fold g.V.Visitor.step c.args.visitor (marks_if fs.blocks c.args.tree))
+      ran = ran_value (λ fs. c.visit_tree.new.visitor ≡ fold g.V.Visitor.step c.args.visitor (whole fs.blocks c.in-Some.tree.place))
+          (λ fs. c.visit_tree.new.visitor ≡ fold g.V.Visitor.step c.args.visitor (marks_if fs.blocks c.args.tree))
           x y c.in-Ok.field-0 c.visit_tree.new.visitor c.in-Ok.ensures.ran
           (λ B h. h ∙ sym (ap (λ t. fold g.V.Visitor.step c.args.visitor (marks_if B t)) c.in-Some.is));
     }

@@ -47,7 +47,8 @@ returns-in-Err g c =
         reads = e.reads;
         volume = record { sup = refl; store = e.refused };
         ready = record { serves = e.serves; room = same_room vol.store c.fetch.new.store e.refused c.requires.ready.room };
-        cause = has_cause layout (g.R.Rack.seen c.args.rack.now) (g.R.Rack.seen c.fetch.new.rack) want c.fetch.new.store c.in-Err.fault c.from.result c.from.ensures e.answer;
+        cause = has_cause layout (g.R.Rack.seen c.args.rack.now) (g.R.Rack.seen c.fetch.new.rack) want c.fetch.new.store c.in-Err.fault c.from.result
+            c.from.ensures e.answer;
         quiet = tt;
         told = drawn layout (AnswersOf want c.fetch.new.store (Err c.in-Err.fault))
             (λ B. BlockCounts B place c.args.by_address c.args.forward.now c.args.forward.now (Err (stop.Tree c.from.result)))
@@ -67,11 +68,17 @@ returns-in-Ok-counted g c =
       ran = record {
         reads = e.reads;
         volume = record { sup = refl; store = loans };
-        ready = record { serves = served_back (g.R.Rack.seen c.fetch.new.rack) c.fetch.new.store c.give.new.self c.in-Ok.loan e.serves c.give.ensures; room = same_room c.args.vol.now.store c.give.new.self loans c.requires.ready.room };
+        ready = record {
+          serves = served_back (g.R.Rack.seen c.fetch.new.rack) c.fetch.new.store c.give.new.self c.in-Ok.loan e.serves c.give.ensures;
+          room =
+              same_room c.args.vol.now.store c.give.new.self loans c.requires.ready.room;
+        };
         cause = tt;
         quiet = tt;
-        told = drawn layout (AnswersOf want c.fetch.new.store (Ok c.in-Ok.loan)) (λ B. BlockCounts B place c.args.by_address c.args.forward.now c.add_block-counted.new.self (Ok tt))
-            (λ B came. block_counted B want place c.fetch.new.store c.in-Ok.loan c.bytes-block.result.now c.args.by_address c.args.forward.now c.add_block-counted.new.self c.bytes-block.ensures.value came (λ block there. there) c.in-Ok-counted.ensures)
+        told = drawn layout (AnswersOf want c.fetch.new.store (Ok c.in-Ok.loan))
+            (λ B. BlockCounts B place c.args.by_address c.args.forward.now c.add_block-counted.new.self (Ok tt))
+            (λ B came. block_counted B want place c.fetch.new.store c.in-Ok.loan c.bytes-block.result.now c.args.by_address c.args.forward.now
+            c.add_block-counted.new.self c.bytes-block.ensures.value came (λ block there. there) c.in-Ok-counted.ensures)
             (record { calls = e.calls tt });
       };
     }
@@ -87,10 +94,15 @@ returns-in-Err-counted g c =
       ran = record {
         reads = e.reads;
         volume = record { sup = refl; store = loans };
-        ready = record { serves = served_back (g.R.Rack.seen c.fetch.new.rack) c.fetch.new.store c.give.new.self c.in-Ok.loan e.serves c.give.ensures; room = same_room c.args.vol.now.store c.give.new.self loans c.requires.ready.room };
+        ready = record {
+          serves = served_back (g.R.Rack.seen c.fetch.new.rack) c.fetch.new.store c.give.new.self c.in-Ok.loan e.serves c.give.ensures;
+          room =
+              same_room c.args.vol.now.store c.give.new.self loans c.requires.ready.room;
+        };
         cause = tt;
         quiet = tt;
-        told = drawn layout (AnswersOf want c.fetch.new.store (Ok c.in-Ok.loan)) (λ B. BlockCounts B place c.args.by_address c.args.forward.now c.add_block-counted.new.self (Err Memory))
+        told = drawn layout (AnswersOf want c.fetch.new.store (Ok c.in-Ok.loan))
+            (λ B. BlockCounts B place c.args.by_address c.args.forward.now c.add_block-counted.new.self (Err Memory))
             (λ B came block there. refl)
             (record { calls = e.calls tt });
       };

@@ -9,7 +9,8 @@ use Rattle.btr_check.proofs.counting.count_blocks.Goals as goal
 
 pub loop-place-init : goal.loop-place-init
 loop-place-init g c = record {
-  ran = ran_none (λ fs. CountedTo fs.blocks 0 c.args.places.now c.args.full.now c.args.forward.now c.args.forward.now) (world (g.R.Rack.seen c.args.rack.now) c.args.vol.now) tt c.requires.ready
+  ran = ran_none (λ fs. CountedTo fs.blocks 0 c.args.places.now c.args.full.now c.args.forward.now c.args.forward.now)
+      (world (g.R.Rack.seen c.args.rack.now) c.args.vol.now) tt c.requires.ready
       (λ B. counted_none B c.args.places.now c.args.full.now c.args.forward.now);
 }
 
@@ -22,8 +23,10 @@ loop-place-preserved g c =
       ran = ran_then {A = Unit {0}} {C = Unit {0}} (λ fs. CountedTo fs.blocks l.place-index c.args.places.now c.args.full.now c.args.forward.now l.forward)
           (λ fs. BlockCounts fs.blocks here c.contains-by_address.result l.forward c.count_block.new.forward (Ok tt))
           (λ fs. CountedTo fs.blocks (l.place-index + 1) c.args.places.now c.args.full.now c.args.forward.now c.count_block.new.forward)
-          (world (g.R.Rack.seen c.args.rack.now) c.args.vol.now) (world (g.R.Rack.seen l.rack) l.vol) (world (g.R.Rack.seen c.count_block.new.rack) c.count_block.new.vol) tt (Ok tt) l.invariant.ran c.in-Ok.ensures.ran
-          (λ B p q. counted_next B c.args.places.now c.args.full.now c.args.forward.now l.place-index none c.contains-by_address.result l.forward c.count_block.new.forward c.loop-place-test.true p c.contains-by_address.ensures q);
+          (world (g.R.Rack.seen c.args.rack.now) c.args.vol.now) (world (g.R.Rack.seen l.rack) l.vol)
+          (world (g.R.Rack.seen c.count_block.new.rack) c.count_block.new.vol) tt (Ok tt) l.invariant.ran c.in-Ok.ensures.ran
+          (λ B p q. counted_next B c.args.places.now c.args.full.now c.args.forward.now l.place-index none c.contains-by_address.result l.forward
+          c.count_block.new.forward c.loop-place-test.true p c.contains-by_address.ensures q);
     }
 
 pub returns-in-Err : goal.returns-in-Err
@@ -36,8 +39,10 @@ returns-in-Err g c =
       ran = ran_then {A = Unit {0}} {C = Unit {0}} (λ fs. CountedTo fs.blocks l.place-index c.args.places.now c.args.full.now c.args.forward.now l.forward)
           (λ fs. BlockCounts fs.blocks here c.contains-by_address.result l.forward c.count_block.new.forward stopped)
           (λ fs. BlocksCount fs.blocks c.args.places.now c.args.full.now c.args.forward.now c.count_block.new.forward stopped)
-          (world (g.R.Rack.seen c.args.rack.now) c.args.vol.now) (world (g.R.Rack.seen l.rack) l.vol) (world (g.R.Rack.seen c.count_block.new.rack) c.count_block.new.vol) tt stopped l.invariant.ran c.in-Err.ensures.ran
-          (λ B p q. counted_stop B c.args.places.now c.args.full.now c.args.forward.now l.place-index none c.contains-by_address.result l.forward c.count_block.new.forward c.count_block.new.forward c.in-Err.stop c.loop-place-test.true q);
+          (world (g.R.Rack.seen c.args.rack.now) c.args.vol.now) (world (g.R.Rack.seen l.rack) l.vol)
+          (world (g.R.Rack.seen c.count_block.new.rack) c.count_block.new.vol) tt stopped l.invariant.ran c.in-Err.ensures.ran
+          (λ B p q. counted_stop B c.args.places.now c.args.full.now c.args.forward.now l.place-index none c.contains-by_address.result l.forward
+          c.count_block.new.forward c.count_block.new.forward c.in-Err.stop c.loop-place-test.true q);
     }
 
 pub returns : goal.returns

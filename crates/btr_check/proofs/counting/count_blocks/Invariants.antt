@@ -6,5 +6,6 @@ use Rattle.btr_check.proofs.counting.count_blocks.Given as goal
 -- what the blocks so far use
 abbrev pub invariant-loop-place : goal.invariant-loop-place
 invariant-loop-place g l = record {
-  ran : Ran {A = Unit {0}} (λ fs. CountedTo fs.blocks l.place-index l.places l.full l.fn.forward l.forward) (world (g.R.Rack.seen l.fn.rack) l.fn.vol) (world (g.R.Rack.seen l.rack) l.vol) (Ok tt);
+  ran : Ran {A = Unit {0}} (λ fs. CountedTo fs.blocks l.place-index l.places l.full l.fn.forward l.forward) (world (g.R.Rack.seen l.fn.rack) l.fn.vol)
+      (world (g.R.Rack.seen l.rack) l.vol) (Ok tt);
 }

@@ -27,7 +27,8 @@ returns-in-Ok g c =
         ready = record { serves = e.serves; room = same_room vol.store c.collect.new.vol.store e.same.store c.requires.ready.room };
         cause = tt;
         quiet = tt;
-        told = drawn_left layout (λ B. Follows (unread_by layout before now) no_part [] (exec B (stored_of vol.sup.nodesize tree.place)) [] (collect_answer r)) (λ B. ReadsStored (filesystem vol B) tree (stopped r))
+        told = drawn_left layout (λ B. Follows (unread_by layout before now) no_part [] (exec B (stored_of vol.sup.nodesize tree.place)) [] (collect_answer r))
+            (λ B. ReadsStored (filesystem vol B) tree (stopped r))
             (λ B only h is none. stored_reads (filesystem vol B) only tree is none (unread_by layout before now) r h) e.content;
       };
     }
@@ -43,13 +44,15 @@ returns-in-Err g c =
     let r : Result Kept CollectFault = Err fault in
     let e = c.in-Err.ensures in
     record {
-      ran = subst (λ s. Ran {A = Kept} (λ fs. ReadsStored fs tree (Err s)) (world before vol) (world now c.collect.new.vol) (Err s)) (sym c.stop_of.ensures) (record {
-        reads = e.reads;
-        volume = e.same;
-        ready = record { serves = e.serves; room = same_room vol.store c.collect.new.vol.store e.same.store c.requires.ready.room };
-        cause = stored_cause layout before now r e.cause;
-        quiet = stored_reading fault;
-        told = drawn_left layout (λ B. Follows (unread_by layout before now) no_part [] (exec B (stored_of vol.sup.nodesize tree.place)) [] (collect_answer r)) (λ B. ReadsStored (filesystem vol B) tree (stopped r))
-            (λ B only h is none. stored_reads (filesystem vol B) only tree is none (unread_by layout before now) r h) e.content;
-      });
+      ran = subst (λ s. Ran {A = Kept} (λ fs. ReadsStored fs tree (Err s)) (world before vol) (world now c.collect.new.vol) (Err s)) (sym c.stop_of.ensures)
+          (record {
+            reads = e.reads;
+            volume = e.same;
+            ready = record { serves = e.serves; room = same_room vol.store c.collect.new.vol.store e.same.store c.requires.ready.room };
+            cause = stored_cause layout before now r e.cause;
+            quiet = stored_reading fault;
+            told = drawn_left layout (λ B. Follows (unread_by layout before now) no_part [] (exec B (stored_of vol.sup.nodesize tree.place)) [] (collect_answer r))
+                (λ B. ReadsStored (filesystem vol B) tree (stopped r))
+                (λ B only h is none. stored_reads (filesystem vol B) only tree is none (unread_by layout before now) r h) e.content;
+          });
     }

@@ -21,7 +21,8 @@ returns-in-Err g c =
     let x = world (g.R.Rack.seen c.args.rack.now) c.args.vol.now in
     let y = world (g.R.Rack.seen c.collect.new.rack) c.collect.new.vol in
     record {
-      ran = ran_stop (λ fs. is_outside c.in-Err.stop ≡ true) (λ fs. IsCoverOf fs c.args.sums.now → is_outside c.in-Err.stop ≡ true) x y c.in-Err.stop c.in-Err.ensures.ran (λ B h same. h);
+      ran = ran_stop (λ fs. is_outside c.in-Err.stop ≡ true) (λ fs. IsCoverOf fs c.args.sums.now
+          → is_outside c.in-Err.stop ≡ true) x y c.in-Err.stop c.in-Err.ensures.ran (λ B h same. h);
     }
 
 pub returns-in-Err-put_met : goal.returns-in-Err-put_met
@@ -29,7 +30,8 @@ returns-in-Err-put_met g c =
     let x = world (g.R.Rack.seen c.args.rack.now) c.args.vol.now in
     let y = world (g.R.Rack.seen c.collect.new.rack) c.collect.new.vol in
     record {
-      ran = ran_no_memory {A = FileTree} (λ fs. c.in-Ok.met ≡ fold file_step c.new.result (marks_if fs.blocks (Some c.args.tree.now))) (λ fs. IsCoverOf fs c.args.sums.now → is_outside NoMemory ≡ true) x y c.in-Ok.met c.in-Ok.ensures.ran (λ B known. refl);
+      ran = ran_no_memory {A = FileTree} (λ fs. c.in-Ok.met ≡ fold file_step c.new.result (marks_if fs.blocks (Some c.args.tree.now)))
+          (λ fs. IsCoverOf fs c.args.sums.now → is_outside NoMemory ≡ true) x y c.in-Ok.met c.in-Ok.ensures.ran (λ B known. refl);
     }
 
 pub returns-then-paired : goal.returns-then-paired
@@ -43,14 +45,18 @@ returns-then-paired g c =
     let names' = c.put_met.new.subvolumes in
     let put = c.in-Ok-put_met.ensures in
     record {
-      ran = ran_value {A = FileTree} {C = Unit {0}} (λ fs. met ≡ fold file_step c.new.result (marks_if fs.blocks (Some tree))) (λ fs. IsCoverOf fs c.args.sums.now → Treats fs.blocks fs.chunks (sum_runs fs) (tree ∷ []) c.args.found.now found' names names') x y met tt c.in-Ok.ensures.ran
+      ran = ran_value {A = FileTree} {C = Unit {0}} (λ fs. met ≡ fold file_step c.new.result (marks_if fs.blocks (Some tree)))
+          (λ fs. IsCoverOf fs c.args.sums.now → Treats fs.blocks fs.chunks (sum_runs fs)
+          (tree ∷ []) c.args.found.now found' names names') x y met tt c.in-Ok.ensures.ran
           (λ B h same.
           let runs = sum_runs (filesystem c.args.vol.now B) in
           let chunks = c.args.vol.now.store.layout.chunks in
           let are : c.chunks-chunks.result.now ≡ chunks = c.chunks-chunks.ensures ∙ ap (λ (l : Layout). l.chunks) c.in-Ok.ensures.ran.volume.store.layout in
-          let missing = subst (λ (l : List Chunk). Adds (tree_missing l runs tree.id met.uses.loose met.uses.used) c.args.found.now found') are (put.found runs same) in
+          let missing = subst (λ (l : List Chunk). Adds (tree_missing l runs tree.id met.uses.loose met.uses.used) c.args.found.now found') are
+          (put.found runs same) in
           let is = file_tree_met B c.unpaired_law.ensures c.keeps_law.ensures.uses tree c.new.result met c.new.ensures h in
-          treats_paired B chunks runs tree met c.args.found.now found' names names' is (sym put.paired ∙ c.if-paired.true) missing (put.entries ∙ ap (λ b. entries_if b tree.id met.names.subvolumes names) c.if-paired.true));
+          treats_paired B chunks runs tree met c.args.found.now found' names names' is (sym put.paired ∙ c.if-paired.true) missing
+          (put.entries ∙ ap (λ b. entries_if b tree.id met.names.subvolumes names) c.if-paired.true));
     }
 
 pub returns-else-paired : goal.returns-else-paired
@@ -67,14 +73,19 @@ returns-else-paired g c =
     let names'' = c.put_names.new.subvolumes in
     let put = c.in-Ok-put_met.ensures in
     record {
-      ran = ran_then {A = FileTree} {C = Unit {0}} (λ fs. met ≡ fold file_step c.new.result (marks_if fs.blocks (Some tree))) (λ fs. Unless (λ u. TreatsNames fs.blocks tree found' found'' names' names'') c.put_names.result)
-          (λ fs. IsCoverOf fs c.args.sums.now → Unless (λ u. Treats fs.blocks fs.chunks (sum_runs fs) (tree ∷ []) c.args.found.now found'' names names'') c.put_names.result) x y z met c.put_names.result c.in-Ok.ensures.ran c.put_names.ensures.ran
+      ran = ran_then {A = FileTree} {C = Unit {0}} (λ fs. met ≡ fold file_step c.new.result (marks_if fs.blocks (Some tree)))
+          (λ fs. Unless (λ u. TreatsNames fs.blocks tree found' found'' names' names'') c.put_names.result)
+          (λ fs. IsCoverOf fs c.args.sums.now → Unless (λ u. Treats fs.blocks fs.chunks (sum_runs fs)
+          (tree ∷ []) c.args.found.now found'' names names'') c.put_names.result) x y z met c.put_names.result c.in-Ok.ensures.ran c.put_names.ensures.ran
           (λ B h q same.
           let runs = sum_runs (filesystem c.args.vol.now B) in
           let chunks = c.args.vol.now.store.layout.chunks in
           let are : c.chunks-chunks.result.now ≡ chunks = c.chunks-chunks.ensures ∙ ap (λ (l : Layout). l.chunks) c.in-Ok.ensures.ran.volume.store.layout in
-          let missing = subst (λ (l : List Chunk). Adds (tree_missing l runs tree.id met.uses.loose met.uses.used) c.args.found.now found') are (put.found runs same) in
+          let missing = subst (λ (l : List Chunk). Adds (tree_missing l runs tree.id met.uses.loose met.uses.used) c.args.found.now found') are
+          (put.found runs same) in
           let is = file_tree_met B c.unpaired_law.ensures c.keeps_law.ensures.uses tree c.new.result met c.new.ensures h in
-          unless_more (λ u. TreatsNames B tree found' found'' names' names'') (λ u. Treats B chunks runs (tree ∷ []) c.args.found.now found'' names names'') c.put_names.result
-          (λ u treats. treats_looked B chunks runs tree met c.args.found.now found' found'' names names' names'' is missing (put.entries ∙ ap (λ b. entries_if b tree.id met.names.subvolumes names) c.if-paired.false) treats) q);
+          unless_more (λ u. TreatsNames B tree found' found'' names' names'')
+          (λ u. Treats B chunks runs (tree ∷ []) c.args.found.now found'' names names'') c.put_names.result
+          (λ u treats. treats_looked B chunks runs tree met c.args.found.now found' found'' names names' names'' is missing
+          (put.entries ∙ ap (λ b. entries_if b tree.id met.names.subvolumes names) c.if-paired.false) treats) q);
     }

@@ -8,6 +8,7 @@ use Rattle.btr_check.proofs.file_trees.put_file_trees.Given as goal
 -- the trees so far were treated
 abbrev pub invariant-loop-tree : goal.invariant-loop-tree
 invariant-loop-tree g l = record {
-  ran : Ran {A = Unit {0}} (λ fs. IsCoverOf fs l.sums → Treats fs.blocks fs.chunks (sum_runs fs) (take l.tree-index l.files) l.fn.found l.found l.fn.subvolumes l.subvolumes)
+  ran : Ran {A = Unit {0}} (λ fs. IsCoverOf fs l.sums → Treats fs.blocks fs.chunks (sum_runs fs)
+      (take l.tree-index l.files) l.fn.found l.found l.fn.subvolumes l.subvolumes)
       (world (g.R.Rack.seen l.fn.rack) l.fn.vol) (world (g.R.Rack.seen l.rack) l.vol) (Ok tt);
 }

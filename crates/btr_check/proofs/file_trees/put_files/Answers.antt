@@ -26,7 +26,8 @@ returns-in-Err-read_subvolumes g c =
     let y = world (g.R.Rack.seen c.read_subvolumes.new.rack) c.read_subvolumes.new.vol in
     let stop = c.in-Err-read_subvolumes.stop in
     record {
-      ran = ran_stop (λ fs. is_outside stop ≡ true) (λ fs. Lists c.args.listed.now fs × IsCoverOf fs c.args.sums.now → is_outside stop ≡ true) x y stop c.in-Err-read_subvolumes.ensures.ran (λ B h known. h);
+      ran = ran_stop (λ fs. is_outside stop ≡ true) (λ fs. Lists c.args.listed.now fs × IsCoverOf fs c.args.sums.now
+          → is_outside stop ≡ true) x y stop c.in-Err-read_subvolumes.ensures.ran (λ B h known. h);
     }
 
 pub returns-in-Err-put_file_trees : goal.returns-in-Err-put_file_trees
@@ -37,7 +38,8 @@ returns-in-Err-put_file_trees g c =
     let stop = c.in-Err-put_file_trees.stop in
     let names = c.in-Ok-read_subvolumes.subvolumes in
     record {
-      ran = ran_then {C = Unit {0}} (λ fs. names ≡ subvolumes_in (root_items fs) []) (λ fs. IsCoverOf fs c.args.sums.now → is_outside stop ≡ true) (λ fs. Lists c.args.listed.now fs × IsCoverOf fs c.args.sums.now → is_outside stop ≡ true)
+      ran = ran_then {C = Unit {0}} (λ fs. names ≡ subvolumes_in (root_items fs) []) (λ fs. IsCoverOf fs c.args.sums.now → is_outside stop ≡ true)
+          (λ fs. Lists c.args.listed.now fs × IsCoverOf fs c.args.sums.now → is_outside stop ≡ true)
           x y z names (Err stop) c.in-Ok-read_subvolumes.ensures.ran c.in-Err-put_file_trees.ensures.ran (λ B p q known. q known.1);
     }
 
@@ -51,13 +53,20 @@ returns g c =
     let files = c.deref.result.now in
     let found = c.args.found.now in
     let found' = c.put_file_trees.new.found in
-    let both = ran_then {C = Unit {0}} (λ fs. names ≡ subvolumes_in (root_items fs) []) (λ fs. IsCoverOf fs c.args.sums.now → Treats fs.blocks fs.chunks (sum_runs fs) files found found' names names')
-    (λ fs. (names ≡ subvolumes_in (root_items fs) []) × (IsCoverOf fs c.args.sums.now → Treats fs.blocks fs.chunks (sum_runs fs) files found found' names names'))
+    let both = ran_then {C = Unit {0}} (λ fs. names ≡ subvolumes_in (root_items fs) [])
+    (λ fs. IsCoverOf fs c.args.sums.now → Treats fs.blocks fs.chunks (sum_runs fs) files found found' names names')
+    (λ fs. (names ≡ subvolumes_in (root_items fs) [])
+    × (IsCoverOf fs c.args.sums.now → Treats fs.blocks fs.chunks (sum_runs fs) files found found' names names'))
     x y z names (Ok tt) c.in-Ok-read_subvolumes.ensures.ran c.in-Ok-put_file_trees.ensures.ran (λ B p q. (p, q)) in
     record {
-      ran = ran_put {A = Unit {0}} (λ fs. (names ≡ subvolumes_in (root_items fs) []) × (IsCoverOf fs c.args.sums.now → Treats fs.blocks fs.chunks (sum_runs fs) files found found' names names')) (λ fs. Lists c.args.listed.now fs × IsCoverOf fs c.args.sums.now)
-          (λ fs. Adds (found_on_files fs) found c.put_subvolume_findings.new.found) x z tt c.put_subvolume_findings.result c.or_memory.result both c.or_memory.ensures
-          (λ B p known. on_done (Adds (subvolume_findings names') found' c.put_subvolume_findings.new.found) (Adds (found_on_files (filesystem c.args.vol.now B)) found c.put_subvolume_findings.new.found) c.put_subvolume_findings.result
-          (files_put (filesystem c.args.vol.now B) c.args.listed.now files found found' c.put_subvolume_findings.new.found names names' known.0 (c.deref.ensures.value ∙ c.in-Ok.ensures) p.0 (p.1 known.1))
+      ran = ran_put {A = Unit {0}} (λ fs. (names ≡ subvolumes_in (root_items fs) [])
+          × (IsCoverOf fs c.args.sums.now → Treats fs.blocks fs.chunks (sum_runs fs) files found found' names names'))
+          (λ fs. Lists c.args.listed.now fs × IsCoverOf fs c.args.sums.now)
+          (λ fs. Adds (found_on_files fs) found c.put_subvolume_findings.new.found) x z tt c.put_subvolume_findings.result c.or_memory.result both
+          c.or_memory.ensures
+          (λ B p known. on_done (Adds (subvolume_findings names') found' c.put_subvolume_findings.new.found)
+          (Adds (found_on_files (filesystem c.args.vol.now B)) found c.put_subvolume_findings.new.found) c.put_subvolume_findings.result
+          (files_put (filesystem c.args.vol.now B) c.args.listed.now files found found' c.put_subvolume_findings.new.found names names' known.0
+          (c.deref.ensures.value ∙ c.in-Ok.ensures) p.0 (p.1 known.1))
           c.put_subvolume_findings.ensures);
     }

@@ -30,11 +30,14 @@ returns-in-Ok g c =
     let found' = c.put_all_names.new.found in
     let names = c.args.subvolumes.now in
     let names' = c.put_all_names.new.subvolumes in
-    let put = ran_put (λ fs. all ≡ fold names_step c.new-nothing.result (marks_if fs.blocks (Some tree))) (λ fs. ⊤) (λ fs. TreatsNames fs.blocks tree found found' names names') x y all c.put_all_names.result c.or_memory.result c.in-Ok.ensures.ran c.or_memory.ensures
+    let put = ran_put (λ fs. all ≡ fold names_step c.new-nothing.result (marks_if fs.blocks (Some tree))) (λ fs. ⊤)
+    (λ fs. TreatsNames fs.blocks tree found found' names names') x y all c.put_all_names.result c.or_memory.result c.in-Ok.ensures.ran c.or_memory.ensures
     (λ B h known.
     let is = all_names_met B c.names_law.ensures tree c.new-nothing.result all c.new-nothing.ensures h in
-    on_both (Adds (names_findings all) found found') (names' ≡ subvolumes_at names all.tree all.indexed) (TreatsNames B tree found found' names names') c.put_all_names.result
+    on_both (Adds (names_findings all) found found') (names' ≡ subvolumes_at names all.tree all.indexed)
+    (TreatsNames B tree found found' names names') c.put_all_names.result
     (λ adds at. treats_names B tree all found found' names names' is adds at) c.put_all_names.ensures.found c.put_all_names.ensures.entries) in
     record {
-      ran = ran_more (λ fs. ⊤ → Unless (λ u. TreatsNames fs.blocks tree found found' names names') c.or_memory.result) (λ fs. Unless (λ u. TreatsNames fs.blocks tree found found' names names') c.or_memory.result) x y c.or_memory.result put (λ B h. h tt);
+      ran = ran_more (λ fs. ⊤ → Unless (λ u. TreatsNames fs.blocks tree found found' names names') c.or_memory.result)
+          (λ fs. Unless (λ u. TreatsNames fs.blocks tree found found' names names') c.or_memory.result) x y c.or_memory.result put (λ B h. h tt);
     }

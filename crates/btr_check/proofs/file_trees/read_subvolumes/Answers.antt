@@ -17,7 +17,8 @@ returns g c =
     let x = world (g.R.Rack.seen c.args.rack.now) c.args.vol.now in
     let y = world (g.R.Rack.seen c.collect.new.rack) c.collect.new.vol in
     record {
-      ran = ran_more (λ fs. Unless (λ met. met ≡ fold subvolumes_step c.new.result (marks_if fs.blocks (Some c.named_root-tree.result))) c.collect.result) (λ fs. Unless (λ met. met ≡ subvolumes_in (root_items fs) []) c.collect.result) x y c.collect.result c.collect.ensures.ran
+      ran = ran_more (λ fs. Unless (λ met. met ≡ fold subvolumes_step c.new.result (marks_if fs.blocks (Some c.named_root-tree.result))) c.collect.result)
+          (λ fs. Unless (λ met. met ≡ subvolumes_in (root_items fs) []) c.collect.result) x y c.collect.result c.collect.ensures.ran
           (λ B h. unless_more _ _ c.collect.result
           (λ met is. is ∙ ap (λ n. fold subvolumes_step n (whole B c.named_root-tree.result.place)) c.new.ensures
           ∙ ap (λ (t : TreeRoot). fold subvolumes_step no_subvolumes (whole B t.place)) (c.named_root-tree.ensures ∙ ap (named_root 1) c.root_root.ensures)

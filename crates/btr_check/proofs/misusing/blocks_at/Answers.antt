@@ -12,10 +12,13 @@ returns-in-Some c p =
     let addr = c.args.addr in
     let next = c.in-Some.addr in
     ap (list_any (λ (x : BlockUse). eqb x.addr addr && p x)) (c.range.ensures.between tt)
-    ∙ any_filter (λ (x : BlockUse). eqb x.addr addr) (range_contains block_cmp (Included (record { addr = addr; level = 0 })) (Excluded (record { addr = next; level = 0 }))) p (λ x e. block_within addr x e next c.in-Some.ensures.1) c.args.blocks.now.keys
+    ∙ any_filter (λ (x : BlockUse). eqb x.addr addr)
+    (range_contains block_cmp (Included (record { addr = addr; level = 0 })) (Excluded (record { addr = next; level = 0 }))) p
+    (λ x e. block_within addr x e next c.in-Some.ensures.1) c.args.blocks.now.keys
 
 pub returns-in-None : goal.returns-in-None
 returns-in-None c p =
     let addr = c.args.addr in
     ap (list_any (λ (x : BlockUse). eqb x.addr addr && p x)) (c.range-in-None.ensures.between tt)
-    ∙ any_filter (λ (x : BlockUse). eqb x.addr addr) (range_contains block_cmp (Included (record { addr = addr; level = 0 })) Unbounded) p (λ x e. block_behind addr x e) c.args.blocks.now.keys
+    ∙ any_filter (λ (x : BlockUse). eqb x.addr addr) (range_contains block_cmp (Included (record { addr = addr; level = 0 })) Unbounded) p
+    (λ x e. block_behind addr x e) c.args.blocks.now.keys

@@ -12,10 +12,13 @@ returns-in-Some c p =
     let addr = c.args.addr in
     let next = c.in-Some.addr in
     ap (list_any (λ (x : DataUse). eqb x.addr addr && p x)) (c.range.ensures.between tt)
-    ∙ any_filter (λ (x : DataUse). eqb x.addr addr) (range_contains data_cmp (Included (record { addr = addr; len = 0 })) (Excluded (record { addr = next; len = 0 }))) p (λ x e. data_within addr x e next c.in-Some.ensures.1) c.args.extents.now.keys
+    ∙ any_filter (λ (x : DataUse). eqb x.addr addr)
+    (range_contains data_cmp (Included (record { addr = addr; len = 0 })) (Excluded (record { addr = next; len = 0 }))) p
+    (λ x e. data_within addr x e next c.in-Some.ensures.1) c.args.extents.now.keys
 
 pub returns-in-None : goal.returns-in-None
 returns-in-None c p =
     let addr = c.args.addr in
     ap (list_any (λ (x : DataUse). eqb x.addr addr && p x)) (c.range-in-None.ensures.between tt)
-    ∙ any_filter (λ (x : DataUse). eqb x.addr addr) (range_contains data_cmp (Included (record { addr = addr; len = 0 })) Unbounded) p (λ x e. data_behind addr x e) c.args.extents.now.keys
+    ∙ any_filter (λ (x : DataUse). eqb x.addr addr) (range_contains data_cmp (Included (record { addr = addr; len = 0 })) Unbounded) p
+    (λ x e. data_behind addr x e) c.args.extents.now.keys

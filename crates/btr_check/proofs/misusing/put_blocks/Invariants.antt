@@ -7,4 +7,5 @@ use Rattle.btr_check.proofs.misusing.put_blocks.Given as goal
 
 -- what is left to be put, and what was put, are all there is to put
 abbrev pub invariant-loop-block : goal.invariant-loop-block
-invariant-loop-block l = (one : Finding) → (list_any (is_by_block l.nodesize l.extent one) l.block-iterator || has l.found one) ≡ (list_any (is_by_block l.nodesize l.extent one) l.fn.blocks || has l.fn.found one)
+invariant-loop-block l = (one : Finding) → (list_any (is_by_block l.nodesize l.extent one) l.block-iterator || has l.found one) ≡ (list_any
+    (is_by_block l.nodesize l.extent one) l.fn.blocks || has l.fn.found one)

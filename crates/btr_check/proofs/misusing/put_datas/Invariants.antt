@@ -7,4 +7,5 @@ use Rattle.btr_check.proofs.misusing.put_datas.Given as goal
 
 -- what is left to be put, and what was put, are all there is to put
 abbrev pub invariant-loop-data_use : goal.invariant-loop-data_use
-invariant-loop-data_use l = (one : Finding) → (list_any (is_by_data l.nodesize l.extent one) l.data_use-iterator || has l.found one) ≡ (list_any (is_by_data l.nodesize l.extent one) l.fn.uses || has l.fn.found one)
+invariant-loop-data_use l = (one : Finding) → (list_any (is_by_data l.nodesize l.extent one) l.data_use-iterator || has l.found one) ≡ (list_any
+    (is_by_data l.nodesize l.extent one) l.fn.uses || has l.fn.found one)

@@ -19,7 +19,11 @@ returns-in-Ok g c =
       ran = record {
         reads = e.reads;
         volume = record { sup = refl; store = loans };
-        ready = record { serves = served_back now c.fetch.new.store c.give.new.self c.in-Ok.loan e.serves c.give.ensures; room = same_room vol.store c.give.new.self loans c.requires.ready.room };
+        ready = record {
+          serves = served_back now c.fetch.new.store c.give.new.self c.in-Ok.loan e.serves c.give.ensures;
+          room =
+              same_room vol.store c.give.new.self loans c.requires.ready.room;
+        };
         cause = tt;
         quiet = tt;
         told = fetched_can layout want before now c.fetch.new.store e.reads c.in-Ok.loan e.answer;

@@ -15,8 +15,12 @@ returns-in-Err g c =
     let sums : Option TreeRoot = tree_behind c.args.sums in
     record {
       ahead = still_ahead c.args.copies.now c.in-Err.ensures.ran.reads c.requires.ahead;
-      ran = ran_stop {A = Option Want} {C = Bool} (λ fs. KeepsSums fs sums c.args.ahead.now c.sector_want.new.ahead (Unless {A = Option Want} (ReadsBy fs sums c.args.sector.addr) (Err c.in-Err.stop))) (λ fs. KeepsSums fs sums c.args.ahead.now c.sector_want.new.ahead (Unless {A = Bool} (λ can. can ≡ is_readable fs sums c.args.sector.addr) (Err c.in-Err.stop)))
-          (world (g.R.Rack.seen c.args.rack.now) c.args.vol.now) (world (g.R.Rack.seen c.sector_want.new.rack) c.sector_want.new.vol) c.in-Err.stop c.in-Err.ensures.ran (λ B h. h);
+      ran = ran_stop {A = Option Want} {C = Bool}
+          (λ fs. KeepsSums fs sums c.args.ahead.now c.sector_want.new.ahead (Unless {A = Option Want} (ReadsBy fs sums c.args.sector.addr) (Err c.in-Err.stop)))
+          (λ fs. KeepsSums fs sums c.args.ahead.now c.sector_want.new.ahead
+          (Unless {A = Bool} (λ can. can ≡ is_readable fs sums c.args.sector.addr) (Err c.in-Err.stop)))
+          (world (g.R.Rack.seen c.args.rack.now) c.args.vol.now) (world
+          (g.R.Rack.seen c.sector_want.new.rack) c.sector_want.new.vol) c.in-Err.stop c.in-Err.ensures.ran (λ B h. h);
     }
 
 pub returns-in-Ok-None : goal.returns-in-Ok-None
@@ -26,8 +30,11 @@ returns-in-Ok-None g c =
     let y = world (g.R.Rack.seen c.sector_want.new.rack) c.sector_want.new.vol in
     record {
       ahead = still_ahead c.args.copies.now c.in-Ok-None.ensures.ran.reads c.requires.ahead;
-      ran = ran_value (λ fs. KeepsSums fs sums c.args.ahead.now c.sector_want.new.ahead (ReadsBy fs sums c.args.sector.addr None)) (λ fs. KeepsSums fs sums c.args.ahead.now c.sector_want.new.ahead (false ≡ is_readable fs sums c.args.sector.addr)) x y None false
-          (subst (λ (o : Option Want). Ran {A = Option Want} (λ fs. KeepsSums fs sums c.args.ahead.now c.sector_want.new.ahead (ReadsBy fs sums c.args.sector.addr o)) x y (Ok o)) c.in-Ok-None.field-0-is c.in-Ok-None.ensures.ran) (λ B h summed. ((h summed).0, sym (h summed).1));
+      ran = ran_value (λ fs. KeepsSums fs sums c.args.ahead.now c.sector_want.new.ahead (ReadsBy fs sums c.args.sector.addr None))
+          (λ fs. KeepsSums fs sums c.args.ahead.now c.sector_want.new.ahead (false ≡ is_readable fs sums c.args.sector.addr)) x y None false
+          (subst (λ (o : Option Want). Ran {A = Option Want}
+          (λ fs. KeepsSums fs sums c.args.ahead.now c.sector_want.new.ahead (ReadsBy fs sums c.args.sector.addr o)) x y
+          (Ok o)) c.in-Ok-None.field-0-is c.in-Ok-None.ensures.ran) (λ B h summed. ((h summed).0, sym (h summed).1));
     }
 
 pub returns-in-Ok-Some : goal.returns-in-Ok-Some
@@ -38,8 +45,13 @@ returns-in-Ok-Some g c =
     let y = world (g.R.Rack.seen c.sector_want.new.rack) c.sector_want.new.vol in
     record {
       ahead = c.can_read.ensures.ahead;
-      ran = ran_then (λ fs. KeepsSums fs sums c.args.ahead.now c.sector_want.new.ahead (ReadsBy fs sums c.args.sector.addr (Some want))) (λ fs. Unless (λ can. can ≡ is_ok (fs.blocks want)) c.can_read.result) (λ fs. KeepsSums fs sums c.args.ahead.now c.sector_want.new.ahead (Unless (λ can. can ≡ is_readable fs sums c.args.sector.addr) c.can_read.result))
+      ran = ran_then (λ fs. KeepsSums fs sums c.args.ahead.now c.sector_want.new.ahead (ReadsBy fs sums c.args.sector.addr (Some want)))
+          (λ fs. Unless (λ can. can ≡ is_ok (fs.blocks want)) c.can_read.result)
+          (λ fs. KeepsSums fs sums c.args.ahead.now c.sector_want.new.ahead
+          (Unless (λ can. can ≡ is_readable fs sums c.args.sector.addr) c.can_read.result))
           x y (world (g.R.Rack.seen c.can_read.new.rack) c.can_read.new.vol) (Some want) c.can_read.result
-          (subst (λ (o : Option Want). Ran {A = Option Want} (λ fs. KeepsSums fs sums c.args.ahead.now c.sector_want.new.ahead (ReadsBy fs sums c.args.sector.addr o)) x y (Ok o)) c.in-Ok-Some.field-0-is c.in-Ok-Some.ensures.ran) c.can_read.ensures.ran
+          (subst (λ (o : Option Want). Ran {A = Option Want}
+          (λ fs. KeepsSums fs sums c.args.ahead.now c.sector_want.new.ahead (ReadsBy fs sums c.args.sector.addr o)) x y
+          (Ok o)) c.in-Ok-Some.field-0-is c.in-Ok-Some.ensures.ran) c.can_read.ensures.ran
           (λ B p q summed. ((p summed).0, then_read (filesystem c.args.vol.now B) sums c.args.sector.addr want c.can_read.result (p summed).1 q));
     }

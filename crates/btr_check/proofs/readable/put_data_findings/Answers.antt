@@ -19,7 +19,8 @@ loop-run-init g c =
     let sums : Option TreeRoot = tree_behind c.args.sums in
     record {
       ahead = c.new-copies.ensures (g.R.Rack.seen c.args.rack.now).held;
-      ran = ran_none (λ fs. AreLow c.args.runs.now → Adds (flat_map (run_findings fs sums) (take 0 c.args.runs.now)) c.args.found.now c.args.found.now) (world (g.R.Rack.seen c.args.rack.now) c.args.vol.now) tt c.requires.ready
+      ran = ran_none (λ fs. AreLow c.args.runs.now → Adds (flat_map (run_findings fs sums) (take 0 c.args.runs.now)) c.args.found.now c.args.found.now)
+          (world (g.R.Rack.seen c.args.rack.now) c.args.vol.now) tt c.requires.ready
           (λ B low. adds_none c.args.found.now);
     }
 
@@ -35,8 +36,10 @@ loop-run-preserved g c =
       ran = ran_then {A = Unit {0}} {C = Unit {0}} (λ fs. AreLow list → Adds (flat_map (run_findings fs sums) (take l.run-index list)) c.args.found.now l.found)
           (λ fs. run_end run < 2 ^ 64 → Adds (run_findings fs sums run) l.found c.put_run.new.found)
           (λ fs. AreLow list → Adds (flat_map (run_findings fs sums) (take (l.run-index + 1) list)) c.args.found.now c.put_run.new.found)
-          (world (g.R.Rack.seen c.args.rack.now) c.args.vol.now) (world (g.R.Rack.seen l.rack) l.vol) (world (g.R.Rack.seen c.put_run.new.rack) c.put_run.new.vol) tt (Ok tt) l.invariant.ran c.in-Ok.ensures.ran
-          (λ B p q low. adds_more_of (run_findings (filesystem c.args.vol.now B) sums) list l.run-index none c.args.found.now l.found c.put_run.new.found c.loop-run-test.true (p low) (q (low_at list l.run-index none c.loop-run-test.true low)));
+          (world (g.R.Rack.seen c.args.rack.now) c.args.vol.now) (world (g.R.Rack.seen l.rack) l.vol)
+          (world (g.R.Rack.seen c.put_run.new.rack) c.put_run.new.vol) tt (Ok tt) l.invariant.ran c.in-Ok.ensures.ran
+          (λ B p q low. adds_more_of (run_findings (filesystem c.args.vol.now B) sums) list l.run-index none c.args.found.now l.found c.put_run.new.found
+          c.loop-run-test.true (p low) (q (low_at list l.run-index none c.loop-run-test.true low)));
     }
 
 pub returns-in-Err : goal.returns-in-Err
@@ -51,7 +54,8 @@ returns-in-Err g c =
       ran = ran_then {A = Unit {0}} {C = Unit {0}} (λ fs. AreLow list → Adds (flat_map (run_findings fs sums) (take l.run-index list)) c.args.found.now l.found)
           (λ fs. run_end run < 2 ^ 64 → Unless (λ u. Adds (run_findings fs sums run) l.found c.put_run.new.found) stopped)
           (λ fs. list ≡ sum_runs fs → sums ≡ tree_of fs.sup fs.blocks 7 → Unless (λ u. Adds (data_findings fs) c.args.found.now c.put_run.new.found) stopped)
-          (world (g.R.Rack.seen c.args.rack.now) c.args.vol.now) (world (g.R.Rack.seen l.rack) l.vol) (world (g.R.Rack.seen c.put_run.new.rack) c.put_run.new.vol) tt stopped l.invariant.ran c.in-Err.ensures.ran
+          (world (g.R.Rack.seen c.args.rack.now) c.args.vol.now) (world (g.R.Rack.seen l.rack) l.vol)
+          (world (g.R.Rack.seen c.put_run.new.rack) c.put_run.new.vol) tt stopped l.invariant.ran c.in-Err.ensures.ran
           (λ B p q is tree. q (low_at list l.run-index none c.loop-run-test.true (are_low (filesystem c.args.vol.now B) list is)));
     }
 
@@ -64,5 +68,6 @@ returns g c =
       ran = ran_more {A = Unit {0}} (λ fs. AreLow list → Adds (flat_map (run_findings fs sums) (take l.run-index list)) c.args.found.now l.found)
           (λ fs. list ≡ sum_runs fs → sums ≡ tree_of fs.sup fs.blocks 7 → Adds (data_findings fs) c.args.found.now l.found)
           (world (g.R.Rack.seen c.args.rack.now) c.args.vol.now) (world (g.R.Rack.seen l.rack) l.vol) (Ok tt) l.invariant.ran
-          (λ B p is tree. data_all (filesystem c.args.vol.now B) sums list l.run-index c.args.found.now l.found c.loop-run-test.false is tree (p (are_low (filesystem c.args.vol.now B) list is)));
+          (λ B p is tree. data_all (filesystem c.args.vol.now B) sums list l.run-index c.args.found.now l.found c.loop-run-test.false is tree
+          (p (are_low (filesystem c.args.vol.now B) list is)));
     }

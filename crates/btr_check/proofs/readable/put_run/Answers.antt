@@ -20,7 +20,9 @@ loop-i-init g c =
     let sums : Option TreeRoot = tree_behind c.args.sums in
     record {
       ahead = c.requires.ahead;
-      ran = ran_none (λ fs. run_end c.args.run.now < 2 ^ 64 → IsSummed fs.blocks sums c.new-ahead.result × Adds (filter_map (data_lost fs sums) (take 0 (run_sectors c.args.run.now))) c.args.found.now c.args.found.now) (world (g.R.Rack.seen c.args.rack.now) c.args.vol.now) tt c.requires.ready
+      ran = ran_none (λ fs. run_end c.args.run.now < 2 ^ 64 → IsSummed fs.blocks sums c.new-ahead.result
+          × Adds (filter_map (data_lost fs sums) (take 0 (run_sectors c.args.run.now))) c.args.found.now c.args.found.now)
+          (world (g.R.Rack.seen c.args.rack.now) c.args.vol.now) tt c.requires.ready
           (λ B low. (none_kept B sums c.new-ahead.result c.new-ahead.ensures, adds_none c.args.found.now));
     }
 
@@ -32,11 +34,19 @@ loop-i-preserved g c =
     let sector = c.sector_at-sector.result.addr in
     record {
       ahead = c.in-Ok.ensures.ahead;
-      ran = ran_then {A = Unit {0}} {C = Unit {0}} (λ fs. run_end run < 2 ^ 64 → IsSummed fs.blocks sums l.ahead × Adds (filter_map (data_lost fs sums) (take l.i (run_sectors run))) c.args.found.now l.found)
+      ran = ran_then {A = Unit {0}} {C = Unit {0}}
+          (λ fs. run_end run < 2 ^ 64 → IsSummed fs.blocks sums l.ahead × Adds
+          (filter_map (data_lost fs sums) (take l.i (run_sectors run))) c.args.found.now l.found)
           (λ fs. KeepsSums fs sums l.ahead c.put_sector.new.ahead (Adds (option_to_list (data_lost fs sums sector)) l.found c.put_sector.new.found))
-          (λ fs. run_end run < 2 ^ 64 → IsSummed fs.blocks sums c.put_sector.new.ahead × Adds (filter_map (data_lost fs sums) (take (l.i + 1) (run_sectors run))) c.args.found.now c.put_sector.new.found)
-          (world (g.R.Rack.seen c.args.rack.now) c.args.vol.now) (world (g.R.Rack.seen l.rack) l.vol) (world (g.R.Rack.seen c.put_sector.new.rack) c.put_sector.new.vol) tt (Ok tt) l.invariant.ran c.in-Ok.ensures.ran
-          (λ B p q low. ((q (p low).0).0, run_more (filesystem c.args.vol.now B) sums run l.i sector c.args.found.now l.found c.put_sector.new.found c.loop-i-test.true (c.sector_at-sector.ensures low c.loop-i-test.true) (p low).1 (q (p low).0).1));
+          (λ fs. run_end run < 2 ^ 64 → IsSummed fs.blocks sums c.put_sector.new.ahead × Adds
+          (filter_map (data_lost fs sums) (take (l.i + 1) (run_sectors run))) c.args.found.now c.put_sector.new.found)
+          (world (g.R.Rack.seen c.args.rack.now) c.args.vol.now) (world (g.R.Rack.seen l.rack) l.vol)
+          (world (g.R.Rack.seen c.put_sector.new.rack) c.put_sector.new.vol) tt (Ok tt) l.invariant.ran c.in-Ok.ensures.ran
+          (λ B p q low. (
+            (q (p low).0).0,
+            run_more (filesystem c.args.vol.now B) sums run l.i sector c.args.found.now l.found c.put_sector.new.found
+                c.loop-i-test.true (c.sector_at-sector.ensures low c.loop-i-test.true) (p low).1 (q (p low).0).1,
+          ));
     }
 
 pub returns-in-Err : goal.returns-in-Err
@@ -48,10 +58,14 @@ returns-in-Err g c =
     let stopped : Result (Unit {0}) Stop = Err c.in-Err.stop in
     record {
       ahead = c.in-Err.ensures.ahead;
-      ran = ran_then {A = Unit {0}} {C = Unit {0}} (λ fs. run_end run < 2 ^ 64 → IsSummed fs.blocks sums l.ahead × Adds (filter_map (data_lost fs sums) (take l.i (run_sectors run))) c.args.found.now l.found)
-          (λ fs. KeepsSums fs sums l.ahead c.put_sector.new.ahead (Unless (λ u. Adds (option_to_list (data_lost fs sums sector)) l.found c.put_sector.new.found) stopped))
+      ran = ran_then {A = Unit {0}} {C = Unit {0}}
+          (λ fs. run_end run < 2 ^ 64 → IsSummed fs.blocks sums l.ahead × Adds
+          (filter_map (data_lost fs sums) (take l.i (run_sectors run))) c.args.found.now l.found)
+          (λ fs. KeepsSums fs sums l.ahead c.put_sector.new.ahead
+          (Unless (λ u. Adds (option_to_list (data_lost fs sums sector)) l.found c.put_sector.new.found) stopped))
           (λ fs. run_end run < 2 ^ 64 → Unless (λ u. Adds (filter_map (data_lost fs sums) (run_sectors run)) c.args.found.now c.put_sector.new.found) stopped)
-          (world (g.R.Rack.seen c.args.rack.now) c.args.vol.now) (world (g.R.Rack.seen l.rack) l.vol) (world (g.R.Rack.seen c.put_sector.new.rack) c.put_sector.new.vol) tt stopped l.invariant.ran c.in-Err.ensures.ran
+          (world (g.R.Rack.seen c.args.rack.now) c.args.vol.now) (world (g.R.Rack.seen l.rack) l.vol)
+          (world (g.R.Rack.seen c.put_sector.new.rack) c.put_sector.new.vol) tt stopped l.invariant.ran c.in-Err.ensures.ran
           (λ B p q low. (q (p low).0).1);
     }
 
@@ -62,7 +76,8 @@ returns g c =
     let sums : Option TreeRoot = tree_behind c.args.sums in
     record {
       ahead = l.invariant.ahead;
-      ran = ran_more {A = Unit {0}} (λ fs. run_end run < 2 ^ 64 → IsSummed fs.blocks sums l.ahead × Adds (filter_map (data_lost fs sums) (take l.i (run_sectors run))) c.args.found.now l.found)
+      ran = ran_more {A = Unit {0}} (λ fs. run_end run < 2 ^ 64 → IsSummed fs.blocks sums l.ahead
+          × Adds (filter_map (data_lost fs sums) (take l.i (run_sectors run))) c.args.found.now l.found)
           (λ fs. run_end run < 2 ^ 64 → Adds (filter_map (data_lost fs sums) (run_sectors run)) c.args.found.now l.found)
           (world (g.R.Rack.seen c.args.rack.now) c.args.vol.now) (world (g.R.Rack.seen l.rack) l.vol) (Ok tt) l.invariant.ran
           (λ B p low. run_all (filesystem c.args.vol.now B) sums run l.i c.args.found.now l.found c.loop-i-test.false (p low).1);

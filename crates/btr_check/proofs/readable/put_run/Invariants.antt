@@ -13,5 +13,7 @@ use Rattle.btr_check.proofs.readable.put_run.Given as goal
 abbrev pub invariant-loop-i : goal.invariant-loop-i
 invariant-loop-i g l = record {
   ahead : IsAhead (g.R.Rack.seen l.rack).held l.copies;
-  ran : Ran {A = Unit {0}} (λ fs. run_end l.run < 2 ^ 64 → IsSummed fs.blocks (tree_behind l.sums) l.ahead × Adds (filter_map (data_lost fs (tree_behind l.sums)) (take l.i (run_sectors l.run))) l.fn.found l.found) (world (g.R.Rack.seen l.fn.rack) l.fn.vol) (world (g.R.Rack.seen l.rack) l.vol) (Ok tt);
+  ran : Ran {A = Unit {0}} (λ fs. run_end l.run < 2 ^ 64 → IsSummed fs.blocks (tree_behind l.sums) l.ahead
+      × Adds (filter_map (data_lost fs (tree_behind l.sums)) (take l.i (run_sectors l.run))) l.fn.found l.found) (world (g.R.Rack.seen l.fn.rack) l.fn.vol)
+      (world (g.R.Rack.seen l.rack) l.vol) (Ok tt);
 }

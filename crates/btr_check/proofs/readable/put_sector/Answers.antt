@@ -16,9 +16,13 @@ returns-in-Err g c =
     let sums : Option TreeRoot = tree_behind c.args.sums in
     record {
       ahead = c.in-Err.ensures.ahead;
-      ran = ran_stop {A = Bool} {C = Unit {0}} (λ fs. KeepsSums fs sums c.args.ahead.now c.is_readable.new.ahead (Unless {A = Bool} (λ can. can ≡ is_readable fs sums c.args.sector.addr) (Err c.in-Err.stop)))
-          (λ fs. KeepsSums fs sums c.args.ahead.now c.is_readable.new.ahead (Unless {A = Unit {0}} (λ u. Adds (option_to_list (data_lost fs sums c.args.sector.addr)) c.args.found.now c.args.found.now) (Err c.in-Err.stop)))
-          (world (g.R.Rack.seen c.args.rack.now) c.args.vol.now) (world (g.R.Rack.seen c.is_readable.new.rack) c.is_readable.new.vol) c.in-Err.stop c.in-Err.ensures.ran (λ B h. h);
+      ran = ran_stop {A = Bool} {C = Unit {0}}
+          (λ fs. KeepsSums fs sums c.args.ahead.now c.is_readable.new.ahead
+          (Unless {A = Bool} (λ can. can ≡ is_readable fs sums c.args.sector.addr) (Err c.in-Err.stop)))
+          (λ fs. KeepsSums fs sums c.args.ahead.now c.is_readable.new.ahead
+          (Unless {A = Unit {0}} (λ u. Adds (option_to_list (data_lost fs sums c.args.sector.addr)) c.args.found.now c.args.found.now) (Err c.in-Err.stop)))
+          (world (g.R.Rack.seen c.args.rack.now) c.args.vol.now) (world
+          (g.R.Rack.seen c.is_readable.new.rack) c.is_readable.new.vol) c.in-Err.stop c.in-Err.ensures.ran (λ B h. h);
     }
 
 pub returns-in-Ok-put_lost : goal.returns-in-Ok-put_lost
@@ -26,9 +30,16 @@ returns-in-Ok-put_lost g c =
     let sums : Option TreeRoot = tree_behind c.args.sums in
     record {
       ahead = c.in-Ok.ensures.ahead;
-      ran = ran_value (λ fs. KeepsSums fs sums c.args.ahead.now c.is_readable.new.ahead (c.in-Ok.readable ≡ is_readable fs sums c.args.sector.addr)) (λ fs. KeepsSums fs sums c.args.ahead.now c.is_readable.new.ahead (Adds (option_to_list (data_lost fs sums c.args.sector.addr)) c.args.found.now c.put_lost.new.found))
-          (world (g.R.Rack.seen c.args.rack.now) c.args.vol.now) (world (g.R.Rack.seen c.is_readable.new.rack) c.is_readable.new.vol) c.in-Ok.readable tt c.in-Ok.ensures.ran
-          (λ B h summed. ((h summed).0, sector_adds (filesystem c.args.vol.now B) sums c.args.sector.addr c.in-Ok.readable (found 31 (c.args.sector.addr ∷ [])) c.args.found.now c.put_lost.new.found refl c.in-Ok-put_lost.ensures (h summed).1));
+      ran = ran_value (λ fs. KeepsSums fs sums c.args.ahead.now c.is_readable.new.ahead (c.in-Ok.readable ≡ is_readable fs sums c.args.sector.addr))
+          (λ fs. KeepsSums fs sums c.args.ahead.now c.is_readable.new.ahead
+          (Adds (option_to_list (data_lost fs sums c.args.sector.addr)) c.args.found.now c.put_lost.new.found))
+          (world (g.R.Rack.seen c.args.rack.now) c.args.vol.now) (world
+          (g.R.Rack.seen c.is_readable.new.rack) c.is_readable.new.vol) c.in-Ok.readable tt c.in-Ok.ensures.ran
+          (λ B h summed. (
+            (h summed).0,
+            sector_adds (filesystem c.args.vol.now B) sums c.args.sector.addr c.in-Ok.readable
+                (found 31 (c.args.sector.addr ∷ [])) c.args.found.now c.put_lost.new.found refl c.in-Ok-put_lost.ensures (h summed).1,
+          ));
     }
 
 pub returns-in-Err-put_lost : goal.returns-in-Err-put_lost
@@ -36,6 +47,9 @@ returns-in-Err-put_lost g c =
     let sums : Option TreeRoot = tree_behind c.args.sums in
     record {
       ahead = c.in-Ok.ensures.ahead;
-      ran = ran_refused {A = Bool} {C = Unit {0}} (λ fs. KeepsSums fs sums c.args.ahead.now c.is_readable.new.ahead (c.in-Ok.readable ≡ is_readable fs sums c.args.sector.addr)) (λ fs. KeepsSums fs sums c.args.ahead.now c.is_readable.new.ahead (is_outside Memory ≡ true))
-          (world (g.R.Rack.seen c.args.rack.now) c.args.vol.now) (world (g.R.Rack.seen c.is_readable.new.rack) c.is_readable.new.vol) c.in-Ok.readable Memory c.in-Ok.ensures.ran tt tt (λ B h summed. ((h summed).0, refl));
+      ran = ran_refused {A = Bool} {C = Unit {0}}
+          (λ fs. KeepsSums fs sums c.args.ahead.now c.is_readable.new.ahead (c.in-Ok.readable ≡ is_readable fs sums c.args.sector.addr))
+          (λ fs. KeepsSums fs sums c.args.ahead.now c.is_readable.new.ahead (is_outside Memory ≡ true))
+          (world (g.R.Rack.seen c.args.rack.now) c.args.vol.now) (world
+          (g.R.Rack.seen c.is_readable.new.rack) c.is_readable.new.vol) c.in-Ok.readable Memory c.in-Ok.ensures.ran tt tt (λ B h summed. ((h summed).0, refl));
     }

@@ -23,8 +23,14 @@ returns-in-Some g c =
     let sums : Option TreeRoot = tree_behind c.args.sums in
     let kept = c.get.ensures.found c.in-Some.sum c.in-Some.is in
     record {
-      ran = ran_none (λ fs. KeepsSums fs sums c.args.ahead.now c.args.ahead.now (ReadsBy fs sums c.args.sector (Some (want_by c.args.sector (Some c.in-Some.sum))))) (world (g.R.Rack.seen c.args.rack.now) c.args.vol.now) (Some (want_by c.args.sector (Some c.in-Some.sum))) c.requires.ready
-          (λ B summed. (summed, kept_by (filesystem c.args.vol.now B) sums c.args.sector c.args.ahead.now c.in-Some.sum (kept.0 ∙ c.kind_of.ensures) kept.1 summed));
+      ran = ran_none (λ fs. KeepsSums fs sums c.args.ahead.now c.args.ahead.now
+          (ReadsBy fs sums c.args.sector (Some (want_by c.args.sector (Some c.in-Some.sum))))) (world (g.R.Rack.seen c.args.rack.now) c.args.vol.now)
+          (Some (want_by c.args.sector (Some c.in-Some.sum))) c.requires.ready
+          (λ B summed. (
+            summed,
+            kept_by (filesystem c.args.vol.now B) sums c.args.sector c.args.ahead.now c.in-Some.sum
+                (kept.0 ∙ c.kind_of.ensures) kept.1 summed,
+          ));
     }
 
 pub returns-in-Ok : goal.returns-in-Ok
@@ -43,9 +49,15 @@ returns-in-Ok g c =
         ready = record { serves = e.serves; room = same_room vol.store c.sum_ahead.new.vol.store e.volume.store c.requires.ready.room };
         cause = tt;
         quiet = tt;
-        told = paired layout (λ B. IsSummed B sums c.args.ahead.now → IsSummed B sums c.sum_ahead.new.ahead) (λ (B : Map). Follows (unread_by layout before now) no_part [] (exec B (sum_at (kind_in vol.sup) sums c.args.sector)) [] (answer_of r))
-            (λ B. KeepsSums (filesystem vol B) sums c.args.ahead.now c.sum_ahead.new.ahead (ReadsBy (filesystem vol B) sums c.args.sector (Some c.want_by.result)))
-            (λ B keeps h summed. (keeps summed, found_by (filesystem vol B) sums c.args.sector (unread_by layout before now) c.in-Ok.sum c.want_by.result c.want_by.ensures h)) e.ahead e.content;
+        told = paired layout (λ B. IsSummed B sums c.args.ahead.now → IsSummed B sums c.sum_ahead.new.ahead)
+            (λ (B : Map). Follows (unread_by layout before now) no_part [] (exec B (sum_at (kind_in vol.sup) sums c.args.sector)) [] (answer_of r))
+            (λ B. KeepsSums (filesystem vol B) sums c.args.ahead.now c.sum_ahead.new.ahead
+            (ReadsBy (filesystem vol B) sums c.args.sector (Some c.want_by.result)))
+            (λ B keeps h summed. (
+              keeps summed,
+              found_by (filesystem vol B) sums c.args.sector
+                  (unread_by layout before now) c.in-Ok.sum c.want_by.result c.want_by.ensures h,
+            )) e.ahead e.content;
       };
     }
 
@@ -65,9 +77,14 @@ returns-in-None g c =
         ready = record { serves = e.serves; room = same_room vol.store c.sum_ahead.new.vol.store e.volume.store c.requires.ready.room };
         cause = tt;
         quiet = tt;
-        told = paired layout (λ B. IsSummed B sums c.args.ahead.now → IsSummed B sums c.sum_ahead.new.ahead) (λ (B : Map). Follows (unread_by layout before now) no_part [] (exec B (sum_at (kind_in vol.sup) sums c.args.sector)) [] (answer_of r))
+        told = paired layout (λ B. IsSummed B sums c.args.ahead.now → IsSummed B sums c.sum_ahead.new.ahead)
+            (λ (B : Map). Follows (unread_by layout before now) no_part [] (exec B (sum_at (kind_in vol.sup) sums c.args.sector)) [] (answer_of r))
             (λ B. KeepsSums (filesystem vol B) sums c.args.ahead.now c.sum_ahead.new.ahead (ReadsBy (filesystem vol B) sums c.args.sector None))
-            (λ B keeps h summed. (keeps summed, fault_by (filesystem vol B) sums c.args.sector (unread_by layout before now) c.in-Err.fault (sym c.in-None.ensures) h)) e.ahead e.content;
+            (λ B keeps h summed. (
+              keeps summed,
+              fault_by (filesystem vol B) sums c.args.sector (unread_by layout before now) c.in-Err.fault
+                  (sym c.in-None.ensures) h,
+            )) e.ahead e.content;
       };
     }
 
@@ -90,8 +107,10 @@ returns-in-Some-unread_stop g c =
         ready = record { serves = e.serves; room = same_room vol.store c.sum_ahead.new.vol.store e.volume.store c.requires.ready.room };
         cause = stop_cause layout before now fault stop is e.cause;
         quiet = stop_reading fault stop is;
-        told = paired layout (λ B. IsSummed B sums c.args.ahead.now → IsSummed B sums c.sum_ahead.new.ahead) (λ (B : Map). Follows (unread_by layout before now) no_part [] (exec B (sum_at (kind_in vol.sup) sums c.args.sector)) [] (answer_of r))
-            (λ B. KeepsSums (filesystem vol B) sums c.args.ahead.now c.sum_ahead.new.ahead (Unless {A = Option Want} (ReadsBy (filesystem vol B) sums c.args.sector) (Err stop)))
+        told = paired layout (λ B. IsSummed B sums c.args.ahead.now → IsSummed B sums c.sum_ahead.new.ahead)
+            (λ (B : Map). Follows (unread_by layout before now) no_part [] (exec B (sum_at (kind_in vol.sup) sums c.args.sector)) [] (answer_of r))
+            (λ B. KeepsSums (filesystem vol B) sums c.args.ahead.now c.sum_ahead.new.ahead
+            (Unless {A = Option Want} (ReadsBy (filesystem vol B) sums c.args.sector) (Err stop)))
             (λ B keeps h summed. (keeps summed, stop_outside fault stop is)) e.ahead e.content;
       };
     }

@@ -15,7 +15,8 @@ returns-in-Err g c =
     let y = world (g.R.Rack.seen c.put_stored.new.rack) c.put_stored.new.vol in
     let stop = c.in-Err.stop in
     record {
-      ran = ran_stop (λ fs. ListsSound c.args.listed.now fs → is_outside stop ≡ true) (λ fs. IsWalked c.args.listed.now c.args.trees.now c.args.walk fs → is_outside stop ≡ true) x y stop c.in-Err.ensures.ran
+      ran = ran_stop (λ fs. ListsSound c.args.listed.now fs → is_outside stop ≡ true)
+          (λ fs. IsWalked c.args.listed.now c.args.trees.now c.args.walk fs → is_outside stop ≡ true) x y stop c.in-Err.ensures.ran
           (λ B h known. h (record { lists = known.lists; sound = known.sound }));
     }
 
@@ -30,12 +31,15 @@ returns-in-Ok g c =
     let two = c.put_stored.new.found in
     let three = c.put_counted.new.found in
     record {
-      ran = ran_then (λ fs. ListsSound c.args.listed.now fs → AreRefsOf fs stored × Adds (found_on_totals fs) one two) (PutsAnd (IsCounted c.args.trees.now places.items stored) AreUsed found_on_counts two three c.put_counted.result)
-          (PutsAnd (IsWalked c.args.listed.now c.args.trees.now c.args.walk) AreUsed difference_findings one three c.put_counted.result) x y z stored c.put_counted.result c.in-Ok.ensures.ran c.put_counted.ensures.ran
+      ran = ran_then (λ fs. ListsSound c.args.listed.now fs → AreRefsOf fs stored × Adds (found_on_totals fs) one two)
+          (PutsAnd (IsCounted c.args.trees.now places.items stored) AreUsed found_on_counts two three c.put_counted.result)
+          (PutsAnd (IsWalked c.args.listed.now c.args.trees.now c.args.walk) AreUsed difference_findings one three c.put_counted.result) x y z stored
+          c.put_counted.result c.in-Ok.ensures.ran c.put_counted.ensures.ran
           (λ B p q known.
           let fs = filesystem c.args.vol.now B in
           let kept = p (record { lists = known.lists; sound = known.sound }) in
-          unless_more (λ used. AreUsed fs used × Adds (found_on_counts fs) two three) (λ used. AreUsed fs used × Adds (difference_findings fs) one three) c.put_counted.result
+          unless_more (λ used. AreUsed fs used × Adds (found_on_counts fs) two three)
+          (λ used. AreUsed fs used × Adds (difference_findings fs) one three) c.put_counted.result
           (λ used h. (h.0, adds_in_order (found_on_counts fs) (found_on_totals fs) one two three kept.1 h.1))
           (q (record { all = known.all; reached = c.into_places-places.ensures ∙ known.walked.places; kept = kept.0 })));
     }

@@ -28,7 +28,8 @@ returns-in-Err-read_extents g c =
     let stop = c.in-Err-read_extents.stop in
     record {
       ran = ran_stop (λ fs. known fs → is_outside stop ≡ true) (λ fs. known fs → is_outside stop ≡ true) x z stop
-          (ran_then (λ fs. known fs → AreUsed fs used × Adds (difference_findings fs) c.args.found.now c.put_differences.new.found) (λ fs. Lists c.args.listed.now fs → walk_findings fs ≡ [] → is_outside stop ≡ true) (λ fs. known fs → is_outside stop ≡ true)
+          (ran_then (λ fs. known fs → AreUsed fs used × Adds (difference_findings fs) c.args.found.now c.put_differences.new.found)
+          (λ fs. Lists c.args.listed.now fs → walk_findings fs ≡ [] → is_outside stop ≡ true) (λ fs. known fs → is_outside stop ≡ true)
           x y z used (Err stop) c.in-Ok.ensures.ran c.in-Err-read_extents.ensures.ran (λ B p q k. q k.lists k.sound))
           (λ B h. h);
     }
@@ -46,13 +47,19 @@ returns-in-Ok-put_all_misused g c =
     let two = c.put_differences.new.found in
     let three = c.put_all_misused.new.found in
     record {
-      ran = ran_value (λ fs. known fs → IsStoredOf fs stored × AreUsed fs used × Adds (difference_findings fs) one two) (λ fs. known fs → AreExtents extents.items fs × Adds (reference_findings fs) one three) x z stored extents
-          (ran_then (λ fs. known fs → AreUsed fs used × Adds (difference_findings fs) one two) (λ fs. Lists c.args.listed.now fs → walk_findings fs ≡ [] → IsStoredOf fs stored)
-          (λ fs. known fs → IsStoredOf fs stored × AreUsed fs used × Adds (difference_findings fs) one two) x y z used (Ok stored) c.in-Ok.ensures.ran c.in-Ok-read_extents.ensures.ran
+      ran = ran_value (λ fs. known fs → IsStoredOf fs stored × AreUsed fs used × Adds (difference_findings fs) one two)
+          (λ fs. known fs → AreExtents extents.items fs × Adds (reference_findings fs) one three) x z stored extents
+          (ran_then (λ fs. known fs → AreUsed fs used × Adds (difference_findings fs) one two)
+          (λ fs. Lists c.args.listed.now fs → walk_findings fs ≡ [] → IsStoredOf fs stored)
+          (λ fs. known fs → IsStoredOf fs stored × AreUsed fs used × Adds (difference_findings fs) one two) x y z used
+          (Ok stored) c.in-Ok.ensures.ran c.in-Ok-read_extents.ensures.ran
           (λ B p q k. (q k.lists k.sound, (p k).0, (p k).1)))
           (λ B h k.
           let fs = filesystem c.args.vol.now B in
           let all = h k in
-          let is = c.into_extents-extents.ensures ∙ all.0.extents in
-          (is, misused_put fs c.from-nodesize.result c.as_slice.result.now used one two three (Ok tt) c.from-nodesize.ensures (c.as_slice.ensures.value ∙ is) all.1 all.2 c.in-Ok-put_all_misused.ensures));
+          let is = c.into_extents-extents.ensures ∙ all.0.extents in (
+            is,
+            misused_put fs c.from-nodesize.result c.as_slice.result.now used one two three (Ok tt) c.from-nodesize.ensures
+                (c.as_slice.ensures.value ∙ is) all.1 all.2 c.in-Ok-put_all_misused.ensures,
+          ));
     }

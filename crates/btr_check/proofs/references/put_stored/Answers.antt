@@ -17,7 +17,8 @@ returns-in-Err g c =
     let y = world (g.R.Rack.seen c.read_extents.new.rack) c.read_extents.new.vol in
     let stop = c.in-Err.stop in
     record {
-      ran = ran_stop (λ fs. Lists c.args.listed.now fs → walk_findings fs ≡ [] → is_outside stop ≡ true) (λ fs. ListsSound c.args.listed.now fs → is_outside stop ≡ true) x y stop c.in-Err.ensures.ran
+      ran = ran_stop (λ fs. Lists c.args.listed.now fs → walk_findings fs ≡ [] → is_outside stop ≡ true)
+          (λ fs. ListsSound c.args.listed.now fs → is_outside stop ≡ true) x y stop c.in-Err.ensures.ran
           (λ B h known. h known.lists known.sound);
     }
 
@@ -30,10 +31,14 @@ returns-in-Ok-put_totals g c =
     let a = c.args.found.now in
     let b = c.put_totals.new.found in
     record {
-      ran = ran_value (λ fs. Lists c.args.listed.now fs → walk_findings fs ≡ [] → IsStoredOf fs stored) (λ fs. ListsSound c.args.listed.now fs → AreRefsOf fs kept × Adds (found_on_totals fs) a b) x y stored kept c.in-Ok.ensures.ran
+      ran = ran_value (λ fs. Lists c.args.listed.now fs → walk_findings fs ≡ [] → IsStoredOf fs stored)
+          (λ fs. ListsSound c.args.listed.now fs → AreRefsOf fs kept × Adds (found_on_totals fs) a b) x y stored kept c.in-Ok.ensures.ran
           (λ B h known.
-          let is = h known.lists known.sound in
-          (refs_of (filesystem c.args.vol.now B) stored kept is c.in-Ok-put_totals.ensures.refs c.in-Ok-put_totals.ensures.full, totals_put (filesystem c.args.vol.now B) stored a b is c.in-Ok-put_totals.ensures.found));
+          let is = h known.lists known.sound in (
+            refs_of (filesystem c.args.vol.now B) stored kept is c.in-Ok-put_totals.ensures.refs c.in-Ok-put_totals.ensures.full,
+            totals_put
+                (filesystem c.args.vol.now B) stored a b is c.in-Ok-put_totals.ensures.found,
+          ));
     }
 
 pub returns-in-Err-put_totals : goal.returns-in-Err-put_totals
@@ -41,5 +46,6 @@ returns-in-Err-put_totals g c =
     let x = world (g.R.Rack.seen c.args.rack.now) c.args.vol.now in
     let y = world (g.R.Rack.seen c.read_extents.new.rack) c.read_extents.new.vol in
     record {
-      ran = ran_no_memory (λ fs. Lists c.args.listed.now fs → walk_findings fs ≡ [] → IsStoredOf fs c.in-Ok.stored) (λ fs. ListsSound c.args.listed.now fs → is_outside NoMemory ≡ true) x y c.in-Ok.stored c.in-Ok.ensures.ran (λ B known. refl);
+      ran = ran_no_memory (λ fs. Lists c.args.listed.now fs → walk_findings fs ≡ [] → IsStoredOf fs c.in-Ok.stored)
+          (λ fs. ListsSound c.args.listed.now fs → is_outside NoMemory ≡ true) x y c.in-Ok.stored c.in-Ok.ensures.ran (λ B known. refl);
     }

@@ -11,8 +11,10 @@ use Rattle.btr_check.proofs.references.read_extents.Goals as goal
 
 pub returns-in-None : goal.returns-in-None
 returns-in-None g c = record {
-  ran = ran_none (λ fs. Lists c.args.listed.now fs → walk_findings fs ≡ [] → IsStoredOf fs c.new.result) (world (g.R.Rack.seen c.args.rack.now) c.args.vol.now) c.new.result c.requires.ready
-      (λ B lists sound. nothing_stored (filesystem c.args.vol.now B) c.args.listed.now c.new.result c.from.result lists (sym c.last_of.ensures ∙ c.in-None.is) c.new.ensures);
+  ran = ran_none (λ fs. Lists c.args.listed.now fs → walk_findings fs ≡ [] → IsStoredOf fs c.new.result)
+      (world (g.R.Rack.seen c.args.rack.now) c.args.vol.now) c.new.result c.requires.ready
+      (λ B lists sound. nothing_stored (filesystem c.args.vol.now B) c.args.listed.now c.new.result c.from.result lists
+      (sym c.last_of.ensures ∙ c.in-None.is) c.new.ensures);
 }
 
 pub returns-in-Some : goal.returns-in-Some
@@ -20,6 +22,8 @@ returns-in-Some g c =
     let x = world (g.R.Rack.seen c.args.rack.now) c.args.vol.now in
     let y = world (g.R.Rack.seen c.read_stored.new.rack) c.read_stored.new.vol in
     record {
-      ran = ran_more (λ fs. ReadsStored fs c.in-Some.tree c.read_stored.result) (λ fs. Lists c.args.listed.now fs → walk_findings fs ≡ [] → Unless (IsStoredOf fs) c.read_stored.result) x y c.read_stored.result c.read_stored.ensures.ran
+      ran = ran_more (λ fs. ReadsStored fs c.in-Some.tree c.read_stored.result)
+          (λ fs. Lists c.args.listed.now fs → walk_findings fs ≡ [] → Unless
+          (IsStoredOf fs) c.read_stored.result) x y c.read_stored.result c.read_stored.ensures.ran
           (λ B h lists sound. h (ap (last_of 2) (sym lists) ∙ sym c.last_of.ensures ∙ c.in-Some.is) sound);
     }

@@ -18,7 +18,8 @@ returns-in-Err g c =
     let x = world (g.R.Rack.seen c.args.rack.now) c.args.vol.now in
     let y = world (g.R.Rack.seen c.collect.new.rack) c.collect.new.vol in
     record {
-      ran = ran_stop (λ fs. is_outside c.in-Err.stop ≡ true) (λ fs. Lists c.args.listed.now fs → is_outside c.in-Err.stop ≡ true) x y c.in-Err.stop c.in-Err.ensures.ran (λ B h known. h);
+      ran = ran_stop (λ fs. is_outside c.in-Err.stop ≡ true) (λ fs. Lists c.args.listed.now fs
+          → is_outside c.in-Err.stop ≡ true) x y c.in-Err.stop c.in-Err.ensures.ran (λ B h known. h);
     }
 
 pub returns-in-Err-collect : goal.returns-in-Err-collect
@@ -27,9 +28,12 @@ returns-in-Err-collect g c =
     let y = world (g.R.Rack.seen c.collect.new.rack) c.collect.new.vol in
     let z = world (g.R.Rack.seen c.collect-2.new.rack) c.collect-2.new.vol in
     record {
-      ran = ran_stop {A = List StatedDevice} {C = Unit {0}} (λ fs. Lists c.args.listed.now fs → is_outside c.in-Err-collect.stop ≡ true) (λ fs. Lists c.args.listed.now fs → is_outside c.in-Err-collect.stop ≡ true) x z c.in-Err-collect.stop
-          (ran_then {C = List StatedDevice} (λ fs. c.in-Ok.extents ≡ fold (with_mark device_extent_in) c.new.result (marks_if fs.blocks c.last_of-device_tree.result)) (λ fs. is_outside c.in-Err-collect.stop ≡ true)
-          (λ fs. Lists c.args.listed.now fs → is_outside c.in-Err-collect.stop ≡ true) x y z c.in-Ok.extents (Err c.in-Err-collect.stop) c.in-Ok.ensures.ran c.in-Err-collect.ensures.ran (λ B p q known. q))
+      ran = ran_stop {A = List StatedDevice} {C = Unit {0}} (λ fs. Lists c.args.listed.now fs → is_outside c.in-Err-collect.stop ≡ true)
+          (λ fs. Lists c.args.listed.now fs → is_outside c.in-Err-collect.stop ≡ true) x z c.in-Err-collect.stop
+          (ran_then {C = List StatedDevice} (λ fs. c.in-Ok.extents ≡ fold (with_mark device_extent_in) c.new.result
+          (marks_if fs.blocks c.last_of-device_tree.result)) (λ fs. is_outside c.in-Err-collect.stop ≡ true)
+          (λ fs. Lists c.args.listed.now fs → is_outside c.in-Err-collect.stop ≡ true) x y z c.in-Ok.extents
+          (Err c.in-Err-collect.stop) c.in-Ok.ensures.ran c.in-Err-collect.ensures.ran (λ B p q known. q))
           (λ B h. h);
     }
 
@@ -43,15 +47,22 @@ returns g c =
     let same = volume_then one.volume two.volume in
     let both = ran_then (λ fs. c.in-Ok.extents ≡ fold (with_mark device_extent_in) c.new.result (marks_if fs.blocks c.last_of-device_tree.result))
     (λ fs. c.in-Ok-collect.devices ≡ fold (with_mark device_in) c.new-2.result (marks_if fs.blocks (Some c.named_root-chunk_tree.result)))
-    (λ fs. (c.in-Ok.extents ≡ fold (with_mark device_extent_in) c.new.result (marks_if fs.blocks c.last_of-device_tree.result)) × (c.in-Ok-collect.devices ≡ fold (with_mark device_in) c.new-2.result (marks_if fs.blocks (Some c.named_root-chunk_tree.result))))
+    (λ fs. (c.in-Ok.extents ≡ fold (with_mark device_extent_in) c.new.result (marks_if fs.blocks c.last_of-device_tree.result))
+    × (c.in-Ok-collect.devices ≡ fold (with_mark device_in) c.new-2.result (marks_if fs.blocks (Some c.named_root-chunk_tree.result))))
     x y z c.in-Ok.extents (Ok c.in-Ok-collect.devices) one two (λ B p q. (p, q)) in
     record {
-      ran = ran_put (λ fs. (c.in-Ok.extents ≡ fold (with_mark device_extent_in) c.new.result (marks_if fs.blocks c.last_of-device_tree.result)) × (c.in-Ok-collect.devices ≡ fold (with_mark device_in) c.new-2.result (marks_if fs.blocks (Some c.named_root-chunk_tree.result))))
-          (Lists c.args.listed.now) (λ fs. Adds (found_on_devices fs) c.args.found.now c.put_device_findings.new.found) x z c.in-Ok-collect.devices c.put_device_findings.result c.or_memory.result both c.or_memory.ensures
+      ran = ran_put (λ fs. (c.in-Ok.extents ≡ fold (with_mark device_extent_in) c.new.result (marks_if fs.blocks c.last_of-device_tree.result))
+          × (c.in-Ok-collect.devices ≡ fold (with_mark device_in) c.new-2.result (marks_if fs.blocks (Some c.named_root-chunk_tree.result))))
+          (Lists c.args.listed.now) (λ fs. Adds (found_on_devices fs) c.args.found.now c.put_device_findings.new.found) x z c.in-Ok-collect.devices
+          c.put_device_findings.result c.or_memory.result both c.or_memory.ensures
           (λ B met known. on_done _ _ c.put_device_findings.result
-          (devices_put (filesystem c.args.vol.now B) c.chunks.result.now c.as_slice.result.now c.as_slice-in-Ok-collect.result.now c.args.found.now c.put_device_findings.new.found
+          (devices_put (filesystem c.args.vol.now B) c.chunks.result.now c.as_slice.result.now c.as_slice-in-Ok-collect.result.now c.args.found.now
+          c.put_device_findings.new.found
           (c.chunks.ensures ∙ ap (λ (l : Layout). l.chunks) same.store.layout)
-          (c.as_slice.ensures ∙ device_extents_are (filesystem c.args.vol.now B) c.collects_law.ensures.device_extents c.args.listed.now c.last_of-device_tree.result c.new.result c.in-Ok.extents known c.last_of-device_tree.ensures c.new.ensures met.0)
-          (c.as_slice-in-Ok-collect.ensures ∙ devices_are (filesystem c.args.vol.now B) c.collects_law.ensures.devices c.named_root-chunk_tree.result c.new-2.result c.in-Ok-collect.devices (c.named_root-chunk_tree.ensures ∙ ap (named_root 3) c.chunk_root.ensures ∙ ap chunk_tree one.volume.sup) c.new-2.ensures met.1))
+          (c.as_slice.ensures ∙ device_extents_are (filesystem c.args.vol.now B) c.collects_law.ensures.device_extents c.args.listed.now
+          c.last_of-device_tree.result c.new.result c.in-Ok.extents known c.last_of-device_tree.ensures c.new.ensures met.0)
+          (c.as_slice-in-Ok-collect.ensures ∙ devices_are (filesystem c.args.vol.now B) c.collects_law.ensures.devices c.named_root-chunk_tree.result
+          c.new-2.result c.in-Ok-collect.devices (c.named_root-chunk_tree.ensures ∙ ap (named_root 3) c.chunk_root.ensures
+          ∙ ap chunk_tree one.volume.sup) c.new-2.ensures met.1))
           c.put_device_findings.ensures);
     }

@@ -17,12 +17,16 @@ returns-in-Ok g c =
     let y = world (g.R.Rack.seen c.collect.new.rack) c.collect.new.vol in
     let ran = c.in-Ok.ensures.ran in
     record {
-      ran = ran_put (λ fs. c.in-Ok.groups ≡ fold (with_mark group_in) c.new.result (marks_if fs.blocks c.group_tree.result)) (λ fs. Lists c.args.listed.now fs × AreExtents c.args.extents.now fs)
-          (λ fs. Adds (found_on_groups fs) c.args.found.now c.put_group_findings.new.found) x y c.in-Ok.groups c.put_group_findings.result c.or_memory.result ran c.or_memory.ensures
+      ran = ran_put (λ fs. c.in-Ok.groups ≡ fold (with_mark group_in) c.new.result (marks_if fs.blocks c.group_tree.result))
+          (λ fs. Lists c.args.listed.now fs × AreExtents c.args.extents.now fs)
+          (λ fs. Adds (found_on_groups fs) c.args.found.now c.put_group_findings.new.found) x y c.in-Ok.groups c.put_group_findings.result c.or_memory.result
+          ran c.or_memory.ensures
           (λ B met known. on_done _ _ c.put_group_findings.result
-          (groups_put (filesystem c.args.vol.now B) c.chunks.result.now c.args.extents.now c.as_slice.result.now c.collect.new.vol.sup.bytes_used c.args.found.now c.put_group_findings.new.found
+          (groups_put (filesystem c.args.vol.now B) c.chunks.result.now c.args.extents.now c.as_slice.result.now c.collect.new.vol.sup.bytes_used
+          c.args.found.now c.put_group_findings.new.found
           (c.chunks.ensures ∙ ap (λ (l : Layout). l.chunks) ran.volume.store.layout) known.1
-          (c.as_slice.ensures ∙ groups_are (filesystem c.args.vol.now B) c.collects_law.ensures.groups c.args.listed.now c.group_tree.result c.new.result c.in-Ok.groups known.0 c.group_tree.ensures c.new.ensures met)
+          (c.as_slice.ensures ∙ groups_are (filesystem c.args.vol.now B) c.collects_law.ensures.groups c.args.listed.now c.group_tree.result c.new.result
+          c.in-Ok.groups known.0 c.group_tree.ensures c.new.ensures met)
           (ap (λ (s : Super). s.bytes_used) ran.volume.sup))
           c.put_group_findings.ensures);
     }
@@ -32,5 +36,7 @@ returns-in-Err g c =
     let x = world (g.R.Rack.seen c.args.rack.now) c.args.vol.now in
     let y = world (g.R.Rack.seen c.collect.new.rack) c.collect.new.vol in
     record {
-      ran = ran_stop (λ fs. is_outside c.in-Err.stop ≡ true) (λ fs. Lists c.args.listed.now fs × AreExtents c.args.extents.now fs → is_outside c.in-Err.stop ≡ true) x y c.in-Err.stop c.in-Err.ensures.ran (λ B h known. h);
+      ran = ran_stop (λ fs. is_outside c.in-Err.stop ≡ true)
+          (λ fs. Lists c.args.listed.now fs × AreExtents c.args.extents.now fs → is_outside c.in-Err.stop ≡ true) x y c.in-Err.stop c.in-Err.ensures.ran
+          (λ B h known. h);
     }

@@ -13,7 +13,8 @@ loop-finding-preserved g c =
     let was = c.loop-finding.invariant in
     let finding = c.in-Some.finding in
     let here = first_left all i finding c.next.new.self (sym was.left ∙ c.in-Some.ensures) in
-    let text : flat_map line_of (take (i + 1) all) ≡ flat_map line_of (take i all) ++ line_of finding = shown_more line_of all i finding here.0 ∙ ap (λ (one : Finding). flat_map line_of (take i all) ++ line_of one) here.1 in
+    let text : flat_map line_of (take (i + 1) all) ≡ flat_map line_of (take i all) ++ line_of finding = shown_more line_of all i finding here.0
+    ∙ ap (λ (one : Finding). flat_map line_of (take i all) ++ line_of one) here.1 in
     record {
       few = was.few;
       within = omega (arith, here.0);
@@ -30,12 +31,14 @@ returns-in_err-push_finding-clause-text g c =
     let finding = c.in-Some.finding in
     let here = first_left all i finding c.next.new.self (sym was.left ∙ c.in-Some.ensures) in
     let text : flat_map line_of all ≡ (flat_map line_of (take i all) ++ line_of finding) ++ flat_map line_of (drop (i + 1) all) =
-    shown_around line_of all i finding here.0 ∙ ap (λ (one : Finding). (flat_map line_of (take i all) ++ line_of one) ++ flat_map line_of (drop (i + 1) all)) here.1 in
+    shown_around line_of all i finding here.0 ∙ ap (λ (one : Finding). (flat_map line_of (take i all) ++ line_of one) ++ flat_map line_of
+    (drop (i + 1) all)) here.1 in
     cut_writes c.from_residual.result c.from_residual.ensures.0
     (cut_as (flat_map line_of all) (sym text) (cut_longer (flat_map line_of (drop (i + 1) all)) (cut_then was.text c.in_err-push_finding.ensures.text)))
 
 pub returns-clause-count : goal.returns-clause-count
-returns-clause-count g c = none_left c.args.findings c.loop-finding.count c.loop-finding.invariant.within (sym c.loop-finding.invariant.left ∙ c.in_default.ensures.0)
+returns-clause-count g c = none_left c.args.findings c.loop-finding.count c.loop-finding.invariant.within
+    (sym c.loop-finding.invariant.left ∙ c.in_default.ensures.0)
 
 pub returns-clause-text : goal.returns-clause-text
 returns-clause-text g c =

@@ -6,7 +6,8 @@ use Rattle.btr_text.proofs.Writing.{wrote_as, wrote_then, wrote_put, cut_as, cut
 use Rattle.btr_check.specs.Text.{findings_text, last_line, lines_of}
 use Rattle.btr_check.proofs.text.put_findings.Goals as goal
 
-puts_err : {T : Type 0} (old new : Option (List ℕ)) (text : List ℕ) (r : Result T SinkError) → IsErr r → (n : ℕ) × Adds old new (take n text) → Puts old new text r
+puts_err : {T : Type 0} (old new : Option (List ℕ)) (text : List ℕ) (r : Result T SinkError) → IsErr r → (n : ℕ) × Adds old new (take n text)
+    → Puts old new text r
 puts_err old new text (Ok x) is a = absurd (cc is)
 puts_err old new text (Err e) is a = a
 
@@ -26,12 +27,15 @@ returns-in_err-flush-clause-text g c =
     let all = c.args.findings in
     let same : lines_of all ++ last_line c.in_ok-count.count ≡ findings_text all = ap (λ n. lines_of all ++ last_line n) c.in_ok-count.ensures.count in
     let stopped : Result (Unit {0}) SinkError = Err c.in_err-flush.field-0.0 in
-    puts_err (g.O.Out.text c.args.out.now) (g.O.Out.text c.flush.new.out) (findings_text all) c.from_residual-in_err-flush.result c.from_residual-in_err-flush.ensures.0
-    (wrote_put (g.O.Out.text c.flush.new.out) stopped c.new-buffer.ensures (wrote_as (findings_text all) same (wrote_then c.in_ok-count.ensures.text c.in_ok-push_count.ensures.text)) c.in_err-flush.ensures.text)
+    puts_err (g.O.Out.text c.args.out.now) (g.O.Out.text c.flush.new.out)
+    (findings_text all) c.from_residual-in_err-flush.result c.from_residual-in_err-flush.ensures.0
+    (wrote_put (g.O.Out.text c.flush.new.out) stopped c.new-buffer.ensures
+    (wrote_as (findings_text all) same (wrote_then c.in_ok-count.ensures.text c.in_ok-push_count.ensures.text)) c.in_err-flush.ensures.text)
 
 pub returns-clause-text : goal.returns-clause-text
 returns-clause-text g c =
     let all = c.args.findings in
     let same : lines_of all ++ last_line c.in_ok-count.count ≡ findings_text all = ap (λ n. lines_of all ++ last_line n) c.in_ok-count.ensures.count in
     let done : Result (Unit {0}) SinkError = Ok tt in
-    wrote_put (g.O.Out.text c.flush.new.out) done c.new-buffer.ensures (wrote_as (findings_text all) same (wrote_then c.in_ok-count.ensures.text c.in_ok-push_count.ensures.text)) c.in_ok-flush.ensures.text
+    wrote_put (g.O.Out.text c.flush.new.out) done c.new-buffer.ensures
+    (wrote_as (findings_text all) same (wrote_then c.in_ok-count.ensures.text c.in_ok-push_count.ensures.text)) c.in_ok-flush.ensures.text

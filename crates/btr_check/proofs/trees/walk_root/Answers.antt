@@ -12,9 +12,11 @@ returns-in-Ok-end g c =
     let x = world (g.R.Rack.seen c.args.rack.now) c.args.vol.now in
     let y = world (g.R.Rack.seen c.visit_tree.new.rack) c.visit_tree.new.vol in
     record {
-      ran = ran_value (λ fs. c.visit_tree.new.visitor ≡ fold root_step c.new-walk.result (whole fs.blocks c.root_root-root.result)) (λ fs. RootEnds fs (Ok c.in-Ok-end.trees)) x y c.in-Ok.field-0 c.in-Ok-end.trees c.in-Ok.ensures.ran
+      ran = ran_value (λ fs. c.visit_tree.new.visitor ≡ fold root_step c.new-walk.result (whole fs.blocks c.root_root-root.result))
+          (λ fs. RootEnds fs (Ok c.in-Ok-end.trees)) x y c.in-Ok.field-0 c.in-Ok-end.trees c.in-Ok.ensures.ran
           (λ B h. root_sound (filesystem c.args.vol.now B) c.visit_tree.new.visitor
-          (h ∙ ap (λ s. fold root_step s (whole B c.root_root-root.result)) (c.new-walk.ensures ∙ ap nothing_seen c.kind_of.ensures) ∙ ap (λ p. fold root_step (nothing_seen (kind_in c.args.vol.now.sup)) (whole B p)) c.root_root-root.ensures)
+          (h ∙ ap (λ s. fold root_step s (whole B c.root_root-root.result)) (c.new-walk.ensures ∙ ap nothing_seen c.kind_of.ensures)
+          ∙ ap (λ p. fold root_step (nothing_seen (kind_in c.args.vol.now.sup)) (whole B p)) c.root_root-root.ensures)
           c.in-Ok-end.trees.items c.in-Ok-end.ensures.0 c.in-Ok-end.ensures.1);
     }
 
@@ -23,9 +25,12 @@ returns-in-Err-end g c =
     let x = world (g.R.Rack.seen c.args.rack.now) c.args.vol.now in
     let y = world (g.R.Rack.seen c.visit_tree.new.rack) c.visit_tree.new.vol in
     record {
-      ran = ran_refused (λ fs. c.visit_tree.new.visitor ≡ fold root_step c.new-walk.result (whole fs.blocks c.root_root-root.result)) (λ fs. RootEnds fs (Err c.stop.result)) x y c.in-Ok.field-0 c.stop.result c.in-Ok.ensures.ran
-          (subst (StopUnread x.vol.store.layout x.rack y.rack) (sym c.stop.ensures) (fault_unread x.vol.store.layout x.rack y.rack c.in-Err-end.fault)) (subst OfReading (sym c.stop.ensures) (fault_quiet c.in-Err-end.fault))
+      ran = ran_refused (λ fs. c.visit_tree.new.visitor ≡ fold root_step c.new-walk.result (whole fs.blocks c.root_root-root.result))
+          (λ fs. RootEnds fs (Err c.stop.result)) x y c.in-Ok.field-0 c.stop.result c.in-Ok.ensures.ran
+          (subst (StopUnread x.vol.store.layout x.rack y.rack) (sym c.stop.ensures) (fault_unread x.vol.store.layout x.rack y.rack c.in-Err-end.fault))
+          (subst OfReading (sym c.stop.ensures) (fault_quiet c.in-Err-end.fault))
           (λ B h outside. root_broken (filesystem c.args.vol.now B) c.visit_tree.new.visitor
-          (h ∙ ap (λ s. fold root_step s (whole B c.root_root-root.result)) (c.new-walk.ensures ∙ ap nothing_seen c.kind_of.ensures) ∙ ap (λ p. fold root_step (nothing_seen (kind_in c.args.vol.now.sup)) (whole B p)) c.root_root-root.ensures)
+          (h ∙ ap (λ s. fold root_step s (whole B c.root_root-root.result)) (c.new-walk.ensures ∙ ap nothing_seen c.kind_of.ensures)
+          ∙ ap (λ p. fold root_step (nothing_seen (kind_in c.args.vol.now.sup)) (whole B p)) c.root_root-root.ensures)
           c.in-Err-end.fault c.in-Err-end.ensures ∙ ap Some (sym c.stop.ensures));
     }

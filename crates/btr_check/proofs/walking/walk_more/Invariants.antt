@@ -6,5 +6,6 @@ use Rattle.btr_check.proofs.walking.walk_more.Given as goal
 -- the trees so far were walked
 abbrev pub invariant-loop-tree : goal.invariant-loop-tree
 invariant-loop-tree g l = record {
-  ran : Ran {A = Unit {0}} (λ fs. HasWalked fs [] l.fn.walk → HasWalked fs (take l.tree-index l.trees) l.walk) (world (g.R.Rack.seen l.fn.rack) l.fn.vol) (world (g.R.Rack.seen l.rack) l.vol) (Ok tt);
+  ran : Ran {A = Unit {0}} (λ fs. HasWalked fs [] l.fn.walk → HasWalked fs (take l.tree-index l.trees) l.walk) (world (g.R.Rack.seen l.fn.rack) l.fn.vol)
+      (world (g.R.Rack.seen l.rack) l.vol) (Ok tt);
 }

@@ -12,5 +12,8 @@ returns-clause-ran g c =
     let x = world (g.R.Rack.seen c.args.rack.now) c.args.vol.now in
     let y = world (g.R.Rack.seen c.visit_tree.new.rack) c.visit_tree.new.vol in
     ran_more (λ fs. OnOk c.visit_tree.result (c.visit_tree.new.visitor ≡ fold walk_step c.begin.new.self (whole fs.blocks c.args.tree.now.place)))
-    (λ fs. (before : List TreeRoot) → HasWalked fs before c.args.walk.now → OnOk c.visit_tree.result (HasWalked fs (before ++ c.args.tree.now ∷ []) c.visit_tree.new.visitor)) x y c.visit_tree.result c.visit_tree.ensures.ran
-    (λ B h before had. on_ok c.visit_tree.result _ _ (λ e. walked_more (filesystem c.args.vol.now B) before c.args.tree.now c.args.walk.now c.visit_tree.new.visitor had (e ∙ ap (λ s. fold walk_step s (whole B c.args.tree.now.place)) c.begin.ensures)) h)
+    (λ fs. (before : List TreeRoot) → HasWalked fs before c.args.walk.now → OnOk c.visit_tree.result
+    (HasWalked fs (before ++ c.args.tree.now ∷ []) c.visit_tree.new.visitor)) x y c.visit_tree.result c.visit_tree.ensures.ran
+    (λ B h before had. on_ok c.visit_tree.result _ _
+    (λ e. walked_more (filesystem c.args.vol.now B) before c.args.tree.now c.args.walk.now c.visit_tree.new.visitor had
+    (e ∙ ap (λ s. fold walk_step s (whole B c.args.tree.now.place)) c.begin.ensures)) h)
