@@ -9,3 +9,4 @@ pub mod Turning
 pub mod Tellings
 pub mod Namings
 pub mod Resolved
+pub mod Linking

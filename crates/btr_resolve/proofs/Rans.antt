@@ -159,7 +159,7 @@ module _ {A : Type 0} (p : Lookup A) (old new : Seen) (vol after : Volume) (text
     calls = refl;
   }
 
-  -- .. for which there was no memory
+  -- there was no memory for what it found
   pub ran_unfilled : IsReady old vol → Serves new after.store → OnlyReads old new → SameVolume vol after
       → Ran (quiet p) (world old vol text calls) (world new after text calls) (Err stop.Memory)
   ran_unfilled ready serves reads same =

@@ -63,6 +63,6 @@ same_then one two = record {
   store = record { layout = two.store.layout ∙ one.store.layout; loans = two.store.loans ∙ one.store.loans };
 }
 
--- .. can be read on
+-- after such calls it can be read on
 pub ready_next : {old : Seen} (new : Seen) (vol after : Volume) → IsReady old vol → Serves new after.store → SameVolume vol after → IsReady new after
 ready_next new vol after ready serves same = record { serves = serves; room = subst (λ l. 4 ≤ count_by is_none l) (sym same.store.loans) ready.room }

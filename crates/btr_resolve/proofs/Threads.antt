@@ -94,7 +94,7 @@ module _ {S T St R : Type 0} (B : Map) (body : St → S → Program T (Result St
   run_ends st (Wants w ∷ ms) e n h = run_ends st ms e n h
   run_ends st (Does s ∷ ms) e n h = cc
 
-  -- .. or as there is none
+  -- it came to no step more, as there is none
   pub turn_ends : (Is : UnreadBlock → Want → Type 0) (part : T → ℕ → Option T) (seen : List Want) (st : St)
       (p : Program S (Unit {0})) → Follows Is no_part seen (exec B p) [] (Ok tt) → Follows Is part seen (left st p) [] (Ok (fin st tt))
   turn_ends Is part seen st p f =

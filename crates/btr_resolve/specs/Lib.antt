@@ -5,3 +5,4 @@ pub mod Lines
 pub mod Resolving
 pub mod Running
 pub mod Cursor
+pub mod Links

@@ -1,5 +1,6 @@
 -- The owners of an address, as one program over wants whose steps are lines.
-use Rattle.std.specs.Prelude.{ℕ, ◌-◌, ◌^◌, Bool, false, not, ◌&&◌, ◌||◌, ◌==◌, nat_le, if◌then◌else◌, List, [], ◌∷◌, ◌++◌, length, slice_get, Option, Some, None}
+use Rattle.std.specs.Prelude.{ℕ, ◌-◌, ◌^◌, Bool, false, not, ◌&&◌, ◌||◌, ◌==◌, nat_le}
+use Rattle.std.specs.Prelude.{if◌then◌else◌, List, [], ◌∷◌, ◌++◌, length, slice_get, Option, Some, None}
 use Rattle.btr_base.specs.Key.{last_key}
 use Rattle.btr_base.specs.declared.key.Key.{Key}
 use Rattle.btr_chunk.specs.Table.{chunk_at}

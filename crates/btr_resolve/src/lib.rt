@@ -8,6 +8,7 @@
 
 mod climbing;
 mod extent;
+mod laws;
 mod lines;
 mod owner;
 mod owners;
@@ -17,4 +18,5 @@ mod resolving;
 mod subvolumes;
 mod telling;
 
+pub use laws::owners_linked;
 pub use resolving::resolve;

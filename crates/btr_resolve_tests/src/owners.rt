@@ -1,5 +1,5 @@
 // Which extents have an address, in which trees.
-use super::scene::{Content, DATA, MIDDLE, Row, Scene, TREES, add, part};
+use super::scene::{Content, DATA, FRONT, MIDDLE, Row, Scene, TREES, add, part};
 use btr_blocks::Items;
 use btr_items::{Shape, item};
 use btr_volume::Stop;
@@ -114,8 +114,12 @@ fn extents_of_each_kind(rt: HostRuntime) -> Result<(), Fail> {
 #[test]
 fn each_subvolume(rt: HostRuntime) -> Result<(), Fail> {
     let last = u64::MAX - 255;
-    let text =
-        b"tree 5 inode 257 position 0 path /f\ntree 256 inode 257 position 0 path /f\ntree 300 inode 257 position 0 path /f\ntree 18446744073709551360 inode 257 position 0 path /f\nowners 4\n";
+    let mut text = Vec::new(rt.alloc());
+    for id in ["5", "256", "300", "18446744073709551360"] {
+        let line = format!(in rt.alloc(); "tree {} inode 257 position 0 path /f\n", id)?;
+        text.extend_from_slice(line.as_bytes())?;
+    }
+    text.extend_from_slice(b"owners 4\n")?;
     let mut scene = Scene::new(rt.alloc())?;
     for id in [300, 2, 256, 255, 5, last, u64::MAX - 8] {
         if id == 2 || id == 255 || id == u64::MAX - 8 {
@@ -125,7 +129,34 @@ fn each_subvolume(rt: HostRuntime) -> Result<(), Fail> {
             scene = scene.with_rows(id, &FILE)?;
         }
     }
-    told(&rt, scene, DATA + 4096, 4, text)
+    told(&rt, scene, DATA + 4096, 4, text.as_slice())
+}
+
+// A subvolume in a directory of another one, and in that a snapshot of the first: a path begins at the top of its own subvolume, and the names of subvolumes
+// in the root tree aren't read.
+#[test]
+fn nested_subvolumes(rt: HostRuntime) -> Result<(), Fail> {
+    let outer: [Row; 2] = [
+        (256, item::INODE_REF, 256, Content::Name(0, b"..")),
+        (300, item::INODE_REF, 256, Content::Name(2, b"holds sub")),
+    ];
+    let inner: [Row; 4] = [
+        (256, item::INODE_REF, 256, Content::Name(0, b"..")),
+        (300, item::INODE_REF, 256, Content::Name(2, b"in sub")),
+        (400, item::INODE_REF, 300, Content::Name(2, b"f")),
+        (400, item::EXTENT_DATA, 4096, FRONT),
+    ];
+    let scene = Scene::new(rt.alloc())?
+        .with_rows(5, &outer)?
+        .beside(5, item::ROOT_REF, 256, 3)?
+        .with_rows(256, &inner)?
+        .beside(256, item::ROOT_BACKREF, 5, 3)?
+        .beside(256, item::ROOT_REF, 257, 0)?
+        .with_rows(257, &inner)?
+        .beside(257, item::ROOT_BACKREF, 256, 0)?;
+    let text =
+        b"tree 256 inode 400 position 4101 path /in sub/f\ntree 257 inode 400 position 4101 path /in sub/f\nowners 2\n";
+    told(&rt, scene, DATA + 5, 2, text)
 }
 
 // Of several ROOT_ITEMs of one id the one with the greatest offset has the tree, which is told once.
@@ -190,26 +221,53 @@ fn items_that_are_not_read(rt: HostRuntime) -> Result<(), Fail> {
     told(&rt, scene, DATA + 4096, 1, text)
 }
 
-// Each read on the way to three owners in two trees fails in turn.
+// Two subvolumes of two levels each, with an owner in the last leaf of the first and in both leaves of the second.
+fn of_two_levels(alloc: Global) -> Result<Scene, Fail> {
+    let first: [Row; 6] = [
+        (257, item::INODE_REF, 256, Content::Name(2, b"d")),
+        (258, item::INODE_REF, 256, Content::Name(3, b"e")),
+        (259, item::INODE_REF, 257, Content::Name(2, b"x")),
+        (260, item::INODE_REF, 258, Content::Name(2, b"y")),
+        (261, item::INODE_REF, 258, Content::Name(2, b"z")),
+        (261, item::EXTENT_DATA, 0, FRONT),
+    ];
+    let second: [Row; 6] = [
+        (257, item::INODE_REF, 256, Content::Name(2, b"d")),
+        (258, item::INODE_REF, 257, Content::Name(2, b"e")),
+        (259, item::INODE_REF, 258, Content::Name(2, b"x")),
+        (259, item::EXTENT_DATA, 0, FRONT),
+        (260, item::INODE_REF, 258, Content::Name(2, b"y")),
+        (260, item::EXTENT_DATA, 0, FRONT),
+    ];
+    Scene::new(alloc)?
+        .with_rows(5, &first)?
+        .with_rows(256, &second)
+}
+
+// Each read on the way to these owners fails in turn, behind the opening, which is call 1: of the root tree's one block, and of three of each subvolume, which
+// are kept once they were read. What was told before it stands.
 #[test]
 fn each_read_that_fails(rt: HostRuntime) -> Result<(), Fail> {
     let whole =
-        b"tree 5 inode 257 position 0 path /f\ntree 256 inode 257 position 0 path /f\nowners 2\n";
-    for n in 1..20 {
-        let scene = Scene::new(rt.alloc())?
-            .with_rows(5, &FILE)?
-            .with_rows(256, &FILE)?;
-        let found = scene.owners(DATA + 4096, n)?;
-        match found.result {
-            Ok(count) => {
-                assert_eq!(rt; count, 2);
-                assert_eq!(rt; found.out.text(), whole.as_slice());
-            }
-            Err(stop) => {
-                assert!(rt; matches!(stop, Stop::Tree(TreeFault::Unread(_, 0))));
-                assert!(rt; whole.starts_with(found.out.text()));
-            }
-        }
+        b"tree 5 inode 261 position 0 path /e/z\ntree 256 inode 259 position 0 path /d/e/x\ntree 256 inode 260 position 0 path /d/e/y\nowners 3\n";
+    let none = b"".as_slice();
+    let one = b"tree 5 inode 261 position 0 path /e/z\n".as_slice();
+    let two = b"tree 5 inode 261 position 0 path /e/z\ntree 256 inode 259 position 0 path /d/e/x\n";
+    for (n, before) in [
+        (2, none),
+        (3, none),
+        (4, none),
+        (5, none),
+        (6, one),
+        (7, one),
+        (8, two),
+    ] {
+        let found = of_two_levels(rt.alloc())?.owners(DATA, n)?;
+        assert!(rt; matches!(found.result, Err(Stop::Tree(TreeFault::Unread(_, 0)))));
+        assert_eq!(rt; found.out.text(), before);
     }
+    let found = of_two_levels(rt.alloc())?.owners(DATA, 9)?;
+    assert_eq!(rt; found.result, Ok(3));
+    assert_eq!(rt; found.out.text(), whole.as_slice());
     Ok(())
 }

@@ -174,6 +174,19 @@ impl Scene {
         self.with(id, items)
     }
 
+    /// Adds another item of the root tree, of which nothing but its key may be read: its body has so many zeros.
+    pub(super) fn beside(
+        mut self,
+        objectid: u64,
+        kind: u8,
+        offset: u64,
+        len: usize,
+    ) -> Result<Scene, Fail> {
+        let body = Body::new(self.alloc).zeros(len)?;
+        self.roots.append(objectid, kind, offset, &body)?;
+        Ok(self)
+    }
+
     /// What is answered of an address, and the text, where the call of a number fails on the image; 0 is none.
     pub(super) fn owners(self, addr: u64, failing: u64) -> Result<Answer, Fail> {
         let Scene {
