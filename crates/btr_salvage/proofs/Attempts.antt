@@ -1,6 +1,7 @@
 -- What programs that go on behind faults come to.
-use Rattle.std.proofs.Common.{◌≡◌, ℕ, List, [], ◌∷◌, ◌++◌, Option, None, Result, Ok, Err, refl, sym, ap, ◌∙◌, subst, append-nil, append_assoc}
-use Rattle.btr_prog.specs.Prog.{BlockMap, Prog, Return, Stop, Need, Emit, Mark, Wants, Does, Run, run, first, prepend, after, and_then, steps_of, wants_of, want_marks}
+use Rattle.std.proofs.Common.{◌≡◌, ℕ, List, [], ◌∷◌, ◌++◌, Option, None, Result, Ok, Err, refl, sym, ap, ◌∙◌, subst, append-nil}
+use Rattle.btr_prog.specs.Prog.{BlockMap, Prog, Return, Stop, Need, Emit, Mark, Wants, Does, Run, run, prepend, after, and_then, steps_of, wants_of}
+use Rattle.btr_prog.specs.Prog.{want_marks}
 use Rattle.btr_prog.specs.Answers.{Halt, Fault, Unread, Broke, Breaks, Follows, Names, no_part}
 use Rattle.btr_prog.specs.Goes.{goes_given, AfterTo, GoesTo, GoOnTo, ThreadsTo}
 use Rattle.btr_prog.specs.Outcomes.{Outcome, outcome, outcome_of}
@@ -14,7 +15,8 @@ module _ {W F S I : Type 0} (Bs : I → BlockMap W F) where
   Comes p ms x = ComesTo Bs p ms x
 
   -- one after another
-  pub comes_then : {A C : Type 0} (p : Trying W F S A) (k : A → Trying W F S C) (ms ns : List (Mark W S)) (a : A) (c : C) → ComesTo Bs p ms a → ComesTo Bs (k a) ns c → ComesTo Bs (try_then p k) (ms ++ ns) c
+  pub comes_then : {A C : Type 0} (p : Trying W F S A) (k : A → Trying W F S C) (ms ns : List (Mark W S)) (a : A) (c : C) → ComesTo Bs p ms a
+      → ComesTo Bs (k a) ns c → ComesTo Bs (try_then p k) (ms ++ ns) c
   comes_then (Done x) k ms ns a c h g =
       subst (λ l. ComesTo Bs (k x) (l ++ ns) c) (sym h.0) (subst (λ y. ComesTo Bs (k y) ns c) h.1 g)
   comes_then (Try w f) k ms ns a c h g =
@@ -32,7 +34,9 @@ module _ {W F S I : Type 0} (Bs : I → BlockMap W F) where
       (Does s ∷ r.0, r.1, (r.0, refl, r.2))
 
   -- a program as a part has the runs that it has alone
-  by_fate_goes : {A : Type 0} (x : Result (List ℕ) F) (k : List ℕ → Prog W F S A) (q : Run W F S A) → ((bytes : List ℕ) → GoesTo Bs (k bytes) q → TriesTo Bs (attempt (k bytes)) q) → goes_given x (λ bytes. GoesTo Bs (k bytes)) q → ComesTo Bs (by_fate x (λ bytes. attempt (k bytes)) (λ f. Err f)) q.marks q.ending
+  by_fate_goes : {A : Type 0} (x : Result (List ℕ) F) (k : List ℕ → Prog W F S A) (q : Run W F S A)
+      → ((bytes : List ℕ) → GoesTo Bs (k bytes) q → TriesTo Bs (attempt (k bytes)) q) → goes_given x (λ bytes. GoesTo Bs (k bytes)) q
+      → ComesTo Bs (by_fate x (λ bytes. attempt (k bytes)) (λ f. Err f)) q.marks q.ending
   by_fate_goes (Ok bytes) k q ih g = ih bytes g
   by_fate_goes (Err f) k q ih g = (ap (λ r. r.marks) g, ap (λ r. r.ending) g)
 
@@ -41,18 +45,25 @@ module _ {W F S I : Type 0} (Bs : I → BlockMap W F) where
   tries_attempt (Stop f) r g = (ap (λ q. q.marks) g, ap (λ q. q.ending) g)
   tries_attempt (Need w k) r g =
       let q = g.1 in
-      let inner = by_fate_goes (Bs g.0 w) k q (λ bytes h. tries_attempt (k bytes) q h) g.3 in
-      (g.0, q.marks, ap (λ (x : Run W F S _). x.marks) g.2, subst (λ e. ComesTo Bs (by_fate (Bs g.0 w) (λ bytes. attempt (k bytes)) (λ f. Err f)) q.marks e) (sym (ap (λ (x : Run W F S _). x.ending) g.2)) inner)
+      let inner = by_fate_goes (Bs g.0 w) k q (λ bytes h. tries_attempt (k bytes) q h) g.3 in (
+        g.0,
+        q.marks,
+        ap (λ (x : Run W F S _). x.marks) g.2,
+        subst (λ e. ComesTo Bs (by_fate (Bs g.0 w) (λ bytes. attempt (k bytes)) (λ f. Err f)) q.marks e)
+            (sym (ap (λ (x : Run W F S _). x.ending) g.2)) inner,
+      )
   tries_attempt (Emit s p) r g =
       let inner = tries_attempt p g.0 g.2 in
       (g.0.marks, ap (λ (x : Run W F S _). x.marks) g.1, subst (λ e. ComesTo Bs (attempt p) g.0.marks e) (sym (ap (λ (x : Run W F S _). x.ending) g.1)) inner)
 
   -- one, and then another by how it ended
-  pub tries_then : {A C : Type 0} (p : Trying W F S (Result A F)) (h : Result A F → Trying W F S (Result C F)) (q : Run W F S A) (r : Run W F S C) → TriesTo Bs p q → TriesTo Bs (h q.ending) r → TriesTo Bs (try_then p h) (prepend q.marks r)
+  pub tries_then : {A C : Type 0} (p : Trying W F S (Result A F)) (h : Result A F → Trying W F S (Result C F)) (q : Run W F S A) (r : Run W F S C)
+      → TriesTo Bs p q → TriesTo Bs (h q.ending) r → TriesTo Bs (try_then p h) (prepend q.marks r)
   tries_then p h q r one two = comes_then p h q.marks r.marks q.ending r.ending one two
 
-  -- .. or by its value
-  pub tries_value : {A C : Type 0} (p : Trying W F S (Result A F)) (k : A → Trying W F S (Result C F)) (q : Run W F S A) (r : Run W F S C) → TriesTo Bs p q → AfterTo q.marks q.ending (λ a. TriesTo Bs (k a)) r → TriesTo Bs (value_then p k) r
+  -- one, and then another by its value
+  pub tries_value : {A C : Type 0} (p : Trying W F S (Result A F)) (k : A → Trying W F S (Result C F)) (q : Run W F S A) (r : Run W F S C) → TriesTo Bs p q
+      → AfterTo q.marks q.ending (λ a. TriesTo Bs (k a)) r → TriesTo Bs (value_then p k) r
   tries_value p k q r one two = by_ending q.ending refl
     where
       by_ending : (x : Result _ F) → q.ending ≡ x → TriesTo Bs (value_then p k) r
@@ -71,7 +82,10 @@ module _ {W F T I : Type 0} (S : Type 0) (Bs : I → BlockMap W F) where
   abbrev wants_in : {A : Type 0} → Run W F T A → List (Mark W S)
   wants_in r = want_marks (wants_of r.marks)
 
-  given_goes : {A : Type 0} (x : Result (List ℕ) F) (k : List ℕ → Prog W F T A) (q : Run W F T A) → ((bytes : List ℕ) → GoesTo Bs (k bytes) q → ComesTo Bs (gathered (k bytes)) (wants_in q) (outcome_of q)) → goes_given x (λ bytes. GoesTo Bs (k bytes)) q → ComesTo Bs (by_fate x (λ bytes. gathered (k bytes)) (λ f. outcome [] (Err f))) (wants_in q) (outcome_of q)
+  given_goes : {A : Type 0} (x : Result (List ℕ) F) (k : List ℕ → Prog W F T A) (q : Run W F T A)
+      → ((bytes : List ℕ) → GoesTo Bs (k bytes) q → ComesTo Bs (gathered (k bytes)) (wants_in q) (outcome_of q))
+      → goes_given x (λ bytes. GoesTo Bs (k bytes)) q → ComesTo Bs (by_fate x (λ bytes. gathered (k bytes)) (λ f. outcome [] (Err f))) (wants_in q)
+      (outcome_of q)
   given_goes (Ok bytes) k q ih g = ih bytes g
   given_goes (Err f) k q ih g = (ap wants_in g, ap outcome_of g)
 
@@ -80,12 +94,18 @@ module _ {W F T I : Type 0} (S : Type 0) (Bs : I → BlockMap W F) where
   comes_gathered (Stop f) r g = (ap wants_in g, ap outcome_of g)
   comes_gathered (Need w k) r g =
       let q = g.1 in
-      let inner = given_goes (Bs g.0 w) k q (λ bytes h. comes_gathered (k bytes) q h) g.3 in
-      (g.0, wants_in q, ap wants_in g.2, subst (λ o. ComesTo Bs (by_fate (Bs g.0 w) (λ bytes. gathered (k bytes)) (λ f. outcome [] (Err f))) (wants_in q) o) (sym (ap outcome_of g.2)) inner)
+      let inner = given_goes (Bs g.0 w) k q (λ bytes h. comes_gathered (k bytes) q h) g.3 in (
+        g.0,
+        wants_in q,
+        ap wants_in g.2,
+        subst (λ o. ComesTo Bs (by_fate (Bs g.0 w) (λ bytes. gathered (k bytes)) (λ f. outcome [] (Err f))) (wants_in q) o)
+            (sym (ap outcome_of g.2)) inner,
+      )
   comes_gathered (Emit t p) r g =
       let q = g.0 in
       let more : Outcome F T _ → Trying W F S (Outcome F T _) = λ o. Done (outcome (t ∷ o.steps) o.ending) in
-      let both = comes_then Bs (gathered p) more (wants_in q) [] (outcome_of q) (outcome (t ∷ steps_of q.marks) q.ending) (comes_gathered p q g.2) (refl, refl) in
+      let both = comes_then Bs (gathered p) more (wants_in q) [] (outcome_of q) (outcome (t ∷ steps_of q.marks) q.ending) (comes_gathered p q g.2)
+      (refl, refl) in
       subst (λ x. ComesTo Bs (try_then (gathered p) more) (wants_in x) (outcome_of x)) (sym g.1)
       (subst (λ l. ComesTo Bs (try_then (gathered p) more) l (outcome (t ∷ steps_of q.marks) q.ending)) (append-nil (wants_in q)) both)
 
@@ -111,25 +131,34 @@ module _ {W F S T St I : Type 0} (Bs : I → BlockMap W F) (treat : St → T →
   as_state ms x = after ms x (λ a. run [] (Ok (Ok a)))
 
   -- on by how the step was treated
-  after_step : (st : St) (t : T) (p : Trying W F T (Unit {0})) (q : Run W F S St) (ms : List (Mark W T)) (r : Run W F S St) (x : Result St F) → q.ending ≡ x → TriesTo Bs (treat st t) q
+  after_step : (st : St) (t : T) (p : Trying W F T (Unit {0})) (q : Run W F S St) (ms : List (Mark W T)) (r : Run W F S St) (x : Result St F) → q.ending ≡ x
+      → TriesTo Bs (treat st t) q
       → AfterTo (as_state q.marks x).marks (as_state q.marks x).ending (GoOnTo (λ st'. Threads st' ms)) r
       → ((st' : St) (r' : Run W F S St) → Threads st' ms r' → TriesTo Bs (treat_each treat st' p) r') → TriesTo Bs (treat_each treat st (Act t p)) r
   after_step st t p q ms r (Ok st') e one two ih =
       let behind = ih st' two.0 two.2 in
       subst (TriesTo Bs (treat_each treat st (Act t p))) (ap (λ l. prepend l two.0) (sym (append-nil q.marks)) ∙ sym two.1)
-      (comes_then Bs (treat st t) (on_value (λ after. treat_each treat after p)) q.marks two.0.marks (Ok st') two.0.ending (subst (λ y. ComesTo Bs (treat st t) q.marks y) e one) behind)
+      (comes_then Bs (treat st t) (on_value (λ after. treat_each treat after p)) q.marks two.0.marks (Ok st') two.0.ending
+      (subst (λ y. ComesTo Bs (treat st t) q.marks y) e one) behind)
   after_step st t p q ms r (Err f) e one two ih =
       subst (TriesTo Bs (treat_each treat st (Act t p))) (sym two)
       (subst (λ l. ComesTo Bs (treat_each treat st (Act t p)) l (Err f)) (append-nil q.marks)
-      (comes_then Bs (treat st t) (on_value (λ after. treat_each treat after p)) q.marks [] (Err f) (Err f) (subst (λ y. ComesTo Bs (treat st t) q.marks y) e one) (refl, refl)))
+      (comes_then Bs (treat st t) (on_value (λ after. treat_each treat after p)) q.marks [] (Err f) (Err f)
+      (subst (λ y. ComesTo Bs (treat st t) q.marks y) e one) (refl, refl)))
 
-  pub tries_each : (st : St) (p : Trying W F T (Unit {0})) (ms : List (Mark W T)) (r : Run W F S St) → ComesTo Bs p ms tt → Threads st ms r → TriesTo Bs (treat_each treat st p) r
+  pub tries_each : (st : St) (p : Trying W F T (Unit {0})) (ms : List (Mark W T)) (r : Run W F S St) → ComesTo Bs p ms tt → Threads st ms r
+      → TriesTo Bs (treat_each treat st p) r
   tries_each st (Done u) ms r h g =
       let e = subst (λ l. Threads st l r) h.0 g in
       (ap (λ (x : Run W F S St). x.marks) e, ap (λ (x : Run W F S St). x.ending) e)
   tries_each st (Try w k) ms r h g =
-      let t = subst (λ l. Threads st l r) h.2 g in
-      (h.0, t.0.marks, ap (λ (x : Run W F S St). x.marks) t.1, subst (λ e. ComesTo Bs (treat_each treat st (k (Bs h.0 w))) t.0.marks e) (sym (ap (λ (x : Run W F S St). x.ending) t.1)) (tries_each st (k (Bs h.0 w)) h.1 t.0 h.3 t.2))
+      let t = subst (λ l. Threads st l r) h.2 g in (
+        h.0,
+        t.0.marks,
+        ap (λ (x : Run W F S St). x.marks) t.1,
+        subst (λ e. ComesTo Bs (treat_each treat st (k (Bs h.0 w))) t.0.marks e)
+            (sym (ap (λ (x : Run W F S St). x.ending) t.1)) (tries_each st (k (Bs h.0 w)) h.1 t.0 h.3 t.2),
+      )
   tries_each st (Act t p) ms r h g =
       let d = subst (λ l. Threads st l r) h.1 g in
       let q = d.1.0 in
@@ -154,18 +183,21 @@ module _ {W F S T U A : Type 0} (Is : U → W → Type 0) (part : S → ℕ → 
   abbrev only_wants : Run W F T A → Run W F S A
   only_wants r = run (want_marks (wants_of r.marks)) r.ending
 
-  no_steps_in : (there : T → ℕ → Option T) (here : S → ℕ → Option S) (P : List W → Type 0) (r : Run W F T A) (done : List T) → Breaks there P r done → Breaks here P (only_wants r) []
+  no_steps_in : (there : T → ℕ → Option T) (here : S → ℕ → Option S) (P : List W → Type 0) (r : Run W F T A) (done : List T) → Breaks there P r done
+      → Breaks here P (only_wants r) []
   no_steps_in there here P r done b = record {
     before = want_marks (wants_of b.before);
     behind = want_marks (wants_of b.behind);
     left = None;
-    place = ap (λ ms. want_marks (wants_of ms)) b.place ∙ ap want_marks (wants_of-append b.before b.behind) ∙ want_marks-append (wants_of b.before) (wants_of b.behind);
+    place = ap (λ ms. want_marks (wants_of ms)) b.place ∙ ap want_marks (wants_of-append b.before b.behind)
+        ∙ want_marks-append (wants_of b.before) (wants_of b.behind);
     steps = sym (append-nil (steps_of (want_marks {S = S} (wants_of b.before))) ∙ steps_of-marks S (wants_of b.before));
     leaves = tt;
     holds = subst P (sym (wants_of-marks S (wants_of b.before))) b.holds;
   }
 
-  pub follows_wants : (seen : List W) (r : Run W F T A) (done : List T) (ans : Result A (Halt F U)) → Follows Is own seen r done ans → Follows Is part seen (only_wants r) [] ans
+  pub follows_wants : (seen : List W) (r : Run W F T A) (done : List T) (ans : Result A (Halt F U)) → Follows Is own seen r done ans
+      → Follows Is part seen (only_wants r) [] ans
   follows_wants seen r done (Ok a) h = (sym (steps_of-marks S (wants_of r.marks)), h.1)
   follows_wants seen r done (Err (Fault f)) h = (sym (steps_of-marks S (wants_of r.marks)), h.1)
   follows_wants seen r done (Err (Unread u)) h = no_steps_in no_part no_part (λ ws. Names Is u (seen ++ ws)) r done h

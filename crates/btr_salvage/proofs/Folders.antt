@@ -1,5 +1,6 @@
 -- What is found in a directory, as its tour goes on.
-use Rattle.std.proofs.Common.{◌≡◌, ℕ, ◌<◌, ◌≤◌, List, [], ◌++◌, Option, Some, None, IfSome, IsSome, IsSomeAnd, Result, Ok, Err, refl, sym, ap, ◌∙◌, subst, arith}
+use Rattle.std.proofs.Common.{◌≡◌, ℕ, ◌<◌, List, [], ◌++◌, Option, Some, None, IfSome, IsSome, IsSomeAnd, Result, Ok, Err, refl, sym, ap, ◌∙◌, subst}
+use Rattle.std.proofs.Common.{arith}
 use Rattle.std.specs.Option.{option_map}
 use Rattle.std.proofs.lemmas.List.Elements.{Contains-append_left}
 use Rattle.btr_prog.specs.Answers.{Follows, no_part}
@@ -9,22 +10,22 @@ use Rattle.btr_prog.proofs.Follow.{follows_as, unread_here}
 use Rattle.btr_rack.specs.Rack.{Seen}
 use Rattle.btr_read.specs.Fate as fate
 use Rattle.btr_read.specs.Layout.{Layout}
-use Rattle.btr_read.specs.Store.{Blocks, SameLoans}
+use Rattle.btr_read.specs.Store.{Blocks}
 use Rattle.btr_read.specs.declared.want.Want.{Want}
-use Rattle.btr_tour.specs.Rests.{rest_left, rank_left, GoesOn, IsKept, IsRestOn, IsTakenUp, RestCause, Rests, TakesUp}
+use Rattle.btr_tour.specs.Rests.{rank_left, GoesOn, IsKept, IsRestOn, RestCause, Rests, TakesUp}
 use Rattle.btr_tour.specs.Steps.{reason, Meets}
 use Rattle.btr_tour.specs.Tour as marks
 use Rattle.btr_tour.specs.Tour.{Mark}
-use Rattle.btr_tour.specs.TourEnds.{left_of, rank_of, HoldsLeaf, IsUnderway, NextBy, NextCause, NextNears, without_leaf}
+use Rattle.btr_tour.specs.TourEnds.{left_of, rank_of, NextBy, NextCause}
 use Rattle.btr_tour.specs.Visits.{Shows}
 use Rattle.btr_tour.specs.declared.met.Met.{Met}
 use Rattle.btr_tour.specs.declared.met.Met.TheVariants as met
 use Rattle.btr_tour.specs.declared.rest.Rest.{Rest}
 use Rattle.btr_tour.specs.declared.tour.Tour.{Tour}
-use Rattle.btr_tour.proofs.Marks.{Next, next_is, cause_is}
+use Rattle.btr_tour.proofs.Marks.{next_is, cause_is}
 use Rattle.btr_tour.proofs.Paths.{on_more}
 use Rattle.btr_walk.specs.Le.{want_of}
-use Rattle.btr_walk.specs.Reading.{CauseOf, FaultCause, HasCause, Map, UnreadBlock, halt_of}
+use Rattle.btr_walk.specs.Reading.{FaultCause, HasCause, Map, UnreadBlock, halt_of}
 use Rattle.btr_walk.specs.Showing.{item_of}
 use Rattle.btr_walk.specs.declared.fault.TreeFault.{TreeFault}
 use Rattle.btr_walk.specs.declared.fault.TreeFault.TheVariants as tree
@@ -32,45 +33,53 @@ use Rattle.btr_walk.specs.declared.frame.Frame.{Frame}
 use Rattle.btr_walk.specs.declared.found.Found.{Found as FoundItem}
 use Rattle.btr_walk.specs.declared.place.RootPlace.{RootPlace}
 use Rattle.btr_base.specs.declared.header.Header.{Header}
-use Rattle.btr_walk.specs.Rests.{IsUnreadOf}
 use Rattle.btr_files.specs.declared.name.NameBuf.{NameBuf}
 use Rattle.btr_salvage.specs.declared.folder.Folder.{Folder}
 use Rattle.btr_salvage.specs.declared.folder.Found.{Found}
 use Rattle.btr_salvage.specs.declared.folder.Found.TheVariants as found
-use Rattle.btr_salvage.specs.Folders.{found_in, folder_left, GivesFound, IsFolderOn, IsItemFound, IsLeftOut, IsNextFound, MeetsFound, MetNears, FolderNears, NextFoundBy, NextMetBy, IsNextMet}
-use Rattle.btr_salvage.specs.Marks.{InFolder, Passing, Part, mark_in}
+use Rattle.btr_salvage.specs.Folders.{found_in, folder_left, IsItemFound, IsLeftOut, IsNextFound, MeetsFound, MetNears, FolderNears}
+use Rattle.btr_salvage.specs.Folders.{NextMetBy, IsNextMet}
+use Rattle.btr_salvage.specs.Marks.{InFolder, Part, mark_in}
 
-module _ (Is : UnreadBlock → Want → Type 0) (B : Map) (seen : List Want) (old new : Blocks) (tour tour' : Tour) (same : tour'.scope ≡ tour.scope) (name : NameBuf) where
+module _ (Is : UnreadBlock → Want → Type 0) (B : Map) (seen : List Want) (old new : Blocks) (tour tour' : Tour) (same : tour'.scope ≡ tour.scope)
+    (name : NameBuf) where
   abbrev By : Result (Option Found) TreeFault → Type 0
   By result = NextMetBy Is B seen old new tour tour' name result
 
   -- a mark was met, which says what was found
-  pub met_by : (m : Met) (f : Found) → ((mark : Mark) → Shows m mark → mark_in mark ≡ found_in f name) → NextBy Is B seen old new tour tour' (Ok (Some m)) → By (Ok (Some f))
+  pub met_by : (m : Met) (f : Found) → ((mark : Mark) → Shows m mark → mark_in mark ≡ found_in f name) → NextBy Is B seen old new tour tour' (Ok (Some m))
+      → By (Ok (Some f))
   met_by m f says h =
       let n = next_is Is B seen old new tour tour' same m h in
       record { mark = n.mark; says = says n.mark n.shown; meets = record { past = n.past; is = n.first; on = n.on; held = n.held } }
 
-  pub met_block : (place : RootPlace) (header : Header) → NextBy Is B seen old new tour tour' (Ok (Some (met.Block place header))) → By (Ok (Some found.Passing))
+  pub met_block : (place : RootPlace) (header : Header) → NextBy Is B seen old new tour tour' (Ok (Some (met.Block place header)))
+      → By (Ok (Some found.Passing))
   met_block place header h = met_by (met.Block place header) found.Passing (λ mark shown. ap mark_in shown.1.2) h
 
   pub met_child : (block : ℕ) (place : RootPlace) → NextBy Is B seen old new tour tour' (Ok (Some (met.Child block place))) → By (Ok (Some found.Passing))
   met_child block place h = met_by (met.Child block place) found.Passing (λ mark shown. ap mark_in shown) h
 
-  pub met_item : (item : FoundItem) (f : Found) → IsItemFound (item_of item) name f → NextBy Is B seen old new tour tour' (Ok (Some (met.Item item))) → By (Ok (Some f))
+  pub met_item : (item : FoundItem) (f : Found) → IsItemFound (item_of item) name f → NextBy Is B seen old new tour tour' (Ok (Some (met.Item item)))
+      → By (Ok (Some f))
   met_item item f is h = met_by (met.Item item) f (λ mark shown. ap mark_in shown ∙ is) h
 
   same_part : (x : fate.Fault) (y : InFolder) → option_map Part (Some x) ≡ Some y → Part x ≡ y
   same_part x y e = cc
 
-  left_says : (o : Option fate.Fault) (f : Found) (mark : Mark) → option_map Part o ≡ Some (found_in f name) → IsSomeAnd o (λ fault. mark ≡ marks.Left fault) → mark_in mark ≡ found_in f name
+  left_says : (o : Option fate.Fault) (f : Found) (mark : Mark) → option_map Part o ≡ Some (found_in f name) → IsSomeAnd o (λ fault. mark ≡ marks.Left fault)
+      → mark_in mark ≡ found_in f name
   left_says None f mark e h = absurd h
   left_says (Some x) f mark e h = ap mark_in h ∙ same_part x (found_in f name) e
 
   none_left : (fault : TreeFault) → reason fault ≡ None → NextBy Is B seen old new tour tour' (Ok (Some (met.Fault fault))) → ⊥
-  none_left fault e h = subst (λ (o : Option fate.Fault). IsSomeAnd o (λ x. Meets tour.scope.lo tour.scope.hi B seen (left_of B old tour) new tour'.place tour'.leaf (marks.Left x))) e h
+  none_left fault e h = subst
+      (λ (o : Option fate.Fault). IsSomeAnd o (λ x. Meets tour.scope.lo tour.scope.hi B seen (left_of B old tour) new tour'.place tour'.leaf (marks.Left x))) e
+      h
 
   -- a block is left out
-  pub met_left : (fault : TreeFault) (result : Result (Option Found) TreeFault) → IsLeftOut fault name result → NextBy Is B seen old new tour tour' (Ok (Some (met.Fault fault))) → By result
+  pub met_left : (fault : TreeFault) (result : Result (Option Found) TreeFault) → IsLeftOut fault name result
+      → NextBy Is B seen old new tour tour' (Ok (Some (met.Fault fault))) → By result
   met_left fault (Ok (Some f)) e h = met_by (met.Fault fault) f (λ mark shown. left_says (reason fault) f mark e shown) h
   met_left fault (Ok None) e h = absurd e
   met_left fault (Err f) e h = absurd (none_left fault e.0 h)
@@ -79,21 +88,25 @@ module _ (Is : UnreadBlock → Want → Type 0) (B : Map) (seen : List Want) (ol
 some_reason : (fault : TreeFault) → reason fault ≡ None → IsSome (reason fault) → ⊥
 some_reason fault e h = cc
 
-pub left_cause : (layout : Layout) (a b : Seen) (tour tour' : Tour) (fault : TreeFault) (name : NameBuf) (result : Result (Option Found) TreeFault) → IsLeftOut fault name result → NextCause layout a b tour tour' (Ok (Some (met.Fault fault))) → HasCause layout a b result
+pub left_cause : (layout : Layout) (a b : Seen) (tour tour' : Tour) (fault : TreeFault) (name : NameBuf) (result : Result (Option Found) TreeFault)
+    → IsLeftOut fault name result → NextCause layout a b tour tour' (Ok (Some (met.Fault fault))) → HasCause layout a b result
 left_cause layout a b tour tour' fault name (Ok f) e h = tt
 left_cause layout a b tour tour' fault name (Err f) e h = absurd (some_reason fault e.0 h.1)
 
-pub left_nears : (tour tour' : Tour) (fault : TreeFault) (name : NameBuf) (result : Result (Option Found) TreeFault) → IsLeftOut fault name result → rank_of tour' < rank_of tour → MetNears tour tour' result
+pub left_nears : (tour tour' : Tour) (fault : TreeFault) (name : NameBuf) (result : Result (Option Found) TreeFault) → IsLeftOut fault name result
+    → rank_of tour' < rank_of tour → MetNears tour tour' result
 left_nears tour tour' fault name (Ok (Some f)) e h = h
 left_nears tour tour' fault name (Ok None) e h = tt
 left_nears tour tour' fault name (Err f) e h = tt
 
 -- what is left of a directory is what is left of its tour
-module _ (Is One : UnreadBlock → Want → Type 0) (weaker : (u : UnreadBlock) (w : Want) → One u w → Is u w) (B : Map) (folder : Folder) (old mid new : Blocks) (tour tour' : Tour) (after : Rest) (name : NameBuf) (rests : Rests new tour' after) where
+module _ (Is One : UnreadBlock → Want → Type 0) (weaker : (u : UnreadBlock) (w : Want) → One u w → Is u w) (B : Map) (folder : Folder) (old mid new : Blocks)
+    (tour tour' : Tour) (after : Rest) (name : NameBuf) (rests : Rests new tour' after) where
   abbrev then : Folder
   then = record { rest = after }
 
-  pub next_found : (result : Result (Option Found) TreeFault) → ((seen : List Want) → IsRestOn B seen folder.rest → GoesOn B seen folder.rest mid tour) → IsNextMet One B mid new tour tour' name result → IsNextFound Is B folder then name result
+  pub next_found : (result : Result (Option Found) TreeFault) → ((seen : List Want) → IsRestOn B seen folder.rest → GoesOn B seen folder.rest mid tour)
+      → IsNextMet One B mid new tour tour' name result → IsNextFound Is B folder then name result
   next_found (Ok (Some f)) takes meets seen on =
       let g = takes seen on in
       let m : MeetsFound B seen mid new tour tour' (found_in f name) = meets seen g.on g.held in
@@ -102,7 +115,8 @@ module _ (Is One : UnreadBlock → Want → Type 0) (weaker : (u : UnreadBlock) 
         says = m.says;
         gives = record {
           past = m.meets.past;
-          is = ap (tried B) (sym g.left) ∙ m.meets.is ∙ ap (λ p. prepend (want_marks m.meets.past) (first (Does m.mark) (tried B p))) (sym (rests.left B (seen ++ m.meets.past) m.meets.held));
+          is = ap (tried B) (sym g.left) ∙ m.meets.is ∙ ap (λ p. prepend (want_marks m.meets.past) (first (Does m.mark) (tried B p)))
+              (sym (rests.left B (seen ++ m.meets.past) m.meets.held));
           on = rests.on B (seen ++ m.meets.past) m.meets.on m.meets.held;
         };
       }
@@ -111,12 +125,15 @@ module _ (Is One : UnreadBlock → Want → Type 0) (weaker : (u : UnreadBlock) 
       sym g.left ∙ meets seen g.on g.held
   next_found (Err f) takes meets seen on =
       let g = takes seen on in
-      subst (λ p. Follows Is no_part seen (tried B p) [] (Err (halt_of f))) g.left (follows_as One Is weaker no_part seen (tried B (left_of B mid tour)) [] (Err (halt_of f)) (meets seen g.on g.held))
+      subst (λ p. Follows Is no_part seen (tried B p) [] (Err (halt_of f))) g.left
+      (follows_as One Is weaker no_part seen (tried B (left_of B mid tour)) [] (Err (halt_of f)) (meets seen g.on g.held))
 
 -- a leaf that could not be read again
-pub rest_fault : (Is : UnreadBlock → Want → Type 0) (B : Map) (folder : Folder) (store : Blocks) (name : NameBuf) (f : TreeFault) → TakesUp Is B folder.rest store (Err f) → IsNextFound Is B folder folder name (Err f)
+pub rest_fault : (Is : UnreadBlock → Want → Type 0) (B : Map) (folder : Folder) (store : Blocks) (name : NameBuf) (f : TreeFault)
+    → TakesUp Is B folder.rest store (Err f) → IsNextFound Is B folder folder name (Err f)
 rest_fault Is B folder store name (tree.Lost a) h seen on = absurd (h seen on)
-rest_fault Is B folder store name (tree.Unread a slot) h seen on = unread_here Is no_part seen (record { addr = a; slot = slot }) (tried B (folder_left B folder)) (h seen on)
+rest_fault Is B folder store name (tree.Unread a slot) h seen on = unread_here Is no_part seen (record { addr = a; slot = slot })
+    (tried B (folder_left B folder)) (h seen on)
 rest_fault Is B folder store name (tree.Unmapped a) h seen on = absurd (h seen on)
 rest_fault Is B folder store name (tree.Crosses a) h seen on = absurd (h seen on)
 rest_fault Is B folder store name (tree.Malformed a) h seen on = absurd (h seen on)
@@ -125,7 +142,8 @@ pub rest_cause : (layout : Layout) (a b : Seen) (leaf : Option Frame) (f : TreeF
 rest_cause layout a b None f h = absurd h
 rest_cause layout a b (Some frame) f h = cause_is layout a b (Some (want_of 0 frame.spot)) f h
 
-pub folder_nears : (rest after : Rest) (tour tour' : Tour) (store : Blocks) (result : Result (Option Found) TreeFault) → rank_of tour ≡ rank_left rest → Rests store tour' after → MetNears tour tour' result → FolderNears (record { rest = rest }) (record { rest = after }) result
+pub folder_nears : (rest after : Rest) (tour tour' : Tour) (store : Blocks) (result : Result (Option Found) TreeFault) → rank_of tour ≡ rank_left rest
+    → Rests store tour' after → MetNears tour tour' result → FolderNears (record { rest = rest }) (record { rest = after }) result
 folder_nears rest after tour tour' store (Ok (Some f)) e r h = omega (arith, h, r.rank, e)
 folder_nears rest after tour tour' store (Ok None) e r h = tt
 folder_nears rest after tour tour' store (Err f) e r h = tt
@@ -133,7 +151,18 @@ folder_nears rest after tour tour' store (Err f) e r h = tt
 -- where more was wanted, a directory can still be read on
 kept_more : (B : Map) (seen more : List Want) (o : Option Frame) → IfSome o (IsKept B seen) → IfSome o (IsKept B (seen ++ more))
 kept_more B seen more None k = tt
-kept_more B seen more (Some frame) k = record { block = k.block; came = k.came; is = k.is; read = Contains-append_left seen more (want_of 0 frame.spot) k.read; all = k.all }
+kept_more B seen more (Some frame) k = record {
+  block = k.block;
+  came = k.came;
+  is = k.is;
+  read = Contains-append_left seen more
+      (want_of 0 frame.spot) k.read;
+  all = k.all;
+}
 
 pub rest_more : (B : Map) (seen more : List Want) (rest : Rest) → IsRestOn B seen rest → IsRestOn B (seen ++ more) rest
-rest_more B seen more rest on = record { place = on_more rest.scope.lo rest.scope.hi B seen more rest.place rest.place refl on.place; kept = kept_more B seen more rest.leaf on.kept }
+rest_more B seen more rest on = record {
+  place = on_more rest.scope.lo rest.scope.hi B seen more rest.place rest.place refl on.place;
+  kept =
+      kept_more B seen more rest.leaf on.kept;
+}

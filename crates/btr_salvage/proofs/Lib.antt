@@ -1,5 +1,9 @@
 pub mod Attempts
 mod Cycles
+mod Endings
+mod Keeping
+mod Lefts
+mod Parts
 mod Folders
 mod Listings
 mod Rans

@@ -1,11 +1,11 @@
 -- Calls of salvage one after another.
-use Rattle.std.proofs.Common.{◌≡◌, ℕ, List, [], ◌∷◌, ◌++◌, Option, Some, None, Result, Ok, Err, refl, sym, ap, ◌∙◌, subst, append-nil}
+use Rattle.std.proofs.Common.{◌≡◌, ℕ, List, [], ◌++◌, Some, None, Result, Ok, Err, refl, sym, ap, ◌∙◌, subst}
 use Rattle.std.specs.Prelude.{fold}
-use Rattle.btr_prog.specs.Answers.{Halt, Fault, Unread, Broke, Breaks, Follows, Names, no_part}
+use Rattle.btr_prog.specs.Answers.{Halt, Fault, Unread, Broke, Follows, Names, no_part}
 use Rattle.btr_prog.specs.Goes.{AfterTo, Goes}
 use Rattle.btr_prog.specs.Prog.{Mark, Run, run, prepend, after, and_then, steps_of, wants_of}
 use Rattle.btr_prog.specs.Quiet.{quiet}
-use Rattle.btr_prog.specs.Trying.{Trying, Done, attempt, try_then}
+use Rattle.btr_prog.specs.Trying.{Done, attempt, try_then}
 use Rattle.btr_prog.proofs.Follow.{breaks_longer, broke_here, follows_alone, follows_as, follows_behind, follows_halt}
 use Rattle.btr_prog.proofs.Successive.{calls_as, calls_none, calls_then}
 use Rattle.btr_rack.specs.Rack.{OnlyReads, Seen}
@@ -34,7 +34,7 @@ use Rattle.btr_restore.proofs.Emitting.{text_none}
 use Rattle.btr_restore.proofs.Goings.{if_both, if_map, if_some}
 use Rattle.btr_restore.proofs.Rans.{ran_wrote}
 use Rattle.btr_restore.proofs.Stopping.{cause_kept, outs_kept, outs_then, sinks_kept, sinks_then, stop_cause_since}
-use Rattle.btr_salvage.specs.Attempts.{ComesTo, TriesTo, Tries, on_value, value_then}
+use Rattle.btr_salvage.specs.Attempts.{TriesTo, Tries, on_value, value_then}
 use Rattle.btr_salvage.specs.Running.{Does, Ran}
 use Rattle.btr_salvage.specs.Salvaging.{Attempt, tries}
 use Rattle.btr_salvage.proofs.Attempts.{comes_some, tries_attempt, tries_then, tries_value}
@@ -48,14 +48,17 @@ Hands (Err Broke) x = ⊥
 
 module _ (Bs : ℕ → Map) (One Is : UnreadBlock → Want → Type 0) where
   -- an answer whose ending is known: all steps were done
-  all_done : {A : Type 0} (r : Run Want fate.Fault Step A) (done : List Step) (ans : Result A (Halt fate.Fault UnreadBlock)) (x : Result A fate.Fault) → Hands ans x → Follows One part [] r done ans → (done ≡ steps_of r.marks) × (r.ending ≡ x)
+  all_done : {A : Type 0} (r : Run Want fate.Fault Step A) (done : List Step) (ans : Result A (Halt fate.Fault UnreadBlock)) (x : Result A fate.Fault)
+      → Hands ans x → Follows One part [] r done ans → (done ≡ steps_of r.marks) × (r.ending ≡ x)
   all_done r done (Ok a) x h f = (f.0, f.1 ∙ sym h)
   all_done r done (Err (Fault e)) x h f = (f.0, f.1 ∙ sym h)
   all_done r done (Err (Unread u)) x h f = absurd h
   all_done r done (Err Broke) x h f = absurd h
 
   -- one, and then another by how it ended
-  pub tries_next : {A C : Type 0} (p : Attempt A) (h : Result A fate.Fault → Attempt C) (ans : Result A (Halt fate.Fault UnreadBlock)) (x : Result A fate.Fault) (done more : List Step) (last : Result C (Halt fate.Fault UnreadBlock)) → Hands ans x → Tries One part Bs p done ans → Tries Is part Bs (h x) more last → Tries Is part Bs (try_then p h) (done ++ more) last
+  pub tries_next : {A C : Type 0} (p : Attempt A) (h : Result A fate.Fault → Attempt C) (ans : Result A (Halt fate.Fault UnreadBlock))
+      (x : Result A fate.Fault) (done more : List Step) (last : Result C (Halt fate.Fault UnreadBlock)) → Hands ans x → Tries One part Bs p done ans
+      → Tries Is part Bs (h x) more last → Tries Is part Bs (try_then p h) (done ++ more) last
   tries_next p h ans x done more last hands one two =
       let q = one.0 in
       let r = two.0 in
@@ -67,7 +70,8 @@ module _ (Bs : ℕ → Map) (One Is : UnreadBlock → Want → Type 0) where
       )
 
   -- a block could not be read
-  pub tries_unread : {A C : Type 0} (p : Attempt A) (h : Result A fate.Fault → Attempt C) (u : UnreadBlock) (done : List Step) → Tries Is part Bs p done (Err (Unread u)) → Tries Is part Bs (try_then p h) done (Err (Unread u))
+  pub tries_unread : {A C : Type 0} (p : Attempt A) (h : Result A fate.Fault → Attempt C) (u : UnreadBlock) (done : List Step)
+      → Tries Is part Bs p done (Err (Unread u)) → Tries Is part Bs (try_then p h) done (Err (Unread u))
   tries_unread p h u done one =
       let q = one.0 in
       let s = comes_some Bs 0 (h q.ending) in (
@@ -76,12 +80,14 @@ module _ (Bs : ℕ → Map) (One Is : UnreadBlock → Want → Type 0) where
         breaks_longer no_part (λ ws. Names Is u ([] ++ ws)) q s.0 s.1 done one.2,
       )
 
-  -- .. or the first didn't come to a value
-  some_after : {A C : Type 0} (k : A → Attempt C) (ms : List (Mark Want Step)) (x : Result A fate.Fault) → AfterTo ms x (λ a. TriesTo Bs (k a)) (after ms x (λ a. let s = comes_some Bs 0 (k a) in run s.0 s.1))
+  -- the first didn't come to a value
+  some_after : {A C : Type 0} (k : A → Attempt C) (ms : List (Mark Want Step)) (x : Result A fate.Fault)
+      → AfterTo ms x (λ a. TriesTo Bs (k a)) (after ms x (λ a. let s = comes_some Bs 0 (k a) in run s.0 s.1))
   some_after k ms (Ok a) = let s = comes_some Bs 0 (k a) in (run s.0 s.1, refl, s.2)
   some_after k ms (Err f) = refl
 
-  pub tries_halt : {A C : Type 0} (p : Attempt A) (k : A → Attempt C) (halt : Halt fate.Fault UnreadBlock) (done : List Step) → Tries Is part Bs p done (Err halt) → Tries Is part Bs (value_then p k) done (Err halt)
+  pub tries_halt : {A C : Type 0} (p : Attempt A) (k : A → Attempt C) (halt : Halt fate.Fault UnreadBlock) (done : List Step)
+      → Tries Is part Bs p done (Err halt) → Tries Is part Bs (value_then p k) done (Err halt)
   tries_halt p k halt done one =
       let q = one.0 in
       let rest : _ → Run Want fate.Fault Step _ = λ a. let s = comes_some Bs 0 (k a) in run s.0 s.1 in (
@@ -91,18 +97,21 @@ module _ (Bs : ℕ → Map) (One Is : UnreadBlock → Want → Type 0) where
       )
 
   -- less may be said of the want that could not be read
-  pub tries_as : {A : Type 0} (p : Attempt A) (done : List Step) (ans : Result A (Halt fate.Fault UnreadBlock)) → ((u : UnreadBlock) (w : Want) → One u w → Is u w) → Tries One part Bs p done ans → Tries Is part Bs p done ans
+  pub tries_as : {A : Type 0} (p : Attempt A) (done : List Step) (ans : Result A (Halt fate.Fault UnreadBlock))
+      → ((u : UnreadBlock) (w : Want) → One u w → Is u w) → Tries One part Bs p done ans → Tries Is part Bs p done ans
   tries_as p done ans f h = (h.0, h.1, follows_as One Is f part [] h.0 done ans h.2)
 
 -- a program of restore as a part
-pub does_attempt : {A : Type 0} (layout : Layout) (p : Program Step A) (x y : Scene) (ans : Result A (Halt fate.Fault UnreadBlock)) → restoring.Does layout p x y ans → Does layout (attempt p) x y ans
+pub does_attempt : {A : Type 0} (layout : Layout) (p : Program Step A) (x y : Scene) (ans : Result A (Halt fate.Fault UnreadBlock))
+    → restoring.Does layout p x y ans → Does layout (attempt p) x y ans
 does_attempt layout p x y ans h = record {
   done = h.done;
   sink = h.sink;
   text = h.text;
   content = record {
     calls = calls_as (λ sure held f.
-        if_map (λ images. Goes (unread_by layout x.rack y.rack) part [] (maps_of layout sure images) p h.done ans) (λ images. Tries (unread_by layout x.rack y.rack) part (maps_of layout sure images) (attempt p) h.done ans) held
+        if_map (λ images. Goes (unread_by layout x.rack y.rack) part [] (maps_of layout sure images) p h.done ans)
+        (λ images. Tries (unread_by layout x.rack y.rack) part (maps_of layout sure images) (attempt p) h.done ans) held
         (λ images g. (g.0, tries_attempt (maps_of layout sure images) p g.0 g.1, g.2)) f) h.content.calls;
   };
 }
@@ -119,12 +128,14 @@ ran_of p x y r h = record {
 }
 
 -- calls that only write
-pub ran_writes : {A : Type 0} (p : Program Step A) (rack : Seen) (vol : Volume) (x y : Outside) (r : Result A TheStop) → IsReady rack vol → Wrote p x y r → Ran (attempt p) (world rack vol x) (world rack vol y) r
+pub ran_writes : {A : Type 0} (p : Program Step A) (rack : Seen) (vol : Volume) (x y : Outside) (r : Result A TheStop) → IsReady rack vol → Wrote p x y r
+    → Ran (attempt p) (world rack vol x) (world rack vol y) r
 ran_writes p rack vol x y r ready w = ran_of p (world rack vol x) (world rack vol y) r (ran_wrote p rack vol x y r ready w)
 
 -- one call, and then another by how it ended
 module _ {A C : Type 0} (layout layout' : Layout) (same : layout' ≡ layout) (p : Attempt A) (h : Result A fate.Fault → Attempt C) (x y z : Scene) where
-  pub does_next : (ans : Result A (Halt fate.Fault UnreadBlock)) (v : Result A fate.Fault) (last : Result C (Halt fate.Fault UnreadBlock)) → Hands ans v → OnlyReads x.rack y.rack → Does layout p x y ans → Does layout' (h v) y z last → Does layout (try_then p h) x z last
+  pub does_next : (ans : Result A (Halt fate.Fault UnreadBlock)) (v : Result A fate.Fault) (last : Result C (Halt fate.Fault UnreadBlock)) → Hands ans v
+      → OnlyReads x.rack y.rack → Does layout p x y ans → Does layout' (h v) y z last → Does layout (try_then p h) x z last
   does_next ans v last hands reads one two =
       let t = subst (λ (l : Layout). Does l (h v) y z last) same two in
       record {
@@ -133,9 +144,13 @@ module _ {A C : Type 0} (layout layout' : Layout) (same : layout' ≡ layout) (p
         text = t.text ∙ (ap (λ u. text_after u t.done) one.text ∙ text_then x.text one.done t.done);
         content = record {
           calls = calls_then (λ sure held f f'.
-              if_both (λ images. Tries (unread_by layout x.rack y.rack) part (maps_of layout sure images) p one.done ans) (λ images. Tries (unread_by layout y.rack z.rack) part (maps_of layout sure images) (h v) t.done last) (λ images. Tries (unread_by layout x.rack z.rack) part (maps_of layout sure images) (try_then p h) (one.done ++ t.done) last) held
-              (λ images g g'. tries_next (maps_of layout sure images) (unread_by layout x.rack y.rack) (unread_by layout x.rack z.rack) p h ans v one.done t.done last hands g
-              (tries_as (maps_of layout sure images) (unread_by layout y.rack z.rack) (unread_by layout x.rack z.rack) (h v) t.done last (λ u w i. since layout layout refl reads u w i) g')) f f')
+              if_both (λ images. Tries (unread_by layout x.rack y.rack) part (maps_of layout sure images) p one.done ans)
+              (λ images. Tries (unread_by layout y.rack z.rack) part (maps_of layout sure images) (h v) t.done last)
+              (λ images. Tries (unread_by layout x.rack z.rack) part (maps_of layout sure images) (try_then p h) (one.done ++ t.done) last) held
+              (λ images g g'. tries_next (maps_of layout sure images) (unread_by layout x.rack y.rack)
+              (unread_by layout x.rack z.rack) p h ans v one.done t.done last hands g
+              (tries_as (maps_of layout sure images) (unread_by layout y.rack z.rack) (unread_by layout x.rack z.rack) (h v) t.done last
+              (λ u w i. since layout layout refl reads u w i) g')) f f')
               one.content.calls t.content.calls;
         };
       }
@@ -147,8 +162,10 @@ module _ {A C : Type 0} (layout layout' : Layout) (same : layout' ≡ layout) (p
     text = one.text;
     content = record {
       calls = calls_as (λ sure held f.
-          if_map (λ images. Tries (unread_by layout x.rack y.rack) part (maps_of layout sure images) p one.done (Err (Unread u))) (λ images. Tries (unread_by layout x.rack y.rack) part (maps_of layout sure images) (try_then p h) one.done (Err (Unread u))) held
-          (λ images g. tries_unread (maps_of layout sure images) (unread_by layout x.rack y.rack) (unread_by layout x.rack y.rack) p h u one.done g) f) one.content.calls;
+          if_map (λ images. Tries (unread_by layout x.rack y.rack) part (maps_of layout sure images) p one.done (Err (Unread u)))
+          (λ images. Tries (unread_by layout x.rack y.rack) part (maps_of layout sure images) (try_then p h) one.done (Err (Unread u))) held
+          (λ images g. tries_unread (maps_of layout sure images) (unread_by layout x.rack y.rack) (unread_by layout x.rack y.rack) p h u one.done g) f)
+          one.content.calls;
     };
   }
 
@@ -160,19 +177,24 @@ module _ {A C : Type 0} (layout : Layout) (p : Attempt A) (k : A → Attempt C) 
     text = one.text;
     content = record {
       calls = calls_as (λ sure held f.
-          if_map (λ images. Tries (unread_by layout x.rack y.rack) part (maps_of layout sure images) p one.done (Err halt)) (λ images. Tries (unread_by layout x.rack y.rack) part (maps_of layout sure images) (value_then p k) one.done (Err halt)) held
-          (λ images g. tries_halt (maps_of layout sure images) (unread_by layout x.rack y.rack) (unread_by layout x.rack y.rack) p k halt one.done g) f) one.content.calls;
+          if_map (λ images. Tries (unread_by layout x.rack y.rack) part (maps_of layout sure images) p one.done (Err halt))
+          (λ images. Tries (unread_by layout x.rack y.rack) part (maps_of layout sure images) (value_then p k) one.done (Err halt)) held
+          (λ images g. tries_halt (maps_of layout sure images) (unread_by layout x.rack y.rack) (unread_by layout x.rack y.rack) p k halt one.done g) f)
+          one.content.calls;
     };
   }
 
 -- calls with their causes
 module _ {A C : Type 0} (p : Attempt A) (h : Result A fate.Fault → Attempt C) (x y z : World) where
-  next_by : (ans : Result A TheStop) (v : Result A fate.Fault) (r : Result C TheStop) → Hands (ended ans) v → SinkCounts {A = Unit {0}} x.out.sink_calls y.out.sink_calls (Ok (tt {0})) → OutCounts {A = Unit {0}} x.out.out_calls y.out.out_calls (Ok (tt {0})) → Ran p x y ans → Ran (h v) y z r → Ran (try_then p h) x z r
+  next_by : (ans : Result A TheStop) (v : Result A fate.Fault) (r : Result C TheStop) → Hands (ended ans) v
+      → SinkCounts {A = Unit {0}} x.out.sink_calls y.out.sink_calls (Ok (tt {0})) → OutCounts {A = Unit {0}} x.out.out_calls y.out.out_calls (Ok (tt {0}))
+      → Ran p x y ans → Ran (h v) y z r → Ran (try_then p h) x z r
   next_by ans v r hands sinks outs one two = record {
     reads = reads_then one.reads two.reads;
     volume = same_then one.volume two.volume;
     ready = two.ready;
-    did = does_next x.vol.store.layout y.vol.store.layout one.volume.store.layout p h (scene_of x) (scene_of y) (scene_of z) (ended ans) v (ended r) hands one.reads one.did two.did;
+    did = does_next x.vol.store.layout y.vol.store.layout one.volume.store.layout p h (scene_of x) (scene_of y) (scene_of z) (ended ans) v
+        (ended r) hands one.reads one.did two.did;
     cause = stop_cause_since z.rack x.vol.store.layout y.vol.store.layout r one.volume.store.layout one.reads two.cause;
     sink_calls = sinks_then x.out.sink_calls y.out.sink_calls z.out.sink_calls (tt {0}) r sinks two.sink_calls;
     out_calls = outs_then x.out.out_calls y.out.out_calls z.out.out_calls (tt {0}) r outs two.out_calls;
@@ -189,14 +211,17 @@ module _ {A C : Type 0} (p : Attempt A) (h : Result A fate.Fault → Attempt C) 
   hands_fault (tree.Crosses a) fault e = cc
   hands_fault (tree.Malformed a) fault e = cc
 
-  -- .. by a fault of a block that can't be had
-  pub ran_caught : (f : TreeFault) (fault : fate.Fault) (r : Result C TheStop) → reason f ≡ Some fault → Ran p x y (Err (stop.Tree f)) → Ran (h (Err fault)) y z r → Ran (try_then p h) x z r
+  -- on by a fault of a block that can't be had
+  pub ran_caught : (f : TreeFault) (fault : fate.Fault) (r : Result C TheStop) → reason f ≡ Some fault → Ran p x y (Err (stop.Tree f))
+      → Ran (h (Err fault)) y z r → Ran (try_then p h) x z r
   ran_caught f fault r e one two = next_by (Err (stop.Tree f)) (Err fault) r (hands_fault f fault e) one.sink_calls one.out_calls one two
 
   -- a block could not be read
-  unread_so : (f : TreeFault) → reason f ≡ None → Does x.vol.store.layout p (scene_of x) (scene_of y) (Err (halt_of f)) → Does x.vol.store.layout (try_then p h) (scene_of x) (scene_of y) (Err (halt_of f))
+  unread_so : (f : TreeFault) → reason f ≡ None → Does x.vol.store.layout p (scene_of x) (scene_of y) (Err (halt_of f))
+      → Does x.vol.store.layout (try_then p h) (scene_of x) (scene_of y) (Err (halt_of f))
   unread_so (tree.Lost a) e d = cc
-  unread_so (tree.Unread a slot) e d = does_unread x.vol.store.layout x.vol.store.layout refl p h (scene_of x) (scene_of y) (scene_of z) (record { addr = a; slot = slot }) d
+  unread_so (tree.Unread a slot) e d = does_unread x.vol.store.layout x.vol.store.layout refl p h (scene_of x) (scene_of y) (scene_of z)
+      (record { addr = a; slot = slot }) d
   unread_so (tree.Unmapped a) e d = cc
   unread_so (tree.Crosses a) e d = cc
   unread_so (tree.Malformed a) e d = cc
@@ -238,7 +263,8 @@ ran_value a x ready = record {
     sink = refl;
     text = text_none x.out.text;
     content = record {
-      calls = calls_none (λ sure. if_some (λ images. Tries (unread_by x.vol.store.layout x.rack x.rack) part (maps_of x.vol.store.layout sure images) (Done (Ok a)) [] (Ok a)) x.rack.held (λ images. (run [] (Ok a), (refl, refl), (refl, refl))));
+      calls = calls_none (λ sure. if_some (λ images. Tries (unread_by x.vol.store.layout x.rack x.rack) part (maps_of x.vol.store.layout sure images)
+          (Done (Ok a)) [] (Ok a)) x.rack.held (λ images. (run [] (Ok a), (refl, refl), (refl, refl))));
     };
   };
   cause = tt;
@@ -247,7 +273,8 @@ ran_value a x ready = record {
 }
 
 -- want of memory, before anything was done
-pub ran_memory : {A : Type 0} (p : Attempt A) (rack : Seen) (vol : Volume) (x : Outside) → IsReady rack vol → Ran p (world rack vol x) (world rack vol x) (Err stop.Memory)
+pub ran_memory : {A : Type 0} (p : Attempt A) (rack : Seen) (vol : Volume) (x : Outside) → IsReady rack vol
+    → Ran p (world rack vol x) (world rack vol x) (Err stop.Memory)
 ran_memory {A} p rack vol x ready =
     let layout = vol.store.layout in
     record {
@@ -260,7 +287,8 @@ ran_memory {A} p rack vol x ready =
         text = text_none x.text;
         content = record {
           calls = calls_none (λ sure. if_some (λ images. Tries (unread_by layout rack rack) part (maps_of layout sure images) p [] (Err Broke)) rack.held
-              (λ images. let s = comes_some (maps_of layout sure images) 0 p in (run s.0 s.1, s.2, broke_here (unread_by layout rack rack) part [] (run s.0 s.1))));
+              (λ images. let s = comes_some (maps_of layout sure images) 0 p in
+              (run s.0 s.1, s.2, broke_here (unread_by layout rack rack) part [] (run s.0 s.1))));
         };
       };
       cause = tt;
@@ -270,7 +298,8 @@ ran_memory {A} p rack vol x ready =
 
 -- a lookup of restore, and then a program by its value; or its stop
 module _ {A C : Type 0} (p : Lookup A) (k : A → Attempt C) (x y : World) (result : Result A TheStop) where
-  pub finds_then : (z : World) (a : A) (r : Result C TheStop) → running.Ran (quiet p) x y result → result ≡ Ok a → Ran (k a) y z r → Ran (value_then (tries p) k) x z r
+  pub finds_then : (z : World) (a : A) (r : Result C TheStop) → running.Ran (quiet p) x y result → result ≡ Ok a → Ran (k a) y z r
+      → Ran (value_then (tries p) k) x z r
   finds_then z a r h e g = ran_then (tries p) k x y z a r (ran_of (quiet p) x y (Ok a) (subst (λ (b : Result A TheStop). running.Ran (quiet p) x y b) e h)) g
 
   pub finds_halt : (s : TheStop) → running.Ran (quiet p) x y result → result ≡ Err s → Ran (value_then (tries p) k) x y (Err s)

@@ -1,14 +1,14 @@
 -- A file is read piece by piece, of which none is put.
-use Rattle.std.proofs.Common.{◌≡◌, ℕ, List, [], ◌∷◌, ◌++◌, Option, Some, None, Result, Ok, Err, refl, sym, ap, ◌∙◌, subst, append-nil}
+use Rattle.std.proofs.Common.{◌≡◌, ℕ, List, [], ◌∷◌, ◌++◌, Option, Some, None, Result, Ok, Err, refl, sym, ◌∙◌, subst, append-nil}
 use Rattle.btr_base.specs.declared.kind.SumKind.{SumKind}
 use Rattle.btr_prog.specs.Answers.{Halt, Follows, no_part}
 use Rattle.btr_prog.specs.Goes.{Goes, GoesTo}
-use Rattle.btr_prog.specs.Prog.{Does, Run, run, first, prepend, steps_of, wants_of, want_marks}
+use Rattle.btr_prog.specs.Prog.{Does, Run, run, steps_of, wants_of, want_marks}
 use Rattle.btr_prog.proofs.Follow.{follows_as}
-use Rattle.btr_prog.proofs.Runs.{steps_of-append, wants_of-append, prepend-prepend}
+use Rattle.btr_prog.proofs.Runs.{wants_of-append, prepend-prepend}
 use Rattle.btr_prog.proofs.SoFars.{SoFar, so_far_none, so_far_more, so_far_ends}
 use Rattle.btr_prog.proofs.Successive.{calls_as, calls_none}
-use Rattle.btr_prog.proofs.Tries.{steps_of-marks, wants_of-marks}
+use Rattle.btr_prog.proofs.Tries.{wants_of-marks}
 use Rattle.btr_rack.specs.Rack.{OnlyReads, Seen}
 use Rattle.btr_read.specs.Fate.{Fault}
 use Rattle.btr_read.specs.Layout.{Layout}
@@ -33,7 +33,7 @@ use Rattle.btr_listing.specs.Step.{Step, part}
 use Rattle.btr_listing.proofs.Looking.{reads_self, reads_then, room_kept}
 use Rattle.btr_restore.specs.Listing.{maps_of}
 use Rattle.btr_restore.specs.Restoring.{OutCounts, SinkCounts, StopCause, ended}
-use Rattle.btr_restore.specs.Running.{IsReady, Outside, scene_of, world}
+use Rattle.btr_restore.specs.Running.{IsReady, Outside, world}
 use Rattle.btr_restore.proofs.Emitting.{text_none}
 use Rattle.btr_restore.proofs.Goings.{if_map, if_some}
 use Rattle.btr_restore.proofs.Listings.{all_of, both_all}
@@ -60,7 +60,8 @@ module _ (Bs : ℕ → Map) (whole : Program Piece (Unit {0})) (kind : SumKind) 
     pub left_next : (file' : FileBytes) (piece : Piece) → GivesPiece kind Bs l.seen file file' piece → LeftToRead whole kind Bs file'
     left_next file' piece g =
         let ms = want_marks g.past ++ (Does piece ∷ []) in
-        let wants : wants_of ms ≡ g.past = wants_of-append (want_marks g.past) (Does piece ∷ []) ∙ append-nil (wants_of (want_marks {S = Piece} g.past)) ∙ wants_of-marks Piece g.past in
+        let wants : wants_of ms ≡ g.past = wants_of-append (want_marks g.past) (Does piece ∷ []) ∙ append-nil (wants_of (want_marks {S = Piece} g.past))
+        ∙ wants_of-marks Piece g.past in
         let more = so_far_more Whole (FileGoes kind Bs file) (FileGoes kind Bs file') l.seen l.past ms
         (λ q h. subst (FileGoes kind Bs file) (prepend-prepend (want_marks g.past) (Does piece ∷ []) q) (g.goes q h)) l.so_far in
         record {
@@ -71,17 +72,20 @@ module _ (Bs : ℕ → Map) (whole : Program Piece (Unit {0})) (kind : SumKind) 
         }
 
     -- the file came to its end, or to a fault
-    pub left_ends : (Is : UnreadBlock → Want → Type 0) (ans : Result (Unit {0}) (Halt Fault UnreadBlock)) → EndsBy kind Is Bs l.seen file ans → Goes Is no_part [] Bs whole l.past ans
+    pub left_ends : (Is : UnreadBlock → Want → Type 0) (ans : Result (Unit {0}) (Halt Fault UnreadBlock)) → EndsBy kind Is Bs l.seen file ans
+        → Goes Is no_part [] Bs whole l.past ans
     left_ends Is ans e =
         subst (λ (x : List Piece). Goes Is no_part [] Bs whole x ans) (append-nil l.past)
         (so_far_ends Is no_part Whole (FileGoes kind Bs file) l.seen l.past [] ans l.so_far e)
 
 -- facts of calls in a row, over one layout
-all_then : (layout : Layout) (a b c : Seen) (P Q R : (ℕ → Map) → Type 0) → ((Bs : ℕ → Map) → P Bs → Q Bs → R Bs) → TellsAll layout a b P → TellsAll layout b c Q → TellsAll layout a c R
+all_then : (layout : Layout) (a b c : Seen) (P Q R : (ℕ → Map) → Type 0) → ((Bs : ℕ → Map) → P Bs → Q Bs → R Bs) → TellsAll layout a b P
+    → TellsAll layout b c Q → TellsAll layout a c R
 all_then layout a b c P Q R f one two = all_of layout a c R (both_all layout a b c (λ B Bs. P Bs) Q (λ B Bs. R Bs) (λ B Bs z p q. f Bs p q) one.calls two)
 
 -- the reading of a file, call by call
-module _ (whole : Program Piece (Unit {0})) (start : Seen) (began : Volume) (old : Seen) (vol : Volume) (file file' : FileBytes) (rack : Seen) (after : Volume) (l : IsPassing whole start began old vol file) (reads : OnlyReads old rack) where
+module _ (whole : Program Piece (Unit {0})) (start : Seen) (began : Volume) (old : Seen) (vol : Volume) (file file' : FileBytes) (rack : Seen) (after : Volume)
+    (l : IsPassing whole start began old vol file) (reads : OnlyReads old rack) where
   abbrev layout : Layout
   layout = began.store.layout
 
@@ -97,8 +101,10 @@ module _ (whole : Program Piece (Unit {0})) (start : Seen) (began : Volume) (old
   same_layout : vol.store.layout ≡ layout
   same_layout = sym (base_layout vol.store file.loan) ∙ l.others.layout
 
-  over : (result : Result (Option Lending) TreeFault) → TellsAll vol.store.layout old rack (Next vol.store.layout vol.sup result) → TellsAll layout old rack (Next layout began.sup result)
-  over result t = subst (λ (v : Super). TellsAll layout old rack (Next layout v result)) l.sup (subst (λ (L : Layout). TellsAll L old rack (Next L vol.sup result)) same_layout t)
+  over : (result : Result (Option Lending) TreeFault) → TellsAll vol.store.layout old rack (Next vol.store.layout vol.sup result)
+      → TellsAll layout old rack (Next layout began.sup result)
+  over result t = subst (λ (v : Super). TellsAll layout old rack (Next layout v result)) l.sup
+      (subst (λ (L : Layout). TellsAll L old rack (Next L vol.sup result)) same_layout t)
 
   earlier : (u : UnreadBlock) (w : Want) → unread_by layout old rack u w → unread_by layout start rack u w
   earlier u w i = since layout layout refl l.reads u w i
@@ -106,17 +112,24 @@ module _ (whole : Program Piece (Unit {0})) (start : Seen) (began : Volume) (old
   apart : SameLoans (without_file vol.store file) (without_file after.store file') → SameLoans began.store (without_file after.store file')
   apart o = record { layout = o.layout ∙ l.others.layout; loans = o.loans ∙ l.others.loans }
 
-  streamed : (result other : Result (Option Lending) TreeFault) → result ≡ other → Streamed vol after file file' old rack result → Streamed vol after file file' old rack other
+  streamed : (result other : Result (Option Lending) TreeFault) → result ≡ other → Streamed vol after file file' old rack result
+      → Streamed vol after file file' old rack other
   streamed result other e n = subst (λ r. Streamed vol after file file' old rack r) e n
 
   abbrev Ends : Result (Unit {0}) TreeFault → (ℕ → Map) → Type 0
   Ends answer Bs = (past : List Piece) × Goes (unread_by layout start rack) no_part [] Bs whole past (answer_of answer)
 
-  end_by : (ans : Result (Unit {0}) (Halt Fault UnreadBlock)) (Bs : ℕ → Map) (p : Was Bs) → EndsBy kind (unread_by layout old rack) Bs p.seen file ans → (past : List Piece) × Goes (unread_by layout start rack) no_part [] Bs whole past ans
-  end_by ans Bs p e = (p.past, left_ends Bs whole kind file p (unread_by layout start rack) ans (e.0, e.1, follows_as (unread_by layout old rack) (unread_by layout start rack) earlier no_part p.seen e.0 [] ans e.2))
+  end_by : (ans : Result (Unit {0}) (Halt Fault UnreadBlock)) (Bs : ℕ → Map) (p : Was Bs) → EndsBy kind (unread_by layout old rack) Bs p.seen file ans
+      → (past : List Piece) × Goes (unread_by layout start rack) no_part [] Bs whole past ans
+  end_by ans Bs p e = (
+    p.past,
+    left_ends Bs whole kind file p (unread_by layout start rack) ans
+        (e.0, e.1, follows_as (unread_by layout old rack) (unread_by layout start rack) earlier no_part p.seen e.0 [] ans e.2),
+  )
 
   -- it came to a fault
-  pub passing_fault : (f : TreeFault) (result : Result (Option Lending) TreeFault) → result ≡ Err f → Streamed vol after file file' old rack result → HasCause {A = Option Lending} vol.store.layout old rack (Err f) → WasPassed whole start began rack after file' (Err f)
+  pub passing_fault : (f : TreeFault) (result : Result (Option Lending) TreeFault) → result ≡ Err f → Streamed vol after file file' old rack result
+      → HasCause {A = Option Lending} vol.store.layout old rack (Err f) → WasPassed whole start began rack after file' (Err f)
   passing_fault f result is m cause =
       let n = streamed result (Err f) is m in
       record {
@@ -125,11 +138,13 @@ module _ (whole : Program Piece (Unit {0})) (start : Seen) (began : Volume) (old
         others = apart n.others;
         reading = n.reading;
         cause = cause_since rack layout vol.store.layout f same_layout l.reads cause;
-        content = all_then layout start old rack Was (Next layout began.sup (Err f)) (Ends (Err f)) (λ Bs p q. end_by (Err (halt_of f)) Bs p (q p.seen p.on)) l.content (over (Err f) n.content);
+        content = all_then layout start old rack Was (Next layout began.sup (Err f)) (Ends (Err f))
+            (λ Bs p q. end_by (Err (halt_of f)) Bs p (q p.seen p.on)) l.content (over (Err f) n.content);
       }
 
-  -- .. or to its end
-  pub passing_end : (result : Result (Option Lending) TreeFault) → result ≡ Ok None → Streamed vol after file file' old rack result → WasPassed whole start began rack after file' (Ok tt)
+  -- it was read to its end
+  pub passing_end : (result : Result (Option Lending) TreeFault) → result ≡ Ok None → Streamed vol after file file' old rack result
+      → WasPassed whole start began rack after file' (Ok tt)
   passing_end result is m =
       let n = streamed result (Ok None) is m in
       record {
@@ -138,11 +153,13 @@ module _ (whole : Program Piece (Unit {0})) (start : Seen) (began : Volume) (old
         others = apart n.others;
         reading = n.reading;
         cause = tt;
-        content = all_then layout start old rack Was (Next layout began.sup (Ok None)) (Ends (Ok tt)) (λ Bs p q. end_by (Ok tt) Bs p (q p.seen p.on)) l.content (over (Ok None) n.content);
+        content = all_then layout start old rack Was (Next layout began.sup (Ok None)) (Ends (Ok tt)) (λ Bs p q. end_by (Ok tt) Bs p (q p.seen p.on)) l.content
+            (over (Ok None) n.content);
       }
 
-  -- .. or a piece was given
-  pub passing_on : (piece : Lending) (result : Result (Option Lending) TreeFault) → result ≡ Ok (Some piece) → Streamed vol after file file' old rack result → IsPassing whole start began rack after file'
+  -- a piece was given
+  pub passing_on : (piece : Lending) (result : Result (Option Lending) TreeFault) → result ≡ Ok (Some piece) → Streamed vol after file file' old rack result
+      → IsPassing whole start began rack after file'
   passing_on piece result is m =
       let n = streamed result (Ok (Some piece)) is m in
       record {
@@ -150,11 +167,13 @@ module _ (whole : Program Piece (Unit {0})) (start : Seen) (began : Volume) (old
         sup = n.sup ∙ l.sup;
         others = apart n.others;
         reading = n.reading;
-        content = all_then layout start old rack Was (Next layout began.sup (Ok (Some piece))) (λ Bs. LeftToRead whole kind Bs file') (λ Bs p q. left_next Bs whole kind file p file' (piece_of piece) (q p.seen p.on)) l.content (over (Ok (Some piece)) n.content);
+        content = all_then layout start old rack Was (Next layout began.sup (Ok (Some piece))) (λ Bs. LeftToRead whole kind Bs file')
+            (λ Bs p q. left_next Bs whole kind file p file' (piece_of piece) (q p.seen p.on)) l.content (over (Ok (Some piece)) n.content);
       }
 
 -- a file begins
-pub passing_first : (rack : Seen) (vol : Volume) (file : FileBytes) (p : Program Piece (Unit {0})) → IsReading rack vol.store file → without_file vol.store file ≡ vol.store → Begins (kind_in vol.sup) file p → ((B : Map) → IsFileOn B [] file) → IsPassing p rack vol rack vol file
+pub passing_first : (rack : Seen) (vol : Volume) (file : FileBytes) (p : Program Piece (Unit {0})) → IsReading rack vol.store file
+    → without_file vol.store file ≡ vol.store → Begins (kind_in vol.sup) file p → ((B : Map) → IsFileOn B [] file) → IsPassing p rack vol rack vol file
 passing_first rack vol file p reading same begins on = record {
   reads = reads_self rack;
   sup = refl;
@@ -166,7 +185,7 @@ passing_first rack vol file p reading same begins on = record {
   };
 }
 
--- .. and is given back
+-- a file is given back
 module _ (p : Program Piece (Unit {0})) (rack : Seen) (vol : Volume) (now : Seen) (mid after : Volume) (file : FileBytes) (x : Outside) where
   ended_so : (r : Result (Unit {0}) TreeFault) → answer_of r ≡ ended (stopped r)
   ended_so (Ok u) = refl
@@ -179,9 +198,14 @@ module _ (p : Program Piece (Unit {0})) (rack : Seen) (vol : Volume) (now : Seen
   abbrev only_wants : Run Want Fault Piece (Unit {0}) → Run Want Fault Step (Unit {0})
   only_wants r = run (want_marks (wants_of r.marks)) r.ending
 
-  pub passing_over : (r : Result (Unit {0}) TreeFault) → IsReady rack vol → WasPassed p rack vol now mid file r → after.sup ≡ mid.sup → SameLoans (without_file mid.store file) after.store → Serves now after.store → Ran (ending_of p) (world rack vol x) (world now after x) (stopped r)
+  pub passing_over : (r : Result (Unit {0}) TreeFault) → IsReady rack vol → WasPassed p rack vol now mid file r → after.sup ≡ mid.sup
+      → SameLoans (without_file mid.store file) after.store → Serves now after.store → Ran (ending_of p) (world rack vol x) (world now after x) (stopped r)
   passing_over r ready w sup back serves =
-      let same : SameVolume vol after = record { sup = sup ∙ w.sup; store = record { layout = back.layout ∙ w.others.layout; loans = back.loans ∙ w.others.loans } } in
+      let same : SameVolume vol after = record {
+        sup = sup ∙ w.sup;
+        store = record
+            { layout = back.layout ∙ w.others.layout; loans = back.loans ∙ w.others.loans };
+      } in
       let layout = vol.store.layout in
       record {
         reads = w.reads;
@@ -193,11 +217,13 @@ module _ (p : Program Piece (Unit {0})) (rack : Seen) (vol : Volume) (now : Seen
           text = text_none x.text;
           content = record {
             calls = calls_as (λ sure held f.
-                if_map (λ images. (past : List Piece) × Goes (unread_by layout rack now) no_part [] (maps_of layout sure images) p past (answer_of r)) (λ images. Tries (unread_by layout rack now) part (maps_of layout sure images) (ending_of p) [] (ended (stopped r))) held
+                if_map (λ images. (past : List Piece) × Goes (unread_by layout rack now) no_part [] (maps_of layout sure images) p past (answer_of r))
+                (λ images. Tries (unread_by layout rack now) part (maps_of layout sure images) (ending_of p) [] (ended (stopped r))) held
                 (λ images g. (
                   only_wants g.1.0,
                   tries_ending Step (maps_of layout sure images) p g.1.0 g.1.1,
-                  subst (λ a. Follows (unread_by layout rack now) part [] (only_wants g.1.0) [] a) (ended_so r) (follows_wants (unread_by layout rack now) part no_part [] g.1.0 g.0 (answer_of r) g.1.2),
+                  subst (λ a. Follows (unread_by layout rack now) part [] (only_wants g.1.0) [] a) (ended_so r)
+                      (follows_wants (unread_by layout rack now) part no_part [] g.1.0 g.0 (answer_of r) g.1.2),
                 )) f) w.content.calls;
           };
         };

@@ -23,19 +23,22 @@ use Rattle.btr_salvage.specs.Attempts.{Tries}
 use Rattle.btr_salvage.specs.Running.{Does, Ran}
 use Rattle.btr_salvage.specs.Salvaging.{Attempt}
 
-does_broken : {A : Type 0} (layout : Layout) (p : Attempt A) (x y : Scene) (answer : Result A (Halt fate.Fault UnreadBlock)) → Does layout p x y answer → Does layout p x y (Err Broke)
+does_broken : {A : Type 0} (layout : Layout) (p : Attempt A) (x y : Scene) (answer : Result A (Halt fate.Fault UnreadBlock)) → Does layout p x y answer
+    → Does layout p x y (Err Broke)
 does_broken layout p x y answer h = record {
   done = h.done;
   sink = h.sink;
   text = h.text;
   content = record {
     calls = calls_as (λ sure held f.
-        if_map (λ images. Tries (unread_by layout x.rack y.rack) part (maps_of layout sure images) p h.done answer) (λ images. Tries (unread_by layout x.rack y.rack) part (maps_of layout sure images) p h.done (Err Broke)) held
+        if_map (λ images. Tries (unread_by layout x.rack y.rack) part (maps_of layout sure images) p h.done answer)
+        (λ images. Tries (unread_by layout x.rack y.rack) part (maps_of layout sure images) p h.done (Err Broke)) held
         (λ images g. (g.0, g.1, broken (unread_by layout x.rack y.rack) g.0 h.done answer g.2)) f) h.content.calls;
   };
 }
 
-module _ {A : Type 0} (p : Attempt A) (x : World) (rack : Seen) (vol : Volume) (sink : Sink) (before after : CallAccount) (text : Option (List ℕ)) (out_calls : CallAccount) where
+module _ {A : Type 0} (p : Attempt A) (x : World) (rack : Seen) (vol : Volume) (sink : Sink) (before after : CallAccount) (text : Option (List ℕ))
+    (out_calls : CallAccount) where
   abbrev At : CallAccount → TheStop → Type 0
   At calls s = Ran p x (world rack vol (outside sink calls text out_calls)) (Err s)
 
@@ -53,7 +56,8 @@ module _ {A : Type 0} (p : Attempt A) (x : World) (rack : Seen) (vol : Volume) (
   -- a call did the steps of a program, and what waited was stored before its stop is answered
   pub ran_settled : (s result : TheStop) (sink' : Sink) → sink' ≡ sink → Settles s before after result → At before s
       → Ran p x (world rack vol (outside sink' after text out_calls)) (Err result)
-  ran_settled s result sink' same settles h = subst (λ (k : Sink). Ran p x (world rack vol (outside k after text out_calls)) (Err result)) (sym same) (of settles)
+  ran_settled s result sink' same settles h = subst (λ (k : Sink). Ran p x (world rack vol (outside k after text out_calls)) (Err result)) (sym same)
+      (of settles)
     where
       of : Settles s before after result → At after result
       of (inl e) = subst (λ (r : TheStop). At after r) (sym e.0) (subst (λ (c : CallAccount). At c s) (sym e.1) h)

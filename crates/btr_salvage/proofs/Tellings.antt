@@ -5,10 +5,9 @@ use Rattle.btr_prog.specs.Prog.{Emit, Return}
 use Rattle.btr_rack.specs.Out.{Adds, CallAccount, Counts}
 use Rattle.btr_rack.specs.Sink.{Sink}
 use Rattle.btr_rack.specs.declared.error.SinkError.{SinkError}
-use Rattle.btr_volume.specs.Lookup.{Program}
 use Rattle.btr_volume.specs.declared.stop.Stop.{Stop as TheStop}
 use Rattle.btr_listing.specs.Lines.{more}
-use Rattle.btr_listing.specs.Step.{Step, Line}
+use Rattle.btr_listing.specs.Step.{Line}
 use Rattle.btr_restore.specs.Restoring.{Emits, stops_out}
 use Rattle.btr_restore.specs.Running.{Wrote, outside}
 use Rattle.btr_restore.proofs.Emitting.{as_out, breaks_line, emits_line}
@@ -24,8 +23,9 @@ module _ {A : Type 0} (text : List ℕ) (sink : Sink) (sink_calls : CallAccount)
   pub wrote_line : (a : A) → Adds told told' text → calls' ≡ calls → Puts a (Ok a)
   wrote_line a h k = record { did = emits_line text a sink told told' h; sink_calls = refl; out_calls = k; stops = tt }
 
-  -- .. or not wholly
-  pub broke_line : (T : Type 0) (a : A) (s : TheStop) (e : SinkError) → s ≡ stops_out e → ((n : ℕ) × Adds told told' (take n text)) → Counts {T = T} calls calls' (Err e) → Puts a (Err s)
+  -- it was not put wholly
+  pub broke_line : (T : Type 0) (a : A) (s : TheStop) (e : SinkError) → s ≡ stops_out e → ((n : ℕ) × Adds told told' (take n text))
+      → Counts {T = T} calls calls' (Err e) → Puts a (Err s)
   broke_line T a s e is h k = record {
     did = as_out (λ answer. Emits (Emit (Line text) (Return a)) sink sink told told' answer) s e is (breaks_line text (Return a) sink told told' h);
     sink_calls = sinks_of_out A sink_calls s e is;
@@ -33,6 +33,8 @@ module _ {A : Type 0} (text : List ℕ) (sink : Sink) (sink_calls : CallAccount)
     stops = out_stops A s e is;
   }
 
-  -- .. and counted
-  pub wrote_count : (f : Salvaged → A) (so_far : Salvaged) (n : ℕ) → n ≡ more so_far.broken → Adds told told' text → calls' ≡ calls → Puts (f (with_broken so_far)) (Ok (f (salvaged so_far.counts n)))
-  wrote_count f so_far n is h k = subst (λ m. Puts (f (with_broken so_far)) (Ok (f (salvaged so_far.counts m)))) (sym is) (wrote_line (f (with_broken so_far)) h k)
+  -- it was put and counted
+  pub wrote_count : (f : Salvaged → A) (so_far : Salvaged) (n : ℕ) → n ≡ more so_far.broken → Adds told told' text → calls' ≡ calls
+      → Puts (f (with_broken so_far)) (Ok (f (salvaged so_far.counts n)))
+  wrote_count f so_far n is h k = subst (λ m. Puts (f (with_broken so_far)) (Ok (f (salvaged so_far.counts m)))) (sym is)
+      (wrote_line (f (with_broken so_far)) h k)

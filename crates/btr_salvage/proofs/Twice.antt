@@ -1,22 +1,18 @@
 -- A file that could be read once can be written.
-use Rattle.std.proofs.Common.{◌≡◌, ℕ, Bool, true, false, cond, List, Option, IsOk, Result, Ok, Err, refl, sym, ap, ◌∙◌, subst}
-use Rattle.btr_items.specs.declared.inode.Inode.{Inode}
+use Rattle.std.proofs.Common.{◌≡◌, ℕ, Bool, true, false, cond, List, IsOk, Result, Ok, Err, refl, sym, ap, ◌∙◌}
 use Rattle.btr_prog.specs.Outcomes.{Outcome}
-use Rattle.btr_prog.specs.Prog.{Return, Stop, Need, Emit, Run, run, given, exec, and_then}
+use Rattle.btr_prog.specs.Prog.{Return, Stop, Need, Emit, Run, given, exec, and_then}
 use Rattle.btr_prog.specs.Trying.{Trying, Done, gathered, tried}
 use Rattle.btr_prog.proofs.Tries.{tried-gathered, tried-then}
 use Rattle.btr_read.specs.Fate.{Fault}
 use Rattle.btr_read.specs.declared.want.Want.{Want}
-use Rattle.btr_super.specs.declared.superblock.Super.{Super}
 use Rattle.btr_walk.specs.Reading.{Map}
 use Rattle.btr_volume.specs.Lookup.{Program, each}
-use Rattle.btr_volume.specs.declared.root.TreeRoot.{TreeRoot}
 use Rattle.btr_files.specs.Content.{Piece, Gap, content}
 use Rattle.btr_files.specs.Content as piece
 use Rattle.btr_files.specs.Sums.{kind_in}
-use Rattle.btr_files.specs.declared.plan.RestorePlan.{RestorePlan}
 use Rattle.btr_listing.specs.Step.{Step}
-use Rattle.btr_restore.specs.Journey.{has_no_sums, pieces, put}
+use Rattle.btr_restore.specs.Journey.{has_no_sums, put}
 use Rattle.btr_salvage.specs.Attempts.{ending_of}
 use Rattle.btr_salvage.specs.Laws.{ReadTwice}
 
@@ -28,7 +24,8 @@ module _ (B : Map) where
       ap (λ (r : Run Want Fault Step (Result (Unit {0}) Fault)). r.ending)
       (tried-then B (gathered p) handed ∙ ap (λ r. and_then r (λ o. tried B (handed o))) (tried-gathered B p))
 
-  given_ends : (x : Result (List ℕ) Fault) (k : List ℕ → Program Piece (Unit {0})) (st : Bool) → ((bytes : List ℕ) → (exec B (k bytes)).ending ≡ Ok tt → IsOk (exec B (each put st (k bytes))).ending)
+  given_ends : (x : Result (List ℕ) Fault) (k : List ℕ → Program Piece (Unit {0})) (st : Bool)
+      → ((bytes : List ℕ) → (exec B (k bytes)).ending ≡ Ok tt → IsOk (exec B (each put st (k bytes))).ending)
       → (given x (λ bytes. exec B (k bytes))).ending ≡ Ok tt → IsOk (given x (λ bytes. exec B (each put st (k bytes)))).ending
   given_ends (Ok bytes) k st ih e = ih bytes e
   given_ends (Err f) k st ih e = cc

@@ -36,7 +36,8 @@ module _ {W F S : Type 0} where
   TriesTo Bs p r = ComesTo Bs p r.marks r.ending
 
   -- what was done, and the answer, are those of some run
-  abbrev pub Tries : {I A U : Type 0} → (U → W → Type 0) → (S → ℕ → Option S) → (I → BlockMap W F) → Trying W F S (Result A F) → List S → Result A (Halt F U) → Type 0
+  abbrev pub Tries : {I A U : Type 0} → (U → W → Type 0) → (S → ℕ → Option S) → (I → BlockMap W F) → Trying W F S (Result A F) → List S → Result A (Halt F U)
+      → Type 0
   Tries Is part Bs p done ans = (r : Run W F S _) × TriesTo Bs p r × Follows Is part [] r done ans
 
 -- the value or the fault that a program which tries its wants comes to; no fault ends its run

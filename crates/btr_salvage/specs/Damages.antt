@@ -11,7 +11,7 @@ fault_by (Unmapped addr) = fate.Unmapped addr
 fault_by (Crosses addr) = fate.Crosses addr
 fault_by (Malformed addr) = fate.Malformed addr
 
--- .. if there is one
+-- the fault that a damage is, if there is one
 abbrev pub fault_in : Option Damage → Option fate.Fault
 fault_in None = None
 fault_in (Some damage) = Some (fault_by damage)

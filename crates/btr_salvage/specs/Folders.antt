@@ -32,11 +32,11 @@ found_in found.Passing name = Passing
 found_in (found.Entry row) name = Entry (named_row row name)
 found_in (found.Part damage) name = Part (fault_by damage)
 
--- .. in an item
+-- what was found in an item
 abbrev pub IsItemFound : TreeItem → NameBuf → Found → Type 0
 IsItemFound item name found = item_in item (index_entry_of item.body) ≡ found_in found name
 
--- .. in a block that is left out, or it could not be read
+-- what was found in a block that is left out, or it could not be read
 abbrev pub IsLeftOut : TreeFault → NameBuf → Result (Option Found) TreeFault → Type 0
 IsLeftOut fault name (Ok (Some found)) = option_map Part (reason fault) ≡ Some (found_in found name)
 IsLeftOut fault name (Ok None) = ⊥

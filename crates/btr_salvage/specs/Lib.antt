@@ -8,4 +8,5 @@ pub mod Running
 pub mod Treating
 pub mod Reading
 pub mod Listing
+pub mod Left
 pub mod Laws

@@ -14,7 +14,7 @@ fault_text (Crosses addr) = codes "crosses"
 fault_text (Malformed addr) = codes "malformed"
 fault_text (NoTree id) = codes "missing"
 
--- .. and its address
+-- the address of a fault
 abbrev pub fault_addr : Fault → ℕ
 fault_addr (Lost addr) = addr
 fault_addr (Unmapped addr) = addr

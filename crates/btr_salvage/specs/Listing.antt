@@ -1,5 +1,5 @@
 -- How far the listing of a directory has come.
-use Rattle.std.specs.Prelude.{◌≡◌, ℕ, zero, suc, List, [], fold, Option, Result, Ok, Err}
+use Rattle.std.specs.Prelude.{◌≡◌, ℕ, zero, suc, List, [], fold, Option, Result, Ok}
 use Rattle.btr_prog.specs.Goes.{ThreadsTo}
 use Rattle.btr_prog.specs.Prog.{Does, Run, run, and_then, first}
 use Rattle.btr_prog.specs.Trying.{Done, tried}
@@ -40,7 +40,7 @@ module _ (plan : RestorePlan) (s : Super) (sums : Option TreeRoot) where
   abbrev pub treat_in : ℕ → TreeRoot → ℕ → List ℕ → Salvaged → DirEntry → Attempt Salvaged
   treat_in n = treat plan s sums (is_deep n) (listing_in n)
 
-  -- .. and with what is met in it
+  -- what is done with what is met in it
   abbrev pub meet_in : ℕ → TreeRoot → ℕ → List ℕ → Salvaged → InFolder → Attempt Salvaged
   meet_in n = meet plan s sums (is_deep n) (listing_in n)
 
@@ -72,7 +72,7 @@ module _ (treat : Salvaged → InFolder → Attempt Salvaged) where
   abbrev pub last_of : Salvaged → Unit {0} → Salvaged
   last_of so_far u = so_far
 
-  -- .. and those of a run
+  -- the runs that treat all marks of a run
   abbrev pub Left : (ℕ → Map) → Salvaged → Run Want Fault Mark (Unit {0}) → Run Want Fault Step Salvaged → Type 0
   Left Bs so_far r = ThreadsTo (TreatsMark Bs) last_of so_far r.marks r.ending
 
@@ -82,7 +82,7 @@ module _ (treat : Salvaged → InFolder → Attempt Salvaged) where
     pub run : SoFar (TriesTo Bs whole) (Left Bs so_far (tried B (folder_left B folder))) seen done
     pub on : IsFolderOn B seen folder
 
-  -- .. after something was found
+  -- the same after something was found
   pub record MetOf
       (whole : Attempt Salvaged) (B : Map) (Bs : ℕ → Map) (so_far : Salvaged) (found : InFolder) (folder : Folder)
       (done : List Step) : Type 0 where

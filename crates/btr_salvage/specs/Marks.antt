@@ -1,5 +1,5 @@
 -- What is met on the tour of a directory's items.
-use Rattle.std.specs.Prelude.{ℕ, List, Result, Ok, Err}
+use Rattle.std.specs.Prelude.{ℕ, Result, Ok, Err}
 use Rattle.btr_items.specs.Entry.{index_entry_of}
 use Rattle.btr_items.specs.Types.{dir_index}
 use Rattle.btr_items.specs.declared.entry.Entry.{Entry as IndexEntry}

@@ -1,5 +1,5 @@
 -- What a call of salvage did and how it answered, in one word.
-use Rattle.std.specs.Prelude.{◌≡◌, ℕ, List, Option, Result, Ok, Err}
+use Rattle.std.specs.Prelude.{◌≡◌, Result, Ok, Err}
 use Rattle.btr_prog.specs.Answers.{Halt}
 use Rattle.btr_rack.specs.Rack.{Seen, OnlyReads}
 use Rattle.btr_read.specs.Fate.{Fault}
@@ -31,7 +31,7 @@ pub record Ran {A : Type 0} (p : Attempt A) (x y : World) (answer : Result A Sto
   pub sink_calls : SinkCounts x.out.sink_calls y.out.sink_calls answer
   pub out_calls : OutCounts x.out.out_calls y.out.out_calls answer
 
--- .. by the superblock of its volume
+-- a call did the steps of a program by the superblock of its volume
 abbrev pub RanFor : {A : Type 0} → (Super → Attempt A) → World → World → Result A Stop → Type 0
 RanFor p x y answer = (s : Super) → s ≡ x.vol.sup → Ran (p s) x y answer
 

@@ -24,35 +24,33 @@ fn is_part(some: &Outcome, all: &Outcome) -> bool {
         && all.text.as_slice().starts_with(some.text.as_slice())
 }
 
-// A call of the sink or of the output fails: that is the answer. The thirteenth of the sink and the third of the output don't come.
+// Each call of the sink and of the output fails in its turn: that is the answer. The thirteenth of the sink and the third of the output don't come.
 #[test]
 fn calls_of_the_sink_and_the_output(rt: HostRuntime) -> Result<(), Fail> {
     let mut rack = small(rt.alloc(), RowVolume::W5, NAMES)?;
     let all = salvaged_from(&rt, rt.alloc(), &mut rack, NOTHING)?;
-    let failing = [
-        (1, 0, Err(Stop::Sink)),
-        (6, 0, Err(Stop::Sink)),
-        (12, 0, Err(Stop::Sink)),
-        (13, 0, all.answer),
-        (0, 1, Err(Stop::Out)),
-        (0, 2, Err(Stop::Out)),
-        (0, 3, all.answer),
-    ];
-    for (sink, out, answer) in failing {
+    for n in 1..=13 {
+        let answer = if n == 13 { all.answer } else { Err(Stop::Sink) };
         again(&mut rack)?;
-        let some = salvaged_from(&rt, rt.alloc(), &mut rack, Failing { sink, out })?;
+        let some = salvaged_from(&rt, rt.alloc(), &mut rack, Failing { sink: n, out: 0 })?;
+        assert!(rt; some.answer == answer && is_part(&some, &all));
+    }
+    for n in 1..=3 {
+        let answer = if n == 3 { all.answer } else { Err(Stop::Out) };
+        again(&mut rack)?;
+        let some = salvaged_from(&rt, rt.alloc(), &mut rack, Failing { sink: 0, out: n })?;
         assert!(rt; some.answer == answer && is_part(&some, &all));
     }
     Ok(())
 }
 
-// A call of the rack fails: the run ends as one that could not read a block, or as it does where nothing fails.
+// Each call of the rack fails in its turn: the run ends as one that could not read a block, or as it does where nothing fails, as behind the last call.
 #[test]
 fn calls_of_the_rack(rt: HostRuntime) -> Result<(), Fail> {
     let mut rack = small(rt.alloc(), RowVolume::W5, NAMES)?;
     let all = salvaged_from(&rt, rt.alloc(), &mut rack, NOTHING)?;
     let mut unread = false;
-    for call in [5, 8, 11, 14, 17, 20, 23, 26] {
+    for call in 1..=48 {
         again(&mut rack)?;
         rack.fail_call(call)?;
         let Some(some) = attempt(&rt, rt.alloc(), false, &mut rack, NOTHING)? else {

@@ -4,6 +4,8 @@
 #[cfg(test)]
 mod failing;
 #[cfg(test)]
+mod losses;
+#[cfg(test)]
 mod made;
 #[cfg(test)]
 mod memory;

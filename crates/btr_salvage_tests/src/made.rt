@@ -1,5 +1,5 @@
 // Salvages of a volume of some directories of which one leaf of the tree of files is lost, each in its turn.
-ghost use Rattle.std.specs.Prelude.{◌≡◌};
+ghost use Rattle.std.specs.Prelude.{◌≡◌, ◌≤◌};
 
 use super::memory::{NOTHING, Outcome, salvaged_from};
 use btr_base::Key;
@@ -20,8 +20,6 @@ const NODE: u64 = 16384;
 const NODES: u64 = 64;
 
 const TOP: u64 = 256;
-
-const DIRECTORIES: u64 = 20;
 
 const DIR_INDEX: u8 = 96;
 
@@ -216,7 +214,7 @@ impl Wanted {
 }
 
 // What a salvage comes to where a leaf is lost.
-fn expected(alloc: Global, leaf: &Leaf) -> Result<Wanted, AllocError> {
+fn expected(alloc: Global, directories: u64, leaf: &Leaf) -> Result<Wanted, AllocError> {
     let mut all = Wanted {
         text: Vec::new(alloc),
         rows: Vec::new(alloc),
@@ -232,8 +230,8 @@ fn expected(alloc: Global, leaf: &Leaf) -> Result<Wanted, AllocError> {
     all.rows.extend_from_slice(b"out\n")?;
     let mut path = Vec::new(alloc);
     let mut part = leaf.meets(TOP, DIR_INDEX, DIR_INDEX);
-    for i in 0..DIRECTORIES {
-        let at = key(TOP, DIR_INDEX, i + 2);
+    for i in 0..directories {
+        let at = key(TOP, DIR_INDEX, i.wrapping_add(2));
         if part && !at.is_before(leaf.end) {
             all.missing(b"part", leaf, b"/")?;
             part = false;
@@ -264,8 +262,18 @@ fn ends_with_counts(all: &Wanted, alloc: Global) -> Result<Vec<u8>, AllocError> 
     Ok(text)
 }
 
-fn compare(rt: &impl Abort, alloc: Global, leaf: &Leaf, came: &Outcome) -> Result<(), Fail> {
-    let all = expected(alloc, leaf)?;
+// Loses a leaf in both copies, and compares what a salvage comes to then.
+fn lose(
+    rt: &impl Abort,
+    alloc: Global,
+    directories: u64,
+    leaf: &Leaf,
+    rack: &mut MemRack,
+) -> Result<(), Fail> {
+    flip(rack, leaf.addr)?;
+    let came = salvaged_from(rt, alloc, rack, NOTHING)?;
+    flip(rack, leaf.addr)?;
+    let all = expected(alloc, directories, leaf)?;
     assert!(rt; came.answer == Ok(all.salvaged));
     assert!(rt; came.text.as_slice() == ends_with_counts(&all, alloc)?.as_slice());
     assert!(rt; came.rows.as_slice() == all.rows.as_slice());
@@ -273,21 +281,38 @@ fn compare(rt: &impl Abort, alloc: Global, leaf: &Leaf, came: &Outcome) -> Resul
     Ok(())
 }
 
-#[test]
-fn each_leaf_is_lost(rt: HostRuntime) -> Result<(), Fail> {
-    let alloc = rt.alloc();
-    let mut rack = make(alloc, DIRECTORIES)?;
+// The images of a made volume, opened.
+fn made(alloc: Global, directories: u64) -> Result<MemRack, Fail>
+    requires least { 1 ≤ directories }
+    requires most { directories ≤ 1000 }
+{
+    let mut rack = make(alloc, directories)?;
     for name in ["a", "b", "c"] {
         rack.open(name, false)?;
     }
+    Ok(rack)
+}
+
+#[test]
+fn each_leaf_is_lost(rt: HostRuntime) -> Result<(), Fail> {
+    let alloc = rt.alloc();
+    let mut rack = made(alloc, 20)?;
     let found = leaves(alloc, &rack)?;
     assert!(rt; found.len() > 1);
     for leaf in found.as_slice() {
         let leaf = bounded(*leaf, found.as_slice());
-        flip(&mut rack, leaf.addr)?;
-        let came = salvaged_from(&rt, alloc, &mut rack, NOTHING)?;
-        compare(&rt, alloc, &leaf, &came)?;
-        flip(&mut rack, leaf.addr)?;
+        lose(&rt, alloc, 20, &leaf, &mut rack)?;
     }
     Ok(())
+}
+
+// The same of one leaf of a larger volume.
+#[test]
+fn one_leaf_of_many_is_lost(rt: HostRuntime) -> Result<(), Fail> {
+    let alloc = rt.alloc();
+    let mut rack = made(alloc, 100)?;
+    let found = leaves(alloc, &rack)?;
+    assert!(rt; found.len() > 4);
+    let leaf = bounded(found.as_slice()[4], found.as_slice());
+    lose(&rt, alloc, 100, &leaf, &mut rack)
 }

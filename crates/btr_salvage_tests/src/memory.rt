@@ -187,5 +187,5 @@ pub(super) fn five_files(alloc: Global) -> Result<Vec<u8>, AllocError> {
     Ok(rows)
 }
 
-/// .. and those of the four that are small.
+/// The rows of the four of them that are small.
 pub(super) const FOUR_FILES: &[u8] = b"out\ne \ni x\nh1 hello\nh2 hello\n";

@@ -13,7 +13,7 @@ use Rattle.btr_salvage.specs.declared.salvaged.Salvaged.{Salvaged}
 use Rattle.btr_salvage.specs.Attempts.{treat_each}
 use Rattle.btr_salvage.specs.Damages.{fault_by}
 use Rattle.btr_salvage.specs.Folders.{FolderNears, found_in}
-use Rattle.btr_salvage.specs.Listing.{by_mark, listing_in, meet_in, treat_in}
+use Rattle.btr_salvage.specs.Listing.{by_mark, listing_in, meet_in}
 use Rattle.btr_salvage.specs.Running.{Ran}
 use Rattle.btr_salvage.specs.Marks.{folder_tour}
 use Rattle.btr_salvage.specs.Salvaging.{Attempt, listed_in, part_missing, treated}
@@ -31,7 +31,10 @@ list-loop-fault-init g t c = record {
   same_path = refl;
   same_below = refl;
   stands = λ n h. h;
-  listed = λ s e. listed_first (meet_in c.args.job.now.plan s c.args.job.now.sums (length c.args.below.now) c.args.root c.args.dirid c.args.path.now) (world (g.R.Rack.seen c.args.rack.now) c.args.vol.now (outside (g.T.TreeSink.sink c.args.tree.now) (g.T.TreeSink.account c.args.tree.now) (g.O.Out.text c.args.out.now) (g.O.Out.account c.args.out.now))) c.args.salvaged.now c.new-here.result (folder_tour c.args.root c.args.dirid) c.requires.ready c.new-here.ensures.program c.new-here.ensures.on;
+  listed = λ s e. listed_first (meet_in c.args.job.now.plan s c.args.job.now.sums (length c.args.below.now) c.args.root c.args.dirid c.args.path.now)
+      (world (g.R.Rack.seen c.args.rack.now) c.args.vol.now (outside (g.T.TreeSink.sink c.args.tree.now) (g.T.TreeSink.account c.args.tree.now)
+      (g.O.Out.text c.args.out.now) (g.O.Out.account c.args.out.now))) c.args.salvaged.now c.new-here.result
+      (folder_tour c.args.root c.args.dirid) c.requires.ready c.new-here.ensures.program c.new-here.ensures.on;
 }
 
 pub list-next-requires-clause-serves : goal.list-next-requires-clause-serves
@@ -45,13 +48,39 @@ list-next-requires-clause-folder g t c = c.loop-fault.invariant.reads_on
 
 pub list-returns-in-Err-clause-ran : goal.list-returns-in-Err-clause-ran
 list-returns-in-Err-clause-ran g t c s e =
-    subst (λ (p : Attempt Salvaged). Ran p (world (g.R.Rack.seen c.args.rack.now) c.args.vol.now (outside (g.T.TreeSink.sink c.args.tree.now) (g.T.TreeSink.account c.args.tree.now) (g.O.Out.text c.args.out.now) (g.O.Out.account c.args.out.now))) (world (g.R.Rack.seen c.next.new.rack) c.next.new.vol (outside (g.T.TreeSink.sink c.loop-fault.tree) (g.T.TreeSink.account c.loop-fault.tree) (g.O.Out.text c.loop-fault.out) (g.O.Out.account c.loop-fault.out))) (Err (Tree c.in-Err.fault))) (directory_is c.args.job.now.plan s c.args.job.now.sums (length c.args.below.now) c.args.root c.args.dirid c.args.path.now c.args.salvaged.now)
-    (listed_fault (meet_in c.args.job.now.plan s c.args.job.now.sums (length c.args.below.now) c.args.root c.args.dirid c.args.path.now) (world (g.R.Rack.seen c.args.rack.now) c.args.vol.now (outside (g.T.TreeSink.sink c.args.tree.now) (g.T.TreeSink.account c.args.tree.now) (g.O.Out.text c.args.out.now) (g.O.Out.account c.args.out.now))) (treat_each (by_mark (meet_in c.args.job.now.plan s c.args.job.now.sums (length c.args.below.now) c.args.root c.args.dirid c.args.path.now)) c.args.salvaged.now (folder_tour c.args.root c.args.dirid)) (world (g.R.Rack.seen c.loop-fault.rack) c.loop-fault.vol (outside (g.T.TreeSink.sink c.loop-fault.tree) (g.T.TreeSink.account c.loop-fault.tree) (g.O.Out.text c.loop-fault.out) (g.O.Out.account c.loop-fault.out))) c.loop-fault.salvaged c.loop-fault.here.folder c.next.new.self c.next.new.name (g.R.Rack.seen c.next.new.rack) c.next.new.vol (c.loop-fault.invariant.listed s e) c.in-Err.ensures.reads c.in-Err.ensures.volume (ready_next _ _ _ c.loop-fault.invariant.ready c.in-Err.ensures.serves c.in-Err.ensures.volume) c.in-Err.fault c.in-Err.ensures.cause c.in-Err.ensures.content)
+    subst (λ (p : Attempt Salvaged). Ran p (world (g.R.Rack.seen c.args.rack.now) c.args.vol.now
+    (outside (g.T.TreeSink.sink c.args.tree.now) (g.T.TreeSink.account c.args.tree.now) (g.O.Out.text c.args.out.now) (g.O.Out.account c.args.out.now)))
+    (world (g.R.Rack.seen c.next.new.rack) c.next.new.vol (outside (g.T.TreeSink.sink c.loop-fault.tree) (g.T.TreeSink.account c.loop-fault.tree)
+    (g.O.Out.text c.loop-fault.out) (g.O.Out.account c.loop-fault.out))) (Err (Tree c.in-Err.fault)))
+    (directory_is c.args.job.now.plan s c.args.job.now.sums (length c.args.below.now) c.args.root c.args.dirid c.args.path.now c.args.salvaged.now)
+    (listed_fault (meet_in c.args.job.now.plan s c.args.job.now.sums (length c.args.below.now) c.args.root c.args.dirid c.args.path.now)
+    (world (g.R.Rack.seen c.args.rack.now) c.args.vol.now (outside (g.T.TreeSink.sink c.args.tree.now) (g.T.TreeSink.account c.args.tree.now)
+    (g.O.Out.text c.args.out.now) (g.O.Out.account c.args.out.now)))
+    (treat_each (by_mark (meet_in c.args.job.now.plan s c.args.job.now.sums (length c.args.below.now) c.args.root c.args.dirid c.args.path.now))
+    c.args.salvaged.now (folder_tour c.args.root c.args.dirid)) (world (g.R.Rack.seen c.loop-fault.rack) c.loop-fault.vol
+    (outside (g.T.TreeSink.sink c.loop-fault.tree) (g.T.TreeSink.account c.loop-fault.tree) (g.O.Out.text c.loop-fault.out)
+    (g.O.Out.account c.loop-fault.out))) c.loop-fault.salvaged c.loop-fault.here.folder c.next.new.self c.next.new.name
+    (g.R.Rack.seen c.next.new.rack) c.next.new.vol (c.loop-fault.invariant.listed s e) c.in-Err.ensures.reads c.in-Err.ensures.volume
+    (ready_next _ _ _ c.loop-fault.invariant.ready c.in-Err.ensures.serves c.in-Err.ensures.volume) c.in-Err.fault c.in-Err.ensures.cause
+    c.in-Err.ensures.content)
 
 pub list-returns-in-Ok-None-clause-ran : goal.list-returns-in-Ok-None-clause-ran
 list-returns-in-Ok-None-clause-ran g t c s e =
-    subst (λ (p : Attempt Salvaged). Ran p (world (g.R.Rack.seen c.args.rack.now) c.args.vol.now (outside (g.T.TreeSink.sink c.args.tree.now) (g.T.TreeSink.account c.args.tree.now) (g.O.Out.text c.args.out.now) (g.O.Out.account c.args.out.now))) (world (g.R.Rack.seen c.next.new.rack) c.next.new.vol (outside (g.T.TreeSink.sink c.loop-fault.tree) (g.T.TreeSink.account c.loop-fault.tree) (g.O.Out.text c.loop-fault.out) (g.O.Out.account c.loop-fault.out))) (Ok c.loop-fault.salvaged)) (directory_is c.args.job.now.plan s c.args.job.now.sums (length c.args.below.now) c.args.root c.args.dirid c.args.path.now c.args.salvaged.now)
-    (listed_end (meet_in c.args.job.now.plan s c.args.job.now.sums (length c.args.below.now) c.args.root c.args.dirid c.args.path.now) (world (g.R.Rack.seen c.args.rack.now) c.args.vol.now (outside (g.T.TreeSink.sink c.args.tree.now) (g.T.TreeSink.account c.args.tree.now) (g.O.Out.text c.args.out.now) (g.O.Out.account c.args.out.now))) (treat_each (by_mark (meet_in c.args.job.now.plan s c.args.job.now.sums (length c.args.below.now) c.args.root c.args.dirid c.args.path.now)) c.args.salvaged.now (folder_tour c.args.root c.args.dirid)) (world (g.R.Rack.seen c.loop-fault.rack) c.loop-fault.vol (outside (g.T.TreeSink.sink c.loop-fault.tree) (g.T.TreeSink.account c.loop-fault.tree) (g.O.Out.text c.loop-fault.out) (g.O.Out.account c.loop-fault.out))) c.loop-fault.salvaged c.loop-fault.here.folder c.next.new.self c.next.new.name (g.R.Rack.seen c.next.new.rack) c.next.new.vol (c.loop-fault.invariant.listed s e) c.in-Ok-None.ensures.reads c.in-Ok-None.ensures.volume (ready_next _ _ _ c.loop-fault.invariant.ready c.in-Ok-None.ensures.serves c.in-Ok-None.ensures.volume) c.next.result (c.in-Ok-None.is ∙ ap Ok c.in-Ok-None.field-0-is) c.next.ensures.content)
+    subst (λ (p : Attempt Salvaged). Ran p (world (g.R.Rack.seen c.args.rack.now) c.args.vol.now
+    (outside (g.T.TreeSink.sink c.args.tree.now) (g.T.TreeSink.account c.args.tree.now) (g.O.Out.text c.args.out.now) (g.O.Out.account c.args.out.now)))
+    (world (g.R.Rack.seen c.next.new.rack) c.next.new.vol (outside (g.T.TreeSink.sink c.loop-fault.tree) (g.T.TreeSink.account c.loop-fault.tree)
+    (g.O.Out.text c.loop-fault.out) (g.O.Out.account c.loop-fault.out))) (Ok c.loop-fault.salvaged))
+    (directory_is c.args.job.now.plan s c.args.job.now.sums (length c.args.below.now) c.args.root c.args.dirid c.args.path.now c.args.salvaged.now)
+    (listed_end (meet_in c.args.job.now.plan s c.args.job.now.sums (length c.args.below.now) c.args.root c.args.dirid c.args.path.now)
+    (world (g.R.Rack.seen c.args.rack.now) c.args.vol.now (outside (g.T.TreeSink.sink c.args.tree.now) (g.T.TreeSink.account c.args.tree.now)
+    (g.O.Out.text c.args.out.now) (g.O.Out.account c.args.out.now)))
+    (treat_each (by_mark (meet_in c.args.job.now.plan s c.args.job.now.sums (length c.args.below.now) c.args.root c.args.dirid c.args.path.now))
+    c.args.salvaged.now (folder_tour c.args.root c.args.dirid)) (world (g.R.Rack.seen c.loop-fault.rack) c.loop-fault.vol
+    (outside (g.T.TreeSink.sink c.loop-fault.tree) (g.T.TreeSink.account c.loop-fault.tree) (g.O.Out.text c.loop-fault.out)
+    (g.O.Out.account c.loop-fault.out))) c.loop-fault.salvaged c.loop-fault.here.folder c.next.new.self c.next.new.name
+    (g.R.Rack.seen c.next.new.rack) c.next.new.vol (c.loop-fault.invariant.listed s e) c.in-Ok-None.ensures.reads c.in-Ok-None.ensures.volume
+    (ready_next _ _ _ c.loop-fault.invariant.ready c.in-Ok-None.ensures.serves c.in-Ok-None.ensures.volume) c.next.result
+    (c.in-Ok-None.is ∙ ap Ok c.in-Ok-None.field-0-is) c.next.ensures.content)
 
 pub list-returns-in-Ok-None-clause-path : goal.list-returns-in-Ok-None-clause-path
 list-returns-in-Ok-None-clause-path g t c = c.loop-fault.invariant.same_path
@@ -72,7 +101,8 @@ list-list_found-requires g t c κs within = (
           ready_next _ _ _ c.loop-fault.invariant.ready c.in-Ok-Some.ensures.serves c.in-Ok-Some.ensures.volume,
           (
             λ dry. (c.loop-fault.invariant.stands (g.T.TreeSink.sink c.args.tree.now).depth (λ d. (c.requires.between d, refl)) dry).0,
-            λ dry. room_left _ _ _ _ 512 (c.loop-fault.invariant.stands (g.T.TreeSink.sink c.args.tree.now).depth (λ d. (c.requires.between d, refl)) dry).1 c.loop-fault.invariant.same_below (c.requires.room dry),
+            λ dry. room_left _ _ _ _ 512 (c.loop-fault.invariant.stands (g.T.TreeSink.sink c.args.tree.now).depth (λ d. (c.requires.between d, refl)) dry).1
+                c.loop-fault.invariant.same_below (c.requires.room dry),
           ),
         ),
       ),
@@ -81,28 +111,80 @@ list-list_found-requires g t c κs within = (
 )
 
 pub list-loop-fault-smaller : goal.list-loop-fault-smaller
-list-loop-fault-smaller g t c = subst (λ (r : Option Found). FolderNears c.loop-fault.here.folder c.next.new.self (Ok r)) c.in-Ok-Some.field-0-is c.in-Ok-Some.ensures.nears
+list-loop-fault-smaller g t c = subst (λ (r : Option Found). FolderNears c.loop-fault.here.folder c.next.new.self (Ok r)) c.in-Ok-Some.field-0-is
+    c.in-Ok-Some.ensures.nears
 
 pub list-loop-fault-preserved : goal.list-loop-fault-preserved
 list-loop-fault-preserved g t c =
     record {
       ready = (c.in-Ok.ensures.ran c.next.new.vol.sup refl).ready;
       reads_on = c.in-Ok-Some.ensures.folder;
-      same_path = c.cut.ensures ∙ (ap (λ (n : ℕ). take n c.list_found.new.path) (c.len-len.ensures ∙ ap length (sym c.loop-fault.invariant.same_path)) ∙ (c.in-Ok.ensures.path ∙ c.loop-fault.invariant.same_path));
+      same_path = c.cut.ensures ∙ (ap (λ (n : ℕ). take n c.list_found.new.path) (c.len-len.ensures ∙ ap length (sym c.loop-fault.invariant.same_path))
+          ∙ (c.in-Ok.ensures.path ∙ c.loop-fault.invariant.same_path));
       same_below = c.list_found.auto.below ∙ c.loop-fault.invariant.same_below;
       stands = λ n h. c.in-Ok.ensures.stands n (c.loop-fault.invariant.stands n h);
-      listed = λ s e. listed_step (meet_in c.args.job.now.plan s c.args.job.now.sums (length c.args.below.now) c.args.root c.args.dirid c.args.path.now) (world (g.R.Rack.seen c.args.rack.now) c.args.vol.now (outside (g.T.TreeSink.sink c.args.tree.now) (g.T.TreeSink.account c.args.tree.now) (g.O.Out.text c.args.out.now) (g.O.Out.account c.args.out.now))) (treat_each (by_mark (meet_in c.args.job.now.plan s c.args.job.now.sums (length c.args.below.now) c.args.root c.args.dirid c.args.path.now)) c.args.salvaged.now (folder_tour c.args.root c.args.dirid)) (world (g.R.Rack.seen c.loop-fault.rack) c.loop-fault.vol (outside (g.T.TreeSink.sink c.loop-fault.tree) (g.T.TreeSink.account c.loop-fault.tree) (g.O.Out.text c.loop-fault.out) (g.O.Out.account c.loop-fault.out))) c.loop-fault.salvaged c.loop-fault.here.folder c.next.new.self c.next.new.name (g.R.Rack.seen c.next.new.rack) c.next.new.vol (c.loop-fault.invariant.listed s e) c.in-Ok-Some.ensures.reads c.in-Ok-Some.ensures.volume (ready_next _ _ _ c.loop-fault.invariant.ready c.in-Ok-Some.ensures.serves c.in-Ok-Some.ensures.volume) c.in-Ok-Some.found c.next.result (c.in-Ok-Some.is ∙ ap Ok c.in-Ok-Some.field-0-is) c.next.ensures.content (world (g.R.Rack.seen c.list_found.new.rack) c.list_found.new.vol (outside (g.T.TreeSink.sink c.list_found.new.tree) (g.T.TreeSink.account c.list_found.new.tree) (g.O.Out.text c.list_found.new.out) (g.O.Out.account c.list_found.new.out))) c.list_found.new.salvaged
-          (subst (λ (k : ℕ). Ran (meet_in c.args.job.now.plan s c.args.job.now.sums k c.args.root c.args.dirid c.args.path.now c.loop-fault.salvaged (found_in c.in-Ok-Some.found c.next.new.name)) (world (g.R.Rack.seen c.next.new.rack) c.next.new.vol (outside (g.T.TreeSink.sink c.loop-fault.tree) (g.T.TreeSink.account c.loop-fault.tree) (g.O.Out.text c.loop-fault.out) (g.O.Out.account c.loop-fault.out))) (world (g.R.Rack.seen c.list_found.new.rack) c.list_found.new.vol (outside (g.T.TreeSink.sink c.list_found.new.tree) (g.T.TreeSink.account c.list_found.new.tree) (g.O.Out.text c.list_found.new.out) (g.O.Out.account c.list_found.new.out))) (Ok c.list_found.new.salvaged)) c.loop-fault.invariant.same_below
-          (subst (λ (p : List ℕ). Ran (meet_in c.args.job.now.plan s c.args.job.now.sums (length c.loop-fault.below) c.args.root c.args.dirid p c.loop-fault.salvaged (found_in c.in-Ok-Some.found c.next.new.name)) (world (g.R.Rack.seen c.next.new.rack) c.next.new.vol (outside (g.T.TreeSink.sink c.loop-fault.tree) (g.T.TreeSink.account c.loop-fault.tree) (g.O.Out.text c.loop-fault.out) (g.O.Out.account c.loop-fault.out))) (world (g.R.Rack.seen c.list_found.new.rack) c.list_found.new.vol (outside (g.T.TreeSink.sink c.list_found.new.tree) (g.T.TreeSink.account c.list_found.new.tree) (g.O.Out.text c.list_found.new.out) (g.O.Out.account c.list_found.new.out))) (Ok c.list_found.new.salvaged)) c.loop-fault.invariant.same_path
+      listed = λ s e. listed_step (meet_in c.args.job.now.plan s c.args.job.now.sums (length c.args.below.now) c.args.root c.args.dirid c.args.path.now)
+          (world (g.R.Rack.seen c.args.rack.now) c.args.vol.now (outside (g.T.TreeSink.sink c.args.tree.now) (g.T.TreeSink.account c.args.tree.now)
+          (g.O.Out.text c.args.out.now) (g.O.Out.account c.args.out.now)))
+          (treat_each (by_mark (meet_in c.args.job.now.plan s c.args.job.now.sums (length c.args.below.now) c.args.root c.args.dirid c.args.path.now))
+          c.args.salvaged.now (folder_tour c.args.root c.args.dirid)) (world (g.R.Rack.seen c.loop-fault.rack) c.loop-fault.vol
+          (outside (g.T.TreeSink.sink c.loop-fault.tree) (g.T.TreeSink.account c.loop-fault.tree) (g.O.Out.text c.loop-fault.out)
+          (g.O.Out.account c.loop-fault.out))) c.loop-fault.salvaged c.loop-fault.here.folder c.next.new.self c.next.new.name
+          (g.R.Rack.seen c.next.new.rack) c.next.new.vol (c.loop-fault.invariant.listed s e) c.in-Ok-Some.ensures.reads c.in-Ok-Some.ensures.volume
+          (ready_next _ _ _ c.loop-fault.invariant.ready c.in-Ok-Some.ensures.serves c.in-Ok-Some.ensures.volume) c.in-Ok-Some.found c.next.result
+          (c.in-Ok-Some.is ∙ ap Ok c.in-Ok-Some.field-0-is) c.next.ensures.content
+          (world (g.R.Rack.seen c.list_found.new.rack) c.list_found.new.vol
+          (outside (g.T.TreeSink.sink c.list_found.new.tree) (g.T.TreeSink.account c.list_found.new.tree) (g.O.Out.text c.list_found.new.out)
+          (g.O.Out.account c.list_found.new.out))) c.list_found.new.salvaged
+          (subst (λ (k : ℕ). Ran (meet_in c.args.job.now.plan s c.args.job.now.sums k c.args.root c.args.dirid c.args.path.now c.loop-fault.salvaged
+          (found_in c.in-Ok-Some.found c.next.new.name)) (world (g.R.Rack.seen c.next.new.rack) c.next.new.vol
+          (outside (g.T.TreeSink.sink c.loop-fault.tree) (g.T.TreeSink.account c.loop-fault.tree) (g.O.Out.text c.loop-fault.out)
+          (g.O.Out.account c.loop-fault.out))) (world (g.R.Rack.seen c.list_found.new.rack) c.list_found.new.vol
+          (outside (g.T.TreeSink.sink c.list_found.new.tree) (g.T.TreeSink.account c.list_found.new.tree) (g.O.Out.text c.list_found.new.out)
+          (g.O.Out.account c.list_found.new.out))) (Ok c.list_found.new.salvaged)) c.loop-fault.invariant.same_below
+          (subst (λ (p : List ℕ). Ran (meet_in c.args.job.now.plan s c.args.job.now.sums
+          (length c.loop-fault.below) c.args.root c.args.dirid p c.loop-fault.salvaged (found_in c.in-Ok-Some.found c.next.new.name))
+          (world (g.R.Rack.seen c.next.new.rack) c.next.new.vol (outside (g.T.TreeSink.sink c.loop-fault.tree) (g.T.TreeSink.account c.loop-fault.tree)
+          (g.O.Out.text c.loop-fault.out) (g.O.Out.account c.loop-fault.out)))
+          (world (g.R.Rack.seen c.list_found.new.rack) c.list_found.new.vol
+          (outside (g.T.TreeSink.sink c.list_found.new.tree) (g.T.TreeSink.account c.list_found.new.tree) (g.O.Out.text c.list_found.new.out)
+          (g.O.Out.account c.list_found.new.out))) (Ok c.list_found.new.salvaged)) c.loop-fault.invariant.same_path
           (c.in-Ok.ensures.ran s (e ∙ (sym (c.loop-fault.invariant.listed s e).volume.sup ∙ sym c.in-Ok-Some.ensures.volume.sup)))));
     }
 
 pub list-returns-in-Err-list_found-clause-ran : goal.list-returns-in-Err-list_found-clause-ran
 list-returns-in-Err-list_found-clause-ran g t c s e =
-    subst (λ (p : Attempt Salvaged). Ran p (world (g.R.Rack.seen c.args.rack.now) c.args.vol.now (outside (g.T.TreeSink.sink c.args.tree.now) (g.T.TreeSink.account c.args.tree.now) (g.O.Out.text c.args.out.now) (g.O.Out.account c.args.out.now))) (world (g.R.Rack.seen c.list_found.new.rack) c.list_found.new.vol (outside (g.T.TreeSink.sink c.list_found.new.tree) (g.T.TreeSink.account c.list_found.new.tree) (g.O.Out.text c.list_found.new.out) (g.O.Out.account c.list_found.new.out))) (Err c.in-Err-list_found.stop)) (directory_is c.args.job.now.plan s c.args.job.now.sums (length c.args.below.now) c.args.root c.args.dirid c.args.path.now c.args.salvaged.now)
-    (listed_halt (meet_in c.args.job.now.plan s c.args.job.now.sums (length c.args.below.now) c.args.root c.args.dirid c.args.path.now) (world (g.R.Rack.seen c.args.rack.now) c.args.vol.now (outside (g.T.TreeSink.sink c.args.tree.now) (g.T.TreeSink.account c.args.tree.now) (g.O.Out.text c.args.out.now) (g.O.Out.account c.args.out.now))) (treat_each (by_mark (meet_in c.args.job.now.plan s c.args.job.now.sums (length c.args.below.now) c.args.root c.args.dirid c.args.path.now)) c.args.salvaged.now (folder_tour c.args.root c.args.dirid)) (world (g.R.Rack.seen c.loop-fault.rack) c.loop-fault.vol (outside (g.T.TreeSink.sink c.loop-fault.tree) (g.T.TreeSink.account c.loop-fault.tree) (g.O.Out.text c.loop-fault.out) (g.O.Out.account c.loop-fault.out))) c.loop-fault.salvaged c.loop-fault.here.folder c.next.new.self c.next.new.name (g.R.Rack.seen c.next.new.rack) c.next.new.vol (c.loop-fault.invariant.listed s e) c.in-Ok-Some.ensures.reads c.in-Ok-Some.ensures.volume (ready_next _ _ _ c.loop-fault.invariant.ready c.in-Ok-Some.ensures.serves c.in-Ok-Some.ensures.volume) c.in-Ok-Some.found c.next.result (c.in-Ok-Some.is ∙ ap Ok c.in-Ok-Some.field-0-is) c.next.ensures.content (world (g.R.Rack.seen c.list_found.new.rack) c.list_found.new.vol (outside (g.T.TreeSink.sink c.list_found.new.tree) (g.T.TreeSink.account c.list_found.new.tree) (g.O.Out.text c.list_found.new.out) (g.O.Out.account c.list_found.new.out))) c.in-Err-list_found.stop
-    (subst (λ (k : ℕ). Ran (meet_in c.args.job.now.plan s c.args.job.now.sums k c.args.root c.args.dirid c.args.path.now c.loop-fault.salvaged (found_in c.in-Ok-Some.found c.next.new.name)) (world (g.R.Rack.seen c.next.new.rack) c.next.new.vol (outside (g.T.TreeSink.sink c.loop-fault.tree) (g.T.TreeSink.account c.loop-fault.tree) (g.O.Out.text c.loop-fault.out) (g.O.Out.account c.loop-fault.out))) (world (g.R.Rack.seen c.list_found.new.rack) c.list_found.new.vol (outside (g.T.TreeSink.sink c.list_found.new.tree) (g.T.TreeSink.account c.list_found.new.tree) (g.O.Out.text c.list_found.new.out) (g.O.Out.account c.list_found.new.out))) (Err c.in-Err-list_found.stop)) c.loop-fault.invariant.same_below
-    (subst (λ (p : List ℕ). Ran (meet_in c.args.job.now.plan s c.args.job.now.sums (length c.loop-fault.below) c.args.root c.args.dirid p c.loop-fault.salvaged (found_in c.in-Ok-Some.found c.next.new.name)) (world (g.R.Rack.seen c.next.new.rack) c.next.new.vol (outside (g.T.TreeSink.sink c.loop-fault.tree) (g.T.TreeSink.account c.loop-fault.tree) (g.O.Out.text c.loop-fault.out) (g.O.Out.account c.loop-fault.out))) (world (g.R.Rack.seen c.list_found.new.rack) c.list_found.new.vol (outside (g.T.TreeSink.sink c.list_found.new.tree) (g.T.TreeSink.account c.list_found.new.tree) (g.O.Out.text c.list_found.new.out) (g.O.Out.account c.list_found.new.out))) (Err c.in-Err-list_found.stop)) c.loop-fault.invariant.same_path
+    subst (λ (p : Attempt Salvaged). Ran p (world (g.R.Rack.seen c.args.rack.now) c.args.vol.now
+    (outside (g.T.TreeSink.sink c.args.tree.now) (g.T.TreeSink.account c.args.tree.now) (g.O.Out.text c.args.out.now) (g.O.Out.account c.args.out.now)))
+    (world (g.R.Rack.seen c.list_found.new.rack) c.list_found.new.vol
+    (outside (g.T.TreeSink.sink c.list_found.new.tree) (g.T.TreeSink.account c.list_found.new.tree) (g.O.Out.text c.list_found.new.out)
+    (g.O.Out.account c.list_found.new.out))) (Err c.in-Err-list_found.stop))
+    (directory_is c.args.job.now.plan s c.args.job.now.sums (length c.args.below.now) c.args.root c.args.dirid c.args.path.now c.args.salvaged.now)
+    (listed_halt (meet_in c.args.job.now.plan s c.args.job.now.sums (length c.args.below.now) c.args.root c.args.dirid c.args.path.now)
+    (world (g.R.Rack.seen c.args.rack.now) c.args.vol.now (outside (g.T.TreeSink.sink c.args.tree.now) (g.T.TreeSink.account c.args.tree.now)
+    (g.O.Out.text c.args.out.now) (g.O.Out.account c.args.out.now)))
+    (treat_each (by_mark (meet_in c.args.job.now.plan s c.args.job.now.sums (length c.args.below.now) c.args.root c.args.dirid c.args.path.now))
+    c.args.salvaged.now (folder_tour c.args.root c.args.dirid)) (world (g.R.Rack.seen c.loop-fault.rack) c.loop-fault.vol
+    (outside (g.T.TreeSink.sink c.loop-fault.tree) (g.T.TreeSink.account c.loop-fault.tree) (g.O.Out.text c.loop-fault.out)
+    (g.O.Out.account c.loop-fault.out))) c.loop-fault.salvaged c.loop-fault.here.folder c.next.new.self c.next.new.name
+    (g.R.Rack.seen c.next.new.rack) c.next.new.vol (c.loop-fault.invariant.listed s e) c.in-Ok-Some.ensures.reads c.in-Ok-Some.ensures.volume
+    (ready_next _ _ _ c.loop-fault.invariant.ready c.in-Ok-Some.ensures.serves c.in-Ok-Some.ensures.volume) c.in-Ok-Some.found c.next.result
+    (c.in-Ok-Some.is ∙ ap Ok c.in-Ok-Some.field-0-is) c.next.ensures.content
+    (world (g.R.Rack.seen c.list_found.new.rack) c.list_found.new.vol
+    (outside (g.T.TreeSink.sink c.list_found.new.tree) (g.T.TreeSink.account c.list_found.new.tree) (g.O.Out.text c.list_found.new.out)
+    (g.O.Out.account c.list_found.new.out))) c.in-Err-list_found.stop
+    (subst (λ (k : ℕ). Ran (meet_in c.args.job.now.plan s c.args.job.now.sums k c.args.root c.args.dirid c.args.path.now c.loop-fault.salvaged
+    (found_in c.in-Ok-Some.found c.next.new.name)) (world (g.R.Rack.seen c.next.new.rack) c.next.new.vol
+    (outside (g.T.TreeSink.sink c.loop-fault.tree) (g.T.TreeSink.account c.loop-fault.tree) (g.O.Out.text c.loop-fault.out)
+    (g.O.Out.account c.loop-fault.out))) (world (g.R.Rack.seen c.list_found.new.rack) c.list_found.new.vol
+    (outside (g.T.TreeSink.sink c.list_found.new.tree) (g.T.TreeSink.account c.list_found.new.tree) (g.O.Out.text c.list_found.new.out)
+    (g.O.Out.account c.list_found.new.out))) (Err c.in-Err-list_found.stop)) c.loop-fault.invariant.same_below
+    (subst (λ (p : List ℕ). Ran (meet_in c.args.job.now.plan s c.args.job.now.sums (length c.loop-fault.below) c.args.root c.args.dirid p c.loop-fault.salvaged
+    (found_in c.in-Ok-Some.found c.next.new.name)) (world (g.R.Rack.seen c.next.new.rack) c.next.new.vol
+    (outside (g.T.TreeSink.sink c.loop-fault.tree) (g.T.TreeSink.account c.loop-fault.tree) (g.O.Out.text c.loop-fault.out)
+    (g.O.Out.account c.loop-fault.out))) (world (g.R.Rack.seen c.list_found.new.rack) c.list_found.new.vol
+    (outside (g.T.TreeSink.sink c.list_found.new.tree) (g.T.TreeSink.account c.list_found.new.tree) (g.O.Out.text c.list_found.new.out)
+    (g.O.Out.account c.list_found.new.out))) (Err c.in-Err-list_found.stop)) c.loop-fault.invariant.same_path
     (c.in-Err-list_found.ensures.ran s (e ∙ (sym (c.loop-fault.invariant.listed s e).volume.sup ∙ sym c.in-Ok-Some.ensures.volume.sup))))))
 
 pub list_entry-returns-in-Err-clause-ran : goal.list_entry-returns-in-Err-clause-ran
@@ -121,12 +203,20 @@ list_entry-list_within-requires g t c κs within = (
         (
           (c.treat.ensures.ran c.args.vol.now.sup refl).ready,
           (
-            λ dry. (stands_within c.args.job.now.plan.dry (g.T.TreeSink.sink c.args.tree.now).depth (g.T.TreeSink.sink c.treat.new.tree) c.in-Ok-Within.field-0 c.in-Ok-Within.inner c.in-Ok-Within.dirid c.in-Ok-Within.field-0-is (c.in-Ok-Within.ensures.stands (g.T.TreeSink.sink c.args.tree.now).depth (λ d. (c.requires.between d, refl))) dry).0,
+            λ dry. (stands_within c.args.job.now.plan.dry (g.T.TreeSink.sink c.args.tree.now).depth
+                (g.T.TreeSink.sink c.treat.new.tree) c.in-Ok-Within.field-0 c.in-Ok-Within.inner c.in-Ok-Within.dirid c.in-Ok-Within.field-0-is
+                (c.in-Ok-Within.ensures.stands (g.T.TreeSink.sink c.args.tree.now).depth (λ d. (c.requires.between d, refl))) dry).0,
             (
-              some_place (length c.args.below.now) c.is_empty.result c.in-Ok-Within.field-0 c.in-Ok-Within.inner c.in-Ok-Within.dirid (λ z. c.is_empty.ensures ∙ ap (λ (k : ℕ). k == 0) z) c.in-Ok-Within.field-0-is c.in-Ok-Within.ensures.flat,
+              some_place (length c.args.below.now) c.is_empty.result c.in-Ok-Within.field-0 c.in-Ok-Within.inner c.in-Ok-Within.dirid
+                  (λ z. c.is_empty.ensures ∙ ap (λ (k : ℕ). k == 0) z) c.in-Ok-Within.field-0-is c.in-Ok-Within.ensures.flat,
               (
-                λ dry. subst (λ (d : ℕ). 0 < d) (sym (stands_within c.args.job.now.plan.dry (g.T.TreeSink.sink c.args.tree.now).depth (g.T.TreeSink.sink c.treat.new.tree) c.in-Ok-Within.field-0 c.in-Ok-Within.inner c.in-Ok-Within.dirid c.in-Ok-Within.field-0-is (c.in-Ok-Within.ensures.stands (g.T.TreeSink.sink c.args.tree.now).depth (λ d. (c.requires.between d, refl))) dry).1) (omega arith),
-                λ dry. room_within _ _ _ 512 (stands_within c.args.job.now.plan.dry (g.T.TreeSink.sink c.args.tree.now).depth (g.T.TreeSink.sink c.treat.new.tree) c.in-Ok-Within.field-0 c.in-Ok-Within.inner c.in-Ok-Within.dirid c.in-Ok-Within.field-0-is (c.in-Ok-Within.ensures.stands (g.T.TreeSink.sink c.args.tree.now).depth (λ d. (c.requires.between d, refl))) dry).1 (c.requires.room dry),
+                λ dry. subst (λ (d : ℕ). 0 < d)
+                    (sym (stands_within c.args.job.now.plan.dry (g.T.TreeSink.sink c.args.tree.now).depth
+                    (g.T.TreeSink.sink c.treat.new.tree) c.in-Ok-Within.field-0 c.in-Ok-Within.inner c.in-Ok-Within.dirid c.in-Ok-Within.field-0-is
+                    (c.in-Ok-Within.ensures.stands (g.T.TreeSink.sink c.args.tree.now).depth (λ d. (c.requires.between d, refl))) dry).1) (omega arith),
+                λ dry. room_within _ _ _ 512 (stands_within c.args.job.now.plan.dry (g.T.TreeSink.sink c.args.tree.now).depth
+                    (g.T.TreeSink.sink c.treat.new.tree) c.in-Ok-Within.field-0 c.in-Ok-Within.inner c.in-Ok-Within.dirid c.in-Ok-Within.field-0-is
+                    (c.in-Ok-Within.ensures.stands (g.T.TreeSink.sink c.args.tree.now).depth (λ d. (c.requires.between d, refl))) dry).1 (c.requires.room dry),
               ),
             ),
           ),
@@ -141,12 +231,37 @@ list_entry-treat-requires-clause-above g t c = λ shallow dry. room_above _ _ 51
 
 pub list_entry-returns-in-Err-treat-clause-ran : goal.list_entry-returns-in-Err-treat-clause-ran
 list_entry-returns-in-Err-treat-clause-ran g t c s e =
-    entry_halts c.args.job.now.plan s c.args.job.now.sums (length c.args.below.now) c.is_empty.result (c.is_empty.ensures ∙ deep_is (length c.args.below.now)) c.args.root.now c.args.dirid c.args.path.now c.args.salvaged.now (named_row c.args.row c.args.name.now) (world (g.R.Rack.seen c.args.rack.now) c.args.vol.now (outside (g.T.TreeSink.sink c.args.tree.now) (g.T.TreeSink.account c.args.tree.now) (g.O.Out.text c.args.out.now) (g.O.Out.account c.args.out.now))) (world (g.R.Rack.seen c.treat.new.rack) c.treat.new.vol (outside (g.T.TreeSink.sink c.treat.new.tree) (g.T.TreeSink.account c.treat.new.tree) (g.O.Out.text c.treat.new.out) (g.O.Out.account c.treat.new.out))) (world (g.R.Rack.seen c.treat.new.rack) c.treat.new.vol (outside (g.T.TreeSink.sink c.treat.new.tree) (g.T.TreeSink.account c.treat.new.tree) (g.O.Out.text c.treat.new.out) (g.O.Out.account c.treat.new.out))) c.in-Err-treat.stop (treated_in c.args.job.now.plan s c.args.job.now.sums c.is_empty.result c.args.root.now c.args.dirid c.args.path.now _ c.args.salvaged.now (named_row c.args.row c.args.name.now) _ _ _ (c.as_bytes-2.ensures ∙ (c.in-Ok.ensures ∙ ap (path_in c.args.path.now) c.as_bytes.ensures)) (c.in-Err-treat.ensures.ran s e))
+    entry_halts c.args.job.now.plan s c.args.job.now.sums (length c.args.below.now) c.is_empty.result
+    (c.is_empty.ensures ∙ deep_is (length c.args.below.now)) c.args.root.now c.args.dirid c.args.path.now c.args.salvaged.now
+    (named_row c.args.row c.args.name.now) (world (g.R.Rack.seen c.args.rack.now) c.args.vol.now
+    (outside (g.T.TreeSink.sink c.args.tree.now) (g.T.TreeSink.account c.args.tree.now) (g.O.Out.text c.args.out.now) (g.O.Out.account c.args.out.now)))
+    (world (g.R.Rack.seen c.treat.new.rack) c.treat.new.vol (outside (g.T.TreeSink.sink c.treat.new.tree) (g.T.TreeSink.account c.treat.new.tree)
+    (g.O.Out.text c.treat.new.out) (g.O.Out.account c.treat.new.out)))
+    (world (g.R.Rack.seen c.treat.new.rack) c.treat.new.vol (outside (g.T.TreeSink.sink c.treat.new.tree) (g.T.TreeSink.account c.treat.new.tree)
+    (g.O.Out.text c.treat.new.out) (g.O.Out.account c.treat.new.out))) c.in-Err-treat.stop
+    (treated_in c.args.job.now.plan s c.args.job.now.sums c.is_empty.result c.args.root.now c.args.dirid c.args.path.now _ c.args.salvaged.now
+    (named_row c.args.row c.args.name.now) _ _ _ (c.as_bytes-2.ensures ∙ (c.in-Ok.ensures ∙ ap (path_in c.args.path.now) c.as_bytes.ensures))
+    (c.in-Err-treat.ensures.ran s e))
 
 pub list_entry-returns-in-Ok-Over-clause-ran : goal.list_entry-returns-in-Ok-Over-clause-ran
 list_entry-returns-in-Ok-Over-clause-ran g t c s e =
-    entry_over c.args.job.now.plan s c.args.job.now.sums (length c.args.below.now) c.is_empty.result (c.is_empty.ensures ∙ deep_is (length c.args.below.now)) c.args.root.now c.args.dirid c.args.path.now c.args.salvaged.now (named_row c.args.row c.args.name.now) (world (g.R.Rack.seen c.args.rack.now) c.args.vol.now (outside (g.T.TreeSink.sink c.args.tree.now) (g.T.TreeSink.account c.args.tree.now) (g.O.Out.text c.args.out.now) (g.O.Out.account c.args.out.now))) (world (g.R.Rack.seen c.treat.new.rack) c.treat.new.vol (outside (g.T.TreeSink.sink c.treat.new.tree) (g.T.TreeSink.account c.treat.new.tree) (g.O.Out.text c.treat.new.out) (g.O.Out.account c.treat.new.out))) (world (g.R.Rack.seen c.treat.new.rack) c.treat.new.vol (outside (g.T.TreeSink.sink c.treat.new.tree) (g.T.TreeSink.account c.treat.new.tree) (g.O.Out.text c.treat.new.out) (g.O.Out.account c.treat.new.out))) c.treat.new.salvaged
-    (subst (λ (r : Treated). Ran (treated c.args.job.now.plan s c.args.job.now.sums (met_in c.is_empty.result c.args.root.now c.args.dirid c.args.path.now (named_row c.args.row c.args.name.now)) c.args.salvaged.now) (world (g.R.Rack.seen c.args.rack.now) c.args.vol.now (outside (g.T.TreeSink.sink c.args.tree.now) (g.T.TreeSink.account c.args.tree.now) (g.O.Out.text c.args.out.now) (g.O.Out.account c.args.out.now))) (world (g.R.Rack.seen c.treat.new.rack) c.treat.new.vol (outside (g.T.TreeSink.sink c.treat.new.tree) (g.T.TreeSink.account c.treat.new.tree) (g.O.Out.text c.treat.new.out) (g.O.Out.account c.treat.new.out))) (Ok (came_to c.treat.new.salvaged r))) c.in-Ok-Over.field-0-is (treated_in c.args.job.now.plan s c.args.job.now.sums c.is_empty.result c.args.root.now c.args.dirid c.args.path.now _ c.args.salvaged.now (named_row c.args.row c.args.name.now) _ _ _ (c.as_bytes-2.ensures ∙ (c.in-Ok.ensures ∙ ap (path_in c.args.path.now) c.as_bytes.ensures)) (c.in-Ok-Over.ensures.ran s e)))
+    entry_over c.args.job.now.plan s c.args.job.now.sums (length c.args.below.now) c.is_empty.result
+    (c.is_empty.ensures ∙ deep_is (length c.args.below.now)) c.args.root.now c.args.dirid c.args.path.now c.args.salvaged.now
+    (named_row c.args.row c.args.name.now) (world (g.R.Rack.seen c.args.rack.now) c.args.vol.now
+    (outside (g.T.TreeSink.sink c.args.tree.now) (g.T.TreeSink.account c.args.tree.now) (g.O.Out.text c.args.out.now) (g.O.Out.account c.args.out.now)))
+    (world (g.R.Rack.seen c.treat.new.rack) c.treat.new.vol (outside (g.T.TreeSink.sink c.treat.new.tree) (g.T.TreeSink.account c.treat.new.tree)
+    (g.O.Out.text c.treat.new.out) (g.O.Out.account c.treat.new.out)))
+    (world (g.R.Rack.seen c.treat.new.rack) c.treat.new.vol (outside (g.T.TreeSink.sink c.treat.new.tree) (g.T.TreeSink.account c.treat.new.tree)
+    (g.O.Out.text c.treat.new.out) (g.O.Out.account c.treat.new.out))) c.treat.new.salvaged
+    (subst (λ (r : Treated). Ran (treated c.args.job.now.plan s c.args.job.now.sums
+    (met_in c.is_empty.result c.args.root.now c.args.dirid c.args.path.now (named_row c.args.row c.args.name.now)) c.args.salvaged.now)
+    (world (g.R.Rack.seen c.args.rack.now) c.args.vol.now (outside (g.T.TreeSink.sink c.args.tree.now) (g.T.TreeSink.account c.args.tree.now)
+    (g.O.Out.text c.args.out.now) (g.O.Out.account c.args.out.now)))
+    (world (g.R.Rack.seen c.treat.new.rack) c.treat.new.vol (outside (g.T.TreeSink.sink c.treat.new.tree) (g.T.TreeSink.account c.treat.new.tree)
+    (g.O.Out.text c.treat.new.out) (g.O.Out.account c.treat.new.out))) (Ok (came_to c.treat.new.salvaged r))) c.in-Ok-Over.field-0-is
+    (treated_in c.args.job.now.plan s c.args.job.now.sums c.is_empty.result c.args.root.now c.args.dirid c.args.path.now _ c.args.salvaged.now
+    (named_row c.args.row c.args.name.now) _ _ _ (c.as_bytes-2.ensures ∙ (c.in-Ok.ensures ∙ ap (path_in c.args.path.now) c.as_bytes.ensures))
+    (c.in-Ok-Over.ensures.ran s e)))
 
 pub list_entry-returns-in-Ok-Over-clause-stands : goal.list_entry-returns-in-Ok-Over-clause-stands
 list_entry-returns-in-Ok-Over-clause-stands g t c n h =
@@ -154,19 +269,50 @@ list_entry-returns-in-Ok-Over-clause-stands g t c n h =
 
 pub list_entry-returns-in-Ok-Within-clause-ran : goal.list_entry-returns-in-Ok-Within-clause-ran
 list_entry-returns-in-Ok-Within-clause-ran g t c s e =
-    let h = subst (λ (r : Treated). Ran (treated c.args.job.now.plan s c.args.job.now.sums (met_in c.is_empty.result c.args.root.now c.args.dirid c.args.path.now (named_row c.args.row c.args.name.now)) c.args.salvaged.now) (world (g.R.Rack.seen c.args.rack.now) c.args.vol.now (outside (g.T.TreeSink.sink c.args.tree.now) (g.T.TreeSink.account c.args.tree.now) (g.O.Out.text c.args.out.now) (g.O.Out.account c.args.out.now))) (world (g.R.Rack.seen c.treat.new.rack) c.treat.new.vol (outside (g.T.TreeSink.sink c.treat.new.tree) (g.T.TreeSink.account c.treat.new.tree) (g.O.Out.text c.treat.new.out) (g.O.Out.account c.treat.new.out))) (Ok (came_to c.treat.new.salvaged r))) c.in-Ok-Within.field-0-is (treated_in c.args.job.now.plan s c.args.job.now.sums c.is_empty.result c.args.root.now c.args.dirid c.args.path.now _ c.args.salvaged.now (named_row c.args.row c.args.name.now) _ _ _ (c.as_bytes-2.ensures ∙ (c.in-Ok.ensures ∙ ap (path_in c.args.path.now) c.as_bytes.ensures)) (c.in-Ok-Within.ensures.ran s e)) in
-    entry_within c.args.job.now.plan s c.args.job.now.sums (length c.args.below.now) c.is_empty.result (c.is_empty.ensures ∙ deep_is (length c.args.below.now)) c.args.root.now c.args.dirid c.args.path.now c.args.salvaged.now (named_row c.args.row c.args.name.now) (world (g.R.Rack.seen c.args.rack.now) c.args.vol.now (outside (g.T.TreeSink.sink c.args.tree.now) (g.T.TreeSink.account c.args.tree.now) (g.O.Out.text c.args.out.now) (g.O.Out.account c.args.out.now))) (world (g.R.Rack.seen c.treat.new.rack) c.treat.new.vol (outside (g.T.TreeSink.sink c.treat.new.tree) (g.T.TreeSink.account c.treat.new.tree) (g.O.Out.text c.treat.new.out) (g.O.Out.account c.treat.new.out))) (world (g.R.Rack.seen c.list_within.new.rack) c.list_within.new.vol (outside (g.T.TreeSink.sink c.list_within.new.tree) (g.T.TreeSink.account c.list_within.new.tree) (g.O.Out.text c.list_within.new.out) (g.O.Out.account c.list_within.new.out))) c.in-Ok-Within.inner c.in-Ok-Within.dirid c.treat.new.salvaged _ h
-    (subst (λ (p : List ℕ). Ran (listed_in c.args.job.now.plan s c.args.job.now.sums (listing_in c.args.job.now.plan s c.args.job.now.sums (length c.args.below.now)) p (salvaging.Within c.in-Ok-Within.inner c.in-Ok-Within.dirid c.treat.new.salvaged)) (world (g.R.Rack.seen c.treat.new.rack) c.treat.new.vol (outside (g.T.TreeSink.sink c.treat.new.tree) (g.T.TreeSink.account c.treat.new.tree) (g.O.Out.text c.treat.new.out) (g.O.Out.account c.treat.new.out))) (world (g.R.Rack.seen c.list_within.new.rack) c.list_within.new.vol (outside (g.T.TreeSink.sink c.list_within.new.tree) (g.T.TreeSink.account c.list_within.new.tree) (g.O.Out.text c.list_within.new.out) (g.O.Out.account c.list_within.new.out))) (counted c.list_within.new.salvaged c.list_within.result)) (c.in-Ok.ensures ∙ ap (path_in c.args.path.now) c.as_bytes.ensures)
+    let h = subst (λ (r : Treated). Ran (treated c.args.job.now.plan s c.args.job.now.sums
+    (met_in c.is_empty.result c.args.root.now c.args.dirid c.args.path.now (named_row c.args.row c.args.name.now)) c.args.salvaged.now)
+    (world (g.R.Rack.seen c.args.rack.now) c.args.vol.now (outside (g.T.TreeSink.sink c.args.tree.now) (g.T.TreeSink.account c.args.tree.now)
+    (g.O.Out.text c.args.out.now) (g.O.Out.account c.args.out.now)))
+    (world (g.R.Rack.seen c.treat.new.rack) c.treat.new.vol (outside (g.T.TreeSink.sink c.treat.new.tree) (g.T.TreeSink.account c.treat.new.tree)
+    (g.O.Out.text c.treat.new.out) (g.O.Out.account c.treat.new.out))) (Ok (came_to c.treat.new.salvaged r))) c.in-Ok-Within.field-0-is
+    (treated_in c.args.job.now.plan s c.args.job.now.sums c.is_empty.result c.args.root.now c.args.dirid c.args.path.now _ c.args.salvaged.now
+    (named_row c.args.row c.args.name.now) _ _ _ (c.as_bytes-2.ensures ∙ (c.in-Ok.ensures ∙ ap (path_in c.args.path.now) c.as_bytes.ensures))
+    (c.in-Ok-Within.ensures.ran s e)) in
+    entry_within c.args.job.now.plan s c.args.job.now.sums (length c.args.below.now) c.is_empty.result
+    (c.is_empty.ensures ∙ deep_is (length c.args.below.now)) c.args.root.now c.args.dirid c.args.path.now c.args.salvaged.now
+    (named_row c.args.row c.args.name.now) (world (g.R.Rack.seen c.args.rack.now) c.args.vol.now
+    (outside (g.T.TreeSink.sink c.args.tree.now) (g.T.TreeSink.account c.args.tree.now) (g.O.Out.text c.args.out.now) (g.O.Out.account c.args.out.now)))
+    (world (g.R.Rack.seen c.treat.new.rack) c.treat.new.vol (outside (g.T.TreeSink.sink c.treat.new.tree) (g.T.TreeSink.account c.treat.new.tree)
+    (g.O.Out.text c.treat.new.out) (g.O.Out.account c.treat.new.out)))
+    (world (g.R.Rack.seen c.list_within.new.rack) c.list_within.new.vol
+    (outside (g.T.TreeSink.sink c.list_within.new.tree) (g.T.TreeSink.account c.list_within.new.tree) (g.O.Out.text c.list_within.new.out)
+    (g.O.Out.account c.list_within.new.out))) c.in-Ok-Within.inner c.in-Ok-Within.dirid c.treat.new.salvaged _ h
+    (subst (λ (p : List ℕ). Ran (listed_in c.args.job.now.plan s c.args.job.now.sums
+    (listing_in c.args.job.now.plan s c.args.job.now.sums (length c.args.below.now)) p
+    (salvaging.Within c.in-Ok-Within.inner c.in-Ok-Within.dirid c.treat.new.salvaged))
+    (world (g.R.Rack.seen c.treat.new.rack) c.treat.new.vol (outside (g.T.TreeSink.sink c.treat.new.tree) (g.T.TreeSink.account c.treat.new.tree)
+    (g.O.Out.text c.treat.new.out) (g.O.Out.account c.treat.new.out)))
+    (world (g.R.Rack.seen c.list_within.new.rack) c.list_within.new.vol
+    (outside (g.T.TreeSink.sink c.list_within.new.tree) (g.T.TreeSink.account c.list_within.new.tree) (g.O.Out.text c.list_within.new.out)
+    (g.O.Out.account c.list_within.new.out))) (counted c.list_within.new.salvaged c.list_within.result))
+    (c.in-Ok.ensures ∙ ap (path_in c.args.path.now) c.as_bytes.ensures)
     (c.list_within.ensures.ran s (e ∙ sym h.volume.sup)))
 
 pub list_entry-returns-in-Ok-Within-clause-stands : goal.list_entry-returns-in-Ok-Within-clause-stands
 list_entry-returns-in-Ok-Within-clause-stands g t c n h =
-    c.list_within.ensures.stands n (stands_within _ n (g.T.TreeSink.sink c.treat.new.tree) c.in-Ok-Within.field-0 c.in-Ok-Within.inner c.in-Ok-Within.dirid c.in-Ok-Within.field-0-is (c.in-Ok-Within.ensures.stands n h))
+    c.list_within.ensures.stands n (stands_within _ n (g.T.TreeSink.sink c.treat.new.tree) c.in-Ok-Within.field-0 c.in-Ok-Within.inner c.in-Ok-Within.dirid
+    c.in-Ok-Within.field-0-is (c.in-Ok-Within.ensures.stands n h))
 
 pub list_within-list-requires : goal.list_within-list-requires
 list_within-list-requires g t c κs within = (
   omega (arith, c.decreases, (sym c.in-Some.ensures.cases.1)),
-  (within.0, (within.1.0, (within.1.1, (c.requires.ready, (c.requires.between, λ dry. room_below _ _ _ 512 (sym c.in-Some.ensures.cases.1) (c.requires.room dry)))))),
+  (
+    within.0,
+    (
+      within.1.0,
+      (within.1.1, (c.requires.ready, (c.requires.between, λ dry. room_below _ _ _ 512 (sym c.in-Some.ensures.cases.1) (c.requires.room dry)))),
+    ),
+  ),
 )
 
 pub list_within-leave_dir-requires-clause-between : goal.list_within-leave_dir-requires-clause-between
@@ -175,24 +321,40 @@ list_within-leave_dir-requires-clause-between g t c =
 
 pub list_within-leave_dir-requires-clause-below : goal.list_within-leave_dir-requires-clause-below
 list_within-leave_dir-requires-clause-below g t c =
-    λ dry. subst (λ (d : ℕ). 0 < d) (sym (c.in-Ok.ensures.stands (g.T.TreeSink.sink c.args.tree.now).depth (λ d. (c.requires.between d, refl)) dry).1) (c.requires.below dry)
+    λ dry. subst (λ (d : ℕ). 0 < d) (sym (c.in-Ok.ensures.stands (g.T.TreeSink.sink c.args.tree.now).depth (λ d. (c.requires.between d, refl)) dry).1)
+    (c.requires.below dry)
 
 pub list_within-returns-in-Err-clause-ran : goal.list_within-returns-in-Err-clause-ran
 list_within-returns-in-Err-clause-ran g t c s e =
-    within_halts c.args.job.now.plan s c.args.job.now.sums (length c.args.frames.now) (length c.in-Some.below.now) (sym c.in-Some.ensures.cases.1) c.args.inner c.args.dirid c.args.path.now c.args.salvaged.now (world (g.R.Rack.seen c.args.rack.now) c.args.vol.now (outside (g.T.TreeSink.sink c.args.tree.now) (g.T.TreeSink.account c.args.tree.now) (g.O.Out.text c.args.out.now) (g.O.Out.account c.args.out.now))) (world (g.R.Rack.seen c.list.new.rack) c.list.new.vol (outside (g.T.TreeSink.sink c.list.new.tree) (g.T.TreeSink.account c.list.new.tree) (g.O.Out.text c.list.new.out) (g.O.Out.account c.list.new.out))) c.in-Err.stop (c.in-Err.ensures.ran s e)
+    within_halts c.args.job.now.plan s c.args.job.now.sums (length c.args.frames.now) (length c.in-Some.below.now)
+    (sym c.in-Some.ensures.cases.1) c.args.inner c.args.dirid c.args.path.now c.args.salvaged.now
+    (world (g.R.Rack.seen c.args.rack.now) c.args.vol.now (outside (g.T.TreeSink.sink c.args.tree.now) (g.T.TreeSink.account c.args.tree.now)
+    (g.O.Out.text c.args.out.now) (g.O.Out.account c.args.out.now)))
+    (world (g.R.Rack.seen c.list.new.rack) c.list.new.vol (outside (g.T.TreeSink.sink c.list.new.tree) (g.T.TreeSink.account c.list.new.tree)
+    (g.O.Out.text c.list.new.out) (g.O.Out.account c.list.new.out))) c.in-Err.stop (c.in-Err.ensures.ran s e)
 
 pub list_within-returns-in-Ok-clause-ran : goal.list_within-returns-in-Ok-clause-ran
 list_within-returns-in-Ok-clause-ran g t c s e =
-    within_up c.args.job.now.plan s c.args.job.now.sums (length c.args.frames.now) (length c.in-Some.below.now) (sym c.in-Some.ensures.cases.1) c.args.inner c.args.dirid c.args.path.now c.args.salvaged.now (world (g.R.Rack.seen c.args.rack.now) c.args.vol.now (outside (g.T.TreeSink.sink c.args.tree.now) (g.T.TreeSink.account c.args.tree.now) (g.O.Out.text c.args.out.now) (g.O.Out.account c.args.out.now))) (world (g.R.Rack.seen c.list.new.rack) c.list.new.vol (outside (g.T.TreeSink.sink c.list.new.tree) (g.T.TreeSink.account c.list.new.tree) (g.O.Out.text c.list.new.out) (g.O.Out.account c.list.new.out))) c.list.new.salvaged _ c.leave_dir.result (c.in-Ok.ensures.ran s e) (c.leave_dir.ensures.wrote (g.O.Out.text c.list.new.out) (g.O.Out.account c.list.new.out))
+    within_up c.args.job.now.plan s c.args.job.now.sums (length c.args.frames.now) (length c.in-Some.below.now)
+    (sym c.in-Some.ensures.cases.1) c.args.inner c.args.dirid c.args.path.now c.args.salvaged.now
+    (world (g.R.Rack.seen c.args.rack.now) c.args.vol.now (outside (g.T.TreeSink.sink c.args.tree.now) (g.T.TreeSink.account c.args.tree.now)
+    (g.O.Out.text c.args.out.now) (g.O.Out.account c.args.out.now)))
+    (world (g.R.Rack.seen c.list.new.rack) c.list.new.vol (outside (g.T.TreeSink.sink c.list.new.tree) (g.T.TreeSink.account c.list.new.tree)
+    (g.O.Out.text c.list.new.out) (g.O.Out.account c.list.new.out))) c.list.new.salvaged _ c.leave_dir.result (c.in-Ok.ensures.ran s e)
+    (c.leave_dir.ensures.wrote (g.O.Out.text c.list.new.out) (g.O.Out.account c.list.new.out))
 
 pub list_within-returns-in-Ok-clause-stands : goal.list_within-returns-in-Ok-clause-stands
 list_within-returns-in-Ok-clause-stands g t c n h =
-    stands_up c.args.job.now.plan.dry n (g.T.TreeSink.sink c.list.new.tree) (g.T.TreeSink.sink c.leave_dir.new.tree) c.leave_dir.result c.leave_dir.ensures.after (c.in-Ok.ensures.stands (n + 1) h)
+    stands_up c.args.job.now.plan.dry n (g.T.TreeSink.sink c.list.new.tree)
+    (g.T.TreeSink.sink c.leave_dir.new.tree) c.leave_dir.result c.leave_dir.ensures.after (c.in-Ok.ensures.stands (n + 1) h)
 
 pub list_found-returns-in-Passing-clause-ran : goal.list_found-returns-in-Passing-clause-ran
 list_found-returns-in-Passing-clause-ran g t c s e =
-    let x = world (g.R.Rack.seen c.args.rack.now) c.args.vol.now (outside (g.T.TreeSink.sink c.args.tree.now) (g.T.TreeSink.account c.args.tree.now) (g.O.Out.text c.args.out.now) (g.O.Out.account c.args.out.now)) in
-    subst (λ (f : Found). Ran (meet_in c.args.job.now.plan s c.args.job.now.sums (length c.args.below.now) c.args.root.now c.args.dirid c.args.path.now c.args.salvaged.now (found_in f c.args.name.now)) x x (Ok c.args.salvaged.now)) (sym c.in-Passing.is)
+    let x = world (g.R.Rack.seen c.args.rack.now) c.args.vol.now (outside (g.T.TreeSink.sink c.args.tree.now) (g.T.TreeSink.account c.args.tree.now)
+    (g.O.Out.text c.args.out.now) (g.O.Out.account c.args.out.now)) in
+    subst (λ (f : Found). Ran (meet_in c.args.job.now.plan s c.args.job.now.sums
+    (length c.args.below.now) c.args.root.now c.args.dirid c.args.path.now c.args.salvaged.now (found_in f c.args.name.now)) x x (Ok c.args.salvaged.now))
+    (sym c.in-Passing.is)
     (ran_value c.args.salvaged.now x c.requires.ready)
 
 pub list_found-returns-in-Part-clause-ran : goal.list_found-returns-in-Part-clause-ran
@@ -201,11 +363,22 @@ list_found-returns-in-Part-clause-ran g t c s e =
     let calls = g.T.TreeSink.account c.args.tree.now in
     let x = outside sink calls (g.O.Out.text c.args.out.now) (g.O.Out.account c.args.out.now) in
     let y = outside sink calls (g.O.Out.text c.tell_part.new.out) (g.O.Out.account c.tell_part.new.out) in
-    subst (λ (f : Found). Ran (meet_in c.args.job.now.plan s c.args.job.now.sums (length c.args.below.now) c.args.root.now c.args.dirid c.args.path.now c.args.salvaged.now (found_in f c.args.name.now)) (world (g.R.Rack.seen c.args.rack.now) c.args.vol.now x) (world (g.R.Rack.seen c.args.rack.now) c.args.vol.now y) (counted c.tell_part.new.salvaged c.tell_part.result)) (sym c.in-Part.is)
-    (ran_writes (part_missing (fault_by c.in-Part.damage) c.args.path.now c.args.salvaged.now) (g.R.Rack.seen c.args.rack.now) c.args.vol.now x y (counted c.tell_part.new.salvaged c.tell_part.result) c.requires.ready
-    (subst (λ (p : List ℕ). Wrote (part_missing (fault_by c.in-Part.damage) p c.args.salvaged.now) x y (counted c.tell_part.new.salvaged c.tell_part.result)) c.as_bytes.ensures (c.tell_part.ensures sink calls)))
+    subst (λ (f : Found). Ran (meet_in c.args.job.now.plan s c.args.job.now.sums
+    (length c.args.below.now) c.args.root.now c.args.dirid c.args.path.now c.args.salvaged.now (found_in f c.args.name.now))
+    (world (g.R.Rack.seen c.args.rack.now) c.args.vol.now x) (world (g.R.Rack.seen c.args.rack.now) c.args.vol.now y)
+    (counted c.tell_part.new.salvaged c.tell_part.result)) (sym c.in-Part.is)
+    (ran_writes (part_missing (fault_by c.in-Part.damage) c.args.path.now c.args.salvaged.now) (g.R.Rack.seen c.args.rack.now) c.args.vol.now x y
+    (counted c.tell_part.new.salvaged c.tell_part.result) c.requires.ready
+    (subst (λ (p : List ℕ). Wrote (part_missing (fault_by c.in-Part.damage) p c.args.salvaged.now) x y (counted c.tell_part.new.salvaged c.tell_part.result))
+    c.as_bytes.ensures (c.tell_part.ensures sink calls)))
 
 pub list_found-returns-in-Entry-clause-ran : goal.list_found-returns-in-Entry-clause-ran
 list_found-returns-in-Entry-clause-ran g t c s e =
-    subst (λ (f : Found). Ran (meet_in c.args.job.now.plan s c.args.job.now.sums (length c.args.below.now) c.args.root.now c.args.dirid c.args.path.now c.args.salvaged.now (found_in f c.args.name.now)) (world (g.R.Rack.seen c.args.rack.now) c.args.vol.now (outside (g.T.TreeSink.sink c.args.tree.now) (g.T.TreeSink.account c.args.tree.now) (g.O.Out.text c.args.out.now) (g.O.Out.account c.args.out.now))) (world (g.R.Rack.seen c.list_entry.new.rack) c.list_entry.new.vol (outside (g.T.TreeSink.sink c.list_entry.new.tree) (g.T.TreeSink.account c.list_entry.new.tree) (g.O.Out.text c.list_entry.new.out) (g.O.Out.account c.list_entry.new.out))) (counted c.list_entry.new.salvaged c.list_entry.result)) (sym c.in-Entry.is)
+    subst (λ (f : Found). Ran (meet_in c.args.job.now.plan s c.args.job.now.sums
+    (length c.args.below.now) c.args.root.now c.args.dirid c.args.path.now c.args.salvaged.now (found_in f c.args.name.now))
+    (world (g.R.Rack.seen c.args.rack.now) c.args.vol.now (outside (g.T.TreeSink.sink c.args.tree.now) (g.T.TreeSink.account c.args.tree.now)
+    (g.O.Out.text c.args.out.now) (g.O.Out.account c.args.out.now)))
+    (world (g.R.Rack.seen c.list_entry.new.rack) c.list_entry.new.vol
+    (outside (g.T.TreeSink.sink c.list_entry.new.tree) (g.T.TreeSink.account c.list_entry.new.tree) (g.O.Out.text c.list_entry.new.out)
+    (g.O.Out.account c.list_entry.new.out))) (counted c.list_entry.new.salvaged c.list_entry.result)) (sym c.in-Entry.is)
     (c.list_entry.ensures.ran s e)

@@ -10,11 +10,13 @@ pub loop-fault-preserved : goal.loop-fault-preserved
 loop-fault-preserved g c = (
   c.in-Ok-true.ensures.ready,
   same_then c.loop-fault.invariant.1 c.in-Ok-true.ensures.room,
-  λ whole start began l. subst (λ (b : Bool). PassesBy whole start began (g.R.Rack.seen c.pass_next.new.rack) c.pass_next.new.vol c.pass_next.new.file (Ok b)) c.in-Ok-true.field-0-test
+  λ whole start began l. subst (λ (b : Bool). PassesBy whole start began (g.R.Rack.seen c.pass_next.new.rack) c.pass_next.new.vol c.pass_next.new.file (Ok b))
+      c.in-Ok-true.field-0-test
       (c.in-Ok-true.ensures.passes whole start began (c.loop-fault.invariant.2 whole start began l)),
 )
 
 pub returns-in-Ok-false-clause-passes : goal.returns-in-Ok-false-clause-passes
 returns-in-Ok-false-clause-passes g c whole start began l =
-    subst (λ (b : Bool). PassesBy whole start began (g.R.Rack.seen c.pass_next.new.rack) c.pass_next.new.vol c.pass_next.new.file (Ok b)) c.in-Ok-false.field-0-test
+    subst (λ (b : Bool). PassesBy whole start began (g.R.Rack.seen c.pass_next.new.rack) c.pass_next.new.vol c.pass_next.new.file (Ok b))
+    c.in-Ok-false.field-0-test
     (c.in-Ok-false.ensures.passes whole start began (c.loop-fault.invariant.2 whole start began l))

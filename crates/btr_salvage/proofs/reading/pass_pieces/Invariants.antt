@@ -1,4 +1,3 @@
-use Rattle.std.proofs.Common.{◌≡◌}
 use Rattle.btr_rack.specs.Rack.{Seen}
 use Rattle.btr_read.specs.Store.{SameLoans}
 use Rattle.btr_volume.specs.Lookup.{Program}

@@ -15,32 +15,48 @@ use Rattle.btr_salvage.proofs.salvaging.list_into.Goals as goal
 
 pub returns-in-Err : goal.returns-in-Err
 returns-in-Err g c s e =
-    ran_halt _ _ _ _ (world (g.R.Rack.seen c.args.rack.now) c.args.vol.now (outside (g.T.TreeSink.sink c.start_in.new.tree) (g.T.TreeSink.account c.start_in.new.tree) (g.O.Out.text c.args.out.now) (g.O.Out.account c.args.out.now))) c.in-Err.stop
-    (ran_writes (row c.args.job.now.plan (Start c.args.dest.now) (Return tt)) _ _ _ _ _ c.requires.ready (c.in-Err.ensures.wrote (g.O.Out.text c.args.out.now) (g.O.Out.account c.args.out.now)))
+    ran_halt _ _ _ _ (world (g.R.Rack.seen c.args.rack.now) c.args.vol.now
+    (outside (g.T.TreeSink.sink c.start_in.new.tree) (g.T.TreeSink.account c.start_in.new.tree) (g.O.Out.text c.args.out.now)
+    (g.O.Out.account c.args.out.now))) c.in-Err.stop
+    (ran_writes (row c.args.job.now.plan (Start c.args.dest.now) (Return tt)) _ _ _ _ _ c.requires.ready
+    (c.in-Err.ensures.wrote (g.O.Out.text c.args.out.now) (g.O.Out.account c.args.out.now)))
 
 pub returns-in-Ok-list : goal.returns-in-Ok-list
 returns-in-Ok-list g c s e =
     let places : length c.in-Some.below.now ≡ 512 = omega (arith, c.in-Some.ensures.cases.1, c.requires.frames) in
-    let x = world (g.R.Rack.seen c.args.rack.now) c.args.vol.now (outside (g.T.TreeSink.sink c.args.tree.now) (g.T.TreeSink.account c.args.tree.now) (g.O.Out.text c.args.out.now) (g.O.Out.account c.args.out.now)) in
-    let y = world (g.R.Rack.seen c.args.rack.now) c.args.vol.now (outside (g.T.TreeSink.sink c.start_in.new.tree) (g.T.TreeSink.account c.start_in.new.tree) (g.O.Out.text c.args.out.now) (g.O.Out.account c.args.out.now)) in
-    let z = world (g.R.Rack.seen c.list.new.rack) c.list.new.vol (outside (g.T.TreeSink.sink c.list.new.tree) (g.T.TreeSink.account c.list.new.tree) (g.O.Out.text c.list.new.out) (g.O.Out.account c.list.new.out)) in
+    let x = world (g.R.Rack.seen c.args.rack.now) c.args.vol.now (outside (g.T.TreeSink.sink c.args.tree.now) (g.T.TreeSink.account c.args.tree.now)
+    (g.O.Out.text c.args.out.now) (g.O.Out.account c.args.out.now)) in
+    let y = world (g.R.Rack.seen c.args.rack.now) c.args.vol.now (outside (g.T.TreeSink.sink c.start_in.new.tree) (g.T.TreeSink.account c.start_in.new.tree)
+    (g.O.Out.text c.args.out.now) (g.O.Out.account c.args.out.now)) in
+    let z = world (g.R.Rack.seen c.list.new.rack) c.list.new.vol (outside (g.T.TreeSink.sink c.list.new.tree) (g.T.TreeSink.account c.list.new.tree)
+    (g.O.Out.text c.list.new.out) (g.O.Out.account c.list.new.out)) in
     let listing = λ (k : ℕ) (p : List ℕ). directory c.args.job.now.plan s c.args.job.now.sums k c.args.root.now c.args.root.now.dirid p nothing_yet in
-    let h = subst (λ (k : ℕ). Ran (listing k []) y z (Ok c.list.new.salvaged)) places (subst (λ (p : List ℕ). Ran (listing (length c.in-Some.below.now) p) y z (Ok c.list.new.salvaged)) c.requires.path (c.in-Ok-list.ensures.ran s e)) in
-    ran_then (attempt (row c.args.job.now.plan (Start c.args.dest.now) (Return tt))) (λ u. value_then (listing 512 []) (λ (so_far : Salvaged). attempt (summed_up so_far))) x y _ tt _
-    (ran_writes (row c.args.job.now.plan (Start c.args.dest.now) (Return tt)) _ _ _ _ _ c.requires.ready (c.in-Ok.ensures.wrote (g.O.Out.text c.args.out.now) (g.O.Out.account c.args.out.now)))
+    let h = subst (λ (k : ℕ). Ran (listing k []) y z (Ok c.list.new.salvaged)) places
+    (subst (λ (p : List ℕ). Ran (listing (length c.in-Some.below.now) p) y z (Ok c.list.new.salvaged)) c.requires.path (c.in-Ok-list.ensures.ran s e)) in
+    ran_then (attempt (row c.args.job.now.plan (Start c.args.dest.now) (Return tt)))
+    (λ u. value_then (listing 512 []) (λ (so_far : Salvaged). attempt (summed_up so_far))) x y _ tt _
+    (ran_writes (row c.args.job.now.plan (Start c.args.dest.now) (Return tt)) _ _ _ _ _ c.requires.ready
+    (c.in-Ok.ensures.wrote (g.O.Out.text c.args.out.now) (g.O.Out.account c.args.out.now)))
     (ran_then (listing 512 []) (λ (so_far : Salvaged). attempt (summed_up so_far)) y z _ c.list.new.salvaged _ h
-    (ran_writes (summed_up c.list.new.salvaged) _ _ _ _ _ h.ready (c.tell_salvaged.ensures (g.T.TreeSink.sink c.list.new.tree) (g.T.TreeSink.account c.list.new.tree))))
+    (ran_writes (summed_up c.list.new.salvaged) _ _ _ _ _ h.ready (c.tell_salvaged.ensures (g.T.TreeSink.sink c.list.new.tree)
+    (g.T.TreeSink.account c.list.new.tree))))
 
 pub returns-in-Err-list : goal.returns-in-Err-list
 returns-in-Err-list g c s e =
     let places : length c.in-Some.below.now ≡ 512 = omega (arith, c.in-Some.ensures.cases.1, c.requires.frames) in
-    let x = world (g.R.Rack.seen c.args.rack.now) c.args.vol.now (outside (g.T.TreeSink.sink c.args.tree.now) (g.T.TreeSink.account c.args.tree.now) (g.O.Out.text c.args.out.now) (g.O.Out.account c.args.out.now)) in
-    let y = world (g.R.Rack.seen c.args.rack.now) c.args.vol.now (outside (g.T.TreeSink.sink c.start_in.new.tree) (g.T.TreeSink.account c.start_in.new.tree) (g.O.Out.text c.args.out.now) (g.O.Out.account c.args.out.now)) in
-    let z = world (g.R.Rack.seen c.list.new.rack) c.list.new.vol (outside (g.T.TreeSink.sink c.list.new.tree) (g.T.TreeSink.account c.list.new.tree) (g.O.Out.text c.list.new.out) (g.O.Out.account c.list.new.out)) in
+    let x = world (g.R.Rack.seen c.args.rack.now) c.args.vol.now (outside (g.T.TreeSink.sink c.args.tree.now) (g.T.TreeSink.account c.args.tree.now)
+    (g.O.Out.text c.args.out.now) (g.O.Out.account c.args.out.now)) in
+    let y = world (g.R.Rack.seen c.args.rack.now) c.args.vol.now (outside (g.T.TreeSink.sink c.start_in.new.tree) (g.T.TreeSink.account c.start_in.new.tree)
+    (g.O.Out.text c.args.out.now) (g.O.Out.account c.args.out.now)) in
+    let z = world (g.R.Rack.seen c.list.new.rack) c.list.new.vol (outside (g.T.TreeSink.sink c.list.new.tree) (g.T.TreeSink.account c.list.new.tree)
+    (g.O.Out.text c.list.new.out) (g.O.Out.account c.list.new.out)) in
     let listing = λ (k : ℕ) (p : List ℕ). directory c.args.job.now.plan s c.args.job.now.sums k c.args.root.now c.args.root.now.dirid p nothing_yet in
-    let h = subst (λ (k : ℕ). Ran (listing k []) y z (Err c.in-Err-list.stop)) places (subst (λ (p : List ℕ). Ran (listing (length c.in-Some.below.now) p) y z (Err c.in-Err-list.stop)) c.requires.path (c.in-Err-list.ensures.ran s e)) in
-    ran_then (attempt (row c.args.job.now.plan (Start c.args.dest.now) (Return tt))) (λ u. value_then (listing 512 []) (λ (so_far : Salvaged). attempt (summed_up so_far))) x y z tt (Err c.in-Err-list.stop)
-    (ran_writes (row c.args.job.now.plan (Start c.args.dest.now) (Return tt)) _ _ _ _ _ c.requires.ready (c.in-Ok.ensures.wrote (g.O.Out.text c.args.out.now) (g.O.Out.account c.args.out.now)))
+    let h = subst (λ (k : ℕ). Ran (listing k []) y z (Err c.in-Err-list.stop)) places
+    (subst (λ (p : List ℕ). Ran (listing (length c.in-Some.below.now) p) y z (Err c.in-Err-list.stop)) c.requires.path (c.in-Err-list.ensures.ran s e)) in
+    ran_then (attempt (row c.args.job.now.plan (Start c.args.dest.now) (Return tt)))
+    (λ u. value_then (listing 512 []) (λ (so_far : Salvaged). attempt (summed_up so_far))) x y z tt (Err c.in-Err-list.stop)
+    (ran_writes (row c.args.job.now.plan (Start c.args.dest.now) (Return tt)) _ _ _ _ _ c.requires.ready
+    (c.in-Ok.ensures.wrote (g.O.Out.text c.args.out.now) (g.O.Out.account c.args.out.now)))
     (ran_halt (listing 512 []) (λ (so_far : Salvaged). attempt (summed_up so_far)) y z z c.in-Err-list.stop h)
 
 pub list-requires-clause-room : goal.list-requires-clause-room

@@ -5,4 +5,5 @@ pub returns-in-Ok : goal.returns-in-Ok
 returns-in-Ok g c sink calls = wrote_line _ sink calls _ _ _ _ c.args.salvaged.now c.in-Ok.ensures.text c.in-Ok.ensures.account
 
 pub returns-in-Err : goal.returns-in-Err
-returns-in-Err g c sink calls = broke_line _ sink calls _ _ _ _ (Unit {0}) c.args.salvaged.now _ c.in-Err.error c.out_stop.ensures c.in-Err.ensures.text c.in-Err.ensures.account
+returns-in-Err g c sink calls = broke_line _ sink calls _ _ _ _ (Unit {0}) c.args.salvaged.now _ c.in-Err.error c.out_stop.ensures c.in-Err.ensures.text
+    c.in-Err.ensures.account

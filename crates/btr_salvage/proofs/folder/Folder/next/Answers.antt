@@ -12,7 +12,8 @@ pub returns-in-Err-clause-content : goal.returns-in-Err-clause-content
 returns-in-Err-clause-content g c =
     let layout = c.args.vol.now.store.layout in
     let is = unread_by layout (g.R.Rack.seen c.args.rack.now) (g.R.Rack.seen c.tour.new.rack) in
-    drawn layout (λ B. TakesUp is B c.args.self.now.rest c.tour.new.store (Err c.in-Err.fault)) (λ B. IsNextFound is B c.args.self.now c.args.self.now c.args.name.now (Err c.in-Err.fault))
+    drawn layout (λ B. TakesUp is B c.args.self.now.rest c.tour.new.store (Err c.in-Err.fault))
+    (λ B. IsNextFound is B c.args.self.now c.args.self.now c.args.name.now (Err c.in-Err.fault))
     (λ B h. rest_fault is B c.args.self.now c.tour.new.store c.args.name.now c.in-Err.fault h) c.in-Err.ensures.content
 
 pub returns-in-Ok-clause-content : goal.returns-in-Ok-clause-content
@@ -27,5 +28,7 @@ returns-in-Ok-clause-content g c =
     (λ B. IsNextMet one B mid c.meet_next-found.new.store c.in-Ok.tour c.meet_next-found.new.tour c.meet_next-found.new.name c.meet_next-found.result)
     (λ B. IsNextFound is B c.args.self.now (record { rest = c.rest-after.result }) c.meet_next-found.new.name c.meet_next-found.result)
     same
-    (λ B takes meets. next_found is one (λ u w i. since layout mid.layout same c.in-Ok.ensures.reads u w i) B c.args.self.now c.args.vol.now.store mid c.meet_next-found.new.store c.in-Ok.tour c.meet_next-found.new.tour c.rest-after.result c.meet_next-found.new.name c.rest-after.ensures.rests c.meet_next-found.result takes meets)
+    (λ B takes meets. next_found is one (λ u w i. since layout mid.layout same c.in-Ok.ensures.reads u w i) B c.args.self.now c.args.vol.now.store mid
+    c.meet_next-found.new.store c.in-Ok.tour c.meet_next-found.new.tour c.rest-after.result c.meet_next-found.new.name c.rest-after.ensures.rests
+    c.meet_next-found.result takes meets)
     c.in-Ok.ensures.content c.meet_next-found.ensures.content
