@@ -5,3 +5,6 @@ mod Treats
 mod Cycles
 mod Sources
 mod ReadBack
+mod Beside
+mod Shorts
+mod Sent

@@ -1,5 +1,6 @@
 -- Calls of the sink one after another.
-use Rattle.std.proofs.Common.{◌≡◌, ℕ, ◌+◌, ◌-◌, ◌/◌, ◌<◌, ◌≤◌, zero, suc, List, [], length, take, drop, Option, Result, Ok, Err, sym, ap, ◌∙◌, arith, length-drop}
+use Rattle.std.proofs.Common.{◌≡◌, ℕ, ◌+◌, ◌-◌, ◌/◌, ◌<◌, ◌≤◌, zero, suc, List, [], length, take, drop, Option, Result, Ok, Err, sym, ap, ◌∙◌, arith}
+use Rattle.std.proofs.Common.{length-drop}
 use Rattle.std.proofs.lemmas.List.{take_all}
 use Rattle.btr_prog.specs.Prog.{Return, Emit}
 use Rattle.btr_prog.proofs.Choices.{goes_nowhere}
@@ -58,7 +59,7 @@ module _ (path : List ℕ) (offset : ℕ) (bytes : List ℕ) where
       ap (λ (b : List ℕ). tells (write path offset b) (Return tt)) (sym (take_all 4096 bytes few))
       ∙ ap (λ (n : ℕ). cuts n path offset bytes) (sym (count_last (length bytes) some few))
 
-  -- .. and one before others
+  -- one write before others
   pub writes_more : 4096 < length bytes
       → tells (write path offset (take 4096 bytes)) (writes path (behind offset 4096) (drop 4096 bytes)) ≡ writes path offset bytes
   writes_more many = ap (λ (n : ℕ). cuts n path offset bytes) (sym (count_more (length bytes) (length (drop 4096 bytes)) many (length-drop 4096 bytes)))

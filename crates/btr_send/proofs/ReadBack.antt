@@ -1,5 +1,6 @@
 -- Streams read back.
-use Rattle.std.proofs.Common.{◌≡◌, ℕ, ◌+◌, ◌<◌, ◌≤◌, ◌^◌, zero, suc, Bool, true, false, cond, List, [], ◌∷◌, ◌++◌, length, take, drop, Option, Some, None, refl, sym, ap, ◌∙◌, subst, arith, append_assoc, append-nil, length-append}
+use Rattle.std.proofs.Common.{◌≡◌, ℕ, ◌+◌, ◌<◌, ◌≤◌, ◌^◌, zero, suc, Bool, true, false, cond, List, [], ◌∷◌, ◌++◌, length, take, drop, Option, Some, None}
+use Rattle.std.proofs.Common.{refl, sym, ap, ◌∙◌, subst, arith, append_assoc, append-nil, length-append}
 use Rattle.std.specs.Prelude.{flat_map}
 use Rattle.std.specs.Int.{from_le_bytes, to_le_bytes, w16, w32, w64}
 use Rattle.std.specs.Str.{bytes_eq}
@@ -7,7 +8,9 @@ use Rattle.std.proofs.lemmas.Nat.{from_le_bytes-to_le_bytes_2, from_le_bytes-to_
 use Rattle.std.proofs.lemmas.Slice.Eq.{bytes_eq-Decides}
 use Rattle.std.proofs.Math.Seq.{drop-append-add, drop-append_seam, take-append_seam}
 use Rattle.btr_send.specs.Command.{attribute, command, command_with, header, number_attribute}
-use Rattle.btr_send.specs.Replay.{Command, Subvol, MkFile, MkDir, Write, Truncate, End, Read, Made, Further, IsSound, IsInner, AreInner, ReplayLaw, behind_command, behind_first, behind_play, behind_read, by_fields, bytes_of, first_data, from_first, members_of, nothing_made, play, play_all, play_on, read_command, replay, replay_from}
+use Rattle.btr_send.specs.Replay.{Command, Subvol, MkFile, MkDir, Write, Truncate, End, Read, Made, Further, IsSound, IsInner, AreInner, ReplayLaw}
+use Rattle.btr_send.specs.Replay.{behind_command, behind_first, behind_play, behind_read, by_fields, bytes_of, first_data, from_first, members_of}
+use Rattle.btr_send.specs.Replay.{nothing_made, play, play_all, play_on, read_command, replay, replay_from}
 use Rattle.btr_send.proofs.Encoding.{attribute_length}
 
 taken : (n : ℕ) (xs ys : List ℕ) → n ≡ length xs → take n (xs ++ ys) ≡ xs
@@ -122,7 +125,8 @@ uuid_back : (uuid : List ℕ) (transid : ℕ) → length uuid ≡ 16 → take 16
 unfolding attribute
 uuid_back uuid transid e = taken 16 uuid (number_attribute 2 transid) (sym e)
 
-transid_back : (uuid : List ℕ) (transid : ℕ) → length uuid ≡ 16 → transid < 2 ^ 64 → from_le_bytes w64 (drop 24 (attribute 1 uuid ++ number_attribute 2 transid)) ≡ transid
+transid_back : (uuid : List ℕ) (transid : ℕ) → length uuid ≡ 16 → transid < 2 ^ 64 → from_le_bytes w64 (drop 24
+    (attribute 1 uuid ++ number_attribute 2 transid)) ≡ transid
 transid_back uuid transid e fits = ap (λ xs. from_le_bytes w64 xs) (behind_uuid uuid transid e) ∙ last_number 2 transid fits
 
 -- the command of the fields of a sound one is that
@@ -130,15 +134,18 @@ pub fields_back : (c : Command) → IsSound c → by_fields (number_of c) (attri
 fields_back (Subvol name uuid transid) s =
     let more = attribute 1 uuid ++ number_attribute 2 transid in
     ap (λ a. by_fields 1 a) (append_assoc (attribute 15 name) (attribute 1 uuid) (number_attribute 2 transid))
-    ∙ (ap (λ path. Subvol path (take 16 (drop 4 (behind_first (attribute 15 name ++ more)))) (from_le_bytes w64 (drop 24 (behind_first (attribute 15 name ++ more))))) (first_back 15 name more s.0)
+    ∙ (ap (λ path. Subvol path (take 16 (drop 4 (behind_first (attribute 15 name ++ more)))) (from_le_bytes w64 (drop 24 (behind_first
+    (attribute 15 name ++ more))))) (first_back 15 name more s.0)
     ∙ (ap (λ x. Subvol name (take 16 (drop 4 x)) (from_le_bytes w64 (drop 24 x))) (more_back 15 name more s.0)
-    ∙ (ap (λ u. Subvol name u (from_le_bytes w64 (drop 24 more))) (uuid_back uuid transid s.1) ∙ ap (λ t. Subvol name uuid t) (transid_back uuid transid s.1 s.2))))
+    ∙ (ap (λ u. Subvol name u (from_le_bytes w64 (drop 24 more))) (uuid_back uuid transid s.1)
+    ∙ ap (λ t. Subvol name uuid t) (transid_back uuid transid s.1 s.2))))
 fields_back (MkFile path) s = ap (λ p. MkFile p) (alone_back 15 path s)
 fields_back (MkDir path) s = ap (λ p. MkDir p) (alone_back 15 path s)
 fields_back (Write path offset bytes) s =
     let more = number_attribute 18 offset ++ attribute 19 bytes in
     ap (λ a. by_fields 15 a) (append_assoc (attribute 15 path) (number_attribute 18 offset) (attribute 19 bytes))
-    ∙ (ap (λ p. Write p (from_le_bytes w64 (drop 4 (behind_first (attribute 15 path ++ more)))) (drop 16 (behind_first (attribute 15 path ++ more)))) (first_back 15 path more s.0)
+    ∙ (ap (λ p. Write p (from_le_bytes w64 (drop 4 (behind_first (attribute 15 path ++ more)))) (drop 16 (behind_first (attribute 15 path ++ more))))
+    (first_back 15 path more s.0)
     ∙ (ap (λ x. Write path (from_le_bytes w64 (drop 4 x)) (drop 16 x)) (more_back 15 path more s.0)
     ∙ (ap (λ n. Write path n (drop 16 more)) (number_back 18 offset (attribute 19 bytes) s.1) ∙ ap (λ b. Write path offset b) (data_back offset bytes))))
 fields_back (Truncate path size) s =
@@ -164,7 +171,7 @@ module _ (number : ℕ) (attributes rest : List ℕ) where
   unfolding command command_with
   attributes_back = refl
 
-same_bytes : (xs : List ℕ) → bytes_eq xs xs ≡ true
+pub same_bytes : (xs : List ℕ) → bytes_eq xs xs ≡ true
 same_bytes xs = (bytes_eq-Decides xs xs).1 refl
 
 -- what is read of some bytes, cut into the first command and what is behind it
@@ -193,8 +200,9 @@ read_back c rest s =
     ∙ (ap (λ x. cond (bytes_eq x (bytes_of c)) (Some (record { first = c; rest = rest })) None) (sym (is_command c))
     ∙ if_same (bytes_eq (bytes_of c) (bytes_of c)) (record { first = c; rest = rest }) (same_bytes (bytes_of c))))))))
 
--- .. and what is behind an inner one is what it makes
-inner_step : (further : Further) (made : Made) (c : Command) (rest : List ℕ) → IsInner c → behind_command further made c rest ≡ behind_play further (play made c) rest
+-- what is behind an inner command is what it makes
+inner_step : (further : Further) (made : Made) (c : Command) (rest : List ℕ) → IsInner c → behind_command further made c rest ≡ behind_play further
+    (play made c) rest
 inner_step further made (Subvol name uuid transid) rest i = absurd i
 inner_step further made (MkFile path) rest i = refl
 inner_step further made (MkDir path) rest i = refl
@@ -210,7 +218,8 @@ played_on further more (Some made) rest h = h made
 abbrev rest_of : List Command → List ℕ
 rest_of inner = flat_map bytes_of inner ++ bytes_of End
 
-replayed : (inner : List Command) (n : ℕ) (made : Made) → length inner < n → AreInner inner → replay_from n made (rest_of inner) ≡ members_of (play_all inner made)
+replayed : (inner : List Command) (n : ℕ) (made : Made) → length inner < n → AreInner inner
+    → replay_from n made (rest_of inner) ≡ members_of (play_all inner made)
 replayed inner zero made fuel i = absurd (omega (arith, fuel))
 replayed [] (suc m) made fuel i =
     ap (λ r. behind_read (replay_from m) made r) (ap (λ b. read_command b) (sym (append-nil (bytes_of End))) ∙ read_back End [] tt)

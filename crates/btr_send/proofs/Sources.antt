@@ -26,11 +26,13 @@ module _ (item : TreeItem) (id : ℕ) where
   abbrev judged : Result RootItem ItemFault → Lookup (Option Source)
   judged fields = formed item fields (λ root. Return (Some (source_at item (described item.key root))))
 
-  judged_ok : (fields : Result RootItem ItemFault) (root : TreeRoot) → map_ok (described item.key) fields ≡ Ok root → judged fields ≡ Return (Some (source_at item root))
+  judged_ok : (fields : Result RootItem ItemFault) (root : TreeRoot) → map_ok (described item.key) fields ≡ Ok root
+      → judged fields ≡ Return (Some (source_at item root))
   judged_ok (Ok x) root e = cc
   judged_ok (Err x) root e = absurd (cc e)
 
-  judged_err : (fields : Result RootItem ItemFault) (fault : ItemFault) → map_ok (described item.key) fields ≡ Err fault → judged fields ≡ Stop (fate.Malformed item.leaf)
+  judged_err : (fields : Result RootItem ItemFault) (fault : ItemFault) → map_ok (described item.key) fields ≡ Err fault
+      → judged fields ≡ Stop (fate.Malformed item.leaf)
   judged_err (Ok x) fault e = absurd (cc e)
   judged_err (Err x) fault e = refl
 

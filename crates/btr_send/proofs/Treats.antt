@@ -54,7 +54,8 @@ module _ (sums : Option TreeRoot) (entry : Entry) (counts : Counts) (s : Super) 
   -- an entry, by what is looked up under the rules of send
   module _ (by : Rules) (of_send : by ≡ rules) (old : Seen) (vol : Volume) (same : s ≡ vol.sup) (new : Seen) (after : Volume)
       (x : Outside) (ready : IsReady old vol) where
-    as_rules : (r : Result Decision TreeFault) → Looked (decided by vol.sup (met_by entry)) old vol new after r → Looked (decided rules s (met_by entry)) old vol new after r
+    as_rules : (r : Result Decision TreeFault) → Looked (decided by vol.sup (met_by entry)) old vol new after r
+        → Looked (decided rules s (met_by entry)) old vol new after r
     as_rules r h =
         subst (λ (t : Super). Looked (decided rules t (met_by entry)) old vol new after r) (sym same)
         (subst (λ (k : Rules). Looked (decided k vol.sup (met_by entry)) old vol new after r) of_send h)
@@ -89,7 +90,8 @@ module _ (s : Super) (met : Met) where
   long_decided : 4096 < length met.path → decided rules s met ≡ left_out (overlong met.entry.name)
   long_decided h = if_bad (is_bad met.entry.name) (named_decided rules s met) (if_long (nat_lt 4096 (length met.path)) _ (lt-ltb 4096 (length met.path) h))
 
-pub treat_long : (sums : Option TreeRoot) (entry : Entry) (counts : Counts) (s : Super) (name : List ℕ) (cause : Cause) (x y : World) (r : Result Treated TheStop)
+pub treat_long : (sums : Option TreeRoot) (entry : Entry) (counts : Counts) (s : Super) (name : List ℕ) (cause : Cause) (x y : World)
+    (r : Result Treated TheStop)
     → 4096 < length entry.path.now → name ≡ name_in entry.name.now → cause ≡ overlong name
     → Ran (skip (cause_text cause) entry.path.now counts) x y r → Ran (treated_for sums entry counts s) x y r
 treat_long sums entry counts s name cause x y r long named is h =

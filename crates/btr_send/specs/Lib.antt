@@ -7,3 +7,4 @@ pub mod Treating
 pub mod Writing
 pub mod Listing
 pub mod Replay
+pub mod Restored

@@ -1,5 +1,6 @@
 -- A stream read back, command by command, and what it makes.
-use Rattle.std.specs.Prelude.{◌≡◌, ℕ, zero, suc, ◌+◌, ◌-◌, ◌<◌, ◌^◌, ◌==◌, nat_le, if◌then◌else◌, List, [], ◌∷◌, ◌++◌, drop, flat_map, length, replicate, take, Option, Some, None}
+use Rattle.std.specs.Prelude.{◌≡◌, ℕ, zero, suc, ◌+◌, ◌-◌, ◌<◌, ◌^◌, ◌==◌, nat_le, if◌then◌else◌, List, [], ◌∷◌, ◌++◌, drop, flat_map, length, replicate}
+use Rattle.std.specs.Prelude.{take, Option, Some, None}
 use Rattle.std.specs.Int.{from_le_bytes, w16, w32, w64}
 use Rattle.std.specs.Str.{bytes_eq}
 use Rattle.btr_send.specs.Command.{attribute, below, command, header, number_attribute}

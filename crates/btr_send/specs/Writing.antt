@@ -33,11 +33,11 @@ module _ {St : Type 0} (put : St → Piece → Program Step St) where
   abbrev pub Puts : (ℕ → Map) → St → Run Want Fault Piece (Unit {0}) → Run Want Fault Step St → Type 0
   Puts Bs st q = ThreadsTo (λ st' piece. GoesTo Bs (put_of st' piece)) last_state st q.marks q.ending
 
-  -- .. that a file has still to give
+  -- the runs that put the pieces that a file has still to give
   abbrev pub PutsLeft : SumKind → (ℕ → Map) → St → FileBytes → Run Want Fault Step St → Type 0
   PutsLeft kind Bs st file r = (q : Run Want Fault Piece (Unit {0})) × FileGoes kind Bs file q × Puts Bs st q r
 
-  -- .. behind a piece that was given
+  -- the same behind a piece that was given
   abbrev pub PutsFrom : SumKind → (ℕ → Map) → St → Piece → FileBytes → Run Want Fault Step St → Type 0
   PutsFrom kind Bs st piece file r =
       (q : Run Want Fault Piece (Unit {0})) × FileGoes kind Bs file q × Puts Bs st (first (Does piece) q) r
@@ -49,7 +49,7 @@ module _ {St : Type 0} (put : St → Piece → Program Step St) where
       pub so_far : SoFar (GoesTo Bs whole) (PutsLeft kind Bs st file) seen done
       pub on : IsFileOn (Bs 0) seen file
 
-    -- .. after a piece was given
+    -- the same after a piece was given
     pub record PieceToPut (kind : SumKind) (Bs : ℕ → Map) (st : St) (piece : Piece) (file : FileBytes) (done : List Step) : Type 0 where
       pub seen : List Want
       pub so_far : SoFar (GoesTo Bs whole) (PutsFrom kind Bs st piece file) seen done

@@ -164,7 +164,7 @@ impl Buffer {
         Ok(())
     }
 
-    /// .. a directory.
+    /// The command that makes a directory of a path. `Memory` as for a file.
     #[tactic(auto, using(crate::proofs::Encoding::attribute_length))]
     pub(crate) fn fill_mkdir(&mut self, path: &[u8]) -> Result<(), Memory>
         requires { length path.now ≤ 4096 }

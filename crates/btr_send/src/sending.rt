@@ -251,15 +251,16 @@ fn settle<T: TreeSink>(stop: Stop, tree: &mut T) -> Stop
     }
 }
 
-/// Sends the subvolume of a plan: its directories and the bytes of its files go as one stream of commands into the file `name` of the destination `dest`, and a
-/// line of what was sent to the output. Entries that can't be sent are left out, and named.
+/// Sends the subvolume of a plan: its directories and the bytes of its files go as one stream of commands into the file `name` of the destination
+/// `dest`, and a line of what was sent to the output. Entries that can't be sent are left out, and named.
 ///
-/// The memory of a path of 131328 bytes, of a command of 8221 bytes and of 513 directories in one another is taken first, and nothing else takes any. Six slots of
-/// the volume are free. Each checksum of data is verified; a file with a sector that has none is named.
+/// The memory of a path of 131328 bytes, of a command of 8221 bytes and of 513 directories in one another is taken first, and nothing else takes any.
+/// Six slots of the volume are free. Each checksum of data is verified; a file with a sector that has none is named.
 ///
-/// `NoTree` comes exactly where there is no such subvolume, `Tree` where a block of a tree or of a file's data can't be had or is malformed, `Sink` and `Out` where the
-/// destination or the output failed, and `Memory` for want of memory. The file is finished only with the whole stream; else it stays unfinished, with the commands before
-/// the fault. What waits in the destination is stored before another error than `Sink` is answered, and where that fails the answer is `Sink`.
+/// `NoTree` comes exactly where there is no such subvolume, `Tree` where a block of a tree or of a file's data can't be had or is malformed, `Sink` and
+/// `Out` where the destination or the output failed, and `Memory` for want of memory. The file is finished only with the whole stream; else it stays
+/// unfinished, with the commands before the fault. What waits in the destination is stored before another error than `Sink` is answered, and where that
+/// fails the answer is `Sink`.
 pub fn send<R: Rack, T: TreeSink, O: Out>(
     alloc: Global,
     plan: &SendPlan,

@@ -3,7 +3,6 @@ ghost use Rattle.std.specs.Prelude.{◌≡◌, ◌≤◌, ◌<◌, ◌||◌, not
 ghost use Rattle.btr_rack.specs.Sink.{InFile};
 ghost use Rattle.btr_read.specs.Store.{SameLoans, free_count};
 ghost use Rattle.btr_files.specs.Streaming.{bytes_left, IsPiece, IsReading, piece_of, without_file};
-ghost use Rattle.btr_restore.specs.Journey.{has_no_sums};
 ghost use Rattle.btr_restore.specs.Running.{IsReady, RanBeside, beside};
 ghost use Rattle.btr_send.specs.Running.{WroteIn};
 ghost use Rattle.btr_send.specs.Sending.{at_front, pieces, put};
@@ -12,10 +11,10 @@ ghost use Rattle.btr_send.specs.Writing.{PutsNext, PutsRest};
 use crate::buffer::Buffer;
 use crate::commands::{behind, put_writes};
 use crate::progress::Progress;
-use bitflags::Flags;
 use btr_files::{FileBytes, Piece, next_piece};
-use btr_items::{Inode, InodeFlags};
+use btr_items::Inode;
 use btr_rack::{Rack, TreeSink};
+use btr_restore::has_no_sums;
 use btr_volume::{Stop, TreeRoot, Volume};
 
 // Whether some piece was read without a checksum, this one included.
@@ -118,13 +117,6 @@ fn put_pieces<R: Rack, T: TreeSink>(
             Ok(Some(after)) => now = after,
         }
     }
-}
-
-// Whether the sectors of a file have no checksums.
-fn has_no_sums(inode: &Inode) -> bool
-    ensures { result ≡ has_no_sums inode.now }
-{
-    inode.flags().intersects(InodeFlags::NODATASUM)
 }
 
 /// Writes the bytes of a file, by its inode. Answers how much was sent.

@@ -10,7 +10,8 @@ use Rattle.btr_send.proofs.commands.+put_writes.Goals as goal
 
 pub returns-then-part-le4096-clause-wrote : goal.returns-then-part-le4096-clause-wrote
 returns-then-part-le4096-clause-wrote g t c text calls =
-    subst (λ (p : Program Step (Unit {0})). Wrote p (outside (g.T.TreeSink.sink c.args.tree.now) (g.T.TreeSink.account c.args.tree.now) text calls) (outside (g.T.TreeSink.sink c.put_write.new.tree) (g.T.TreeSink.account c.put_write.new.tree) text calls) c.put_write.result)
+    subst (λ (p : Program Step (Unit {0})). Wrote p (outside (g.T.TreeSink.sink c.args.tree.now) (g.T.TreeSink.account c.args.tree.now) text calls) (outside
+    (g.T.TreeSink.sink c.put_write.new.tree) (g.T.TreeSink.account c.put_write.new.tree) text calls) c.put_write.result)
     (writes_last c.args.path.now c.args.offset c.args.part.now c.requires.some c.if-part-le4096.true) (c.put_write.ensures.wrote text calls)
 
 pub returns-in-Ok-clause-wrote : goal.returns-in-Ok-clause-wrote
@@ -19,15 +20,20 @@ returns-in-Ok-clause-wrote g t c text calls =
     let y = outside (g.T.TreeSink.sink c.put_write-2.new.tree) (g.T.TreeSink.account c.put_write-2.new.tree) text calls in
     let z = outside (g.T.TreeSink.sink c.put_writes.new.tree) (g.T.TreeSink.account c.put_writes.new.tree) text calls in
     subst (λ (p : Program Step (Unit {0})). Wrote p x z c.put_writes.result) (writes_more c.args.path.now c.args.offset c.args.part.now c.if-part-le4096.false)
-    (step_then (Bytes (write c.args.path.now c.args.offset (take 4096 c.args.part.now))) (writes c.args.path.now (behind c.args.offset 4096) (drop 4096 c.args.part.now)) x y z c.put_writes.result
-    (subst (λ (b : List ℕ). Wrote (tells (write c.args.path.now c.args.offset b) (Return tt)) x y (Ok tt)) c.split_at.ensures.front (c.in-Ok.ensures.wrote text calls))
+    (step_then (Bytes (write c.args.path.now c.args.offset (take 4096 c.args.part.now))) (writes c.args.path.now (behind c.args.offset 4096)
+    (drop 4096 c.args.part.now)) x y z c.put_writes.result
+    (subst (λ (b : List ℕ). Wrote (tells (write c.args.path.now c.args.offset b) (Return tt)) x y (Ok tt)) c.split_at.ensures.front
+    (c.in-Ok.ensures.wrote text calls))
     (subst (λ (n : ℕ). Wrote (writes c.args.path.now n (drop 4096 c.args.part.now)) y z c.put_writes.result) c.behind.ensures
-    (subst (λ (b : List ℕ). Wrote (writes c.args.path.now c.behind.result b) y z c.put_writes.result) c.split_at.ensures.back (c.put_writes.ensures.wrote text calls))))
+    (subst (λ (b : List ℕ). Wrote (writes c.args.path.now c.behind.result b) y z c.put_writes.result) c.split_at.ensures.back
+    (c.put_writes.ensures.wrote text calls))))
 
 pub returns-in-Err-clause-wrote : goal.returns-in-Err-clause-wrote
 returns-in-Err-clause-wrote g t c text calls =
     let x = outside (g.T.TreeSink.sink c.args.tree.now) (g.T.TreeSink.account c.args.tree.now) text calls in
     let y = outside (g.T.TreeSink.sink c.put_write-2.new.tree) (g.T.TreeSink.account c.put_write-2.new.tree) text calls in
     subst (λ (p : Program Step (Unit {0})). Wrote p x y (Err c.in-Err.stop)) (writes_more c.args.path.now c.args.offset c.args.part.now c.if-part-le4096.false)
-    (step_halt (Bytes (write c.args.path.now c.args.offset (take 4096 c.args.part.now))) (writes c.args.path.now (behind c.args.offset 4096) (drop 4096 c.args.part.now)) x y c.in-Err.stop
-    (subst (λ (b : List ℕ). Wrote (tells (write c.args.path.now c.args.offset b) (Return tt)) x y (Err c.in-Err.stop)) c.split_at.ensures.front (c.in-Err.ensures.wrote text calls)))
+    (step_halt (Bytes (write c.args.path.now c.args.offset (take 4096 c.args.part.now))) (writes c.args.path.now (behind c.args.offset 4096)
+    (drop 4096 c.args.part.now)) x y c.in-Err.stop
+    (subst (λ (b : List ℕ). Wrote (tells (write c.args.path.now c.args.offset b) (Return tt)) x y (Err c.in-Err.stop)) c.split_at.ensures.front
+    (c.in-Err.ensures.wrote text calls)))

@@ -6,7 +6,12 @@ use Rattle.btr_send.proofs.Putting.{emits_nowhere}
 use Rattle.btr_send.proofs.commands.finish_file.Goals as goal
 
 pub returns-in-Ok : goal.returns-in-Ok
-returns-in-Ok g c text calls = record { did = emits_step (Done) _ _ text tt refl c.in-Ok.ensures.step; sink_calls = c.in-Ok.ensures.account; out_calls = refl; stops = tt }
+returns-in-Ok g c text calls = record {
+  did = emits_step (Done) _ _ text tt refl c.in-Ok.ensures.step;
+  sink_calls = c.in-Ok.ensures.account;
+  out_calls = refl;
+  stops = tt;
+}
 
 pub returns-in-Err : goal.returns-in-Err
 returns-in-Err g c text calls = record {

@@ -9,7 +9,10 @@ use Rattle.btr_send.proofs.commands.put_subvol.Goals as goal
 
 pub returns-in-Ok-clause-wrote : goal.returns-in-Ok-clause-wrote
 returns-in-Ok-clause-wrote g c text calls =
-    subst (λ (b : List ℕ). Wrote (tells b (Return tt)) (outside (g.T.TreeSink.sink c.args.tree.now) (g.T.TreeSink.account c.args.tree.now) text calls) (outside (g.T.TreeSink.sink c.put_bytes.new.tree) (g.T.TreeSink.account c.put_bytes.new.tree) text calls) c.put_bytes.result) (c.as_bytes-in-Ok.ensures ∙ (c.in-Ok.ensures ∙ ap (λ (name : List ℕ). subvol name c.args.source.now.uuid c.args.source.now.transid) c.as_bytes.ensures.value))
+    subst (λ (b : List ℕ). Wrote (tells b (Return tt)) (outside (g.T.TreeSink.sink c.args.tree.now) (g.T.TreeSink.account c.args.tree.now) text calls)
+    (outside (g.T.TreeSink.sink c.put_bytes.new.tree) (g.T.TreeSink.account c.put_bytes.new.tree) text calls) c.put_bytes.result)
+    (c.as_bytes-in-Ok.ensures ∙ (c.in-Ok.ensures ∙ ap (λ (name : List ℕ). subvol name c.args.source.now.uuid c.args.source.now.transid)
+    c.as_bytes.ensures.value))
     (c.put_bytes.ensures.wrote text calls)
 
 pub returns-in-Err-clause-wrote : goal.returns-in-Err-clause-wrote

@@ -6,7 +6,13 @@ use Rattle.btr_send.proofs.Putting.{emits_nowhere}
 use Rattle.btr_send.proofs.commands.start_in.Goals as goal
 
 pub returns-in-Ok-clause-wrote : goal.returns-in-Ok-clause-wrote
-returns-in-Ok-clause-wrote g c text calls = record { did = emits_step (Start c.args.dest.now) _ _ text tt refl c.in-Ok.ensures.step; sink_calls = c.in-Ok.ensures.account; out_calls = refl; stops = tt }
+returns-in-Ok-clause-wrote g c text calls = record {
+  did = emits_step (Start c.args.dest.now) _ _ text tt refl c.in-Ok.ensures.step;
+  sink_calls =
+      c.in-Ok.ensures.account;
+  out_calls = refl;
+  stops = tt;
+}
 
 pub returns-in-Err-clause-wrote : goal.returns-in-Err-clause-wrote
 returns-in-Err-clause-wrote g c text calls = record {

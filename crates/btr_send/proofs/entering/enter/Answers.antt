@@ -14,5 +14,6 @@ returns-clause-wrote g c text calls =
     subst (λ (n : ℕ). Wrote (entered c.args.path.now c.args.inner c.args.dirid c.args.counts.now)
     (outside (g.T.TreeSink.sink c.args.tree.now) (g.T.TreeSink.account c.args.tree.now) text calls)
     (outside (g.T.TreeSink.sink c.put_mkdir.new.tree) (g.T.TreeSink.account c.put_mkdir.new.tree) text calls)
-    (Ok (Within c.args.inner c.args.dirid (record { dirs = n; files = c.args.counts.now.files; skipped = c.args.counts.now.skipped })))) (sym c.more-counts.ensures)
+    (Ok (Within c.args.inner c.args.dirid (record { dirs = n; files = c.args.counts.now.files; skipped = c.args.counts.now.skipped }))))
+    (sym c.more-counts.ensures)
     (step_then _ _ _ _ _ _ (c.in-Ok.ensures.wrote text calls) (wrote_none _ _))

@@ -8,13 +8,38 @@ use Rattle.btr_send.proofs.sending.send_below.Goals as goal
 pub returns-in-Ok : goal.returns-in-Ok
 returns-in-Ok g c s e =
     let places : length c.in-Some.below.now ≡ 512 = omega (arith, c.in-Some.ensures.cases.1, c.requires.frames) in
-    let h = (subst (λ (k : ℕ). Ran (directory s c.args.sums k c.args.source.now.root c.args.source.now.root.dirid [] no_counts) (world (g.R.Rack.seen c.args.rack.now) c.args.vol.now (outside (g.T.TreeSink.sink c.args.tree.now) (g.T.TreeSink.account c.args.tree.now) (g.O.Out.text c.args.out.now) (g.O.Out.account c.args.out.now))) (world (g.R.Rack.seen c.list.new.rack) c.list.new.vol (outside (g.T.TreeSink.sink c.list.new.tree) (g.T.TreeSink.account c.list.new.tree) (g.O.Out.text c.list.new.out) (g.O.Out.account c.list.new.out))) (Ok c.list.new.counts)) places
-    (subst (λ (p : List ℕ). Ran (directory s c.args.sums (length c.in-Some.below.now) c.args.source.now.root c.args.source.now.root.dirid p no_counts) (world (g.R.Rack.seen c.args.rack.now) c.args.vol.now (outside (g.T.TreeSink.sink c.args.tree.now) (g.T.TreeSink.account c.args.tree.now) (g.O.Out.text c.args.out.now) (g.O.Out.account c.args.out.now))) (world (g.R.Rack.seen c.list.new.rack) c.list.new.vol (outside (g.T.TreeSink.sink c.list.new.tree) (g.T.TreeSink.account c.list.new.tree) (g.O.Out.text c.list.new.out) (g.O.Out.account c.list.new.out))) (Ok c.list.new.counts)) c.requires.path (c.in-Ok.ensures.ran s e))) in
-    ran_then (directory s c.args.sums 512 c.args.source.now.root c.args.source.now.root.dirid [] no_counts) ended (world (g.R.Rack.seen c.args.rack.now) c.args.vol.now (outside (g.T.TreeSink.sink c.args.tree.now) (g.T.TreeSink.account c.args.tree.now) (g.O.Out.text c.args.out.now) (g.O.Out.account c.args.out.now))) (world (g.R.Rack.seen c.list.new.rack) c.list.new.vol (outside (g.T.TreeSink.sink c.list.new.tree) (g.T.TreeSink.account c.list.new.tree) (g.O.Out.text c.list.new.out) (g.O.Out.account c.list.new.out))) _ c.list.new.counts _ h (ran_wrote _ _ _ _ _ _ h.ready c.finish.ensures)
+    let h = (subst (λ (k : ℕ). Ran (directory s c.args.sums k c.args.source.now.root c.args.source.now.root.dirid [] no_counts) (world
+    (g.R.Rack.seen c.args.rack.now) c.args.vol.now (outside (g.T.TreeSink.sink c.args.tree.now) (g.T.TreeSink.account c.args.tree.now)
+    (g.O.Out.text c.args.out.now) (g.O.Out.account c.args.out.now))) (world (g.R.Rack.seen c.list.new.rack) c.list.new.vol (outside
+    (g.T.TreeSink.sink c.list.new.tree) (g.T.TreeSink.account c.list.new.tree) (g.O.Out.text c.list.new.out) (g.O.Out.account c.list.new.out)))
+    (Ok c.list.new.counts)) places
+    (subst (λ (p : List ℕ). Ran (directory s c.args.sums (length c.in-Some.below.now) c.args.source.now.root c.args.source.now.root.dirid p no_counts) (world
+    (g.R.Rack.seen c.args.rack.now) c.args.vol.now (outside (g.T.TreeSink.sink c.args.tree.now) (g.T.TreeSink.account c.args.tree.now)
+    (g.O.Out.text c.args.out.now) (g.O.Out.account c.args.out.now))) (world (g.R.Rack.seen c.list.new.rack) c.list.new.vol (outside
+    (g.T.TreeSink.sink c.list.new.tree) (g.T.TreeSink.account c.list.new.tree) (g.O.Out.text c.list.new.out) (g.O.Out.account c.list.new.out)))
+    (Ok c.list.new.counts)) c.requires.path (c.in-Ok.ensures.ran s e))) in
+    ran_then (directory s c.args.sums 512 c.args.source.now.root c.args.source.now.root.dirid [] no_counts) ended (world
+    (g.R.Rack.seen c.args.rack.now) c.args.vol.now (outside (g.T.TreeSink.sink c.args.tree.now) (g.T.TreeSink.account c.args.tree.now)
+    (g.O.Out.text c.args.out.now) (g.O.Out.account c.args.out.now))) (world (g.R.Rack.seen c.list.new.rack) c.list.new.vol (outside
+    (g.T.TreeSink.sink c.list.new.tree) (g.T.TreeSink.account c.list.new.tree) (g.O.Out.text c.list.new.out)
+    (g.O.Out.account c.list.new.out))) _ c.list.new.counts _ h (ran_wrote _ _ _ _ _ _ h.ready c.finish.ensures)
 
 pub returns-in-Err : goal.returns-in-Err
 returns-in-Err g c s e =
     let places : length c.in-Some.below.now ≡ 512 = omega (arith, c.in-Some.ensures.cases.1, c.requires.frames) in
-    ran_halt (directory s c.args.sums 512 c.args.source.now.root c.args.source.now.root.dirid [] no_counts) ended (world (g.R.Rack.seen c.args.rack.now) c.args.vol.now (outside (g.T.TreeSink.sink c.args.tree.now) (g.T.TreeSink.account c.args.tree.now) (g.O.Out.text c.args.out.now) (g.O.Out.account c.args.out.now))) (world (g.R.Rack.seen c.list.new.rack) c.list.new.vol (outside (g.T.TreeSink.sink c.list.new.tree) (g.T.TreeSink.account c.list.new.tree) (g.O.Out.text c.list.new.out) (g.O.Out.account c.list.new.out))) (world (g.R.Rack.seen c.list.new.rack) c.list.new.vol (outside (g.T.TreeSink.sink c.list.new.tree) (g.T.TreeSink.account c.list.new.tree) (g.O.Out.text c.list.new.out) (g.O.Out.account c.list.new.out))) c.in-Err.stop
-    (subst (λ (k : ℕ). Ran (directory s c.args.sums k c.args.source.now.root c.args.source.now.root.dirid [] no_counts) (world (g.R.Rack.seen c.args.rack.now) c.args.vol.now (outside (g.T.TreeSink.sink c.args.tree.now) (g.T.TreeSink.account c.args.tree.now) (g.O.Out.text c.args.out.now) (g.O.Out.account c.args.out.now))) (world (g.R.Rack.seen c.list.new.rack) c.list.new.vol (outside (g.T.TreeSink.sink c.list.new.tree) (g.T.TreeSink.account c.list.new.tree) (g.O.Out.text c.list.new.out) (g.O.Out.account c.list.new.out))) (Err c.in-Err.stop)) places
-    (subst (λ (p : List ℕ). Ran (directory s c.args.sums (length c.in-Some.below.now) c.args.source.now.root c.args.source.now.root.dirid p no_counts) (world (g.R.Rack.seen c.args.rack.now) c.args.vol.now (outside (g.T.TreeSink.sink c.args.tree.now) (g.T.TreeSink.account c.args.tree.now) (g.O.Out.text c.args.out.now) (g.O.Out.account c.args.out.now))) (world (g.R.Rack.seen c.list.new.rack) c.list.new.vol (outside (g.T.TreeSink.sink c.list.new.tree) (g.T.TreeSink.account c.list.new.tree) (g.O.Out.text c.list.new.out) (g.O.Out.account c.list.new.out))) (Err c.in-Err.stop)) c.requires.path (c.in-Err.ensures.ran s e)))
+    ran_halt (directory s c.args.sums 512 c.args.source.now.root c.args.source.now.root.dirid [] no_counts) ended (world
+    (g.R.Rack.seen c.args.rack.now) c.args.vol.now (outside (g.T.TreeSink.sink c.args.tree.now) (g.T.TreeSink.account c.args.tree.now)
+    (g.O.Out.text c.args.out.now) (g.O.Out.account c.args.out.now))) (world (g.R.Rack.seen c.list.new.rack) c.list.new.vol (outside
+    (g.T.TreeSink.sink c.list.new.tree) (g.T.TreeSink.account c.list.new.tree) (g.O.Out.text c.list.new.out) (g.O.Out.account c.list.new.out))) (world
+    (g.R.Rack.seen c.list.new.rack) c.list.new.vol (outside (g.T.TreeSink.sink c.list.new.tree) (g.T.TreeSink.account c.list.new.tree)
+    (g.O.Out.text c.list.new.out) (g.O.Out.account c.list.new.out))) c.in-Err.stop
+    (subst (λ (k : ℕ). Ran (directory s c.args.sums k c.args.source.now.root c.args.source.now.root.dirid [] no_counts) (world
+    (g.R.Rack.seen c.args.rack.now) c.args.vol.now (outside (g.T.TreeSink.sink c.args.tree.now) (g.T.TreeSink.account c.args.tree.now)
+    (g.O.Out.text c.args.out.now) (g.O.Out.account c.args.out.now))) (world (g.R.Rack.seen c.list.new.rack) c.list.new.vol (outside
+    (g.T.TreeSink.sink c.list.new.tree) (g.T.TreeSink.account c.list.new.tree) (g.O.Out.text c.list.new.out) (g.O.Out.account c.list.new.out)))
+    (Err c.in-Err.stop)) places
+    (subst (λ (p : List ℕ). Ran (directory s c.args.sums (length c.in-Some.below.now) c.args.source.now.root c.args.source.now.root.dirid p no_counts) (world
+    (g.R.Rack.seen c.args.rack.now) c.args.vol.now (outside (g.T.TreeSink.sink c.args.tree.now) (g.T.TreeSink.account c.args.tree.now)
+    (g.O.Out.text c.args.out.now) (g.O.Out.account c.args.out.now))) (world (g.R.Rack.seen c.list.new.rack) c.list.new.vol (outside
+    (g.T.TreeSink.sink c.list.new.tree) (g.T.TreeSink.account c.list.new.tree) (g.O.Out.text c.list.new.out) (g.O.Out.account c.list.new.out)))
+    (Err c.in-Err.stop)) c.requires.path (c.in-Err.ensures.ran s e)))

@@ -17,13 +17,17 @@ returns-in-Err-find_source g c = look_halt _ _ _ _ _ c.in-Err-find_source.stop (
 
 pub returns-in-Ok-None : goal.returns-in-Ok-None
 returns-in-Ok-None g c =
-    let h = c.find_source.ensures (outside (g.T.TreeSink.sink c.args.tree.now) (g.T.TreeSink.account c.args.tree.now) (g.O.Out.text c.args.out.now) (g.O.Out.account c.args.out.now)) c.args.vol.now.sup refl in
+    let h = c.find_source.ensures (outside (g.T.TreeSink.sink c.args.tree.now) (g.T.TreeSink.account c.args.tree.now) (g.O.Out.text c.args.out.now)
+    (g.O.Out.account c.args.out.now)) c.args.vol.now.sup refl in
     look_then _ _ _ _ _ _ None _ h (c.in-Ok-None.is ∙ ap Ok c.in-Ok-None.field-0-is) (ran_no_tree c.args.plan.now.root _ h.ready)
 
 pub send_found-requires-clause-ready : goal.send_found-requires-clause-ready
-send_found-requires-clause-ready g c = (c.find_source.ensures (outside (g.T.TreeSink.sink c.args.tree.now) (g.T.TreeSink.account c.args.tree.now) (g.O.Out.text c.args.out.now) (g.O.Out.account c.args.out.now)) c.args.vol.now.sup refl).ready
+send_found-requires-clause-ready g c = (c.find_source.ensures (outside (g.T.TreeSink.sink c.args.tree.now) (g.T.TreeSink.account c.args.tree.now)
+    (g.O.Out.text c.args.out.now) (g.O.Out.account c.args.out.now)) c.args.vol.now.sup refl).ready
 
 pub returns : goal.returns
 returns g c =
-    let h = c.find_source.ensures (outside (g.T.TreeSink.sink c.args.tree.now) (g.T.TreeSink.account c.args.tree.now) (g.O.Out.text c.args.out.now) (g.O.Out.account c.args.out.now)) c.args.vol.now.sup refl in
-    look_then _ _ _ _ _ _ (Some c.in-Ok-Some.source) _ h (c.in-Ok-Some.is ∙ ap Ok c.in-Ok-Some.field-0-is) (c.send_found.ensures c.args.vol.now.sup (sym h.volume.sup))
+    let h = c.find_source.ensures (outside (g.T.TreeSink.sink c.args.tree.now) (g.T.TreeSink.account c.args.tree.now) (g.O.Out.text c.args.out.now)
+    (g.O.Out.account c.args.out.now)) c.args.vol.now.sup refl in
+    look_then _ _ _ _ _ _ (Some c.in-Ok-Some.source) _ h (c.in-Ok-Some.is ∙ ap Ok c.in-Ok-Some.field-0-is) (c.send_found.ensures c.args.vol.now.sup
+    (sym h.volume.sup))

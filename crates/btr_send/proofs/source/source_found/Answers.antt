@@ -11,7 +11,9 @@ pub returns-in-Ok : goal.returns-in-Ok
 returns-in-Ok c =
     let found : List ℕ → ℕ → Lookup (Option Source) = λ uuid transid. Return (Some (record { root = c.in-Ok.root; uuid = uuid; transid = transid })) in
     found_ok (item_of c.args.found.now) c.args.id c.in-Ok.root (sym c.is_root_of.ensures ∙ c.if-not-is_root_of.false) (sym c.root_at.ensures ∙ c.in-Ok.is)
-    ∙ (ap (λ (u : List ℕ). found u (transid_in c.args.found.now.body.now)) (sym c.uuid_in.ensures) ∙ ap (λ (t : ℕ). found c.uuid_in.result t) (sym c.transid_in.ensures))
+    ∙ (ap (λ (u : List ℕ). found u (transid_in c.args.found.now.body.now)) (sym c.uuid_in.ensures)
+    ∙ ap (λ (t : ℕ). found c.uuid_in.result t) (sym c.transid_in.ensures))
 
 pub returns-in-Err : goal.returns-in-Err
-returns-in-Err c = found_err (item_of c.args.found.now) c.args.id c.in-Err.field-0 (sym c.is_root_of.ensures ∙ c.if-not-is_root_of.false) (sym c.root_at.ensures ∙ c.in-Err.is)
+returns-in-Err c = found_err (item_of c.args.found.now) c.args.id c.in-Err.field-0 (sym c.is_root_of.ensures
+    ∙ c.if-not-is_root_of.false) (sym c.root_at.ensures ∙ c.in-Err.is)

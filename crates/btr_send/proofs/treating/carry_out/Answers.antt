@@ -7,7 +7,8 @@ returns-in-Skip-clause-ran g c s e = done_skip c.args.sums c.args.entry.now c.ar
     (ran_wrote _ _ _ _ _ _ c.requires.ready (c.leave_out.ensures.wrote _ _))
 
 pub returns-in-File-clause-ran : goal.returns-in-File-clause-ran
-returns-in-File-clause-ran g c s e = done_file c.args.sums c.args.entry.now c.args.counts.now s _ _ _ _ c.in-File.inode c.in-File.is (c.write_file.ensures.ran s e)
+returns-in-File-clause-ran g c s e = done_file c.args.sums c.args.entry.now c.args.counts.now s _ _ _ _ c.in-File.inode c.in-File.is
+    (c.write_file.ensures.ran s e)
 
 pub returns-in-Empty-clause-ran : goal.returns-in-Empty-clause-ran
 returns-in-Empty-clause-ran g c s e = done_empty c.args.sums c.args.entry.now c.args.counts.now s _ _ _ _

@@ -10,7 +10,8 @@ pub carry_out-requires-clause-ready : goal.carry_out-requires-clause-ready
 carry_out-requires-clause-ready g c = ready_next _ _ _ c.requires.ready c.in-Ok.ensures.looked.ready.serves c.in-Ok.ensures.looked.volume
 
 pub returns-then-entry-gt-LONGEST-clause-ran : goal.returns-then-entry-gt-LONGEST-clause-ran
-returns-then-entry-gt-LONGEST-clause-ran g c s e = treat_long c.args.sums c.args.entry.now c.args.counts.now s _ _ _ _ _ c.if-entry-gt-LONGEST.true c.as_bytes.ensures c.overlong.ensures
+returns-then-entry-gt-LONGEST-clause-ran g c s e = treat_long c.args.sums c.args.entry.now c.args.counts.now s _ _ _ _ _ c.if-entry-gt-LONGEST.true
+    c.as_bytes.ensures c.overlong.ensures
     (ran_wrote _ _ _ _ _ _ c.requires.ready (c.leave_out.ensures.wrote _ _))
 
 pub returns-in-Err-clause-ran : goal.returns-in-Err-clause-ran

@@ -17,7 +17,8 @@ pub returns-in-Gap-clause-wrote : goal.returns-in-Gap-clause-wrote
 returns-in-Gap-clause-wrote g c text calls =
     let x = outside (g.T.TreeSink.sink c.args.tree.now) (g.T.TreeSink.account c.args.tree.now) text calls in
     subst (λ (p : Piece). Wrote (put c.args.path.now c.args.now (piece_of p)) x x (Ok (progress c.behind.result c.args.now.plain))) (sym c.in-Gap.is)
-    (subst (λ (n : ℕ). Wrote (put c.args.path.now c.args.now (piece_of (lending.Gap c.in-Gap.count))) x x (Ok (progress n c.args.now.plain))) (sym c.behind.ensures)
+    (subst (λ (n : ℕ). Wrote (put c.args.path.now c.args.now (piece_of (lending.Gap c.in-Gap.count))) x x (Ok (progress n c.args.now.plain)))
+    (sym c.behind.ensures)
     (wrote_none (progress (behind c.args.now.offset c.in-Gap.count) c.args.now.plain) x))
 
 pub returns-in-Err-clause-wrote : goal.returns-in-Err-clause-wrote
@@ -35,5 +36,7 @@ returns-in-Ok-clause-wrote g c text calls =
     let sent = progress (behind c.args.now.offset (length c.in-Bytes.bytes.now)) (c.args.now.plain || not c.in-Bytes.verified) in
     subst (λ (p : Piece). Wrote (put c.args.path.now c.args.now (piece_of p)) x y (Ok (progress c.behind-in-Ok.result c.is_plain.result))) (sym c.in-Bytes.is)
     (subst (λ (s : Progress). Wrote (put c.args.path.now c.args.now (piece_of (lending.Bytes c.in-Bytes.bytes c.in-Bytes.verified))) x y (Ok s))
-    (sym (ap (λ (n : ℕ). progress n c.is_plain.result) c.behind-in-Ok.ensures ∙ ap (λ (b : Bool). progress (behind c.args.now.offset (length c.in-Bytes.bytes.now)) b) c.is_plain.ensures))
-    (wrote_then (writes c.args.path.now c.args.now.offset c.in-Bytes.bytes.now) (λ u. Return sent) x y y tt (Ok sent) (c.in-Ok.ensures.wrote text calls) (wrote_none sent y)))
+    (sym (ap (λ (n : ℕ). progress n c.is_plain.result) c.behind-in-Ok.ensures ∙ ap (λ (b : Bool). progress (behind c.args.now.offset
+    (length c.in-Bytes.bytes.now)) b) c.is_plain.ensures))
+    (wrote_then (writes c.args.path.now c.args.now.offset c.in-Bytes.bytes.now) (λ u. Return sent) x y y tt (Ok sent) (c.in-Ok.ensures.wrote text calls)
+    (wrote_none sent y)))

@@ -17,8 +17,10 @@ invariant-loop-stop g l =
     × SameLoans (without_file l.initial.vol.store l.initial.file) (without_file l.vol.store l.file)
     × ((g.T.TreeSink.sink l.tree).stage ≡ InFile)
     × ((whole : Program Step Progress) (x : World) (text : Option (List ℕ)) (calls : CallAccount)
-    → IsWriting (put l.path) whole x (world (g.R.Rack.seen l.initial.rack) l.initial.vol (outside (g.T.TreeSink.sink l.initial.tree) (g.T.TreeSink.account l.initial.tree) text calls)) at_front l.initial.file
-    → IsWriting (put l.path) whole x (world (g.R.Rack.seen l.rack) l.vol (outside (g.T.TreeSink.sink l.tree) (g.T.TreeSink.account l.tree) text calls)) l.now l.file)
+    → IsWriting (put l.path) whole x (world (g.R.Rack.seen l.initial.rack) l.initial.vol (outside (g.T.TreeSink.sink l.initial.tree)
+    (g.T.TreeSink.account l.initial.tree) text calls)) at_front l.initial.file
+    → IsWriting (put l.path) whole x (world (g.R.Rack.seen l.rack) l.vol (outside (g.T.TreeSink.sink l.tree)
+    (g.T.TreeSink.account l.tree) text calls)) l.now l.file)
 
 abbrev pub decreases-loop-stop : goal.decreases-loop-stop
 decreases-loop-stop g l = bytes_left l.file
