@@ -1,0 +1,58 @@
+-- What a scrub of a trial comes to.
+use Rattle.std.proofs.Common.{◌≡◌, ◌∙◌, inl, true, Some, None, Result, Ok, Err, refl, sym, ap}
+use Rattle.std.specs.Option.{option_and_then, option_map_or}
+use Rattle.btr_rack.specs.Memory.{MemoryRack, held_of}
+use Rattle.btr_scrub.specs.Repair.{effect}
+use Rattle.btr_scrub.specs.Scrubbed.{AnswersAs, HasEffect, IsScrubbed, called}
+use Rattle.btr_scrub.specs.declared.tally.Tally.{Tally}
+use Rattle.btr_volume.specs.declared.stop.Stop.{Stop}
+use Rattle.btr_volume.specs.declared.stop.Stop.TheVariants as stop
+use Rattle.btr_volume.specs.declared.volume.Volume.{Volume}
+use Rattle.btr_walk.specs.declared.fault.TreeFault.TheVariants as tree
+use Rattle.btr_trial.specs.Opened.{filesystem_of}
+use Rattle.btr_trial.specs.Opening.{filesystem_in}
+use Rattle.btr_trial.specs.Sure.{sure_seen}
+use Rattle.btr_trial.specs.Trial.{lost_by, lost_of, scrubbed}
+use Rattle.btr_trial.proofs.Filesystems.{none_rose, steady_none}
+
+-- what a scrub came to, and the images that it left
+pub record Scrubs (old new : MemoryRack) (lost : Result Tally Stop) : Type 0 where
+  pub lost_is : lost_of (held_of old) ≡ lost_by lost
+  pub left_is : held_of new ≡ scrubbed (held_of old)
+
+pub unopened_lost : (rack : MemoryRack) → filesystem_of (held_of rack) ≡ None → lost_of (held_of rack) ≡ None
+unopened_lost rack none = ap (option_and_then (λ fs. lost_by (effect true (held_of rack) fs).answer)) none
+
+pub unopened_left : (rack : MemoryRack) → filesystem_of (held_of rack) ≡ None → held_of rack ≡ scrubbed (held_of rack)
+unopened_left rack none = sym (ap (λ o. option_map_or (λ fs. (effect true (held_of rack) fs).images) o (held_of rack)) none)
+
+module _ (old new : MemoryRack) (volume : Volume) (opened : filesystem_of (held_of old) ≡ Some (filesystem_in volume)) where
+  abbrev Ends : Result Tally Stop → Type 0
+  Ends result = IsScrubbed (called volume true (sure_seen old) (sure_seen new) result)
+
+  by_effect : (result : Result Tally Stop) → HasEffect (called volume true (sure_seen old) (sure_seen new) result) (held_of old) (held_of new) → Scrubs old new result
+  by_effect result h = record {
+    lost_is = ap (option_and_then (λ fs. lost_by (effect true (held_of old) fs).answer)) opened ∙ ap lost_by (sym h.answer);
+    left_is = h.same ∙ sym (ap (λ o. option_map_or (λ fs. (effect true (held_of old) fs).images) o (held_of old)) opened);
+  }
+
+  answered : (result : Result Tally Stop) → Ends result → AnswersAs (called volume true (sure_seen old) (sure_seen new) result) (held_of old) (held_of new) result
+  answered result s = s.answers (inl steady_none)
+
+  pub scrub_done : (tally : Tally) → Ends (Ok tally) → Scrubs old new (Ok tally)
+  scrub_done tally s = by_effect (Ok tally) (answered (Ok tally) s)
+
+  pub scrub_stopped : (end : Stop) → (end ≡ stop.Memory → ⊥) → Ends (Err end) → Scrubs old new (Err end)
+  scrub_stopped (stop.NoTree id) own s = by_effect (Err (stop.NoTree id)) (answered (Err (stop.NoTree id)) s)
+  scrub_stopped (stop.Tree (tree.Lost a)) own s = by_effect (Err (stop.Tree (tree.Lost a))) (answered (Err (stop.Tree (tree.Lost a))) s)
+  scrub_stopped (stop.Tree (tree.Unread a slot)) own s = absurd (none_rose (answered (Err (stop.Tree (tree.Unread a slot))) s))
+  scrub_stopped (stop.Tree (tree.Unmapped a)) own s = by_effect (Err (stop.Tree (tree.Unmapped a))) (answered (Err (stop.Tree (tree.Unmapped a))) s)
+  scrub_stopped (stop.Tree (tree.Crosses a)) own s = by_effect (Err (stop.Tree (tree.Crosses a))) (answered (Err (stop.Tree (tree.Crosses a))) s)
+  scrub_stopped (stop.Tree (tree.Malformed a)) own s = by_effect (Err (stop.Tree (tree.Malformed a))) (answered (Err (stop.Tree (tree.Malformed a))) s)
+  scrub_stopped (stop.Missing devid) own s = by_effect (Err (stop.Missing devid)) (answered (Err (stop.Missing devid)) s)
+  scrub_stopped (stop.Image slot) own s = absurd (none_rose (answered (Err (stop.Image slot)) s))
+  scrub_stopped (stop.Deletion id) own s = absurd (answered (Err (stop.Deletion id)) s)
+  scrub_stopped stop.Balance own s = absurd (answered (Err stop.Balance) s)
+  scrub_stopped stop.Sink own s = absurd (answered (Err stop.Sink) s)
+  scrub_stopped stop.Out own s = absurd (answered (Err stop.Out) s)
+  scrub_stopped stop.Memory own s = absurd (own refl)
