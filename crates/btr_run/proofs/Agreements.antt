@@ -33,19 +33,21 @@ use Rattle.btr_walk.specs.Reading.{Map, Tells, UnreadBlock, halt_of, unread_by}
 use Rattle.btr_walk.specs.declared.fault.TreeFault.{TreeFault}
 use Rattle.btr_walk.specs.declared.fault.TreeFault.TheVariants as tree
 use Rattle.btr_restore.specs.Running.{Outside}
-use Rattle.btr_run.specs.Agreeing.{AgreesOn, AreAgreed, AreAgreedOn, IsOrUnread, IsTreesOrUnread}
+use Rattle.btr_run.specs.Agreeing.{AgreesOn, AreAgreed, AreAgreedOn, IsCheckedOrUnread, IsOrUnopened, IsRestoredOrUnopened, IsTreesOrUnread}
 use Rattle.btr_run.specs.Checked.{check_in, check_outcome, filesystem_by, listing, unless_refused}
 use Rattle.btr_run.specs.Faults.{open_answer, stop_answer, tree_answer}
-use Rattle.btr_run.specs.Filesystem.{OpensAs, answer_as, fault_answer, filesystem_in, filesystem_of, with_roots, with_start, with_table}
-use Rattle.btr_run.specs.Outcomes.{Comes, IsNoFault, Outcome, Shows, refused, showing}
+use Rattle.btr_run.specs.Filesystem.{Filesystem, OpensAs, answer_as, fault_answer, filesystem_in, filesystem_of, with_roots, with_start, with_table}
+use Rattle.btr_run.specs.Outcomes.{Comes, IsNoFault, OrBare, Outcome, Shows, refused, showing}
+use Rattle.btr_run.specs.Restored.{IsRestored}
 use Rattle.btr_run.specs.Trees.{ShowsUpTo, call_answer, trees_in}
 use Rattle.btr_run.specs.declared.answer.Answer.{Answer}
 use Rattle.btr_run.specs.declared.answer.Answer.TheVariants.{Lost, Unmapped, Crosses, Malformed}
 use Rattle.btr_run.specs.declared.plan.DumpChoice.{DumpChoice}
-use Rattle.btr_run.proofs.Coming.{comes_bare, shows_bare, shows_also}
+use Rattle.btr_run.proofs.Coming.{comes_also, comes_bare, shows_bare, shows_also}
 use Rattle.btr_run.proofs.Coming.{when_told}
 use Rattle.btr_run.proofs.Orders.{scan_follows}
-use Rattle.btr_run.proofs.Refusals.{open_no_fault}
+use Rattle.btr_run.proofs.Refusals.{open_line, open_no_fault}
+use Rattle.btr_run.proofs.Wanted.{names_wanted}
 
 -- The images agree: what opening them came to, whatever failed.
 module _ (old new : Seen) (images : Images) (told : old.held ≡ Some images) (agreed : AreAgreed images) where
@@ -81,7 +83,7 @@ module _ (old new : Seen) (images : Images) (told : old.held ≡ Some images) (a
       ∙ ap (λ s. Ok (record { sup = s; layout = layout_by o.start volume.store.layout.chunks })) (sym o.by.sup)
       ∙ ap (λ l. Ok (record { sup = volume.sup; layout = l })) (sym o.by.layout)
 
-  -- .. and the images agree by its layout
+  -- the images agree by the layout of the volume
   pub opened_agreed : (volume : Volume) → Opened images old new volume → Agreed images volume.store.layout
   opened_agreed volume o =
       let scan = scanned o.start o.is (Ok (Ok volume.store.layout.chunks)) o.scans in
@@ -94,27 +96,37 @@ module _ (old new : Seen) (images : Images) (told : old.held ≡ Some images) (a
 
   -- a refusal of opening is what a command comes to that shows it
   module _ (wanted : Outcome) (bare : (answer : Answer) → filesystem_of images ≡ Err answer → wanted ≡ refused answer) where
-    by_filesystem : (answer : Answer) → filesystem_of images ≡ Err answer → IsOrUnread wanted (refused answer)
+    by_filesystem : (answer : Answer) → filesystem_of images ≡ Err answer → IsOrUnopened images wanted (refused answer)
     by_filesystem answer e = inl (bare answer e)
 
     -- the chunk tree can't be read on
-    by_fault : (x : Fault) (answer : Answer) → fault_answer x ≡ answer → Starts images old new (Err (halts x)) → IsOrUnread wanted (refused answer)
+    by_fault : (x : Fault) (answer : Answer) → fault_answer x ≡ answer → Starts images old new (Err (halts x)) → IsOrUnopened images wanted (refused answer)
     by_fault x answer is s = let scan = scanned s.start s.is (Err (halts x)) s.scans in by_filesystem answer
         (ap (with_start images) s.is ∙ ap (with_table images s.start) scan.1 ∙ ap (λ a. Err a) is)
 
-    by_tree : (f : TreeFault) → Starts images old new (Err (halt_of f)) → IsOrUnread wanted (refused (tree_answer f))
+    by_tree : (f : TreeFault) → Starts images old new (Err (halt_of f)) → IsOrUnopened images wanted (refused (tree_answer f))
     by_tree (tree.Lost a) s = by_fault (fault.Lost a) (Lost a) refl s
     by_tree (tree.Unmapped a) s = by_fault (fault.Unmapped a) (Unmapped a) refl s
     by_tree (tree.Crosses a) s = by_fault (fault.Crosses a) (Crosses a) refl s
     by_tree (tree.Malformed a) s = by_fault (fault.Malformed a) (Malformed a) refl s
-    by_tree (tree.Unread a slot) s = inr (inl (record { addr = a; slot = slot }, refl))
+    by_tree (tree.Unread a slot) s = inr (inl (record {
+      start = s.start;
+      is = s.is;
+      unread = record { addr = a; slot = slot };
+      wanted = names_wanted (array_layout s.start) old new (record { addr = a; slot = slot })
+          (exec (fate images (array_layout s.start)) (table_scan s.start)) []
+          (scanned s.start s.is (Err (halt_of (tree.Unread a slot))) s.scans);
+      bare = refl;
+    }))
 
     -- by the superblocks, or by a chunk of the chunk tree
-    by_refusal : (r : OpenFault) → (start_of images ≡ Err r) ⊎ ((f : TableFault) × (refusal_of f ≡ r) × Starts images old new (Ok (Err f))) → IsOrUnread wanted (refused (open_answer r))
+    by_refusal : (r : OpenFault) → (start_of images ≡ Err r) ⊎ ((f : TableFault) × (refusal_of f ≡ r) × Starts images old new (Ok (Err f)))
+        → IsOrUnopened images wanted (refused (open_answer r))
     by_refusal r why =
-        by_filesystem (open_answer r) (⊎_elim (λ start. ap (with_start images) start) (λ table. by_table table.0 table.2 ∙ ap (λ q. Err (open_answer q)) table.1) why)
+        by_filesystem (open_answer r) (⊎_elim (λ start. ap (with_start images) start)
+        (λ table. by_table table.0 table.2 ∙ ap (λ q. Err (open_answer q)) table.1) why)
 
-    pub unopened : (r : OpenFault) → Opens images old new (Err r) → IsOrUnread wanted (refused (open_answer r))
+    pub unopened : (r : OpenFault) → Opens images old new (Err r) → IsOrUnopened images wanted (refused (open_answer r))
     unopened (opening.ImageFault slot) opens = inr (inr (inl (slot, refl)))
     unopened opening.Memory opens = inr (inr (inr refl))
     unopened (opening.Tree f) opens = by_tree f opens
@@ -132,136 +144,200 @@ module _ (old new : Seen) (images : Images) (told : old.held ≡ Some images) (a
     unopened (opening.Limit which count) opens = by_refusal (opening.Limit which count) opens
 
 -- what was told of the block map, where the images agree
-at_map : (layout : Layout) (mid new : Seen) (images : Images) (P : Map → Type 0) → mid.held ≡ Some images → Agreed images layout → Tells layout mid new P → P (fate images layout)
+pub at_map : (layout : Layout) (mid new : Seen) (images : Images) (P : Map → Type 0) → mid.held ≡ Some images → Agreed images layout → Tells layout mid new P
+    → P (fate images layout)
 at_map layout mid new images P held agreed tells =
-    subst (λ (o : Option Images). IfSome o (λ i. P (fate i layout))) held (tells.calls.content Any (subst (λ (o : Option Images). IfSome o (λ i. Agreed i layout)) (sym held) agreed))
+    subst (λ (o : Option Images). IfSome o (λ i. P (fate i layout))) held
+    (tells.calls.content Any (subst (λ (o : Option Images). IfSome o (λ i. Agreed i layout)) (sym held) agreed))
 
 -- the filesystem isn't opened: what holds of each refusal of opening holds of the answer
-unopened_where : (Q : Images → Answer → Type 0) (old new : Seen) (answer : Answer) → ((images : Images) → old.held ≡ Some images → AreAgreed images → (r : OpenFault) → Opens images old new (Err r) → Q images (open_answer r))
+unopened_where : (Q : Images → Answer → Type 0) (old new : Seen) (answer : Answer)
+    → ((images : Images) → old.held ≡ Some images → AreAgreed images → (r : OpenFault) → Opens images old new (Err r) → Q images (open_answer r))
     → IfSome old.held (λ images. OpensAs images old new (Err answer)) → IfSome old.held (λ images. AreAgreed images → Q images answer)
 unopened_where Q old new answer each = of old.held refl
   where
     refusal_is : (r : OpenFault) → ◌≡◌ {A = Result Volume Answer} (Err (open_answer r)) (Err answer) → open_answer r ≡ answer
     refusal_is r e = cc e
 
-    by : (images : Images) → old.held ≡ Some images → (opening : Result Volume OpenFault) → Opens images old new opening → answer_as opening ≡ Err answer → AreAgreed images → Q images answer
+    by : (images : Images) → old.held ≡ Some images → (opening : Result Volume OpenFault) → Opens images old new opening → answer_as opening ≡ Err answer
+        → AreAgreed images → Q images answer
     by images told (Ok volume) opens same agreed = absurd (cc same)
     by images told (Err r) opens same agreed = subst (Q images) (refusal_is r same) (each images told agreed r opens)
 
-    of : (held : Option Images) → old.held ≡ held → IfSome held (λ images. OpensAs images old new (Err answer)) → IfSome held (λ images. AreAgreed images → Q images answer)
+    of : (held : Option Images) → old.held ≡ held → IfSome held (λ images. OpensAs images old new (Err answer))
+        → IfSome held (λ images. AreAgreed images → Q images answer)
     of None told opens = tt
     of (Some images) told opens = λ agreed. by images told opens.opening opens.opens opens.same agreed
 
--- .. what a command comes to that shows such refusals
+-- what a command comes to that shows the refusals of opening
 module _ (wanted : Images → Outcome) (bare : (images : Images) (answer : Answer) → filesystem_of images ≡ Err answer → wanted images ≡ refused answer) where
-  pub unopened_to : (old new : Seen) (answer : Answer) → IfSome old.held (λ images. OpensAs images old new (Err answer)) → IfSome old.held (λ images. AreAgreed images → IsOrUnread (wanted images) (refused answer))
+  pub unopened_to : (old new : Seen) (answer : Answer) → IfSome old.held (λ images. OpensAs images old new (Err answer))
+      → IfSome old.held (λ images. AreAgreed images → IsOrUnopened images (wanted images) (refused answer))
   unopened_to old new answer =
-      unopened_where (λ images a. IsOrUnread (wanted images) (refused a)) old new answer (λ images told agreed r opens. unopened old new images told agreed (wanted images) (bare images) r opens)
+      unopened_where (λ images a. IsOrUnopened images (wanted images) (refused a)) old new answer
+      (λ images told agreed r opens. unopened old new images told agreed (wanted images) (bare images) r opens)
 
-  pub unopened_agreed : (old new : Seen) (answer result : Answer) → result ≡ answer → (text : Option Text) (account : CallAccount) → IfSome old.held (λ images. OpensAs images old new (Err answer))
-      → IfSome old.held (λ images. AreAgreed images → Shows (IsOrUnread (wanted images)) text text account account result)
+  pub unopened_agreed : (old new : Seen) (answer result : Answer) → result ≡ answer → (text : Option Text) (account : CallAccount)
+      → IfSome old.held (λ images. OpensAs images old new (Err answer))
+      → IfSome old.held (λ images. AreAgreed images → Shows (IsOrUnopened images (wanted images)) text text account account result)
   unopened_agreed old new answer result is text account opens =
-      when_told old.held (λ images. AreAgreed images → (result ≡ answer) → Shows (IsOrUnread (wanted images)) text text account account result) (λ images. AreAgreed images → Shows (IsOrUnread (wanted images)) text text account account result)
+      when_told old.held (λ images. AreAgreed images → (result ≡ answer) → Shows (IsOrUnopened images (wanted images)) text text account account result)
+      (λ images. AreAgreed images → Shows (IsOrUnopened images (wanted images)) text text account account result)
       (λ images h agreed. h agreed is)
-      (unopened_where (λ images a. (result ≡ a) → Shows (IsOrUnread (wanted images)) text text account account result) old new answer
-      (λ images told agreed r opens same. subst (Shows (IsOrUnread (wanted images)) text text account account) (sym same) (shows_bare (IsOrUnread (wanted images)) text account (open_answer r) (unopened old new images told agreed (wanted images) (bare images) r opens) (open_no_fault r))) opens)
+      (unopened_where (λ images a. (result ≡ a) → Shows (IsOrUnopened images (wanted images)) text text account account result) old new answer
+      (λ images told agreed r opens same. subst (Shows (IsOrUnopened images (wanted images)) text text account account) (sym same)
+      (shows_bare (IsOrUnopened images (wanted images)) text account (open_answer r) (unopened old new images told agreed (wanted images) (bare images) r opens)
+      (open_no_fault r))) opens)
 
-  -- .. of one that does steps
-  pub unopened_comes : (old new : Seen) (answer result : Answer) → result ≡ answer → (x : Outside) → IfSome old.held (λ images. OpensAs images old new (Err answer))
-      → IfSome old.held (λ images. AreAgreed images → Comes (Unit {0}) (IsOrUnread (wanted images)) x x result)
+  -- what a command comes to that does steps
+  pub unopened_comes : (old new : Seen) (answer result : Answer) → result ≡ answer → (x : Outside)
+      → IfSome old.held (λ images. OpensAs images old new (Err answer))
+      → IfSome old.held (λ images. AreAgreed images → Comes (Unit {0}) (IsOrUnopened images (wanted images)) x x result)
   unopened_comes old new answer result is x opens =
-      when_told old.held (λ images. AreAgreed images → (result ≡ answer) → Comes (Unit {0}) (IsOrUnread (wanted images)) x x result)
-      (λ images. AreAgreed images → Comes (Unit {0}) (IsOrUnread (wanted images)) x x result)
+      when_told old.held (λ images. AreAgreed images → (result ≡ answer) → Comes (Unit {0}) (IsOrUnopened images (wanted images)) x x result)
+      (λ images. AreAgreed images → Comes (Unit {0}) (IsOrUnopened images (wanted images)) x x result)
       (λ images h agreed. h agreed is)
-      (unopened_where (λ images a. (result ≡ a) → Comes (Unit {0}) (IsOrUnread (wanted images)) x x result) old new answer
-      (λ images told agreed r opens same. subst (Comes (Unit {0}) (IsOrUnread (wanted images)) x x) (sym same)
-      (comes_bare (Unit {0}) (IsOrUnread (wanted images)) x (open_answer r) (unopened old new images told agreed (wanted images) (bare images) r opens) (open_no_fault r))) opens)
+      (unopened_where (λ images a. (result ≡ a) → Comes (Unit {0}) (IsOrUnopened images (wanted images)) x x result) old new answer
+      (λ images told agreed r opens same. subst (Comes (Unit {0}) (IsOrUnopened images (wanted images)) x x) (sym same)
+      (comes_bare (Unit {0}) (IsOrUnopened images (wanted images)) x (open_answer r) (unopened old new images told agreed (wanted images) (bare images) r opens)
+      (open_no_fault r))) opens)
+
+-- what a restore comes to: a refusal by the superblocks, whatever else failed
+pub unrestored : (old new : Seen) (answer result : Answer) → result ≡ answer → (x : Outside) → IfSome old.held (λ images. OpensAs images old new (Err answer))
+    → IfSome old.held (λ images. AreAgreed images → Comes (Unit {0}) (IsRestoredOrUnopened images) x x result)
+unrestored old new answer result is x opens =
+    when_told old.held (λ images. AreAgreed images → (result ≡ answer) → Comes (Unit {0}) (IsRestoredOrUnopened images) x x result)
+    (λ images. AreAgreed images → Comes (Unit {0}) (IsRestoredOrUnopened images) x x result)
+    (λ images comes agreed. comes agreed is)
+    (unopened_where (λ images a. (result ≡ a) → Comes (Unit {0}) (IsRestoredOrUnopened images) x x result) old new answer
+    (λ images told agreed r opens same. subst (Comes (Unit {0}) (IsRestoredOrUnopened images) x x) (sym same)
+    (comes_bare (Unit {0}) (IsRestoredOrUnopened images) x (open_answer r)
+    (inr (refl, open_line r), λ refusal begun. unopened old new images told agreed (refused (open_answer refusal)) (refused_so images refusal begun) r opens)
+    (open_no_fault r))) opens)
+  where
+    refused_so : (images : Images) (refusal : OpenFault) → start_of images ≡ Err refusal → (a : Answer) → filesystem_of images ≡ Err a
+        → refused (open_answer refusal) ≡ refused a
+    refused_so images refusal begun a is = let e = sym (ap (with_start images) begun) ∙ is in ap refused (one (open_answer refusal) a e)
+      where
+        one : (a b : Answer) → ◌≡◌ {A = Result Filesystem Answer} (Err a) (Err b) → a ≡ b
+        one a b e = cc e
 
 -- The filesystem is open.
 module _ (old mid : Seen) (volume : Volume) (opens : IfSome old.held (λ images. OpensAs images old mid (Ok volume))) where
   -- where the images agree, it is theirs, and they agree by its layout
-  pub agreeing_opened : (Q : Images → Type 0) → ((images : Images) → old.held ≡ Some images → filesystem_of images ≡ Ok (filesystem_in volume) → Agreed images volume.store.layout → Q images) → IfSome old.held (λ images. AreAgreed images → Q images)
+  pub agreeing_opened : (Q : Images → Type 0)
+      → ((images : Images) → old.held ≡ Some images → filesystem_of images ≡ Ok (filesystem_in volume) → Agreed images volume.store.layout → Q images)
+      → IfSome old.held (λ images. AreAgreed images → Q images)
   agreeing_opened Q then = of old.held refl opens
     where
       volume_is : (other : Volume) → ◌≡◌ {A = Result Volume Answer} (Ok other) (Ok volume) → other ≡ volume
       volume_is other e = cc e
 
-      by : (images : Images) → old.held ≡ Some images → (opening : Result Volume OpenFault) → Opens images old mid opening → answer_as opening ≡ Ok volume → AreAgreed images → Q images
+      by : (images : Images) → old.held ≡ Some images → (opening : Result Volume OpenFault) → Opens images old mid opening → answer_as opening ≡ Ok volume
+          → AreAgreed images → Q images
       by images told (Err r) opens same agreed = absurd (cc same)
       by images told (Ok other) opens same agreed =
           let opened = subst (Opened images old mid) (volume_is other same) opens in
           then images told (opened_is old mid images told agreed volume opened) (opened_agreed old mid images told agreed volume opened)
 
-      of : (held : Option Images) → old.held ≡ held → IfSome held (λ images. OpensAs images old mid (Ok volume)) → IfSome held (λ images. AreAgreed images → Q images)
+      of : (held : Option Images) → old.held ≡ held → IfSome held (λ images. OpensAs images old mid (Ok volume))
+          → IfSome held (λ images. AreAgreed images → Q images)
       of None told opens = tt
       of (Some images) told opens = λ agreed. by images told opens.opening opens.opens opens.same agreed
 
--- .. and what was told of it
-module _ (read_data : Bool) (old mid new : Seen) (first : OnlyReads old mid) (volume : Volume) (opens : IfSome old.held (λ images. OpensAs images old mid (Ok volume))) where
-  pub agreeing : (P : Map → Type 0) (Q : Images → Type 0) → ((images : Images) → filesystem_of images ≡ Ok (filesystem_in volume) → P (fate images volume.store.layout) → Q images) → Tells volume.store.layout mid new P
+  -- what a restore comes to over an open filesystem
+  pub restored_agreed : (x y : Outside) (result : Answer) → Comes (Unit {0}) (OrBare IsRestored) x y result
+      → IfSome old.held (λ images. AreAgreed images → Comes (Unit {0}) (IsRestoredOrUnopened images) x y result)
+  restored_agreed x y result comes =
+      agreeing_opened (λ images. Comes (Unit {0}) (IsRestoredOrUnopened images) x y result) (λ images told o agreed.
+      comes_also (Unit {0}) (Unit {0}) (OrBare IsRestored) (IsRestoredOrUnopened images) x y result (λ u. u)
+      (λ outcome one. (one, λ refusal begun. absurd (cc (sym (ap (with_start images) begun) ∙ o)))) comes)
+
+-- The filesystem is open, and this was told of it.
+module _ (read_data : Bool) (old mid new : Seen) (first : OnlyReads old mid) (volume : Volume)
+    (opens : IfSome old.held (λ images. OpensAs images old mid (Ok volume))) where
+  pub agreeing : (P : Map → Type 0) (Q : Images → Type 0)
+      → ((images : Images) → filesystem_of images ≡ Ok (filesystem_in volume) → P (fate images volume.store.layout) → Q images)
+      → Tells volume.store.layout mid new P
       → IfSome old.held (λ images. AreAgreed images → Q images)
   agreeing P Q then tells =
-      agreeing_opened old mid volume opens Q (λ images told o agreed. then images o (at_map volume.store.layout mid new images P (ap (λ (s : Seen). s.held) first.same ∙ told) agreed tells))
+      agreeing_opened old mid volume opens Q (λ images told o agreed. then images o
+      (at_map volume.store.layout mid new images P (ap (λ (s : Seen). s.held) first.same ∙ told) agreed tells))
 
-  -- .. it isn't checked
+  -- the filesystem isn't checked
   module _ (end : Stop) (reading : OfReading end) (answer : Answer) (is : answer ≡ stop_answer end) (calm : IsNoFault (stop_answer end)) where
-    stopped_one : (images : Images) → filesystem_of images ≡ Ok (filesystem_in volume) → (is_outside end ≡ false → refusal (filesystem_by images (filesystem_in volume)) ≡ Some end) → IsOrUnread (check_outcome read_data images) (refused (stop_answer end))
+    stopped_one : (images : Images) → filesystem_of images ≡ Ok (filesystem_in volume)
+        → (is_outside end ≡ false → refusal (filesystem_by images (filesystem_in volume)) ≡ Some end)
+        → IsCheckedOrUnread read_data images (refused (stop_answer end))
     stopped_one images opened = of end reading
       where
         refusing : (s : Stop) → refusal (filesystem_by images (filesystem_in volume)) ≡ Some s → check_outcome read_data images ≡ refused (stop_answer s)
-        refusing s e = ap (check_in read_data images) opened ∙ ap (λ r. unless_refused r (listing (findings read_data (filesystem_by images (filesystem_in volume))))) e
+        refusing s e = ap (check_in read_data images) opened ∙ ap
+            (λ r. unless_refused r (listing (findings read_data (filesystem_by images (filesystem_in volume))))) e
 
-        of : (s : Stop) → OfReading s → (is_outside s ≡ false → refusal (filesystem_by images (filesystem_in volume)) ≡ Some s) → IsOrUnread (check_outcome read_data images) (refused (stop_answer s))
-        of (stop.NoTree id) r f = inl (refusing (stop.NoTree id) (f refl))
-        of (stop.Tree (tree.Lost a)) r f = inl (refusing (stop.Tree (tree.Lost a)) (f refl))
-        of (stop.Tree (tree.Unread a slot)) r f = inr (inl (record { addr = a; slot = slot }, refl))
-        of (stop.Tree (tree.Unmapped a)) r f = inl (refusing (stop.Tree (tree.Unmapped a)) (f refl))
-        of (stop.Tree (tree.Crosses a)) r f = inl (refusing (stop.Tree (tree.Crosses a)) (f refl))
-        of (stop.Tree (tree.Malformed a)) r f = inl (refusing (stop.Tree (tree.Malformed a)) (f refl))
-        of (stop.Deletion id) r f = inl (refusing (stop.Deletion id) (f refl))
-        of stop.Balance r f = inl (refusing stop.Balance (f refl))
+        of : (s : Stop) → OfReading s → (is_outside s ≡ false → refusal (filesystem_by images (filesystem_in volume)) ≡ Some s)
+            → IsCheckedOrUnread read_data images (refused (stop_answer s))
+        of (stop.NoTree id) r f = inl (inl (refusing (stop.NoTree id) (f refl)))
+        of (stop.Tree (tree.Lost a)) r f = inl (inl (refusing (stop.Tree (tree.Lost a)) (f refl)))
+        of (stop.Tree (tree.Unread a slot)) r f = inr (record { addr = a; slot = slot }, refl)
+        of (stop.Tree (tree.Unmapped a)) r f = inl (inl (refusing (stop.Tree (tree.Unmapped a)) (f refl)))
+        of (stop.Tree (tree.Crosses a)) r f = inl (inl (refusing (stop.Tree (tree.Crosses a)) (f refl)))
+        of (stop.Tree (tree.Malformed a)) r f = inl (inl (refusing (stop.Tree (tree.Malformed a)) (f refl)))
+        of (stop.Deletion id) r f = inl (inl (refusing (stop.Deletion id) (f refl)))
+        of stop.Balance r f = inl (inl (refusing stop.Balance (f refl)))
         of (stop.Missing id) r f = absurd r
         of (stop.Image slot) r f = absurd r
         of stop.Sink r f = absurd r
         of stop.Out r f = absurd r
-        of stop.Memory r f = inr (inr (inr refl))
+        of stop.Memory r f = inl (inr (inr (inr refl)))
 
-    pub stopped_agreed : (text : Option Text) (account : CallAccount) → Tells volume.store.layout mid new (λ B. is_outside end ≡ false → refusal (record { sup = volume.sup; chunks = volume.store.layout.chunks; blocks = B }) ≡ Some end)
-        → IfSome old.held (λ images. AreAgreed images → Shows (IsOrUnread (check_outcome read_data images)) text text account account answer)
+    pub stopped_agreed : (text : Option Text) (account : CallAccount) → Tells volume.store.layout mid new
+        (λ B. is_outside end ≡ false → refusal (record { sup = volume.sup; chunks = volume.store.layout.chunks; blocks = B }) ≡ Some end)
+        → IfSome old.held (λ images. AreAgreed images → Shows (IsCheckedOrUnread read_data images) text text account account answer)
     stopped_agreed text account =
-        agreeing (λ B. is_outside end ≡ false → refusal (record { sup = volume.sup; chunks = volume.store.layout.chunks; blocks = B }) ≡ Some end) (λ images. Shows (IsOrUnread (check_outcome read_data images)) text text account account answer)
+        agreeing (λ B. is_outside end ≡ false → refusal (record { sup = volume.sup; chunks = volume.store.layout.chunks; blocks = B }) ≡ Some end)
+        (λ images. Shows (IsCheckedOrUnread read_data images) text text account account answer)
         (λ images opened h.
-        subst (Shows (IsOrUnread (check_outcome read_data images)) text text account account) (sym is)
-        (shows_bare (IsOrUnread (check_outcome read_data images)) text account (stop_answer end) (stopped_one images opened h) calm))
+        subst (Shows (IsCheckedOrUnread read_data images) text text account account) (sym is)
+        (shows_bare (IsCheckedOrUnread read_data images) text account (stop_answer end) (stopped_one images opened h) calm))
 
-  -- .. it was checked, and a list of findings was put
+  -- the filesystem was checked, and a list of findings was put
   module _ (all : List Finding) (answer : Answer) where
-    pub listed_agreed : (text text' : Option Text) (before after : CallAccount) → Shows (λ outcome. outcome ≡ showing (listing all)) text text' before after answer
-        → Tells volume.store.layout mid new (λ B. (refusal (record { sup = volume.sup; chunks = volume.store.layout.chunks; blocks = B }) ≡ None) × (all ≡ findings read_data (record { sup = volume.sup; chunks = volume.store.layout.chunks; blocks = B })))
-        → IfSome old.held (λ images. AreAgreed images → Shows (IsOrUnread (check_outcome read_data images)) text text' before after answer)
+    pub listed_agreed : (text text' : Option Text) (before after : CallAccount) → Shows
+        (λ outcome. outcome ≡ showing (listing all)) text text' before after answer
+        → Tells volume.store.layout mid new (λ B. (refusal (record { sup = volume.sup; chunks = volume.store.layout.chunks; blocks = B }) ≡ None)
+        × (all ≡ findings read_data (record { sup = volume.sup; chunks = volume.store.layout.chunks; blocks = B })))
+        → IfSome old.held (λ images. AreAgreed images → Shows (IsCheckedOrUnread read_data images) text text' before after answer)
     listed_agreed text text' before after shows =
-        agreeing (λ B. (refusal (record { sup = volume.sup; chunks = volume.store.layout.chunks; blocks = B }) ≡ None) × (all ≡ findings read_data (record { sup = volume.sup; chunks = volume.store.layout.chunks; blocks = B })))
-        (λ images. Shows (IsOrUnread (check_outcome read_data images)) text text' before after answer)
+        agreeing (λ B. (refusal (record { sup = volume.sup; chunks = volume.store.layout.chunks; blocks = B }) ≡ None)
+        × (all ≡ findings read_data (record { sup = volume.sup; chunks = volume.store.layout.chunks; blocks = B })))
+        (λ images. Shows (IsCheckedOrUnread read_data images) text text' before after answer)
         (λ images opened h.
-        shows_also (λ outcome. outcome ≡ showing (listing all)) (IsOrUnread (check_outcome read_data images)) text text' before after answer
-        (λ outcome e. inl (ap (check_in read_data images) opened ∙ ap (λ r. unless_refused r (listing (findings read_data (filesystem_by images (filesystem_in volume))))) h.0
-        ∙ ap (λ l. showing (listing l)) (sym h.1) ∙ sym e)) shows)
+        shows_also (λ outcome. outcome ≡ showing (listing all)) (IsCheckedOrUnread read_data images) text text' before after answer
+        (λ outcome e. inl (inl (ap (check_in read_data images) opened ∙ ap
+        (λ r. unless_refused r (listing (findings read_data (filesystem_by images (filesystem_in volume))))) h.0
+        ∙ ap (λ l. showing (listing l)) (sym h.1) ∙ sym e))) shows)
 
 -- The filesystem is open, and its trees were shown.
-module _ (choice : DumpChoice) (old mid : Seen) (first : OnlyReads old mid) (volume : Volume) (opens : IfSome old.held (λ images. OpensAs images old mid (Ok volume))) where
+module _ (choice : DumpChoice) (old mid : Seen) (first : OnlyReads old mid) (volume : Volume)
+    (opens : IfSome old.held (λ images. OpensAs images old mid (Ok volume))) where
   abbrev layout : Layout
   layout = volume.store.layout
 
   pub shown_agreed : (text text' : Option Text) (before after : CallAccount) (answer : Answer) (result : Result (Unit {0}) Stop) → answer ≡ call_answer result
-      → IfSome mid.held (λ images. Agreed images layout → AgreesOn choice images layout → Shows (ShowsUpTo choice (fate images layout) volume.sup) text text' before after (call_answer result))
+      → IfSome mid.held (λ images. Agreed images layout → AgreesOn choice images layout → Shows
+      (ShowsUpTo choice (fate images layout) volume.sup) text text' before after (call_answer result))
       → IfSome old.held (λ images. AreAgreedOn choice images → Shows (IsTreesOrUnread choice images) text text' before after answer)
   shown_agreed text text' before after answer result is shows =
-      when_told old.held (λ images. AreAgreed images → AreAgreedOn choice images → Shows (IsTreesOrUnread choice images) text text' before after answer) (λ images. AreAgreedOn choice images → Shows (IsTreesOrUnread choice images) text text' before after answer)
+      when_told old.held (λ images. AreAgreed images → AreAgreedOn choice images → Shows (IsTreesOrUnread choice images) text text' before after answer)
+      (λ images. AreAgreedOn choice images → Shows (IsTreesOrUnread choice images) text text' before after answer)
       (λ images so on. so on.0 on)
       (agreeing_opened old mid volume opens (λ images. AreAgreedOn choice images → Shows (IsTreesOrUnread choice images) text text' before after answer)
       (λ images told opened agreed on.
       let held : mid.held ≡ Some images = ap (λ (s : Seen). s.held) first.same ∙ told in
-      let so = subst (λ (o : Option Images). IfSome o (λ i. Agreed i layout → AgreesOn choice i layout → Shows (ShowsUpTo choice (fate i layout) volume.sup) text text' before after (call_answer result))) held shows in
+      let so = subst (λ (o : Option Images). IfSome o
+      (λ i. Agreed i layout → AgreesOn choice i layout → Shows (ShowsUpTo choice (fate i layout) volume.sup) text text' before after
+      (call_answer result))) held shows in
       subst (Shows (IsTreesOrUnread choice images) text text' before after) (sym is)
       (shows_also (ShowsUpTo choice (fate images layout) volume.sup) (IsTreesOrUnread choice images) text text' before after (call_answer result)
       (λ outcome one. ⊎_elim (λ e. inl (ap (trees_in choice images) opened ∙ sym e)) (λ broken. inr (inl (filesystem_in volume, opened, broken))) one)

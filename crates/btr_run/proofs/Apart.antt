@@ -1,12 +1,14 @@
 -- Words are a sentence of one form at most.
-use Rattle.std.proofs.Common.{◌≡◌, ◌⊎◌, inl, inr, ⊎_elim, ℕ, ◌+◌, ◌<◌, Bool, true, false, not, cond, List, [], ◌∷◌, ◌++◌, length, refl, sym, ap, ◌∙◌, subst, ap₂, arith, eqb, eqb-true, zero, suc}
+use Rattle.std.proofs.Common.{◌≡◌, ◌⊎◌, inl, inr, ⊎_elim, ℕ, ◌+◌, ◌<◌, Bool, true, false, not, cond, List, [], ◌∷◌, ◌++◌, length, refl, sym, ap, ◌∙◌, subst}
+use Rattle.std.proofs.Common.{ap₂, arith, eqb, eqb-true, zero, suc}
 use Rattle.std.specs.Prelude.{◌||◌, codes}
 use Rattle.std.specs.Bool.{Decides}
 use Rattle.std.specs.Str.{bytes_eq}
 use Rattle.std.proofs.Math.Nat.{eq-or-lt_of_le}
 use Rattle.std.proofs.lemmas.Slice.Eq.{bytes_eq-Decides}
 use Rattle.btr_run.specs.Restores.{OneOption, Root, Snapshots, Verbose, Dry, Salvage, options_words}
-use Rattle.btr_run.specs.Words.{Destination, File, IsRead, IsSentence, Number, Part, Reads, TakesDestination, Word, Words, is_name, nothing_of, parts_of, plan_for}
+use Rattle.btr_run.specs.Words.{Destination, File, IsRead, IsSentence, Number, Part, Reads, TakesDestination, Word, Words, is_name, nothing_of, parts_of}
+use Rattle.btr_run.specs.Words.{plan_for}
 use Rattle.btr_run.specs.declared.place.Read.{Read}
 use Rattle.btr_run.specs.declared.plan.Plan.{Plan}
 use Rattle.btr_run.specs.declared.sentence.Sentence.{Sentence}
@@ -15,7 +17,8 @@ use Rattle.btr_run.proofs.Reading.{accepted, same_word}
 
 -- the word of an option
 abbrev is_option : List ℕ → Bool
-is_option word = bytes_eq word (codes "-r") || bytes_eq word (codes "-s") || bytes_eq word (codes "-v") || bytes_eq word (codes "-D") || bytes_eq word (codes "-i")
+is_option word = bytes_eq word (codes "-r") || bytes_eq word (codes "-s") || bytes_eq word (codes "-v") || bytes_eq word (codes "-D") || bytes_eq word
+    (codes "-i")
 
 -- some parts may begin with this word
 abbrev may_begin : List Part → List ℕ → Bool
@@ -94,7 +97,8 @@ never_both (Word this ∷ p) (Destination ∷ q) is at other words old new old' 
     first_apart this a.1 (Destination ∷ q) words (a.3 ∙ ap (λ t. t ++ a.1) a.4.0) (begins_so (Destination ∷ q) other words old' new' b) is
 never_both (Word this ∷ p) (Word that ∷ q) is at other words old new old' new' a b =
     of (bytes_eq this that) (bytes_eq-Decides this that) is
-    (λ e. never_both p q e (at + length a.0) (other + length b.0) a.1 a.2 new b.2 new' a.5 (subst (λ l. Reads q (other + length b.0) l b.2 new') (sym rests) b.5))
+    (λ e. never_both p q e (at + length a.0) (other + length b.0) a.1 a.2 new b.2 new' a.5
+    (subst (λ l. Reads q (other + length b.0) l b.2 new') (sym rests) b.5))
   where
     both : this ∷ a.1 ≡ that ∷ b.1
     both = sym (a.3 ∙ ap (λ t. t ++ a.1) a.4.0) ∙ b.3 ∙ ap (λ t. t ++ b.1) b.4.0
@@ -131,7 +135,8 @@ all_apart = refl
 same_or_apart : (s t : Sentence) → (s ≡ t) ⊎ (are_apart s t ≡ true)
 same_or_apart s t =
     of (eqb a.number b.number) refl
-    (each_below (length forms) (λ j. eqb a.number j || are_apart (form_at a.number) (form_at j)) (each_below (length forms) (λ i. all_below (length forms) (λ j. eqb i j || are_apart (form_at i) (form_at j))) all_apart a.number a.below) b.number b.below)
+    (each_below (length forms) (λ j. eqb a.number j || are_apart (form_at a.number) (form_at j))
+    (each_below (length forms) (λ i. all_below (length forms) (λ j. eqb i j || are_apart (form_at i) (form_at j))) all_apart a.number a.below) b.number b.below)
   where
     a : IsNumbered s
     a = numbered s
@@ -151,7 +156,7 @@ one_form words s t read other a b = ⊎_elim (λ same. same) (λ far. absurd (of
     of true e f = never_both (parts_of s) (parts_of t) e 0 0 words (nothing_of s) read (nothing_of t) other a b
     of false e f = never_both (parts_of t) (parts_of s) f 0 0 words (nothing_of t) other (nothing_of s) read b a
 
--- .. and are read in one way
+-- words are read in one way
 one_reading : (words : Words) (s : Sentence) (read other : Read) → IsRead s words read → IsRead s words other → read ≡ other
 one_reading words s read other a b =
     cc (sym (accepted (parts_of s) 0 words (nothing_of s) read a) ∙ accepted (parts_of s) 0 words (nothing_of s) other b)

@@ -1,5 +1,6 @@
 -- What doing what the words say comes to, by the step that ended it.
-use Rattle.std.proofs.Common.{◌≡◌, ◌≢◌, inl, inr, ⊎_elim, true, false, ltb, cond, ℕ, ◌<◌, ◌≤◌, ◌-◌, List, [], length, map, take, drop, String, Option, Some, None, refl, sym, ap, ◌∙◌, arith}
+use Rattle.std.proofs.Common.{◌≡◌, ◌≢◌, inl, inr, ⊎_elim, true, false, ltb, cond, ℕ, ◌<◌, ◌≤◌, ◌-◌, List, [], length, map, take, drop, String, Option, Some}
+use Rattle.std.proofs.Common.{None, refl, sym, ap, ◌∙◌, arith}
 use Rattle.std.specs.Option.{IfSome, option_and_then}
 use Rattle.std.specs.String.{string_bytes}
 use Rattle.std.specs.declared.alloc.Global.{Global}
@@ -8,7 +9,7 @@ use Rattle.std.proofs.lemmas.Bool.Decides.{nat_tests}
 use Rattle.std.proofs.lemmas.List.{drop-map, take_rest}
 use Rattle.btr_rack.specs.Rack.{Seen, Slot, Rose, Steady, Shelf}
 use Rattle.btr_restore.specs.Running.{Outside}
-use Rattle.btr_run.specs.Agreeing.{ComesAgreed, FollowsAgreed, IsUnreadOrWant}
+use Rattle.btr_run.specs.Agreeing.{ComesAgreed, FollowsAgreed, IsUnopened}
 use Rattle.btr_run.specs.Answers.{error_line}
 use Rattle.btr_run.specs.Causes.{IsBehindWords}
 use Rattle.btr_run.specs.Commands.{command_outcome}
@@ -56,27 +57,31 @@ usage_once words at other a b = of (le at other a b) (le other at b a)
     le i j x y = ⊎_elim (λ past. absurd (y.longest i past x.within x.begins)) (λ le. le) (cases_lt j i)
 
 -- images that are as they were
-pub as_they_were : (calm : Type 0) (images left : Images) (answer : Answer) → ((lost : ℕ) → answer ≢ found lost) → left ≡ images → LeavesImages calm images left answer
+pub as_they_were : (calm : Type 0) (images left : Images) (answer : Answer) → ((lost : ℕ) → answer ≢ found lost) → left ≡ images
+    → LeavesImages calm images left answer
 as_they_were calm images left answer other same = record {
   stopped = λ sure. record { before = []; behind = mending_writes images; place = refl; stands = inl same };
   finished = λ lost e sure. absurd (other lost e);
   unchanged = inl same;
+  safe = λ sure. inl same;
 }
 
-pub as_opened : (calm : Type 0) (shelf : Option Shelf) (held : Option Images) (slots : List Slot) (answer : Answer) → ((lost : ℕ) → answer ≢ found lost) → IfSome shelf (λ at. IfSome held (λ images. taken (map (λ s. s.name) slots) at ≡ Some images))
+pub as_opened : (calm : Type 0) (shelf : Option Shelf) (held : Option Images) (slots : List Slot) (answer : Answer) → ((lost : ℕ) → answer ≢ found lost)
+    → IfSome shelf (λ at. IfSome held (λ images. taken (map (λ s. s.name) slots) at ≡ Some images))
     → IfSome shelf (λ at. IfSome held (λ left. (images : Images) × (taken (map (λ s. s.name) slots) at ≡ Some images) × LeavesImages calm images left answer))
 as_opened calm None held slots answer other opens = tt
 as_opened calm (Some at) None slots answer other opens = tt
 as_opened calm (Some at) (Some images) slots answer other opens = (images, opens, as_they_were calm images images answer other refl)
 
 -- what is answered before anything is put is one of the answers of each command over images that agree
-pub agreed_before : (command : Command) (words : Words) (images : Images) (answer : Answer) → error_line answer ≢ [] → IsUnreadOrWant (refused answer) → ComesAgreed command words images (refused answer)
+pub agreed_before : (command : Command) (words : Words) (images : Images) (answer : Answer) → error_line answer ≢ [] → IsUnopened images (refused answer)
+    → ComesAgreed command words images (refused answer)
 agreed_before Super words images answer line unread = inr (refl, line)
 agreed_before (Dump choice) words images answer line unread = inr (inr unread)
 agreed_before (Resolve addr) words images answer line unread = inr (inr unread)
-agreed_before (Check read_data) words images answer line unread = inr unread
-agreed_before (Scrub write) words images answer line unread = inr unread
-agreed_before (Restore dest plan) words images answer line unread = inr (refl, line)
+agreed_before (Check read_data) words images answer line unread = inl (inr unread)
+agreed_before (Scrub write) words images answer line unread = inl (inr unread)
+agreed_before (Restore dest plan) words images answer line unread = (inr (refl, line), λ refusal begun. inr unread)
 agreed_before (Salvage dest plan) words images answer line unread = inr (inr unread)
 agreed_before (Send dest file plan) words images answer line unread = inr (inr unread)
 
@@ -85,9 +90,11 @@ module _ (words : Words) (at : ℕ) (usage : IsUsageAt words at) where
   usage_no_fault : IsNoFault (Usage at)
   usage_no_fault = record { no_out = λ e. cc; no_sink = λ e. cc }
 
-  pub usage_effect : (shelf : Option Shelf) (old new : ℕ) (x : Outside) → IfSome shelf (λ s. Steady old new → Comes (MayWantBy words x.out_calls) (OrMemory (IsOutcome words s)) x x (Usage at))
+  pub usage_effect : (shelf : Option Shelf) (old new : ℕ) (x : Outside) → IfSome shelf
+      (λ s. Steady old new → Comes (MayWantBy words x.out_calls) (OrMemory (IsOutcome words s)) x x (Usage at))
   usage_effect shelf old new x =
-      all_told shelf _ (λ s steady. comes_bare (MayWantBy words x.out_calls) (OrMemory (IsOutcome words s)) x (Usage at) (inl (inl (at, usage, refl))) usage_no_fault)
+      all_told shelf _ (λ s steady. comes_bare (MayWantBy words x.out_calls) (OrMemory (IsOutcome words s)) x (Usage at)
+      (inl (inl (at, usage, refl))) usage_no_fault)
 
   pub usage_told : (x : Outside) → Comes (MayWantBy words x.out_calls) (OrBare (MayFollow words)) x x (Usage at)
   usage_told x = comes_bare (MayWantBy words x.out_calls) (OrBare (MayFollow words)) x (Usage at) (inr (refl, λ e. cc)) usage_no_fault
@@ -98,7 +105,8 @@ module _ (words : Words) (at : ℕ) (usage : IsUsageAt words at) where
   pub usage_agreed : (shelf : Option Shelf) (x : Outside) → IfSome shelf (λ s. FollowsAgreed words s x x (Usage at))
   usage_agreed shelf x = all_told shelf _ (λ s plan images asks. absurd (usage.no_sentence _ asks.sentence))
 
-  pub usage_repaired : (shelf : Option Shelf) (steady : Type 0) (held : Option Images) → IfSome shelf (λ s. steady → Usage at ≢ Memory → KeepsRepair words s held)
+  pub usage_repaired : (shelf : Option Shelf) (steady : Type 0) (held : Option Images) → IfSome shelf
+      (λ s. steady → Usage at ≢ Memory → KeepsRepair words s held)
   usage_repaired shelf steady held = all_told shelf _ (λ s calm enough images from. absurd (usage.no_sentence _ from.sentence))
 
   pub usage_left : AsksToWrite words → ⊥
@@ -150,12 +158,16 @@ too_many : (n m : ℕ) → m < n → ltb m n ≡ true
 too_many n m lt = grind (arith, nat_tests)
 
 -- too many images
-pub limit_outcome : (command : Command) (words names : Words) (shelf : Shelf) → most_images < length names → images_outcome command words names shelf ≡ Some (refused (Limit images_limit (length names)))
+pub limit_outcome : (command : Command) (words names : Words) (shelf : Shelf) → most_images < length names
+    → images_outcome command words names shelf ≡ Some (refused (Limit images_limit (length names)))
 limit_outcome command words names shelf lt =
-    ap (λ b. cond b (Some (refused (Limit images_limit (length names)))) (option_and_then (command_outcome command words) (taken names shelf))) (too_many (length names) most_images lt)
+    ap (λ b. cond b (Some (refused (Limit images_limit (length names)))) (option_and_then (command_outcome command words) (taken names shelf)))
+    (too_many (length names) most_images lt)
 
 -- images that were taken from the shelf
-pub taken_outcome : (command : Command) (words names : Words) (shelf : Shelf) (images : Images) → length names ≤ most_images → taken names shelf ≡ Some images → images_outcome command words names shelf ≡ command_outcome command words images
+pub taken_outcome : (command : Command) (words names : Words) (shelf : Shelf) (images : Images) → length names ≤ most_images → taken names shelf ≡ Some images
+    → images_outcome command words names shelf ≡ command_outcome command words images
 taken_outcome command words names shelf images le opened =
-    ap (λ b. cond b (Some (refused (Limit images_limit (length names)))) (option_and_then (command_outcome command words) (taken names shelf))) (few (length names) most_images le)
+    ap (λ b. cond b (Some (refused (Limit images_limit (length names)))) (option_and_then (command_outcome command words) (taken names shelf)))
+    (few (length names) most_images le)
     ∙ ap (option_and_then (command_outcome command words)) opened

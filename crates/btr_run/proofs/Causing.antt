@@ -26,7 +26,8 @@ none_failed_twice old mid new a b = record {
 -- a rack after calls of which none failed, and then some that only read, is as it is with the account from before
 pub opened_again : (old mid new : Seen) → NoneFailed old.account mid.account → OnlyCounts mid new → mid ≡ opened_with old.account new
 opened_again old mid new none same =
-    ap {A = Account} (λ a. record mid { account = a }) (λ i. record { faults = none.faults i; fresh = none.fresh i; missed = none.missed i; last = none.last i; opening = none.opening i; shut = none.shut i })
+    ap {A = Account} (λ a. record mid { account = a })
+    (λ i. record { faults = none.faults i; fresh = none.fresh i; missed = none.missed i; last = none.last i; opening = none.opening i; shut = none.shut i })
     ∙ sym (ap (λ (s : Seen). record s { account = old.account }) same)
 
 pub rose_behind : (old mid new : ℕ) → old ≤ mid → Rose mid new → Rose old new
@@ -36,15 +37,19 @@ pub some_fresh : (old new : ℕ) → new ≡ next_count old → 1 ≤ new
 some_fresh old new is = omega arith
 
 -- the name at an index, as the names' texts have it
-pub name_at : (xs : List (String Global)) (i : ℕ) (x : String Global) (w : List ℕ) → i < length xs → w ≡ string_bytes x → x ≡ get_or xs i x → get_or (map string_bytes xs) i [] ≡ w
+pub name_at : (xs : List (String Global)) (i : ℕ) (x : String Global) (w : List ℕ) → i < length xs → w ≡ string_bytes x → x ≡ get_or xs i x
+    → get_or (map string_bytes xs) i [] ≡ w
 name_at xs i x w lt is at = get_or-map string_bytes xs i x [] lt ∙ sym (ap string_bytes at) ∙ sym is
 
-pub named_at : (xs : List (String Global)) (i : ℕ) (x : String Global) (w : List ℕ) → i < length xs → w ≡ string_bytes x → x ≡ get_or xs i x → slice_get (map string_bytes xs) i ≡ Some w
+pub named_at : (xs : List (String Global)) (i : ℕ) (x : String Global) (w : List ℕ) → i < length xs → w ≡ string_bytes x → x ≡ get_or xs i x
+    → slice_get (map string_bytes xs) i ≡ Some w
 named_at xs i x w lt is at =
     slice_get-get_or (map string_bytes xs) i [] (omega (arith, length-map xs string_bytes)) ∙ ap (λ b. Some b) (name_at xs i x w lt is at)
 
-pub opening_failed : (write : Bool) (names : Words) (slots : List Slot) (old mid new : Account) (slot : ℕ) (name : List ℕ) → slice_get names slot ≡ Some name → map (λ s. s.name) slots ≡ take slot names
-    → NoneFailed old mid → OneFailed (range_in slot 0 0) mid new → new.opening ≡ Some (opening_of name write) → new.shut ≡ next_count mid.shut → OpeningFailed write names slots old new slot
+pub opening_failed : (write : Bool) (names : Words) (slots : List Slot) (old mid new : Account) (slot : ℕ) (name : List ℕ) → slice_get names slot ≡ Some name
+    → map (λ s. s.name) slots ≡ take slot names
+    → NoneFailed old mid → OneFailed (range_in slot 0 0) mid new → new.opening ≡ Some (opening_of name write) → new.shut ≡ next_count mid.shut
+    → OpeningFailed write names slots old new slot
 opening_failed write names slots old mid new slot name named before none one opening shut = record {
   name = name;
   named = named;

@@ -1,5 +1,6 @@
 -- What a check comes to.
-use Rattle.std.proofs.Common.{◌≡◌, ◌≢◌, inl, inr, ℕ, true, false, Bool, cond, eqb, List, [], ◌∷◌, length, Option, Some, None, Result, Ok, Err, refl, sym, ap, ◌∙◌, subst, arith}
+use Rattle.std.proofs.Common.{◌≡◌, ◌≢◌, inl, inr, ℕ, true, false, Bool, cond, eqb, List, [], ◌∷◌, length, Option, Some, None, Result, Ok, Err, refl, sym, ap}
+use Rattle.std.proofs.Common.{◌∙◌, subst, arith}
 use Rattle.btr_check.specs.Before.{refusal}
 use Rattle.btr_check.specs.Findings.{findings}
 use Rattle.btr_check.specs.Running.{OfReading, StopUnread, is_outside}
@@ -34,13 +35,19 @@ use Rattle.btr_run.proofs.Faulting.{no_tree, tree_in, tree_back}
 use Rattle.btr_run.proofs.TreesShown.{NoneOf, mends_of, none_unread, tree_no_fault}
 
 -- two parts of a way, where no call failed on the whole of it
-pub steady_both : (P Q : Images → Type 0) (old mid new : Seen) → OnlyReads old mid → OnlyReads mid new → IfSteady old.held old.account mid.account P → IfSteady mid.held mid.account new.account Q
+pub steady_both : (P Q : Images → Type 0) (old mid new : Seen) → OnlyReads old mid → OnlyReads mid new → IfSteady old.held old.account mid.account P
+    → IfSteady mid.held mid.account new.account Q
     → IfSteady old.held old.account new.account (λ images. P images × Q images)
 steady_both P Q old mid new first second p q = of old.held p (subst (λ held. IfSteady held mid.account new.account Q) (ap (λ (s : Seen). s.held) first.same) q)
   where
-    of : (held : Option Images) → IfSteady held old.account mid.account P → IfSteady held mid.account new.account Q → IfSteady held old.account new.account (λ images. P images × Q images)
+    of : (held : Option Images) → IfSteady held old.account mid.account P → IfSteady held mid.account new.account Q
+        → IfSteady held old.account new.account (λ images. P images × Q images)
     of None p q = tt
-    of (Some images) p q = λ steady. (p (omega (arith, steady.0, second.later), omega (arith, steady.1, second.later)), q (omega (arith, steady.0, first.later), steady.1))
+    of (Some images) p q = λ steady. (
+      p (omega (arith, steady.0, second.later), omega (arith, steady.1, second.later)),
+      q
+          (omega (arith, steady.0, first.later), steady.1),
+    )
 
 -- a stop of a check is none of the faults of the output and of the sink, has a line, and is none of what the words or the superblocks alone decide
 module _ (end : Stop) (reading : OfReading end) where
@@ -113,16 +120,21 @@ module _ (end : Stop) (reading : OfReading end) where
       of stop.Memory r e = cc
 
 -- The filesystem is open, and it isn't checked.
-module _ (read_data : Bool) (old mid new : Seen) (first : OnlyReads old mid) (second : OnlyReads mid new) (layout : Layout) (end : Stop) (reading : OfReading end) (cause : StopUnread layout mid new end) (answer : Answer) (is : answer ≡ stop_answer end) where
+module _ (read_data : Bool) (old mid new : Seen) (first : OnlyReads old mid) (second : OnlyReads mid new) (layout : Layout) (end : Stop)
+    (reading : OfReading end) (cause : StopUnread layout mid new end) (answer : Answer) (is : answer ≡ stop_answer end) where
   -- by what refuses it, or for want of memory
-  stopped_one : (volume : Volume) (images : Images) → volume.store.layout ≡ layout → filesystem_of images ≡ Ok (filesystem_in volume) → (is_outside end ≡ false → refusal (filesystem_by images (filesystem_in volume)) ≡ Some end)
+  stopped_one : (volume : Volume) (images : Images) → volume.store.layout ≡ layout → filesystem_of images ≡ Ok (filesystem_in volume)
+      → (is_outside end ≡ false → refusal (filesystem_by images (filesystem_in volume)) ≡ Some end)
       → Steady mid.account.faults new.account.faults → OrMemory (λ outcome. Some (check_outcome read_data images) ≡ Some outcome) (refused (stop_answer end))
   stopped_one volume images same opened refuses steady = of end reading cause refuses
     where
-      refusing : (s : Stop) → refusal (filesystem_by images (filesystem_in volume)) ≡ Some s → Some (check_outcome read_data images) ≡ Some (refused (stop_answer s))
-      refusing s e = ap (λ f. Some (check_in read_data images f)) opened ∙ ap (λ r. Some (unless_refused r (listing (findings read_data (filesystem_by images (filesystem_in volume)))))) e
+      refusing : (s : Stop) → refusal (filesystem_by images (filesystem_in volume)) ≡ Some s
+          → Some (check_outcome read_data images) ≡ Some (refused (stop_answer s))
+      refusing s e = ap (λ f. Some (check_in read_data images f)) opened ∙ ap
+          (λ r. Some (unless_refused r (listing (findings read_data (filesystem_by images (filesystem_in volume)))))) e
 
-      of : (s : Stop) → OfReading s → StopUnread layout mid new s → (is_outside s ≡ false → refusal (filesystem_by images (filesystem_in volume)) ≡ Some s) → OrMemory (λ outcome. Some (check_outcome read_data images) ≡ Some outcome) (refused (stop_answer s))
+      of : (s : Stop) → OfReading s → StopUnread layout mid new s → (is_outside s ≡ false → refusal (filesystem_by images (filesystem_in volume)) ≡ Some s)
+          → OrMemory (λ outcome. Some (check_outcome read_data images) ≡ Some outcome) (refused (stop_answer s))
       of (stop.NoTree id) r u f = inl (refusing (stop.NoTree id) (f refl))
       of (stop.Tree (tree.Lost a)) r u f = inl (refusing (stop.Tree (tree.Lost a)) (f refl))
       of (stop.Tree (tree.Unread a slot)) r u f = absurd (none_unread layout mid new steady (record { addr = a; slot = slot }) (u.0 ∷ []) (inl u.1))
@@ -137,16 +149,22 @@ module _ (read_data : Bool) (old mid new : Seen) (first : OnlyReads old mid) (se
       of stop.Out r u f = absurd r
       of stop.Memory r u f = inr refl
 
-  pub stopped_effect : (volume : Volume) → volume.store.layout ≡ layout → (text : Option Text) (account : CallAccount) → IfSteady old.held old.account mid.account (λ images. OpensFilesystem images (Ok volume))
+  pub stopped_effect : (volume : Volume) → volume.store.layout ≡ layout → (text : Option Text) (account : CallAccount)
+      → IfSteady old.held old.account mid.account (λ images. OpensFilesystem images (Ok volume))
       → IfSteady mid.held mid.account new.account (λ images. is_outside end ≡ false → refusal (filesystem_by images (filesystem_in volume)) ≡ Some end)
-      → IfSteady old.held old.account new.account (λ images. Shows (OrMemory (λ outcome. Some (check_outcome read_data images) ≡ Some outcome)) text text account account answer)
+      → IfSteady old.held old.account new.account
+      (λ images. Shows (OrMemory (λ outcome. Some (check_outcome read_data images) ≡ Some outcome)) text text account account answer)
   stopped_effect volume same text account opens told =
-      when_told old.held (λ images. Steady old.account.faults new.account.faults → OpensFilesystem images (Ok volume) × (is_outside end ≡ false → refusal (filesystem_by images (filesystem_in volume)) ≡ Some end))
-      (λ images. Steady old.account.faults new.account.faults → Shows (OrMemory (λ outcome. Some (check_outcome read_data images) ≡ Some outcome)) text text account account answer)
-      (λ images both steady. subst (λ a. Shows (OrMemory (λ outcome. Some (check_outcome read_data images) ≡ Some outcome)) text text account account a) (sym is)
+      when_told old.held (λ images. Steady old.account.faults new.account.faults → OpensFilesystem images (Ok volume)
+      × (is_outside end ≡ false → refusal (filesystem_by images (filesystem_in volume)) ≡ Some end))
+      (λ images. Steady old.account.faults new.account.faults → Shows (OrMemory
+      (λ outcome. Some (check_outcome read_data images) ≡ Some outcome)) text text account account answer)
+      (λ images both steady. subst (λ a. Shows (OrMemory (λ outcome. Some (check_outcome read_data images) ≡ Some outcome)) text text account account a)
+      (sym is)
       (shows_bare (OrMemory (λ outcome. Some (check_outcome read_data images) ≡ Some outcome)) text account (stop_answer end)
       (stopped_one volume images same (both steady).0 (both steady).1 (omega (arith, steady.0, first.later), steady.1)) (stop_calm end reading)))
-      (steady_both (λ images. OpensFilesystem images (Ok volume)) (λ images. is_outside end ≡ false → refusal (filesystem_by images (filesystem_in volume)) ≡ Some end) old mid new first second opens told)
+      (steady_both (λ images. OpensFilesystem images (Ok volume))
+      (λ images. is_outside end ≡ false → refusal (filesystem_by images (filesystem_in volume)) ≡ Some end) old mid new first second opens told)
 
   pub stopped_told : (text : Option Text) (account : CallAccount) → Shows (OrBare IsCheckOutcome) text text account account answer
   stopped_told text account = subst (λ a. Shows (OrBare IsCheckOutcome) text text account account a) (sym is)
@@ -219,20 +237,35 @@ pub listed_no_image : (count : ℕ) (put : Result Unit SinkError) (slot : ℕ) �
 listed_no_image count put slot = no_image_by (eqb count 0) count put slot
 
 -- The filesystem is open, it was checked, and a list of findings was put.
-module _ (read_data : Bool) (old mid new : Seen) (first : OnlyReads old mid) (second : OnlyReads mid new) (all : List Finding) (put : Result Unit SinkError) (answer : Answer) (due : answer ≡ due_after put (found (length all))) where
+module _ (read_data : Bool) (old mid new : Seen) (first : OnlyReads old mid) (second : OnlyReads mid new) (all : List Finding) (put : Result Unit SinkError)
+    (answer : Answer) (due : answer ≡ due_after put (found (length all))) where
   module _ (text text' : Option Text) (before after : CallAccount) (puts : Puts text text' (findings_text all) put) (counts : Counts before after put) where
     pub listed : (IsOne : Outcome → Type 0) → IsOne (showing (listing all)) → Shows IsOne text text' before after answer
-    listed IsOne one = record { shown = listing all; is_one = one; no_fault = found_calm (length all); put = record { put = put; puts = puts; counts = counts; due = due } }
+    listed IsOne one = record {
+      shown = listing all;
+      is_one = one;
+      no_fault = found_calm (length all);
+      put = record
+          { put = put; puts = puts; counts = counts; due = due };
+    }
 
     pub listed_effect : (volume : Volume) → IfSteady old.held old.account mid.account (λ images. OpensFilesystem images (Ok volume))
-        → IfSteady mid.held mid.account new.account (λ images. (refusal (filesystem_by images (filesystem_in volume)) ≡ None) × (all ≡ findings read_data (filesystem_by images (filesystem_in volume))))
-        → IfSteady old.held old.account new.account (λ images. Shows (OrMemory (λ outcome. Some (check_outcome read_data images) ≡ Some outcome)) text text' before after answer)
+        → IfSteady mid.held mid.account new.account
+        (λ images. (refusal (filesystem_by images (filesystem_in volume)) ≡ None) × (all ≡ findings read_data (filesystem_by images (filesystem_in volume))))
+        → IfSteady old.held old.account new.account
+        (λ images. Shows (OrMemory (λ outcome. Some (check_outcome read_data images) ≡ Some outcome)) text text' before after answer)
     listed_effect volume opens told =
-        when_told old.held (λ images. Steady old.account.faults new.account.faults → OpensFilesystem images (Ok volume) × ((refusal (filesystem_by images (filesystem_in volume)) ≡ None) × (all ≡ findings read_data (filesystem_by images (filesystem_in volume)))))
-        (λ images. Steady old.account.faults new.account.faults → Shows (OrMemory (λ outcome. Some (check_outcome read_data images) ≡ Some outcome)) text text' before after answer)
-        (λ images both steady. let h = both steady in listed (OrMemory (λ outcome. Some (check_outcome read_data images) ≡ Some outcome)) (inl (ap (λ f. Some (check_in read_data images f)) h.0
-        ∙ ap (λ r. Some (unless_refused r (listing (findings read_data (filesystem_by images (filesystem_in volume)))))) h.1.0 ∙ ap (λ l. Some (showing (listing l))) (sym h.1.1))))
-        (steady_both (λ images. OpensFilesystem images (Ok volume)) (λ images. (refusal (filesystem_by images (filesystem_in volume)) ≡ None) × (all ≡ findings read_data (filesystem_by images (filesystem_in volume)))) old mid new first second opens told)
+        when_told old.held (λ images. Steady old.account.faults new.account.faults → OpensFilesystem images (Ok volume)
+        × ((refusal (filesystem_by images (filesystem_in volume)) ≡ None) × (all ≡ findings read_data (filesystem_by images (filesystem_in volume)))))
+        (λ images. Steady old.account.faults new.account.faults → Shows
+        (OrMemory (λ outcome. Some (check_outcome read_data images) ≡ Some outcome)) text text' before after answer)
+        (λ images both steady. let h = both steady in listed (OrMemory (λ outcome. Some (check_outcome read_data images) ≡ Some outcome))
+        (inl (ap (λ f. Some (check_in read_data images f)) h.0
+        ∙ ap (λ r. Some (unless_refused r (listing (findings read_data (filesystem_by images (filesystem_in volume)))))) h.1.0
+        ∙ ap (λ l. Some (showing (listing l))) (sym h.1.1))))
+        (steady_both (λ images. OpensFilesystem images (Ok volume))
+        (λ images. (refusal (filesystem_by images (filesystem_in volume)) ≡ None)
+        × (all ≡ findings read_data (filesystem_by images (filesystem_in volume)))) old mid new first second opens told)
 
     pub listed_told : Shows (OrBare IsCheckOutcome) text text' before after answer
     listed_told = listed (OrBare IsCheckOutcome) (inl (record { all = all; is = refl }))

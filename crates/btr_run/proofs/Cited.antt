@@ -3,11 +3,13 @@ use Rattle.std.proofs.Common.{ℕ, Bool, true, false, ◌+◌, ◌<◌, ◌≤�
 use Rattle.std.proofs.lemmas.List.{length-append, length-drop}
 use Rattle.btr_run.specs.Commands.{HasWords}
 use Rattle.btr_run.specs.Restores.{options_words, plan_by}
-use Rattle.btr_run.specs.Words.{Destination, File, IsSentence, Number, Part, Reads, TakesDestination, Word, Words, command_of, images_of, nothing_of, parts_of, restore_of}
+use Rattle.btr_run.specs.Words.{Destination, File, IsSentence, Number, Part, Reads, TakesDestination, Word, Words, command_of, images_of, nothing_of, parts_of}
+use Rattle.btr_run.specs.Words.{restore_of}
 use Rattle.btr_run.specs.declared.place.Read.{Read}
 use Rattle.btr_run.specs.declared.plan.Plan.{Plan}
 use Rattle.btr_run.specs.declared.sentence.Sentence.{Sentence}
-use Rattle.btr_run.specs.declared.sentence.Sentence.TheVariants.{Super, DumpAll, DumpBlock, DumpTree, DumpRoots, Resolve, Check, CheckData, Scrub, ScrubRead, Roots, Restore, Send}
+use Rattle.btr_run.specs.declared.sentence.Sentence.TheVariants.{Super, DumpAll, DumpBlock, DumpTree, DumpRoots, Resolve, Check, CheckData, Scrub, ScrubRead}
+use Rattle.btr_run.specs.declared.sentence.Sentence.TheVariants.{Roots, Restore, Send}
 
 -- the word of the first image
 images_there : (left : List Part) (at : ℕ) (words : Words) (old new : Read) → Reads left at words old new → new.images < at + length words
@@ -16,11 +18,12 @@ images_there [] at (first ∷ more) old new reads = subst (λ n. n < at + length
 images_there (part ∷ left) at words old new reads =
     omega (arith, images_there left (at + length reads.0) reads.1 reads.2 new reads.5, ap (λ (l : Words). length l) reads.3, length-append reads.0 reads.1)
 
--- .. and of the destination, and of the file in it
+-- the word of the destination, and of the file in it
 abbrev pub AreThere : Read → ℕ → Type 0
 AreThere read bound = (read.name < bound) × (read.file < bound)
 
-names_there : (left : List Part) (at : ℕ) (words : Words) (old new : Read) (bound : ℕ) → Reads left at words old new → AreThere old bound → at + length words ≤ bound
+names_there : (left : List Part) (at : ℕ) (words : Words) (old new : Read) (bound : ℕ) → Reads left at words old new → AreThere old bound
+    → at + length words ≤ bound
     → AreThere new bound
 names_there [] at words old new bound reads before within = subst (λ r. AreThere r bound) (sym reads.1) before
 names_there (Word this ∷ left) at words old new bound reads before within =
@@ -83,4 +86,5 @@ module _ (plan : Plan) (words : Words) (s : IsSentence plan words) where
 
   pub has_words : HasWords plan.command (length words)
   has_words = subst (λ (p : Plan). HasWords p.command (length words)) (sym s.plan_is)
-      (cited s.sentence s.read (length words) (names_there (parts_of s.sentence) 0 words (nothing_of s.sentence) s.read (length words) s.is_read (omega (arith, there), omega (arith, there)) (omega arith)))
+      (cited s.sentence s.read (length words) (names_there (parts_of s.sentence) 0 words (nothing_of s.sentence) s.read (length words) s.is_read
+      (omega (arith, there), omega (arith, there)) (omega arith)))

@@ -1,5 +1,6 @@
 -- Outcomes, and what was done and put of them.
-use Rattle.std.proofs.Common.{◌≡◌, ◌⊎◌, inl, inr, ℕ, zero, suc, ◌≤◌, false, List, [], ◌∷◌, ◌++◌, length, take, fold, Option, Some, None, Result, Ok, Err, refl, sym, ap, ◌∙◌, subst, arith}
+use Rattle.std.proofs.Common.{◌≡◌, ◌⊎◌, inl, inr, ℕ, zero, suc, ◌≤◌, false, List, [], ◌∷◌, ◌++◌, length, take, fold, Option, Some, None, Result, Ok, Err, refl}
+use Rattle.std.proofs.Common.{sym, ap, ◌∙◌, subst, arith}
 use Rattle.std.specs.Option.{IfSome}
 use Rattle.std.specs.Result.{IsErrAnd}
 use Rattle.std.proofs.lemmas.List.{append-nil, take_all}
@@ -16,7 +17,8 @@ use Rattle.btr_restore.specs.Running.{Outside}
 use Rattle.btr_listing.specs.Step.{Step, Line}
 use Rattle.btr_text.proofs.Writing.{adds_nothing, adds_twice}
 use Rattle.btr_run.specs.Answers.{error_line, answer_of}
-use Rattle.btr_run.specs.Outcomes.{Outcome, refused, showing, text_steps, due_after, IsPut, IsNoFault, Shows, IsFirstPart, Stands, StandsPartly, CallFailed, OneFailed, How, Whole, SinkFailed, OutFailed, Wanted, HasEnded, Comes, HasFirstPart, MayEnd, IsPrinted}
+use Rattle.btr_run.specs.Outcomes.{Outcome, refused, showing, text_steps, due_after, IsPut, IsNoFault, Shows, IsFirstPart, Stands, StandsPartly, CallFailed}
+use Rattle.btr_run.specs.Outcomes.{OneFailed, How, Whole, SinkFailed, OutFailed, Wanted, HasEnded, Comes, HasFirstPart, MayEnd, IsPrinted}
 use Rattle.btr_run.specs.declared.answer.Answer.{Answer}
 use Rattle.btr_run.specs.declared.answer.Answer.TheVariants.{SinkFault, OutFault, Memory}
 
@@ -30,7 +32,8 @@ pub answer_gives : (r : Result Answer Answer) (answer : Answer) → IsErrAnd r (
 answer_gives r answer gives = let p = err_from_is_err_and r gives in ap answer_of p.1 ∙ p.2
 
 -- how a put ends
-pub put_ends : (old new : Option (List ℕ)) (before after : CallAccount) (text : List ℕ) (answer result : Answer) → IsPut old new before after text answer result → (result ≡ answer) ⊎ (result ≡ OutFault) ⊎ (result ≡ Memory)
+pub put_ends : (old new : Option (List ℕ)) (before after : CallAccount) (text : List ℕ) (answer result : Answer) → IsPut old new before after text answer result
+    → (result ≡ answer) ⊎ (result ≡ OutFault) ⊎ (result ≡ Memory)
 put_ends old new before after text answer result put = of put.put put.due
   where
     of : (r : Result Unit SinkError) → result ≡ due_after r answer → (result ≡ answer) ⊎ (result ≡ OutFault) ⊎ (result ≡ Memory)
@@ -39,22 +42,40 @@ put_ends old new before after text answer result put = of put.put put.due
     of (Err memory_fault) due = inr (inr due)
 
 -- an answer before any text
-pub shows_bare : (IsOne : Outcome → Type 0) (text : Option (List ℕ)) (account : CallAccount) (answer : Answer) → IsOne (refused answer) → IsNoFault answer → Shows IsOne text text account account answer
+pub shows_bare : (IsOne : Outcome → Type 0) (text : Option (List ℕ)) (account : CallAccount) (answer : Answer) → IsOne (refused answer) → IsNoFault answer
+    → Shows IsOne text text account account answer
 shows_bare IsOne text account answer is_one no_fault =
-    record { shown = record { answer = answer; text = [] }; is_one = is_one; no_fault = no_fault; put = record { put = Ok tt; puts = adds_nothing text; counts = refl; due = refl } }
+    record {
+      shown = record { answer = answer; text = [] };
+      is_one = is_one;
+      no_fault = no_fault;
+      put = record
+          { put = Ok tt; puts = adds_nothing text; counts = refl; due = refl };
+    }
 
 -- one of more outcomes
-pub shows_also : (IsOne IsOther : Outcome → Type 0) (old new : Option (List ℕ)) (before after : CallAccount) (result : Answer) → ((outcome : Outcome) → IsOne outcome → IsOther outcome) → Shows IsOne old new before after result
+pub shows_also : (IsOne IsOther : Outcome → Type 0) (old new : Option (List ℕ)) (before after : CallAccount) (result : Answer)
+    → ((outcome : Outcome) → IsOne outcome → IsOther outcome) → Shows IsOne old new before after result
     → Shows IsOther old new before after result
-shows_also IsOne IsOther old new before after result more shows = record { shown = shows.shown; is_one = more (showing shows.shown) shows.is_one; no_fault = shows.no_fault; put = shows.put }
+shows_also IsOne IsOther old new before after result more shows = record
+    { shown = shows.shown; is_one = more (showing shows.shown) shows.is_one; no_fault = shows.no_fault; put = shows.put }
 
 -- an answer before anything else
-pub comes_bare : (May : Type 0) (IsOne : Outcome → Type 0) (x : Outside) (answer : Answer) → IsOne (refused answer) → IsNoFault answer → Comes May IsOne x x answer
+pub comes_bare : (May : Type 0) (IsOne : Outcome → Type 0) (x : Outside) (answer : Answer) → IsOne (refused answer) → IsNoFault answer
+    → Comes May IsOne x x answer
 comes_bare May IsOne x answer is_one no_fault =
-    record { outcome = refused answer; is_one = is_one; no_fault = no_fault; how = Whole; ended = (refl, refl, refl, record { sink = refl; text = adds_nothing x.text }) }
+    record {
+      outcome = refused answer;
+      is_one = is_one;
+      no_fault = no_fault;
+      how = Whole;
+      ended =
+          (refl, refl, refl, record { sink = refl; text = adds_nothing x.text });
+    }
 
 -- one of more outcomes, where memory may be wanted as well
-pub comes_also : (May Might : Type 0) (IsOne IsOther : Outcome → Type 0) (x y : Outside) (result : Answer) → (May → Might) → ((outcome : Outcome) → IsOne outcome → IsOther outcome) → Comes May IsOne x y result → Comes Might IsOther x y result
+pub comes_also : (May Might : Type 0) (IsOne IsOther : Outcome → Type 0) (x y : Outside) (result : Answer) → (May → Might)
+    → ((outcome : Outcome) → IsOne outcome → IsOther outcome) → Comes May IsOne x y result → Comes Might IsOther x y result
 comes_also May Might IsOne IsOther x y result might more comes =
     record { outcome = comes.outcome; is_one = more comes.outcome comes.is_one; no_fault = comes.no_fault; how = comes.how; ended = of comes.how comes.ended }
   where
@@ -76,10 +97,19 @@ sink_same (b ∷ text) s = refl
 text_cut : (text : List ℕ) (n : ℕ) → IsFirstPart (text_steps text) (text_steps (take n text))
 text_cut [] n = record { before = []; behind = []; left = None; place = refl; is = ap text_steps (take-nil n); stands = tt }
 text_cut (b ∷ text) zero = record { before = []; behind = Line (b ∷ text) ∷ []; left = None; place = refl; is = refl; stands = tt }
-text_cut (b ∷ text) (suc n) = record { before = []; behind = Line (b ∷ text) ∷ []; left = Some (Line (b ∷ take n text)); place = refl; is = refl; stands = (suc n, refl) }
+text_cut (b ∷ text) (suc n) = record {
+  before = [];
+  behind = Line (b ∷ text) ∷ [];
+  left = Some (Line (b ∷ take n text));
+  place = refl;
+  is = refl;
+  stands =
+      (suc n, refl);
+}
 
 -- what was shown came, and no call of the sink was made
-pub comes_shown : (May : Type 0) (IsOne : Outcome → Type 0) (x y : Outside) (result : Answer) → y.sink ≡ x.sink → y.sink_calls ≡ x.sink_calls → (x.out_calls.ample ≡ false → May)
+pub comes_shown : (May : Type 0) (IsOne : Outcome → Type 0) (x y : Outside) (result : Answer) → y.sink ≡ x.sink → y.sink_calls ≡ x.sink_calls
+    → (x.out_calls.ample ≡ false → May)
     → Shows IsOne x.text y.text x.out_calls y.out_calls result → Comes May IsOne x y result
 comes_shown May IsOne x y result same same_calls scarce shows = of shows.put.put shows.put.puts shows.put.counts shows.put.due
   where
@@ -92,13 +122,35 @@ comes_shown May IsOne x y result same same_calls scarce shows = of shows.put.put
     partly : (n : ℕ) × Adds x.text y.text (take n text) → StandsPartly x y (showing shows.shown) []
     partly p = record { done = text_steps (take p.0 text); first = text_cut text p.0; stands = stands (take p.0 text) p.1 }
 
-    of : (r : Result Unit SinkError) → Puts x.text y.text text r → Counts x.out_calls y.out_calls r → result ≡ due_after r shows.shown.answer → Comes May IsOne x y result
+    of : (r : Result Unit SinkError) → Puts x.text y.text text r → Counts x.out_calls y.out_calls r → result ≡ due_after r shows.shown.answer
+        → Comes May IsOne x y result
     of (Ok u) puts counts due =
-        record { outcome = showing shows.shown; is_one = shows.is_one; no_fault = shows.no_fault; how = Whole; ended = (due, same_calls, counts, stands text puts) }
+        record {
+          outcome = showing shows.shown;
+          is_one = shows.is_one;
+          no_fault = shows.no_fault;
+          how = Whole;
+          ended =
+              (due, same_calls, counts, stands text puts);
+        }
     of (Err Failed) puts counts due =
-        record { outcome = showing shows.shown; is_one = shows.is_one; no_fault = shows.no_fault; how = OutFailed; ended = (due, ((counts.0, counts.1), counts.2), same_calls, partly puts) }
+        record {
+          outcome = showing shows.shown;
+          is_one = shows.is_one;
+          no_fault = shows.no_fault;
+          how = OutFailed;
+          ended =
+              (due, ((counts.0, counts.1), counts.2), same_calls, partly puts);
+        }
     of (Err memory_fault) puts counts due =
-        record { outcome = showing shows.shown; is_one = shows.is_one; no_fault = shows.no_fault; how = Wanted; ended = (due, scarce counts.0, same_calls, counts.1, partly puts) }
+        record {
+          outcome = showing shows.shown;
+          is_one = shows.is_one;
+          no_fault = shows.no_fault;
+          how = Wanted;
+          ended =
+              (due, scarce counts.0, same_calls, counts.1, partly puts);
+        }
 
 -- all steps are a first part
 pub whole_first : (steps : List Step) → IsFirstPart steps steps
@@ -116,7 +168,8 @@ rose_again before between after a le more = (le, omega (arith, a.0, a.1, more))
 abbrev pub with_line : Outside → Option (List ℕ) → CallAccount → Outside
 with_line y text calls = record y { text = text; out_calls = calls }
 
-module _ (May : Type 0) (x y : Outside) (new : Option (List ℕ)) (after : CallAccount) (outcome : Outcome) (result : Answer) (scarce : x.out_calls.ample ≡ false → May) where
+module _ (May : Type 0) (x y : Outside) (new : Option (List ℕ)) (after : CallAccount) (outcome : Outcome) (result : Answer)
+    (scarce : x.out_calls.ample ≡ false → May) where
   abbrev z : Outside
   z = with_line y new after
 
@@ -130,38 +183,62 @@ module _ (May : Type 0) (x y : Outside) (new : Option (List ℕ)) (after : CallA
   behind_part : (line : List ℕ) → StandsPartly x y outcome [] → Adds y.text new line → StandsPartly x z outcome line
   behind_part line partly adds = record { done = partly.done; first = partly.first; stands = behind partly.done line partly.stands adds }
 
-  first_part : (answer : Answer) → MayEnd outcome answer → StandsPartly x y outcome [] → (m : ℕ) × Adds y.text new (take m (error_line answer)) → HasFirstPart x z outcome
-  first_part answer may partly line = record { answer = answer; may_end = may; some = line.0; stands = behind_part (take line.0 (error_line answer)) partly line.1 }
+  first_part : (answer : Answer) → MayEnd outcome answer → StandsPartly x y outcome [] → (m : ℕ) × Adds y.text new (take m (error_line answer))
+      → HasFirstPart x z outcome
+  first_part answer may partly line = record
+      { answer = answer; may_end = may; some = line.0; stands = behind_part (take line.0 (error_line answer)) partly line.1 }
 
   -- the line of an answer behind a first part of the steps, where the output took it or not
-  failed_line : (answer : Answer) → MayEnd outcome answer → StandsPartly x y outcome [] → y.out_calls ≡ x.out_calls → (fault : SinkError) → Puts {T = Unit} y.text new (error_line answer) (Err fault) → Counts {T = Unit} y.out_calls after (Err fault)
+  failed_line : (answer : Answer) → MayEnd outcome answer → StandsPartly x y outcome [] → y.out_calls ≡ x.out_calls → (fault : SinkError)
+      → Puts {T = Unit} y.text new (error_line answer) (Err fault) → Counts {T = Unit} y.out_calls after (Err fault)
       → result ≡ due_after (Err fault) answer → IsPrinted May x z outcome result
-  failed_line answer may partly same Failed puts counts due = inr (inr (inl (due, subst (λ c. CallFailed c after) same (counts.0, counts.1), first_part answer may partly puts)))
-  failed_line answer may partly same memory_fault puts counts due = inr (inr (inr (due, scarce (subst (λ (c : CallAccount). c.ample ≡ false) same counts.0), first_part answer may partly puts)))
+  failed_line answer may partly same Failed puts counts due = inr
+      (inr (inl (due, subst (λ c. CallFailed c after) same (counts.0, counts.1), first_part answer may partly puts)))
+  failed_line answer may partly same memory_fault puts counts due = inr
+      (inr (inr (due, scarce (subst (λ (c : CallAccount). c.ample ≡ false) same counts.0), first_part answer may partly puts)))
 
-  after_whole : Stands x y outcome.steps [] → y.out_calls ≡ x.out_calls → (r : Result Unit SinkError) → Puts y.text new (error_line outcome.answer) r → Counts y.out_calls after r → result ≡ due_after r outcome.answer → IsPrinted May x z outcome result
+  after_whole : Stands x y outcome.steps [] → y.out_calls ≡ x.out_calls → (r : Result Unit SinkError) → Puts y.text new (error_line outcome.answer) r
+      → Counts y.out_calls after r → result ≡ due_after r outcome.answer → IsPrinted May x z outcome result
   after_whole stands same (Ok u) puts counts due = inl (due, behind outcome.steps (error_line outcome.answer) stands puts)
   after_whole stands same (Err fault) puts counts due =
       failed_line outcome.answer (inl refl) (record { done = outcome.steps; first = whole_first outcome.steps; stands = stands }) same fault puts counts due
 
-  after_sink : CallFailed x.sink_calls y.sink_calls → StandsPartly x y outcome [] → ((y.out_calls ≡ x.out_calls) ⊎ OneFailed x.out_calls y.out_calls) → (r : Result Unit SinkError) → Puts y.text new (error_line SinkFault) r → Counts y.out_calls after r
+  after_sink : CallFailed x.sink_calls y.sink_calls → StandsPartly x y outcome [] → ((y.out_calls ≡ x.out_calls) ⊎ OneFailed x.out_calls y.out_calls)
+      → (r : Result Unit SinkError) → Puts y.text new (error_line SinkFault) r → Counts y.out_calls after r
       → result ≡ due_after r SinkFault → IsPrinted May x z outcome result
   after_sink failed partly calls (Ok u) puts counts due = inr (inl (due, failed, behind_part (error_line SinkFault) partly puts))
   after_sink failed partly (inl same) (Err fault) puts counts due = failed_line SinkFault (inr (inl refl)) partly same fault puts counts due
   after_sink failed partly (inr one) (Err Failed) puts counts due =
-      inr (inr (inl (due, (one.0.0, rose_again x.out_calls.faults y.out_calls.faults after.faults one.0.1 (omega (arith, one.0.1.0, counts.1.0)) counts.1.0), first_part SinkFault (inr (inl refl)) partly puts)))
+      inr (inr (inl (
+        due,
+        (one.0.0, rose_again x.out_calls.faults y.out_calls.faults after.faults one.0.1 (omega (arith, one.0.1.0, counts.1.0)) counts.1.0),
+        first_part SinkFault (inr (inl refl)) partly puts,
+      )))
   after_sink failed partly (inr one) (Err memory_fault) puts counts due =
       inr (inr (inr (due, scarce (sym (ap (λ (c : CallAccount). c.ample) one.1) ∙ counts.0), first_part SinkFault (inr (inl refl)) partly puts)))
 
-  after_want : May → StandsPartly x y outcome [] → y.out_calls ≡ x.out_calls → (r : Result Unit SinkError) → Puts y.text new (error_line Memory) r → Counts y.out_calls after r → result ≡ due_after r Memory → IsPrinted May x z outcome result
-  after_want may partly same (Ok u) puts counts due = inr (inr (inr (due, may, first_part Memory (inr (inr refl)) partly (line_part y.text new (error_line Memory) (Ok u) puts))))
+  after_want : May → StandsPartly x y outcome [] → y.out_calls ≡ x.out_calls → (r : Result Unit SinkError) → Puts y.text new (error_line Memory) r
+      → Counts y.out_calls after r → result ≡ due_after r Memory → IsPrinted May x z outcome result
+  after_want may partly same (Ok u) puts counts due = inr
+      (inr (inr (due, may, first_part Memory (inr (inr refl)) partly (line_part y.text new (error_line Memory) (Ok u) puts))))
   after_want may partly same (Err fault) puts counts due = failed_line Memory (inr (inr refl)) partly same fault puts counts due
 
   -- no line where the output failed
-  after_out : CallFailed x.out_calls y.out_calls → y.out_calls ≡ record x.out_calls { faults = y.out_calls.faults } → StandsPartly x y outcome [] → (r : Result Unit SinkError) → Puts y.text new [] r → Counts y.out_calls after r → result ≡ due_after r OutFault → IsPrinted May x z outcome result
-  after_out failed same partly (Ok u) puts counts due = inr (inr (inl (due, (failed.0, subst (λ (c : CallAccount). Rose x.out_calls.faults c.faults) (sym counts) failed.1), first_part Memory (inr (inr refl)) partly (0, puts))))
+  after_out : CallFailed x.out_calls y.out_calls → y.out_calls ≡ record x.out_calls { faults = y.out_calls.faults } → StandsPartly x y outcome []
+      → (r : Result Unit SinkError) → Puts y.text new [] r → Counts y.out_calls after r → result ≡ due_after r OutFault → IsPrinted May x z outcome result
+  after_out failed same partly (Ok u) puts counts due = inr
+      (inr (inl (
+        due,
+        (failed.0, subst (λ (c : CallAccount). Rose x.out_calls.faults c.faults) (sym counts) failed.1),
+        first_part Memory (inr (inr refl)) partly
+            (0, puts),
+      )))
   after_out failed same partly (Err Failed) puts counts due =
-      inr (inr (inl (due, (failed.0, rose_again x.out_calls.faults y.out_calls.faults after.faults failed.1 (omega (arith, failed.1.0, counts.1.0)) counts.1.0), first_part Memory (inr (inr refl)) partly (0, none puts))))
+      inr (inr (inl (
+        due,
+        (failed.0, rose_again x.out_calls.faults y.out_calls.faults after.faults failed.1 (omega (arith, failed.1.0, counts.1.0)) counts.1.0),
+        first_part Memory (inr (inr refl)) partly (0, none puts),
+      )))
     where
       none : (n : ℕ) × Adds y.text new (take n []) → Adds y.text new []
       none p = subst (Adds y.text new) (take-nil p.0) p.1
@@ -172,7 +249,8 @@ module _ (May : Type 0) (x y : Outside) (new : Option (List ℕ)) (after : CallA
       none p = subst (Adds y.text new) (take-nil p.0) p.1
 
   -- the line of the answer that is due behind what was done
-  pub comes_printed : (answer : Answer) (how : How) → HasEnded May x y outcome answer how → IsPut y.text new y.out_calls after (error_line answer) answer result → IsPrinted May x z outcome result
+  pub comes_printed : (answer : Answer) (how : How) → HasEnded May x y outcome answer how → IsPut y.text new y.out_calls after (error_line answer) answer result
+      → IsPrinted May x z outcome result
   comes_printed answer how ended line = of how ended
     where
       due : (a : Answer) → answer ≡ a → IsPut y.text new y.out_calls after (error_line a) a result

@@ -1,5 +1,6 @@
 -- How a run ends: what holds of an answer before its line is put holds of the run's.
-use Rattle.std.proofs.Common.{◌≡◌, ◌≢◌, ◌⊎◌, inl, inr, ⊎_elim, true, false, Bool, ℕ, ◌<◌, List, length, map, take, Option, Some, None, refl, sym, ap, ◌∙◌, subst, arith}
+use Rattle.std.proofs.Common.{◌≡◌, ◌≢◌, ◌⊎◌, inl, inr, ⊎_elim, true, false, Bool, ℕ, ◌<◌, List, length, map, take, Option, Some, None, refl, sym, ap, ◌∙◌}
+use Rattle.std.proofs.Common.{subst, arith}
 use Rattle.std.specs.Option.{IfSome}
 use Rattle.std.proofs.lemmas.List.{take_all}
 use Rattle.btr_rack.specs.Rack.{Seen, Slot, Rose, Steady, Shelf}
@@ -9,12 +10,14 @@ use Rattle.btr_restore.specs.Headline.{Headline}
 use Rattle.btr_restore.specs.InOrder.{CommittedOrder, OpenHaltedLaw, OpenRefusedLaw, OpenedThenLaw, SettledLaw}
 use Rattle.btr_restore.specs.Running.{Outside}
 use Rattle.btr_run.specs.Order.{FollowsOrder, KeepsOrder}
-use Rattle.btr_run.specs.Run.{AreImagesSteady, HasWholeEffect, IsAnswered, IsCalm, IsObeyed, KeepsFirstPart, LeavesItsImages, RestoresCommitted, Run, before, behind, outside_before, outside_behind}
+use Rattle.btr_run.specs.Run.{AreImagesSteady, HasWholeEffect, IsAnswered, IsCalm, IsObeyed, KeepsFirstPart, LeavesItsImages, RestoresCommitted, Run, before}
+use Rattle.btr_run.specs.Run.{behind, outside_before, outside_behind}
 use Rattle.btr_run.specs.Agreeing.{ComesAgreed, FollowsAgreed, KeepsAgreed}
 use Rattle.btr_run.specs.Answers.{error_line}
 use Rattle.btr_run.specs.Causes.{opened_with, HidesNone, ImageCause, IsBehindWords, IsMissingImage, IsShut, TreeCause}
 use Rattle.btr_run.specs.Effects.{FollowsWords, HasEffect, HasPart, IsOutcome, IsTold, MayFollow, MayWantBy}
-use Rattle.btr_run.specs.Outcomes.{Outcome, refused, CallFailed, Comes, HasEnded, HasFirstPart, How, Whole, SinkFailed, OutFailed, Wanted, IsPrinted, IsPut, MayEnd, OrBare, OrMemory, Stands, StandsPartly}
+use Rattle.btr_run.specs.Outcomes.{Outcome, refused, CallFailed, Comes, HasEnded, HasFirstPart, How, Whole, SinkFailed, OutFailed, Wanted, IsPrinted, IsPut}
+use Rattle.btr_run.specs.Outcomes.{MayEnd, OrBare, OrMemory, Stands, StandsPartly}
 use Rattle.btr_run.specs.Images.{taken}
 use Rattle.btr_run.specs.Checked.{found}
 use Rattle.btr_run.specs.Repaired.{AreLeft, KeepsRepair, LeavesImages, MayWrite}
@@ -36,19 +39,28 @@ all_taken : (line : List ℕ) → take (length line) line ≡ line
 all_taken line = take_all (length line) line (omega arith)
 
 -- a whole line is a first part of it
-whole_line : (x y : Outside) (outcome : Outcome) (answer : Answer) → MayEnd outcome answer → StandsPartly x y outcome (error_line answer) → HasFirstPart x y outcome
+whole_line : (x y : Outside) (outcome : Outcome) (answer : Answer) → MayEnd outcome answer → StandsPartly x y outcome (error_line answer)
+    → HasFirstPart x y outcome
 whole_line x y outcome answer may partly =
-    record { answer = answer; may_end = may; some = length (error_line answer); stands = subst (StandsPartly x y outcome) (sym (all_taken (error_line answer))) partly }
+    record {
+      answer = answer;
+      may_end = may;
+      some = length (error_line answer);
+      stands = subst (StandsPartly x y outcome)
+          (sym (all_taken (error_line answer))) partly;
+    }
 
 whole_part : (x y : Outside) (outcome : Outcome) → Stands x y outcome.steps (error_line outcome.answer) → HasFirstPart x y outcome
-whole_part x y outcome stands = whole_line x y outcome outcome.answer (inl refl) (record { done = outcome.steps; first = whole_first outcome.steps; stands = stands })
+whole_part x y outcome stands = whole_line x y outcome outcome.answer (inl refl)
+    (record { done = outcome.steps; first = whole_first outcome.steps; stands = stands })
 
 -- the answer before its line, or a fault of the put
 abbrev Ends : Answer → Answer → Type 0
 Ends answer result = (result ≡ answer) ⊎ (result ≡ OutFault) ⊎ (result ≡ Memory)
 
 module _ {R T O : Type 0} (run : Run R T O) (out : O) (result : Answer)
-    (line : IsPut (outside_behind run).text (run.eyes.text out) (outside_behind run).out_calls (run.eyes.out_calls out) (error_line run.answer) run.answer result) where
+    (line : IsPut (outside_behind run).text (run.eyes.text out) (outside_behind run).out_calls (run.eyes.out_calls out)
+    (error_line run.answer) run.answer result) where
   abbrev words : Words
   words = run.words
 
@@ -85,9 +97,11 @@ module _ {R T O : Type 0} (run : Run R T O) (out : O) (result : Answer)
   print : (IsOne : Outcome → Type 0) (comes : Comes May IsOne x y answer) → IsPrinted May x z comes.outcome result
   print IsOne comes = comes_printed May x y new after comes.outcome result (λ scarce. inl scarce) answer comes.how comes.ended line
 
-  has_effect : (shelf : Shelf) → Comes May (OrMemory (IsOutcome words shelf)) x y answer → Steady x.sink_calls.faults y.sink_calls.faults → Steady x.out_calls.faults after.faults → result ≢ Memory → HasEffect words shelf x z result
+  has_effect : (shelf : Shelf) → Comes May (OrMemory (IsOutcome words shelf)) x y answer → Steady x.sink_calls.faults y.sink_calls.faults
+      → Steady x.out_calls.faults after.faults → result ≢ Memory → HasEffect words shelf x z result
   has_effect shelf comes calm steady enough =
-      ⊎_elim (λ done. ⊎_elim (λ is. record { outcome = comes.outcome; is = is; answered = done.0; stands = done.1 }) (λ (want : comes.outcome ≡ refused Memory). absurd (enough (cc done.0))) comes.is_one)
+      ⊎_elim (λ done. ⊎_elim (λ is. record { outcome = comes.outcome; is = is; answered = done.0; stands = done.1 })
+      (λ (want : comes.outcome ≡ refused Memory). absurd (enough (cc done.0))) comes.is_one)
       (λ rest. ⊎_elim (λ fault. absurd (not_steady x.sink_calls.faults y.sink_calls.faults calm fault.1.1))
       (λ more. ⊎_elim (λ fault. absurd (not_steady x.out_calls.faults after.faults steady fault.1.1)) (λ want. absurd (enough want.0)) more) rest)
       (print (OrMemory (IsOutcome words shelf)) comes)
@@ -97,27 +111,32 @@ module _ {R T O : Type 0} (run : Run R T O) (out : O) (result : Answer)
     comes.outcome,
     comes.is_one,
     ⊎_elim (λ done. whole_part x z comes.outcome done.1)
-        (λ rest. ⊎_elim (λ fault. whole_line x z comes.outcome SinkFault (inr (inl refl)) fault.2) (λ more. ⊎_elim (λ fault. fault.2) (λ want. want.2) more) rest) (print (OrMemory (IsOutcome words shelf)) comes),
+        (λ rest. ⊎_elim (λ fault. whole_line x z comes.outcome SinkFault (inr (inl refl)) fault.2)
+        (λ more. ⊎_elim (λ fault. fault.2) (λ want. want.2) more) rest) (print (OrMemory (IsOutcome words shelf)) comes),
   )
 
   is_told : Comes May (OrBare (MayFollow words)) x y answer → IsTold words x z result
   is_told comes = (comes.outcome, comes.is_one, print (OrBare (MayFollow words)) comes)
 
   keeps_agreed : (shelf : Shelf) → FollowsAgreed words shelf x y answer → KeepsAgreed words shelf x z result
-  keeps_agreed shelf follows plan images asks agreed = let comes = follows plan images asks agreed in (comes.outcome, comes.is_one, print (ComesAgreed plan.command words images) comes)
+  keeps_agreed shelf follows plan images asks agreed = let comes = follows plan images asks agreed in
+      (comes.outcome, comes.is_one, print (ComesAgreed plan.command words images) comes)
 
   out_failed : (IsOne : Outcome → Type 0) → Comes May IsOne x y answer → result ≡ OutFault → CallFailed x.out_calls after
   out_failed IsOne comes is =
       ⊎_elim (λ done. absurd (comes.no_fault.no_out (sym done.0 ∙ is)))
-      (λ rest. ⊎_elim (λ fault. absurd (cc (sym fault.0 ∙ is))) (λ more. ⊎_elim (λ fault. fault.1) (λ want. absurd (cc (sym want.0 ∙ is))) more) rest) (print IsOne comes)
+      (λ rest. ⊎_elim (λ fault. absurd (cc (sym fault.0 ∙ is))) (λ more. ⊎_elim (λ fault. fault.1) (λ want. absurd (cc (sym want.0 ∙ is))) more) rest)
+      (print IsOne comes)
 
   sink_failed : (IsOne : Outcome → Type 0) → Comes May IsOne x y answer → result ≡ SinkFault → CallFailed x.sink_calls y.sink_calls
   sink_failed IsOne comes is =
       ⊎_elim (λ done. absurd (comes.no_fault.no_sink (sym done.0 ∙ is)))
-      (λ rest. ⊎_elim (λ fault. fault.1) (λ more. ⊎_elim (λ fault. absurd (cc (sym fault.0 ∙ is))) (λ want. absurd (cc (sym want.0 ∙ is))) more) rest) (print IsOne comes)
+      (λ rest. ⊎_elim (λ fault. fault.1) (λ more. ⊎_elim (λ fault. absurd (cc (sym fault.0 ∙ is))) (λ want. absurd (cc (sym want.0 ∙ is))) more) rest)
+      (print IsOne comes)
 
   -- what waits in the sink
-  stored : (IsOne : Outcome → Type 0) → Comes May IsOne x y answer → (waits : Bool) → IsStored waits answer → ((n : ℕ) → answer ≡ Done n → result ≡ answer) → IsStoredOrTold waits x.sink_calls y.sink_calls result
+  stored : (IsOne : Outcome → Type 0) → Comes May IsOne x y answer → (waits : Bool) → IsStored waits answer → ((n : ℕ) → answer ≡ Done n → result ≡ answer)
+      → IsStoredOrTold waits x.sink_calls y.sink_calls result
   stored IsOne comes waits inner silent = λ undone other.
       ⊎_elim (λ same. inl (inner (λ n e. undone n (same ∙ e)) (λ e. other (same ∙ e)))) (λ refused. of undone refused comes.how comes.ended) ends
     where
@@ -129,10 +148,12 @@ module _ {R T O : Type 0} (run : Run R T O) (out : O) (result : Answer)
       of undone refused Wanted e = inl (inner (λ n d. undone n (silent n d ∙ d)) (λ s. absurd (cc (sym e.0 ∙ s))))
 
   -- a scrub that writes
-  repaired : (P : Type 0) (IsOne : Outcome → Type 0) → Comes May IsOne x y answer → (answer ≢ Memory → P) → Steady x.out_calls.faults after.faults → result ≢ Memory → P
+  repaired : (P : Type 0) (IsOne : Outcome → Type 0) → Comes May IsOne x y answer → (answer ≢ Memory → P) → Steady x.out_calls.faults after.faults
+      → result ≢ Memory → P
   repaired P IsOne comes of steady enough =
       ⊎_elim (λ same. of (λ e. enough (same ∙ e)))
-      (λ rest. ⊎_elim (λ out. absurd (not_steady x.out_calls.faults after.faults steady (out_failed IsOne comes out).1)) (λ want. absurd (enough want)) rest) ends
+      (λ rest. ⊎_elim (λ out. absurd (not_steady x.out_calls.faults after.faults steady (out_failed IsOne comes out).1))
+      (λ want. absurd (enough want)) rest) ends
 
   may_write : MayWrite answer → MayWrite result
   may_write may =
@@ -140,13 +161,17 @@ module _ {R T O : Type 0} (run : Run R T O) (out : O) (result : Answer)
 
   still_found : (lost : ℕ) → result ≡ found lost → answer ≡ found lost
   still_found lost e =
-      ⊎_elim (λ same. sym same ∙ e) (λ rest. ⊎_elim (λ out. absurd (found_no_out lost (sym e ∙ out))) (λ want. absurd (found_no_memory lost (sym e ∙ want))) rest) ends
+      ⊎_elim (λ same. sym same ∙ e) (λ rest. ⊎_elim (λ out. absurd (found_no_out lost (sym e ∙ out)))
+      (λ want. absurd (found_no_memory lost (sym e ∙ want))) rest) ends
 
-  left : (calm : Type 0) (shelf : Option Shelf) (slots : List Slot) (held : Option Images) → AreLeft calm shelf slots held answer → AreLeft calm shelf slots held result
+  left : (calm : Type 0) (shelf : Option Shelf) (slots : List Slot) (held : Option Images) → AreLeft calm shelf slots held answer
+      → AreLeft calm shelf slots held result
   left calm shelf slots held are = (are.0, of shelf held are.1)
     where
-      of : (shelf : Option Shelf) (held : Option Images) → IfSome shelf (λ at. IfSome held (λ left. (images : Images) × (taken (map (λ s. s.name) slots) at ≡ Some images) × LeavesImages calm images left answer))
-          → IfSome shelf (λ at. IfSome held (λ left. (images : Images) × (taken (map (λ s. s.name) slots) at ≡ Some images) × LeavesImages calm images left result))
+      of : (shelf : Option Shelf) (held : Option Images) → IfSome shelf
+          (λ at. IfSome held (λ left. (images : Images) × (taken (map (λ s. s.name) slots) at ≡ Some images) × LeavesImages calm images left answer))
+          → IfSome shelf (λ at. IfSome held (λ left. (images : Images) × (taken (map (λ s. s.name) slots) at ≡ Some images)
+          × LeavesImages calm images left result))
       of None held l = tt
       of (Some at) None l = tt
       of (Some at) (Some left) l = (
@@ -156,6 +181,7 @@ module _ {R T O : Type 0} (run : Run R T O) (out : O) (result : Answer)
           stopped = l.2.stopped;
           finished = λ lost e sure. l.2.finished lost (still_found lost e) sure;
           unchanged = ⊎_elim (λ same. inl same) (λ may. inr (may_write may)) l.2.unchanged;
+          safe = l.2.safe;
         },
       )
 
@@ -185,7 +211,8 @@ module _ {R T O : Type 0} (run : Run R T O) (out : O) (result : Answer)
     tree : TreeCause words seen seen' result
     tree =
         ⊎_elim (λ same. subst (TreeCause words seen seen') (sym same) behind.tree)
-        (λ rest. ⊎_elim (λ out fault e. absurd (no_tree result (ap tree_in out) fault e)) (λ want fault e. absurd (no_tree result (ap tree_in want) fault e)) rest) ends
+        (λ rest. ⊎_elim (λ out fault e. absurd (no_tree result (ap tree_in out) fault e))
+        (λ want fault e. absurd (no_tree result (ap tree_in want) fault e)) rest) ends
 
     hidden : HidesNone words seen.account seen'.account result
     hidden =
@@ -224,13 +251,15 @@ module _ {R T O : Type 0} (run : Run R T O) (out : O) (result : Answer)
         obeyed.effect
 
     -- by the laws of restore
-    module _ (settles : SettledLaw) (then : OpenedThenLaw) (refused : OpenRefusedLaw) (halted : OpenHaltedLaw) (sound : IsSound x.sink) (fresh : x.sink.stage ≡ NotStarted) where
+    module _ (settles : SettledLaw) (then : OpenedThenLaw) (refused : OpenRefusedLaw) (halted : OpenHaltedLaw) (sound : IsSound x.sink)
+        (fresh : x.sink.stage ≡ NotStarted) where
       pub effect : HasWholeEffect whole
       effect =
           when_told (before run).shelf _ _
           (λ shelf effect calm. record {
             effect = effect calm;
-            outcome = keeps_outcome (before run) settles (λ plan dest start. then plan dest start (before run) (before run)) (λ plan dest start. refused plan dest start (before run) (before run))
+            outcome = keeps_outcome (before run) settles (λ plan dest start. then plan dest start (before run) (before run))
+                (λ plan dest start. refused plan dest start (before run) (before run))
                 (λ plan dest start. halted plan dest start (before run) (before run)) words shelf x z result sound fresh (effect calm);
           })
           effect_told
@@ -239,7 +268,8 @@ module _ {R T O : Type 0} (run : Run R T O) (out : O) (result : Answer)
       committed law =
           when_told (before run).shelf _ _
           (λ shelf effect calm.
-          keeps_headline (before run) settles (λ plan dest start. then plan dest start (before run) (before run)) (λ plan dest start. refused plan dest start (before run) (before run))
+          keeps_headline (before run) settles (λ plan dest start. then plan dest start (before run) (before run))
+          (λ plan dest start. refused plan dest start (before run) (before run))
           (λ plan dest start. halted plan dest start (before run) (before run)) words shelf x z result sound fresh law (effect calm))
           effect_told
 
@@ -251,7 +281,8 @@ module _ {R T O : Type 0} (run : Run R T O) (out : O) (result : Answer)
           (λ shelf follows. keeps_agreed shelf follows) obeyed.agreed;
       order = when_told (before run).shelf _ _ in_order obeyed.order;
       committed = when_told (before run).shelf _ _
-          (λ shelf follows. keeps_committed law words shelf (opened_with (before run).account (behind run)) (behind run) x z result (in_order shelf follows)) obeyed.order;
+          (λ shelf follows. keeps_committed law words shelf (opened_with (before run).account (behind run)) (behind run) x z result
+          (in_order shelf follows)) obeyed.order;
     }
       where
         in_order : (shelf : Shelf) → FollowsOrder words shelf (opened_with (before run).account (behind run)) (behind run) x y answer
@@ -270,4 +301,5 @@ module _ {R T O : Type 0} (run : Run R T O) (out : O) (result : Answer)
       left = λ asks.
           left (AreImagesSteady run) (before run).shelf (behind run).slots (behind run).held
           (obeyed.left asks);
+      synced = λ asks lost e. obeyed.synced asks lost (still_found lost e);
     }

@@ -30,14 +30,17 @@ steady_not_rose : (before now : ℕ) → Steady before now → Rose before now �
 steady_not_rose before now steady rose = omega (arith, steady.0, steady.1, rose.0, rose.1)
 
 -- where no call failed, the scan of the chunk tree is that over the images
-scanned : (start : Start) (old new : Seen) (images : Images) (answer : Result TableResult (Halt Fault UnreadBlock)) → old.held ≡ Some images → Steady old.account.faults new.account.faults → Scans start old new answer
+scanned : (start : Start) (old new : Seen) (images : Images) (answer : Result TableResult (Halt Fault UnreadBlock)) → old.held ≡ Some images
+    → Steady old.account.faults new.account.faults → Scans start old new answer
     → Follows {S = ⊥} (unread_by (array_layout start) old new) no_part [] (exec (fate images (array_layout start)) (table_scan start)) [] answer
 scanned start old new images answer told steady scans =
-    subst (λ (o : Option Images). IfSome o (λ i. Follows {S = ⊥} (unread_by (array_layout start) old new) no_part [] (exec (fate i (array_layout start)) (table_scan start)) [] answer)) told
+    subst (λ (o : Option Images). IfSome o (λ i. Follows {S = ⊥} (unread_by (array_layout start) old new) no_part []
+    (exec (fate i (array_layout start)) (table_scan start)) [] answer)) told
     (scans.calls.content First (omega (arith, scans.calls.later, steady.0), steady.1))
 
 -- the volume is the filesystem
-opened : (old new : Seen) (images : Images) (volume : Volume) → old.held ≡ Some images → Steady old.account.faults new.account.faults → Opened images old new volume → filesystem_of images ≡ Ok (filesystem_in volume)
+opened : (old new : Seen) (images : Images) (volume : Volume) → old.held ≡ Some images → Steady old.account.faults new.account.faults
+    → Opened images old new volume → filesystem_of images ≡ Ok (filesystem_in volume)
 opened old new images volume told steady o =
     let scan = scanned o.start old new images (Ok (Ok volume.store.layout.chunks)) told steady o.scans in
     let none = compares_steady images (layout_by o.start volume.store.layout.chunks) (root_want o.start.sup) old new None told steady o.alike in
@@ -46,12 +49,14 @@ opened old new images volume told steady o =
     ∙ ap (λ l. Ok (record { sup = volume.sup; layout = l })) (sym o.by.layout)
 
 -- a refusal by a chunk of the chunk tree
-by_table : (old new : Seen) (images : Images) (f : TableFault) → old.held ≡ Some images → Steady old.account.faults new.account.faults → Starts images old new (Ok (Err f)) → filesystem_of images ≡ Err (open_answer (refusal_of f))
+by_table : (old new : Seen) (images : Images) (f : TableFault) → old.held ≡ Some images → Steady old.account.faults new.account.faults
+    → Starts images old new (Ok (Err f)) → filesystem_of images ≡ Err (open_answer (refusal_of f))
 by_table old new images f told steady s =
     let scan = scanned s.start old new images (Ok (Err f)) told steady s.scans in ap (with_start images) s.is ∙ ap (with_table images s.start) scan.1
 
 -- the chunk tree can't be read on
-by_tree : (old new : Seen) (images : Images) (f : TreeFault) → old.held ≡ Some images → Steady old.account.faults new.account.faults → OpenCause {T = Volume} old new (Err (opening.Tree f)) → Starts images old new (Err (halt_of f))
+by_tree : (old new : Seen) (images : Images) (f : TreeFault) → old.held ≡ Some images → Steady old.account.faults new.account.faults
+    → OpenCause {T = Volume} old new (Err (opening.Tree f)) → Starts images old new (Err (halt_of f))
     → filesystem_of images ≡ Err (tree_answer f)
 by_tree old new images (tree.Lost a) told steady cause s =
     let scan = scanned s.start old new images (Err (halts (fault.Lost a))) told steady s.scans in ap (with_start images) s.is
@@ -69,9 +74,11 @@ by_tree old new images (tree.Unread a slot) told steady cause s = absurd (steady
 
 -- by the superblocks, or by a chunk of the chunk tree
 by_refusal : (old new : Seen) (images : Images) (refusal : OpenFault) → old.held ≡ Some images → Steady old.account.faults new.account.faults
-    → (start_of images ≡ Err refusal) ⊎ ((f : TableFault) × (refusal_of f ≡ refusal) × Starts images old new (Ok (Err f))) → OpensFilesystem images (Err (open_answer refusal))
+    → (start_of images ≡ Err refusal) ⊎ ((f : TableFault) × (refusal_of f ≡ refusal) × Starts images old new (Ok (Err f)))
+    → OpensFilesystem images (Err (open_answer refusal))
 by_refusal old new images refusal told steady why =
-    inl (⊎_elim (λ start. ap (with_start images) start) (λ table. by_table old new images table.0 told steady table.2 ∙ ap (λ r. Err (open_answer r)) table.1) why)
+    inl (⊎_elim (λ start. ap (with_start images) start) (λ table. by_table old new images table.0 told steady table.2
+    ∙ ap (λ r. Err (open_answer r)) table.1) why)
 
 -- by the superblocks, or by the root tree's root block
 by_roots : (old new : Seen) (images : Images) (slot : ℕ) → old.held ≡ Some images → Steady old.account.faults new.account.faults
@@ -82,7 +89,8 @@ by_roots old new images slot told steady why =
     let some = compares_steady images (layout_by d.start d.chunks) (root_want d.start.sup) old new (Some slot) told steady d.differ in
     ap (with_start images) d.is ∙ ap (with_table images d.start) scan.1 ∙ ap (with_roots d.start d.chunks) (sym some)) why)
 
-refused : (old new : Seen) (images : Images) (refusal : OpenFault) → old.held ≡ Some images → Steady old.account.faults new.account.faults → OpenCause {T = Volume} old new (Err refusal) → Opens images old new (Err refusal)
+refused : (old new : Seen) (images : Images) (refusal : OpenFault) → old.held ≡ Some images → Steady old.account.faults new.account.faults
+    → OpenCause {T = Volume} old new (Err refusal) → Opens images old new (Err refusal)
     → OpensFilesystem images (Err (open_answer refusal))
 refused old new images (opening.ImageFault slot) told steady cause opens = absurd (steady_not_rose old.account.faults new.account.faults steady cause.faults)
 refused old new images opening.Memory told steady cause opens = inr refl
@@ -99,30 +107,36 @@ refused old new images opening.BadArray told steady cause opens = by_refusal old
 refused old new images (opening.BadChunk start) told steady cause opens = by_refusal old new images (opening.BadChunk start) told steady opens
 refused old new images (opening.Limit which count) told steady cause opens = by_refusal old new images (opening.Limit which count) told steady opens
 
-pub opened_content : (old new : Seen) (volume : Volume) → IfSome old.held (λ images. Opens images old new (Ok volume)) → IfSteady old.held old.account new.account (λ images. OpensFilesystem images (Ok volume))
+pub opened_content : (old new : Seen) (volume : Volume) → IfSome old.held (λ images. Opens images old new (Ok volume))
+    → IfSteady old.held old.account new.account (λ images. OpensFilesystem images (Ok volume))
 opened_content old new volume = of old.held refl
   where
-    of : (held : Option Images) → old.held ≡ held → IfSome held (λ images. Opens images old new (Ok volume)) → IfSteady held old.account new.account (λ images. OpensFilesystem images (Ok volume))
+    of : (held : Option Images) → old.held ≡ held → IfSome held (λ images. Opens images old new (Ok volume))
+        → IfSteady held old.account new.account (λ images. OpensFilesystem images (Ok volume))
     of None told opens = tt
     of (Some images) told opens = λ steady. opened old new images volume told steady opens
 
-pub refused_content : (old new : Seen) (refusal : OpenFault) (answer : Answer) → answer ≡ open_answer refusal → OpenCause {T = Volume} old new (Err refusal) → IfSome old.held (λ images. Opens images old new (Err refusal))
+pub refused_content : (old new : Seen) (refusal : OpenFault) (answer : Answer) → answer ≡ open_answer refusal → OpenCause {T = Volume} old new (Err refusal)
+    → IfSome old.held (λ images. Opens images old new (Err refusal))
     → IfSteady old.held old.account new.account (λ images. OpensFilesystem images (Err answer))
 refused_content old new refusal answer is cause = of old.held refl
   where
-    of : (held : Option Images) → old.held ≡ held → IfSome held (λ images. Opens images old new (Err refusal)) → IfSteady held old.account new.account (λ images. OpensFilesystem images (Err answer))
+    of : (held : Option Images) → old.held ≡ held → IfSome held (λ images. Opens images old new (Err refusal))
+        → IfSteady held old.account new.account (λ images. OpensFilesystem images (Err answer))
     of None told opens = tt
     of (Some images) told opens = λ steady. subst (λ a. OpensFilesystem images (Err a)) (sym is) (refused old new images refusal told steady cause opens)
 
 -- what opening answered, whatever failed
-pub opened_as : (old new : Seen) (volume : Volume) → IfSome old.held (λ images. Opens images old new (Ok volume)) → IfSome old.held (λ images. OpensAs images old new (Ok volume))
+pub opened_as : (old new : Seen) (volume : Volume) → IfSome old.held (λ images. Opens images old new (Ok volume))
+    → IfSome old.held (λ images. OpensAs images old new (Ok volume))
 opened_as old new volume = of old.held
   where
     of : (held : Option Images) → IfSome held (λ images. Opens images old new (Ok volume)) → IfSome held (λ images. OpensAs images old new (Ok volume))
     of None opens = tt
     of (Some images) opens = record { opening = Ok volume; opens = opens; same = refl }
 
-pub refused_as : (old new : Seen) (refusal : OpenFault) (result : Result Volume Answer) → result ≡ Err (open_answer refusal) → IfSome old.held (λ images. Opens images old new (Err refusal)) → IfSome old.held (λ images. OpensAs images old new result)
+pub refused_as : (old new : Seen) (refusal : OpenFault) (result : Result Volume Answer) → result ≡ Err (open_answer refusal)
+    → IfSome old.held (λ images. Opens images old new (Err refusal)) → IfSome old.held (λ images. OpensAs images old new result)
 refused_as old new refusal result is = of old.held
   where
     of : (held : Option Images) → IfSome held (λ images. Opens images old new (Err refusal)) → IfSome held (λ images. OpensAs images old new result)

@@ -1,7 +1,8 @@
 -- The forms of sentences, by number.
 use Rattle.std.proofs.Common.{◌≡◌, ℕ, ◌<◌, true, ltb, ltb-true, List, [], ◌∷◌, length, get_or, refl}
 use Rattle.btr_run.specs.declared.sentence.Sentence.{Sentence}
-use Rattle.btr_run.specs.declared.sentence.Sentence.TheVariants.{Super, DumpAll, DumpBlock, DumpTree, DumpRoots, Resolve, Check, CheckData, Scrub, ScrubRead, Roots, Restore, Send}
+use Rattle.btr_run.specs.declared.sentence.Sentence.TheVariants.{Super, DumpAll, DumpBlock, DumpTree, DumpRoots, Resolve, Check, CheckData, Scrub, ScrubRead}
+use Rattle.btr_run.specs.declared.sentence.Sentence.TheVariants.{Roots, Restore, Send}
 
 -- all of them
 abbrev pub forms : List Sentence

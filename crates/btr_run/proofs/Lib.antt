@@ -20,6 +20,7 @@ pub mod Obeying
 pub mod Found
 pub mod Ending
 pub mod Obeyed
+pub mod Wanted
 pub mod TreesShown
 pub mod Checks
 pub mod Orders
@@ -37,3 +38,4 @@ pub mod ScrubsDone
 pub mod ScrubsTold
 pub mod Mended
 pub mod Texts
+pub mod Rescues

@@ -1,6 +1,6 @@
 -- What a command comes to whose run does steps in the sink and in the output, whichever command it is.
-use Rattle.std.proofs.Common.{◌≡◌, ◌≢◌, ◌⊎◌, inl, inr, ⊎_elim, ℕ, List, [], ◌∷◌, ◌++◌, Option, Some, None, Result, Ok, Err, refl, sym, ap, ◌∙◌, subst, arith}
-use Rattle.std.specs.Option.{IfSome, option_to_list}
+use Rattle.std.proofs.Common.{◌≡◌, ◌≢◌, inl, inr, ⊎_elim, ℕ, List, [], ◌∷◌, ◌++◌, Option, Some, None, Result, Ok, Err, refl, sym, ap, ◌∙◌, subst, arith}
+use Rattle.std.specs.Option.{IfSome}
 use Rattle.btr_dump.proofs.Telling.{cause_since}
 use Rattle.btr_listing.specs.Step.{Step, part}
 use Rattle.btr_prog.specs.Answers.{Breaks, Follows, Leaves, Names, no_part}
@@ -11,7 +11,6 @@ use Rattle.btr_rack.proofs.Reading.{reads_more}
 use Rattle.btr_read.specs.Fate.{Agreed, Fault}
 use Rattle.btr_read.specs.Fate as fault
 use Rattle.btr_read.specs.Layout.{Layout}
-use Rattle.btr_read.specs.Want.{addr_of}
 use Rattle.btr_read.specs.declared.want.Want.{Want}
 use Rattle.btr_restore.specs.Restoring.{StopCause, SinkCounts, OutCounts, ended}
 use Rattle.btr_restore.specs.Running.{Outside}
@@ -28,7 +27,8 @@ use Rattle.btr_run.specs.Behind.{AnyFault, IfSteady, IsBehind, HasTreeCause}
 use Rattle.btr_run.specs.Faults.{tree_answer}
 use Rattle.btr_run.specs.Filesystem.{IsRefusal, MayMend, OpensAs, OpensFilesystem, filesystem_in, filesystem_of}
 use Rattle.btr_run.specs.Listed.{ListsUpTo, listed_answer, listed_by, stopped_answer}
-use Rattle.btr_run.specs.Outcomes.{Outcome, refused, Comes, IsFirstPart, IsNoFault, Stands, StandsOf, StandsPartly, Whole, SinkFailed, OutFailed, Wanted, OrBare, OrMemory}
+use Rattle.btr_run.specs.Outcomes.{Outcome, refused, Comes, IsFirstPart, IsNoFault, Stands, StandsOf, StandsPartly, Whole, SinkFailed, OutFailed, Wanted}
+use Rattle.btr_run.specs.Outcomes.{OrBare, OrMemory}
 use Rattle.btr_run.specs.declared.answer.Answer.{Answer}
 use Rattle.btr_run.specs.declared.answer.Answer.TheVariants.{Done, NoTree, ImageFault, Unread}
 use Rattle.btr_run.proofs.Agreements.{agreeing_opened}
@@ -37,11 +37,20 @@ use Rattle.btr_run.proofs.Refusals.{open_line, open_no_fault}
 use Rattle.btr_run.proofs.Faulting.{tree_in, tree_back}
 use Rattle.btr_run.proofs.Shows.{fault_no_fault, none_left}
 use Rattle.btr_run.proofs.TreesShown.{NoneOf, mends_of, none_unread, tree_no_fault}
+use Rattle.btr_run.proofs.Wanted.{names_addr}
 
 -- steps that were done before a run was broken off are a first part of its steps
 broken_off : {A : Type 0} (r : Run Want Fault Step A) (done : List Step) → Breaks part (λ ws. Unit {0}) r done → IsFirstPart (steps_of r.marks) done
 broken_off r done b =
-    record { before = steps_of b.before; behind = steps_of b.behind; left = b.left; place = ap steps_of b.place ∙ steps_of-append b.before b.behind; is = b.steps; stands = of b.left b.behind b.leaves }
+    record {
+      before = steps_of b.before;
+      behind = steps_of b.behind;
+      left = b.left;
+      place = ap steps_of b.place
+          ∙ steps_of-append b.before b.behind;
+      is = b.steps;
+      stands = of b.left b.behind b.leaves;
+    }
   where
     of : (left : Option Step) (ms : List (Mark Want Step)) → Leaves part left ms → StandsOf left (steps_of ms)
     of None ms leaves = tt
@@ -55,16 +64,13 @@ done_no_fault n = record { no_out = λ e. cc; no_sink = λ e. cc }
 -- some kind has what a run comes to up to a block that could not be read
 abbrev pub HasUnread : {A : Type 0} → (UnreadBlock → Want → Type 0) → Run Want Fault Step A → (Outcome → Type 0) → Type 0
 HasUnread Is r IsOne =
-    (u : UnreadBlock) (upto rest : List (Mark Want Step)) → r.marks ≡ upto ++ rest → Names Is u (wants_of upto) → IsOne (record { answer = Unread u.addr u.slot; steps = steps_of upto })
+    (u : UnreadBlock) (upto rest : List (Mark Want Step)) → r.marks ≡ upto ++ rest → Names Is u (wants_of upto)
+    → IsOne (record { answer = Unread u.addr u.slot; steps = steps_of upto })
 
--- .. since that is the run up to there
+-- a listing up to a block that could not be read is its run up to there
 pub lists_up_to : {A : Type 0} (layout : Layout) (old new : Seen) (r : Run Want Fault Step A) → HasUnread (unread_by layout old new) r (ListsUpTo r)
 lists_up_to layout old new r u upto rest place named =
-    record { unread = u; before = upto; behind = rest; place = place; wanted = of (wants_of upto) named; is = refl }
-  where
-    of : (ws : List Want) → Names (unread_by layout old new) u ws → Names (λ b want. b.addr ≡ addr_of want) u ws
-    of [] named = named
-    of (w ∷ ws) named = ⊎_elim (λ is. inl is.same_addr) (λ more. inr (of ws more)) named
+    record { unread = u; before = upto; behind = rest; place = place; wanted = names_addr layout old new u (wants_of upto) named; is = refl }
 
 -- the filesystem isn't opened
 module _ (answer result : Answer) (is : result ≡ answer) (refusal : IsRefusal answer) where
@@ -87,8 +93,10 @@ module _ (answer result : Answer) (is : result ≡ answer) (refusal : IsRefusal 
       (comes_bare (Unit {0}) (OrBare IsOne) x answer (inr (refl, λ e. open_line refusal.refusal (ap error_line (sym refusal.is) ∙ e))) no_fault)
 
 -- The filesystem is open, and a call did these steps.
-module _ {A : Type 0} (left_out : A → ℕ) (layout : Layout) (mid new : Seen) (x y : Outside) (done : List Step) (stands : Stands x y done []) (result : Result A Stop)
-    (cause : StopCause layout mid new result) (sink_calls : SinkCounts x.sink_calls y.sink_calls result) (out_calls : OutCounts x.out_calls y.out_calls result) where
+module _ {A : Type 0} (left_out : A → ℕ) (layout : Layout) (mid new : Seen) (x y : Outside) (done : List Step) (stands : Stands x y done [])
+    (result : Result A Stop)
+    (cause : StopCause layout mid new result) (sink_calls : SinkCounts x.sink_calls y.sink_calls result)
+    (out_calls : OutCounts x.out_calls y.out_calls result) where
   abbrev answered : Result A Stop → Answer
   answered r = stopped_answer left_out r
 
@@ -111,7 +119,7 @@ module _ {A : Type 0} (left_out : A → ℕ) (layout : Layout) (mid new : Seen) 
       ended = (is ∙ ap (listed_answer left_out) (sym follows.1), same_sink, same_out, subst (λ l. Stands x y l []) follows.0 stands);
     }
 
-    -- .. up to a block that could not be read
+    -- what it comes to up to a block that could not be read
     up_to : (u : UnreadBlock) → Breaks no_part (λ ws. Names Is u ([] ++ ws)) r done → y.sink_calls ≡ x.sink_calls → y.out_calls ≡ x.out_calls
         → Comes (Unit {0}) IsOne x y (Unread u.addr u.slot)
     up_to u broke same_sink same_out = record {
@@ -119,7 +127,13 @@ module _ {A : Type 0} (left_out : A → ℕ) (layout : Layout) (mid new : Seen) 
       is_one = unread u broke.before broke.behind broke.place broke.holds;
       no_fault = record { no_out = λ e. cc; no_sink = λ e. cc };
       how = Whole;
-      ended = (refl, same_sink, same_out, subst (λ l. Stands x y l []) (broke.steps ∙ none_left (steps_of broke.before) broke.left broke.behind broke.leaves) stands);
+      ended = (
+        refl,
+        same_sink,
+        same_out,
+        subst (λ l. Stands x y l [])
+            (broke.steps ∙ none_left (steps_of broke.before) broke.left broke.behind broke.leaves) stands,
+      );
     }
 
     partly : Breaks part (λ ws. Unit {0}) r done → StandsPartly x y (listed_by left_out r) []
@@ -145,9 +159,23 @@ module _ {A : Type 0} (left_out : A → ℕ) (layout : Layout) (mid new : Seen) 
           ended = (refl, ((sc.0, sc.1), sc.2), ⊎_elim (λ same. inl same) (λ one. inr ((one.0, one.1), one.2)) oc, partly follows);
         }
         of (Err stop.Out) cause sc oc follows =
-            record { outcome = listed_by left_out r; is_one = one; no_fault = listed_no_fault r.ending; how = OutFailed; ended = (refl, ((oc.0, oc.1), oc.2), sc, partly follows) }
+            record {
+              outcome = listed_by left_out r;
+              is_one = one;
+              no_fault = listed_no_fault r.ending;
+              how = OutFailed;
+              ended =
+                  (refl, ((oc.0, oc.1), oc.2), sc, partly follows);
+            }
         of (Err stop.Memory) cause sc oc follows =
-            record { outcome = listed_by left_out r; is_one = one; no_fault = listed_no_fault r.ending; how = Wanted; ended = (refl, tt, sc, oc, partly follows) }
+            record {
+              outcome = listed_by left_out r;
+              is_one = one;
+              no_fault = listed_no_fault r.ending;
+              how = Wanted;
+              ended =
+                  (refl, tt, sc, oc, partly follows);
+            }
         of (Err (stop.Deletion id)) cause sc oc follows = absurd cause
         of (Err stop.Balance) cause sc oc follows = absurd cause
         of (Err (stop.Missing id)) cause sc oc follows = absurd cause
@@ -170,11 +198,32 @@ module _ {A : Type 0} (left_out : A → ℕ) (layout : Layout) (mid new : Seen) 
         of : (e : Result A Stop) → result ≡ e → StopCause layout mid new e → SinkCounts x.sink_calls y.sink_calls e → OutCounts x.out_calls y.out_calls e
             → Comes (Unit {0}) (OrBare IsOne) x y (answered e)
         of (Ok a) is cause sc oc =
-            record { outcome = record { answer = Done (left_out a); steps = done }; is_one = inl (by_value a); no_fault = done_no_fault (left_out a); how = Whole; ended = (refl, sc, oc, stands) }
+            record {
+              outcome = record { answer = Done (left_out a); steps = done };
+              is_one = inl (by_value a);
+              no_fault = done_no_fault (left_out a);
+              how =
+                  Whole;
+              ended = (refl, sc, oc, stands);
+            }
         of (Err (stop.NoTree id)) is cause sc oc =
-            record { outcome = record { answer = NoTree id; steps = done }; is_one = inl (by_none id is); no_fault = record { no_out = λ e. cc; no_sink = λ e. cc }; how = Whole; ended = (refl, sc, oc, stands) }
+            record {
+              outcome = record { answer = NoTree id; steps = done };
+              is_one = inl (by_none id is);
+              no_fault = record
+                  { no_out = λ e. cc; no_sink = λ e. cc };
+              how = Whole;
+              ended = (refl, sc, oc, stands);
+            }
         of (Err (stop.Tree f)) is cause sc oc =
-            record { outcome = record { answer = tree_answer f; steps = done }; is_one = inl (by_tree f); no_fault = tree_no_fault f; how = Whole; ended = (refl, sc, oc, stands) }
+            record {
+              outcome = record { answer = tree_answer f; steps = done };
+              is_one = inl (by_tree f);
+              no_fault = tree_no_fault f;
+              how = Whole;
+              ended =
+                  (refl, sc, oc, stands);
+            }
         of (Err stop.Sink) is cause sc oc = record {
           outcome = broken;
           is_one = inl (by_tree (tree.Lost 0));
@@ -183,9 +232,23 @@ module _ {A : Type 0} (left_out : A → ℕ) (layout : Layout) (mid new : Seen) 
           ended = (refl, ((sc.0, sc.1), sc.2), ⊎_elim (λ same. inl same) (λ one. inr ((one.0, one.1), one.2)) oc, all);
         }
         of (Err stop.Out) is cause sc oc =
-            record { outcome = broken; is_one = inl (by_tree (tree.Lost 0)); no_fault = tree_no_fault (tree.Lost 0); how = OutFailed; ended = (refl, ((oc.0, oc.1), oc.2), sc, all) }
+            record {
+              outcome = broken;
+              is_one = inl (by_tree (tree.Lost 0));
+              no_fault = tree_no_fault (tree.Lost 0);
+              how = OutFailed;
+              ended =
+                  (refl, ((oc.0, oc.1), oc.2), sc, all);
+            }
         of (Err stop.Memory) is cause sc oc =
-            record { outcome = broken; is_one = inl (by_tree (tree.Lost 0)); no_fault = tree_no_fault (tree.Lost 0); how = Wanted; ended = (refl, tt, sc, oc, all) }
+            record {
+              outcome = broken;
+              is_one = inl (by_tree (tree.Lost 0));
+              no_fault = tree_no_fault (tree.Lost 0);
+              how = Wanted;
+              ended =
+                  (refl, tt, sc, oc, all);
+            }
         of (Err (stop.Deletion id)) is cause sc oc = absurd cause
         of (Err stop.Balance) is cause sc oc = absurd cause
         of (Err (stop.Missing id)) is cause sc oc = absurd cause
@@ -230,13 +293,15 @@ module _ {A : Type 0} (left_out : A → ℕ) (layout : Layout) (mid new : Seen) 
       of (Err (stop.Image other)) = tt
 
   -- since the filesystem was opened
-  module _ (old : Seen) (first : OnlyReads old mid) (second : OnlyReads mid new) (volume : Volume) (is_layout : volume.store.layout ≡ layout) (answer : Answer) (is : answer ≡ answered result) where
+  module _ (old : Seen) (first : OnlyReads old mid) (second : OnlyReads mid new) (volume : Volume) (is_layout : volume.store.layout ≡ layout) (answer : Answer)
+      (is : answer ≡ answered result) where
     tree_cause : HasTreeCause old new (answered result)
     tree_cause fault is = (layout, of result cause (ap tree_in is ∙ tree_back fault))
       where
         of : (r : Result A Stop) → StopCause layout mid new r → tree_in (answered r) ≡ Some fault → FaultCause layout old new fault
         of (Ok a) cause e = absurd (cc e)
-        of (Err (stop.Tree f)) cause e = let same : f ≡ fault = cc (sym (tree_back f) ∙ e) in subst (FaultCause layout old new) same (cause_since new layout layout f refl first cause)
+        of (Err (stop.Tree f)) cause e = let same : f ≡ fault = cc (sym (tree_back f) ∙ e) in subst (FaultCause layout old new) same
+            (cause_since new layout layout f refl first cause)
         of (Err (stop.NoTree id)) cause e = absurd (cc e)
         of (Err stop.Sink) cause e = absurd (cc e)
         of (Err stop.Out) cause e = absurd (cc e)
@@ -269,29 +334,35 @@ module _ {A : Type 0} (left_out : A → ℕ) (layout : Layout) (mid new : Seen) 
           follows_come (run images) (λ outcome. listed_by left_out (run images) ≡ outcome) refl
           (λ u upto rest place named. absurd (none_unread layout mid new steady u (wants_of upto) named)) follows
 
-      pub listed_effect : (wanted : Images → Outcome) → ((images : Images) → filesystem_of images ≡ Ok (filesystem_in volume) → wanted images ≡ listed_by left_out (run images))
+      pub listed_effect : (wanted : Images → Outcome)
+          → ((images : Images) → filesystem_of images ≡ Ok (filesystem_in volume) → wanted images ≡ listed_by left_out (run images))
           → IfSteady mid.held mid.account new.account (λ images. Follows Is part [] (run images) done (ended result))
           → IfSteady old.held old.account mid.account (λ images. OpensFilesystem images (Ok volume))
           → IfSteady old.held old.account new.account (λ images. Comes (Unit {0}) (OrMemory (λ outcome. wanted images ≡ outcome)) x y answer)
       listed_effect wanted wants follows opens =
-          of old.held opens (subst (λ held. IfSteady held mid.account new.account (λ images. Follows Is part [] (run images) done (ended result))) (ap (λ (s : Seen). s.held) first.same) follows)
+          of old.held opens (subst (λ held. IfSteady held mid.account new.account (λ images. Follows Is part [] (run images) done (ended result)))
+          (ap (λ (s : Seen). s.held) first.same) follows)
         where
           of : (held : Option Images) → IfSteady held old.account mid.account (λ images. OpensFilesystem images (Ok volume))
               → IfSteady held mid.account new.account (λ images. Follows Is part [] (run images) done (ended result))
               → IfSteady held old.account new.account (λ images. Comes (Unit {0}) (OrMemory (λ outcome. wanted images ≡ outcome)) x y answer)
           of None opens follows = tt
           of (Some images) opens follows = λ steady.
-              let opened : filesystem_of images ≡ Ok (filesystem_in volume) = opens (omega (arith, steady.0, second.later), omega (arith, steady.1, second.later)) in
+              let opened : filesystem_of images ≡ Ok (filesystem_in volume) = opens
+              (omega (arith, steady.0, second.later), omega (arith, steady.1, second.later)) in
               let later : Steady mid.account.faults new.account.faults = (omega (arith, steady.0, first.later), steady.1) in
               subst (λ a. Comes (Unit {0}) (OrMemory (λ outcome. wanted images ≡ outcome)) x y a) (sym is)
-              (comes_also (Unit {0}) (Unit {0}) (λ outcome. listed_by left_out (run images) ≡ outcome) (OrMemory (λ outcome. wanted images ≡ outcome)) x y (answered result)
+              (comes_also (Unit {0}) (Unit {0}) (λ outcome. listed_by left_out (run images) ≡ outcome) (OrMemory (λ outcome. wanted images ≡ outcome)) x y
+              (answered result)
               (λ u. u) (λ outcome e. inl (wants images opened ∙ e)) (steadily images later (follows later)))
 
     -- where the images agree; there may be several runs, as by several candidates of a sector that is tested by nothing
     module _ (IsRun : Images → Run Want Fault Step A → Type 0) where
       pub listed_agreed : (IsOne : Images → Outcome → Type 0)
-          → ((images : Images) → filesystem_of images ≡ Ok (filesystem_in volume) → (r : Run Want Fault Step A) → IsRun images r → IsOne images (listed_by left_out r))
-          → ((images : Images) → filesystem_of images ≡ Ok (filesystem_in volume) → (r : Run Want Fault Step A) → IsRun images r → HasUnread Is r (IsOne images))
+          → ((images : Images) → filesystem_of images ≡ Ok (filesystem_in volume) → (r : Run Want Fault Step A) → IsRun images r
+          → IsOne images (listed_by left_out r))
+          → ((images : Images) → filesystem_of images ≡ Ok (filesystem_in volume) → (r : Run Want Fault Step A) → IsRun images r
+          → HasUnread Is r (IsOne images))
           → IfSome mid.held (λ images. Agreed images layout → (r : Run Want Fault Step A) × IsRun images r × Follows Is part [] r done (ended result))
           → IfSome old.held (λ images. OpensAs images old mid (Ok volume))
           → IfSome old.held (λ images. AreAgreed images → Comes (Unit {0}) (IsOne images) x y answer)
@@ -299,7 +370,8 @@ module _ {A : Type 0} (left_out : A → ℕ) (layout : Layout) (mid new : Seen) 
           agreeing_opened old mid volume opens (λ images. Comes (Unit {0}) (IsOne images) x y answer)
           (λ images told opened agreed.
           let held : mid.held ≡ Some images = ap (λ (s : Seen). s.held) first.same ∙ told in
-          let so = subst (λ (o : Option Images). IfSome o (λ i. Agreed i layout → (r : Run Want Fault Step A) × IsRun i r × Follows Is part [] r done (ended result))) held follows in
+          let so = subst (λ (o : Option Images). IfSome o
+          (λ i. Agreed i layout → (r : Run Want Fault Step A) × IsRun i r × Follows Is part [] r done (ended result))) held follows in
           let run = so (subst (Agreed images) is_layout agreed) in
           subst (λ a. Comes (Unit {0}) (IsOne images) x y a) (sym is)
           (follows_come run.0 (IsOne images) (one images opened run.0 run.1) (unread images opened run.0 run.1) run.2))

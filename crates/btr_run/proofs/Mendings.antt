@@ -1,5 +1,6 @@
 -- What a scrub comes to.
-use Rattle.std.proofs.Common.{◌≡◌, ◌≢◌, ◌⊎◌, inl, inr, ⊎_elim, ℕ, Bool, List, [], ◌∷◌, ◌++◌, fold, Option, Some, None, Result, Ok, Err, refl, sym, ap, ◌∙◌, subst, arith}
+use Rattle.std.proofs.Common.{◌≡◌, ◌≢◌, ◌⊎◌, inl, inr, ⊎_elim, ℕ, Bool, List, [], ◌∷◌, ◌++◌, fold, Option, Some, None, Result, Ok, Err, refl, sym, ap, ◌∙◌}
+use Rattle.std.proofs.Common.{subst, arith}
 use Rattle.std.specs.Option.{IfSome}
 use Rattle.std.proofs.lemmas.List.{append-nil}
 use Rattle.btr_mend.specs.Writes.{IsStopped, IsTorn, Leaves, Write, write_on}
@@ -69,25 +70,36 @@ module _ (write : Bool) (old new : Seen) (answer : Answer) (behind : IsBehind Ma
     content = content;
     bare = bare;
     behind = only_reads (Scrub write) old new answer behind;
-    repaired = λ is. each_told old.held (λ images. Steady old.account.faults new.account.faults → (answer ≡ Memory → ⊥) → new.held ≡ Some (scrubbed_images images))
+    repaired = λ is. each_told old.held (λ images. Steady old.account.faults new.account.faults → (answer ≡ Memory → ⊥)
+        → new.held ≡ Some (scrubbed_images images))
         (λ images told steady enough.
         ⊎_elim (λ both. same_held ∙ told ∙ ap (λ (i : Images). Some i) (sym both.1)) (λ want. absurd (enough want))
         (told_at old.held (λ i. Steady old.account.faults new.account.faults → ScrubsTo write i (Err answer)) images told content steady));
     left = λ is. each_told old.held (λ images. IfSome new.held (λ left. LeavesImages (Steady old.account.faults new.account.faults) images left answer))
         (λ images told. each_told new.held (λ left. LeavesImages (Steady old.account.faults new.account.faults) images left answer)
-        (λ left told'. as_they_were (Steady old.account.faults new.account.faults) images left answer (λ lost e. bare.line (ap error_line e ∙ found_line lost)) (the_images left images (sym told' ∙ same_held ∙ told))));
+        (λ left told'. as_they_were (Steady old.account.faults new.account.faults) images left answer (λ lost e. bare.line (ap error_line e ∙ found_line lost))
+        (the_images left images (sym told' ∙ same_held ∙ told))));
+    synced = λ w lost e. absurd (bare.line (ap error_line e ∙ found_line lost));
   }
 
 -- the filesystem isn't opened
-pub not_opened : (write : Bool) (old new : Seen) (answer result : Answer) → result ≡ answer → IsRefusal answer → OnlyReads old new → ((slot : ℕ) → answer ≡ ImageFault slot → SuperUnread old new slot) → HasTreeCause old new answer
-    → NoneFailed old.account new.account ⊎ IsFault answer ⊎ MayMend answer → ((n : ℕ) → answer ≢ Limit images_limit n) → IfSteady old.held old.account new.account (λ images. OpensFilesystem images (Err answer))
+pub not_opened : (write : Bool) (old new : Seen) (answer result : Answer) → result ≡ answer → IsRefusal answer → OnlyReads old new
+    → ((slot : ℕ) → answer ≡ ImageFault slot → SuperUnread old new slot) → HasTreeCause old new answer
+    → NoneFailed old.account new.account ⊎ IsFault answer ⊎ MayMend answer → ((n : ℕ) → answer ≢ Limit images_limit n)
+    → IfSteady old.held old.account new.account (λ images. OpensFilesystem images (Err answer))
     → Scrubs write old new (Err result)
 not_opened write old new answer result is refusal reads image cause hidden counted content =
     subst (λ a. Scrubs write old new (Err a)) (sym is)
     (unwritten write old new answer (unopened_behind answer answer refl refusal IsNoCrossing old new reads image cause hidden counted)
-    (record { no_fault = subst IsNoFault (sym refusal.is) (open_no_fault refusal.refusal); line = λ e. open_line refusal.refusal (ap error_line (sym refusal.is) ∙ e) })
-    (when_told old.held (λ images. Steady old.account.faults new.account.faults → OpensFilesystem images (Err answer)) (λ images. Steady old.account.faults new.account.faults → ScrubsTo write images (Err answer))
-    (λ images opens steady. ⊎_elim (λ none. inl (outcome_by write images ∙ ap (scrub_in write images) none, images_by images ∙ ap (scrubbed_in images) none)) (λ want. inr want) (opens steady)) content))
+    (record {
+      no_fault = subst IsNoFault (sym refusal.is) (open_no_fault refusal.refusal);
+      line = λ e. open_line refusal.refusal
+          (ap error_line (sym refusal.is) ∙ e);
+    })
+    (when_told old.held (λ images. Steady old.account.faults new.account.faults → OpensFilesystem images (Err answer))
+    (λ images. Steady old.account.faults new.account.faults → ScrubsTo write images (Err answer))
+    (λ images opens steady. ⊎_elim (λ none. inl (outcome_by write images ∙ ap (scrub_in write images) none, images_by images ∙ ap (scrubbed_in images) none))
+    (λ want. inr want) (opens steady)) content))
 
 -- where nothing is to be written, nothing was
 pub left_nothing : (held left : Option Images) (e : Result (Unit {0}) MendFault) → Leaves (λ images. []) held left e → left ≡ held
@@ -96,12 +108,15 @@ left_nothing (Some images) left (Ok u) leaves = leaves
 left_nothing (Some images) None (Err e) leaves = absurd leaves
 left_nothing (Some images) (Some left) (Err e) leaves = ap (λ (i : Images). Some i) (of leaves.before leaves.behind leaves.place leaves.stands)
   where
-    of : (before behind : List Write) → [] ≡ before ++ behind → (left ≡ fold write_on images before) ⊎ IsTorn behind (fold write_on images before) left → left ≡ images
+    of : (before behind : List Write) → [] ≡ before ++ behind → (left ≡ fold write_on images before) ⊎ IsTorn behind (fold write_on images before) left
+        → left ≡ images
     of [] [] place stands = ⊎_elim (λ same. same) (λ torn. absurd torn) stands
     of [] (w ∷ behind) place stands = absurd (cc place)
     of (w ∷ before) behind place stands = absurd (cc place)
 
 -- all writes up to the last
-pub stop_place : (ws : Images → List Write) (images left : Images) (e : Result (Unit {0}) MendFault) → Leaves ws (Some images) (Some left) e → IsStopped (ws images) images left
-stop_place ws images left (Ok u) leaves = record { before = ws images; behind = []; place = sym (append-nil (ws images)); stands = inl (the_images left (fold write_on images (ws images)) leaves) }
+pub stop_place : (ws : Images → List Write) (images left : Images) (e : Result (Unit {0}) MendFault) → Leaves ws (Some images) (Some left) e
+    → IsStopped (ws images) images left
+stop_place ws images left (Ok u) leaves = record
+    { before = ws images; behind = []; place = sym (append-nil (ws images)); stands = inl (the_images left (fold write_on images (ws images)) leaves) }
 stop_place ws images left (Err e) leaves = leaves

@@ -8,11 +8,13 @@ use Rattle.btr_rack.specs.Name.{is_bad}
 use Rattle.btr_send.specs.Names.{IsStreamName}
 use Rattle.btr_run.specs.Commands.{IsFit}
 use Rattle.btr_run.specs.Restores.{plan_by}
-use Rattle.btr_run.specs.Words.{Destination, File, IsSentence, Number, Part, Reads, TakesDestination, Word, Words, command_of, is_file, is_name, nothing_of, parts_of, restore_of}
+use Rattle.btr_run.specs.Words.{Destination, File, IsSentence, Number, Part, Reads, TakesDestination, Word, Words, command_of, is_file, is_name, nothing_of}
+use Rattle.btr_run.specs.Words.{parts_of, restore_of}
 use Rattle.btr_run.specs.declared.place.Read.{Read}
 use Rattle.btr_run.specs.declared.plan.Plan.{Plan}
 use Rattle.btr_run.specs.declared.sentence.Sentence.{Sentence}
-use Rattle.btr_run.specs.declared.sentence.Sentence.TheVariants.{Super, DumpAll, DumpBlock, DumpTree, DumpRoots, Resolve, Check, CheckData, Scrub, ScrubRead, Roots, Restore, Send}
+use Rattle.btr_run.specs.declared.sentence.Sentence.TheVariants.{Super, DumpAll, DumpBlock, DumpTree, DumpRoots, Resolve, Check, CheckData, Scrub, ScrubRead}
+use Rattle.btr_run.specs.declared.sentence.Sentence.TheVariants.{Roots, Restore, Send}
 
 -- the word of this number names a file
 abbrev IsFileAt : Words → ℕ → Type 0
@@ -26,7 +28,7 @@ HasFile (Number ∷ left) = HasFile left
 HasFile (Destination ∷ left) = HasFile left
 HasFile (File ∷ left) = Unit {0}
 
--- .. or was named before them
+-- a file is named among some parts, or was named before them
 abbrev IsNamed : Words → List Part → Read → Type 0
 IsNamed whole left read = HasFile left ⊎ IsFileAt whole read.file
 
@@ -39,9 +41,11 @@ module _ (whole before taken rest words : Words) (at : ℕ) (place : at ≡ leng
   next_is = is ∙ ap (λ l. before ++ l) split ∙ sym (append_assoc before taken rest)
 
 word_there : (whole before : Words) (word : List ℕ) (rest : Words) (at : ℕ) → at ≡ length before → whole ≡ before ++ word ∷ rest → get_or whole at [] ≡ word
-word_there whole before word rest at place is = ap (λ n. get_or whole n []) place ∙ ap (λ l. get_or l (length before) []) is ∙ get_or-append_seam before word rest []
+word_there whole before word rest at place is = ap (λ n. get_or whole n []) place ∙ ap (λ l. get_or l (length before) []) is
+    ∙ get_or-append_seam before word rest []
 
-file_named : (whole before : Words) (left : List Part) (at : ℕ) (words : Words) (old new : Read) → at ≡ length before → whole ≡ before ++ words → Reads left at words old new
+file_named : (whole before : Words) (left : List Part) (at : ℕ) (words : Words) (old new : Read) → at ≡ length before → whole ≡ before ++ words
+    → Reads left at words old new
     → IsNamed whole left old → IsFileAt whole new.file
 file_named whole before [] at words old new place is reads named =
     ⊎_elim (λ none. absurd none) (λ there. subst (IsFileAt whole) (sym (ap (λ (r : Read). r.file) reads.1)) there) named
@@ -80,7 +84,8 @@ stream_name word is =
     let tests = both (not (is_bad word)) (nat_le (length word) 255) (both (is_name word) (not (is_bad word) && nat_le (length word) 255) is).1 in
     (not_true (is_bad word) tests.0, grind (arith, nat_tests, tests.1))
 
-named : (sentence : Sentence) (words : Words) (read : Read) → Reads (parts_of sentence) 0 words (nothing_of sentence) read → IsFit (command_of sentence read) words
+named : (sentence : Sentence) (words : Words) (read : Read) → Reads (parts_of sentence) 0 words (nothing_of sentence) read
+    → IsFit (command_of sentence read) words
 named Super words read is = tt
 named DumpAll words read is = tt
 named DumpBlock words read is = tt

@@ -14,7 +14,8 @@ use Rattle.btr_run.specs.Numbers.{IsNumber, number_if, number_of}
 if_sound : (m n : ℕ) (word : List ℕ) → number_if m word ≡ Some n → IsNumber n word
 if_sound m n word = of (ltb m (2 ^ 64)) refl (bytes_eq word (decimal m)) (bytes_eq-Decides word (decimal m))
   where
-    of : (small : Bool) → ltb m (2 ^ 64) ≡ small → (same : Bool) → Decides same (word ≡ decimal m) → cond (small && same) (Some m) None ≡ Some n → IsNumber n word
+    of : (small : Bool) → ltb m (2 ^ 64) ≡ small → (same : Bool) → Decides same (word ≡ decimal m) → cond (small && same) (Some m) None ≡ Some n
+        → IsNumber n word
     of true lt true d e = let is : m ≡ n = cc in subst (λ k. IsNumber k word) is (ltb-true m (2 ^ 64) lt, d.0 refl)
     of true lt false d e = absurd (cc)
     of false lt same d e = absurd (cc)

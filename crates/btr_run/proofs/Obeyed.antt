@@ -1,5 +1,5 @@
 -- The words are obeyed, by the step that ends it.
-use Rattle.std.proofs.Common.{◌≡◌, false, ℕ, ◌<◌, ◌≤◌, length, Ok, Err, refl, true}
+use Rattle.std.proofs.Common.{◌≡◌, ◌∙◌, false, ℕ, ◌<◌, ◌≤◌, length, Ok, Err, refl, true}
 use Rattle.btr_rack.specs.Rack.{NoneFailed}
 use Rattle.btr_run.specs.Commands.{opens_to_write}
 use Rattle.btr_run.specs.Images.{AreOpenedAs, AreUnchanged, IsMissing, most_images}
@@ -24,7 +24,8 @@ module _ {R T O : Type 0} (eyes : Eyes R T O) (words : Words) (old : Given R T O
   pub usage : (at : ℕ) → IsUsageAt words at → AreUnchanged (eyes.seen old.rack).shelf (eyes.seen old.rack).slots (eyes.seen old.rack).held
       → IsObeyed (ends old.rack old.tree old.out (Usage at))
   usage at is unchanged = record {
-    effect = carrying.usage_effect words at is (eyes.seen old.rack).shelf (eyes.seen old.rack).account.faults (eyes.seen old.rack).account.faults (outside_in eyes old);
+    effect = carrying.usage_effect words at is (eyes.seen old.rack).shelf (eyes.seen old.rack).account.faults (eyes.seen old.rack).account.faults
+        (outside_in eyes old);
     told = carrying.usage_told words at is (outside_in eyes old);
     order = carrying.usage_order words at is (eyes.seen old.rack).shelf _ _ (outside_in eyes old);
     agreed = carrying.usage_agreed words at is (eyes.seen old.rack).shelf (outside_in eyes old);
@@ -36,6 +37,7 @@ module _ {R T O : Type 0} (eyes : Eyes R T O) (words : Words) (old : Given R T O
     unchanged = λ never. unchanged;
     repaired = carrying.usage_repaired words at is (eyes.seen old.rack).shelf _ (eyes.seen old.rack).held;
     left = λ asks. absurd (carrying.usage_left words at is asks);
+    synced = λ asks. absurd (carrying.usage_left words at is asks);
   }
 
   -- the images aren't open
@@ -47,10 +49,13 @@ module _ {R T O : Type 0} (eyes : Eyes R T O) (words : Words) (old : Given R T O
         → AreOpenedAs (opens_to_write plan.command) (eyes.seen old.rack).shelf (eyes.seen rack).slots (eyes.seen rack).held
         → (answer : Answer) → answer ≡ opening_answer fault → IsObeyed (ends rack old.tree old.out answer)
     unopened rack fault many cause early sure opened answer is = record {
-      effect = obeying.opening_effect words names plan sentence named (eyes.seen old.rack) (eyes.seen rack) fault many cause (eyes.seen old.rack).shelf (outside_in eyes old) answer is;
+      effect = obeying.opening_effect words names plan sentence named (eyes.seen old.rack) (eyes.seen rack) fault many cause (eyes.seen old.rack).shelf
+          (outside_in eyes old) answer is;
       told = obeying.opening_told words names plan sentence named (eyes.seen old.rack) (eyes.seen rack) fault many cause (outside_in eyes old) answer is;
-      order = obeying.opening_order words names plan sentence named (eyes.seen old.rack) (eyes.seen rack) fault many cause (eyes.seen old.rack).shelf _ (outside_in eyes old) answer is;
-      agreed = obeying.opening_agreed words names plan sentence named (eyes.seen old.rack) (eyes.seen rack) fault many cause (eyes.seen old.rack).shelf (outside_in eyes old) answer is;
+      order = obeying.opening_order words names plan sentence named (eyes.seen old.rack) (eyes.seen rack) fault many cause (eyes.seen old.rack).shelf _
+          (outside_in eyes old) answer is;
+      agreed = obeying.opening_agreed words names plan sentence named (eyes.seen old.rack) (eyes.seen rack) fault many cause (eyes.seen old.rack).shelf
+          (outside_in eyes old) answer is;
       decided = λ other decided.
           let all = obeying.opening_decided words names plan sentence named (eyes.seen old.rack) (eyes.seen rack) fault many cause answer other is decided in
           (early all.0, refl, all.1);
@@ -61,6 +66,8 @@ module _ {R T O : Type 0} (eyes : Eyes R T O) (words : Words) (old : Given R T O
       unchanged = obeying.opening_unchanged words names plan sentence named (eyes.seen old.rack) (eyes.seen rack) fault many cause opened;
       repaired = obeying.opening_repaired words names plan sentence named (eyes.seen old.rack) (eyes.seen rack) fault many cause answer is;
       left = obeying.opening_left words names plan sentence named (eyes.seen old.rack) (eyes.seen rack) fault many cause _ answer is opened;
+      synced = λ asks lost e. absurd (obeying.opening_unfinished words names plan sentence named (eyes.seen old.rack)
+          (eyes.seen rack) fault many cause answer is lost e);
     }
 
     -- the command was done, or not
@@ -70,21 +77,38 @@ module _ {R T O : Type 0} (eyes : Eyes R T O) (words : Words) (old : Given R T O
         → OpensAll names (eyes.seen old.rack).shelf (eyes.seen mid).held (Ok tt)
         → AreOpenedAs (opens_to_write plan.command) (eyes.seen old.rack).shelf (eyes.seen mid).slots (eyes.seen mid).held
         → (eyes.seen mid).sure ≡ (eyes.seen old.rack).sure
-        → IsPerformed (record { eyes = eyes; words = words; old = record old { rack = mid }; new = record { rack = rack; tree = tree; out = out }; answer = answer }) plan.command
+        → (eyes.seen mid).unsynced ≡ (eyes.seen old.rack).unsynced
+        → IsPerformed (record {
+          eyes = eyes;
+          words = words;
+          old = record old { rack = mid };
+          new = record { rack = rack; tree = tree; out = out };
+          answer =
+              answer;
+        }) plan.command
         → IsObeyed (ends rack tree out answer)
-    performed mid rack tree out answer few quiet opens opened kept did = record {
-      effect = obeying.command_effect words names plan sentence named (eyes.seen old.rack) (eyes.seen mid) (eyes.seen rack) few quiet answer did.cause (outside_in eyes old) y opens did.effect;
-      told = obeying.command_told words names plan sentence named (eyes.seen old.rack) (eyes.seen mid) (eyes.seen rack) few quiet answer did.cause (outside_in eyes old) y did.told;
-      order = obeying.command_order words names plan sentence named (eyes.seen old.rack) (eyes.seen mid) (eyes.seen rack) few quiet answer did.cause (outside_in eyes old) y opens did.order;
-      agreed = obeying.command_agreed words names plan sentence named (eyes.seen old.rack) (eyes.seen mid) (eyes.seen rack) few quiet answer did.cause (outside_in eyes old) y opens did.agreed;
-      decided = λ other decided. absurd (obeying.none_decided words names plan sentence named (eyes.seen old.rack) (eyes.seen mid) (eyes.seen rack) few quiet answer did.cause other decided);
+    performed mid rack tree out answer few quiet opens opened kept unsynced did = record {
+      effect = obeying.command_effect words names plan sentence named (eyes.seen old.rack) (eyes.seen mid) (eyes.seen rack) few quiet answer did.cause
+          (outside_in eyes old) y opens did.effect;
+      told = obeying.command_told words names plan sentence named (eyes.seen old.rack) (eyes.seen mid) (eyes.seen rack) few quiet answer did.cause
+          (outside_in eyes old) y did.told;
+      order = obeying.command_order words names plan sentence named (eyes.seen old.rack) (eyes.seen mid) (eyes.seen rack) few quiet answer did.cause
+          (outside_in eyes old) y opens did.order;
+      agreed = obeying.command_agreed words names plan sentence named (eyes.seen old.rack) (eyes.seen mid) (eyes.seen rack) few quiet answer did.cause
+          (outside_in eyes old) y opens did.agreed;
+      decided = λ other decided. absurd (obeying.none_decided words names plan sentence named (eyes.seen old.rack) (eyes.seen mid)
+          (eyes.seen rack) few quiet answer did.cause other decided);
       stated = obeying.command_stated words names plan sentence named (eyes.seen old.rack) (eyes.seen mid) (eyes.seen rack) few quiet answer did.cause;
       stored = did.stored;
       alone = λ never. did.alone (λ calls. never (plan, sentence, calls));
       cause = obeying.command_cause words names plan sentence named (eyes.seen old.rack) (eyes.seen mid) (eyes.seen rack) few quiet answer did.cause kept;
-      unchanged = obeying.command_unchanged words names plan sentence named (eyes.seen old.rack) (eyes.seen mid) (eyes.seen rack) few quiet answer did.cause opened;
-      repaired = obeying.command_repaired words names plan sentence named (eyes.seen old.rack) (eyes.seen mid) (eyes.seen rack) few quiet answer did.cause opens did.repaired;
-      left = obeying.command_left words names plan sentence named (eyes.seen old.rack) (eyes.seen mid) (eyes.seen rack) few quiet answer did.cause opens opened did.left;
+      unchanged = obeying.command_unchanged words names plan sentence named (eyes.seen old.rack) (eyes.seen mid)
+          (eyes.seen rack) few quiet answer did.cause opened;
+      repaired = obeying.command_repaired words names plan sentence named (eyes.seen old.rack) (eyes.seen mid)
+          (eyes.seen rack) few quiet answer did.cause opens did.repaired;
+      left = obeying.command_left words names plan sentence named (eyes.seen old.rack) (eyes.seen mid)
+          (eyes.seen rack) few quiet answer did.cause opens opened did.left;
+      synced = λ asks lost e none. did.synced (obeying.asks_scrub words plan sentence asks) lost e (unsynced ∙ none);
     }
       where
         y : Outside

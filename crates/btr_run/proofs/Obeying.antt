@@ -1,5 +1,6 @@
 -- What doing what a sentence says comes to.
-use Rattle.std.proofs.Common.{◌≡◌, ◌≢◌, inl, inr, ⊎_elim, Bool, true, false, ℕ, ◌<◌, ◌≤◌, List, [], get_or, length, map, Option, Some, None, Ok, Err, refl, sym, ap, ◌∙◌, subst, arith}
+use Rattle.std.proofs.Common.{◌≡◌, ◌≢◌, inl, inr, ⊎_elim, Bool, true, false, ℕ, ◌<◌, ◌≤◌, List, [], get_or, length, map, Option, Some, None, Ok, Err, refl, sym}
+use Rattle.std.proofs.Common.{ap, ◌∙◌, subst, arith}
 use Rattle.std.specs.List.{All}
 use Rattle.std.specs.Option.{IfSome}
 use Rattle.btr_rack.specs.Rack.{Seen, Slot, Rose, Steady, NoneFailed, Shelf}
@@ -11,7 +12,7 @@ use Rattle.btr_restore.specs.Running.{Outside}
 use Rattle.btr_read.specs.Layout.{Layout}
 use Rattle.btr_volume.specs.Start.{Start}
 use Rattle.btr_walk.specs.Reading.{FaultCause}
-use Rattle.btr_run.specs.Agreeing.{AreAgreedFor, ComesAgreed, FollowsAgreed, IsUnreadOrWant}
+use Rattle.btr_run.specs.Agreeing.{AreAgreedFor, ComesAgreed, FollowsAgreed, IsUnopened}
 use Rattle.btr_run.specs.Answers.{error_line}
 use Rattle.btr_run.specs.Behind.{IfSteady, IsFault}
 use Rattle.btr_run.specs.Causes.{IsBehindWords, opened_with}
@@ -41,7 +42,22 @@ use Rattle.btr_run.proofs.Openings.{Images}
 use Rattle.btr_run.proofs.Orders.{nothing_done, nothing_stands}
 use Rattle.btr_run.proofs.Apart.{one_plan}
 use Rattle.btr_run.proofs.Found.{found_line}
-use Rattle.btr_run.proofs.Carrying.{agreed_before, all_told, as_opened, few, limit_outcome, opening_line, opening_no_fault, opening_no_tree, steady_not_rose, taken_outcome}
+use Rattle.btr_run.proofs.Carrying.{agreed_before, all_told, as_opened, few, limit_outcome, opening_line, opening_no_fault, opening_no_tree, steady_not_rose}
+use Rattle.btr_run.proofs.Carrying.{taken_outcome}
+
+-- the command of words that ask to write is a scrub that does
+pub asks_scrub : (words : Words) (plan : Plan) → IsSentence plan words → AsksToWrite words → plan.command ≡ Scrub true
+asks_scrub words plan sentence asks = writing plan.command (ap (λ (q : Plan). opens_to_write q.command) (one_plan words plan asks.0 sentence asks.1) ∙ asks.2)
+  where
+    writing : (command : Command) → opens_to_write command ≡ true → command ≡ Scrub true
+    writing (Scrub write) is = ap (λ b. Scrub b) is
+    writing Super is = absurd (cc is)
+    writing (Dump choice) is = absurd (cc is)
+    writing (Resolve addr) is = absurd (cc is)
+    writing (Check read_data) is = absurd (cc is)
+    writing (Restore dest p) is = absurd (cc is)
+    writing (Salvage dest p) is = absurd (cc is)
+    writing (Send dest file p) is = absurd (cc is)
 
 -- words that are a sentence: their images
 module _ (words names : Words) (plan : Plan) (sentence : IsSentence plan words) (named : images_of plan words ≡ names) where
@@ -52,16 +68,22 @@ module _ (words names : Words) (plan : Plan) (sentence : IsSentence plan words) 
   too_many_decided : (answer : Answer) → IsDecided words answer → (most_images < length names) × (answer ≡ Limit images_limit (length names))
   too_many_decided answer decided =
       ⊎_elim (λ usage. absurd (usage.1.no_sentence plan sentence))
-      (λ many. let same = ap (λ p. length (images_of p words)) (one_plan words many.0 plan many.1 sentence) ∙ ap length named in (subst (λ n. most_images < n) same many.2, many.3 ∙ ap (λ n. Limit images_limit n) same)) decided
+      (λ many. let same = ap (λ p. length (images_of p words)) (one_plan words many.0 plan many.1 sentence)
+      ∙ ap length named in (subst (λ n. most_images < n) same many.2, many.3 ∙ ap (λ n. Limit images_limit n) same)) decided
 
   -- the images aren't open
-  module _ (old new : Seen) (fault : OpeningFault) (many : HasTooMany names (Err fault)) (cause : OpeningCause (opens_to_write plan.command) names old new (Err fault)) where
-    opening_comes : (shelf : Shelf) (x : Outside) → Steady old.account.faults new.account.faults → Comes (MayWantBy words x.out_calls) (OrMemory (IsOutcome words shelf)) x x (opening_answer fault)
-    opening_comes shelf x steady = comes_bare (MayWantBy words x.out_calls) (OrMemory (IsOutcome words shelf)) x (opening_answer fault) (of fault many cause) (opening_no_fault fault)
+  module _ (old new : Seen) (fault : OpeningFault) (many : HasTooMany names (Err fault))
+      (cause : OpeningCause (opens_to_write plan.command) names old new (Err fault)) where
+    opening_comes : (shelf : Shelf) (x : Outside) → Steady old.account.faults new.account.faults
+        → Comes (MayWantBy words x.out_calls) (OrMemory (IsOutcome words shelf)) x x (opening_answer fault)
+    opening_comes shelf x steady = comes_bare (MayWantBy words x.out_calls) (OrMemory (IsOutcome words shelf)) x (opening_answer fault) (of fault many cause)
+        (opening_no_fault fault)
       where
-        of : (f : OpeningFault) → HasTooMany names (Err f) → OpeningCause (opens_to_write plan.command) names old new (Err f) → OrMemory (IsOutcome words shelf) (refused (opening_answer f))
+        of : (f : OpeningFault) → HasTooMany names (Err f) → OpeningCause (opens_to_write plan.command) names old new (Err f)
+            → OrMemory (IsOutcome words shelf) (refused (opening_answer f))
         of (TooMany count) many cause =
-            inl (outcome_is shelf (refused (Limit images_limit count)) (limit_outcome plan.command words names shelf (omega (arith, many.0, many.1)) ∙ ap (λ n. Some (refused (Limit images_limit n))) (sym many.0)))
+            inl (outcome_is shelf (refused (Limit images_limit count))
+            (limit_outcome plan.command words names shelf (omega (arith, many.0, many.1)) ∙ ap (λ n. Some (refused (Limit images_limit n))) (sym many.0)))
         of (Failed slot) many cause = absurd (steady_not_rose old.account.faults new.account.faults steady cause.faults)
         of memory_fault many cause = inr refl
 
@@ -70,38 +92,47 @@ module _ (words names : Words) (plan : Plan) (sentence : IsSentence plan words) 
     opening_effect shelf x result is =
         all_told shelf _ (λ s steady. subst (λ a. Comes (MayWantBy words x.out_calls) (OrMemory (IsOutcome words s)) x x a) (sym is) (opening_comes s x steady))
 
-    pub opening_told : (x : Outside) (result : Answer) → result ≡ opening_answer fault → Comes (MayWantBy words x.out_calls) (OrBare (MayFollow words)) x x result
+    pub opening_told : (x : Outside) (result : Answer) → result ≡ opening_answer fault → Comes (MayWantBy words x.out_calls)
+        (OrBare (MayFollow words)) x x result
     opening_told x result is =
         subst (λ a. Comes (MayWantBy words x.out_calls) (OrBare (MayFollow words)) x x a) (sym is)
         (comes_bare (MayWantBy words x.out_calls) (OrBare (MayFollow words)) x (opening_answer fault) (inr (refl, opening_line fault)) (opening_no_fault fault))
 
-    pub opening_order : (shelf : Option Shelf) (before : Seen) (x : Outside) (result : Answer) → result ≡ opening_answer fault → IfSome shelf (λ s. FollowsOrder words s before new x x result)
+    pub opening_order : (shelf : Option Shelf) (before : Seen) (x : Outside) (result : Answer) → result ≡ opening_answer fault
+        → IfSome shelf (λ s. FollowsOrder words s before new x x result)
     opening_order shelf before x result is =
         all_told shelf _ (λ s p dest images from start begun agreed.
-        of p dest images start (subst (λ l. length l ≤ most_images) (ap (λ (q : Plan). images_of q words) (one_plan words _ plan from.sentence sentence) ∙ named) from.few) fault many is)
+        of p dest images start (subst (λ l. length l ≤ most_images)
+        (ap (λ (q : Plan). images_of q words) (one_plan words _ plan from.sentence sentence) ∙ named) from.few) fault many is)
       where
-        bare : (p : RestorePlan) (dest : List ℕ) (images : Images) (start : Start) → IsFault result → KeepsTo (journey.Follows p dest start before new (choices images)) x x [] result
-        bare p dest images start is_fault = record { done = []; answer = Err Broke; allowed = nothing_done p dest images start before new; stands = nothing_stands x; answered = is_fault }
+        bare : (p : RestorePlan) (dest : List ℕ) (images : Images) (start : Start) → IsFault result
+            → KeepsTo (journey.Follows p dest start before new (choices images)) x x [] result
+        bare p dest images start is_fault = record
+            { done = []; answer = Err Broke; allowed = nothing_done p dest images start before new; stands = nothing_stands x; answered = is_fault }
 
-        of : (p : RestorePlan) (dest : List ℕ) (images : Images) (start : Start) → length names ≤ most_images → (f : OpeningFault) → HasTooMany names (Err f) → result ≡ opening_answer f → KeepsTo (journey.Follows p dest start before new (choices images)) x x [] result
+        of : (p : RestorePlan) (dest : List ℕ) (images : Images) (start : Start) → length names ≤ most_images → (f : OpeningFault) → HasTooMany names (Err f)
+            → result ≡ opening_answer f → KeepsTo (journey.Follows p dest start before new (choices images)) x x [] result
         of p dest images start few (TooMany count) many is = absurd (omega (arith, few, many.0, many.1))
         of p dest images start few (Failed slot) many is = bare p dest images start (inl (slot, is))
         of p dest images start few memory_fault many is = bare p dest images start (inr (inr (inr is)))
 
-    pub opening_agreed : (shelf : Option Shelf) (x : Outside) (result : Answer) → result ≡ opening_answer fault → IfSome shelf (λ s. FollowsAgreed words s x x result)
+    pub opening_agreed : (shelf : Option Shelf) (x : Outside) (result : Answer) → result ≡ opening_answer fault
+        → IfSome shelf (λ s. FollowsAgreed words s x x result)
     opening_agreed shelf x result is =
         all_told shelf _ (λ s p images asks agreed.
         subst (λ a. Comes (MayWantBy words x.out_calls) (ComesAgreed p.command words images) x x a) (sym is)
         (comes_bare (MayWantBy words x.out_calls) (ComesAgreed p.command words images) x (opening_answer fault)
         (agreed_before p.command words images (opening_answer fault) (opening_line fault)
-        (of images (subst (λ l. length l ≤ most_images) (ap (λ (q : Plan). images_of q words) (one_plan words _ plan asks.sentence sentence) ∙ named) asks.few) fault many)) (opening_no_fault fault)))
+        (of images (subst (λ l. length l ≤ most_images) (ap (λ (q : Plan). images_of q words) (one_plan words _ plan asks.sentence sentence)
+        ∙ named) asks.few) fault many)) (opening_no_fault fault)))
       where
-        of : (images : Images) → length names ≤ most_images → (f : OpeningFault) → HasTooMany names (Err f) → IsUnreadOrWant (refused (opening_answer f))
+        of : (images : Images) → length names ≤ most_images → (f : OpeningFault) → HasTooMany names (Err f) → IsUnopened images (refused (opening_answer f))
         of images few (TooMany count) many = absurd (omega (arith, few, many.0, many.1))
         of images few (Failed slot) many = inr (inl (slot, refl))
         of images few memory_fault many = inr (inr refl)
 
-    pub opening_unchanged : AreOpenedAs (opens_to_write plan.command) old.shelf new.slots new.held → (AsksToWrite words → ⊥) → AreUnchanged old.shelf new.slots new.held
+    pub opening_unchanged : AreOpenedAs (opens_to_write plan.command) old.shelf new.slots new.held → (AsksToWrite words → ⊥)
+        → AreUnchanged old.shelf new.slots new.held
     opening_unchanged opens never = of (opens_to_write plan.command) refl opens
       where
         of : (write : Bool) → opens_to_write plan.command ≡ write → AreOpenedAs write old.shelf new.slots new.held → AreUnchanged old.shelf new.slots new.held
@@ -112,19 +143,26 @@ module _ (words names : Words) (plan : Plan) (sentence : IsSentence plan words) 
         → IfSome old.shelf (λ shelf. Steady old.account.faults new.account.faults → result ≢ Memory → KeepsRepair words shelf new.held)
     opening_repaired result is =
         all_told old.shelf _ (λ s steady enough images from.
-        absurd (of (subst (λ l. length l ≤ most_images) (ap (λ (q : Plan). images_of q words) (one_plan words _ plan from.sentence sentence) ∙ named) from.few) steady fault many cause (λ e. enough (is ∙ e))))
+        absurd (of (subst (λ l. length l ≤ most_images) (ap (λ (q : Plan). images_of q words) (one_plan words _ plan from.sentence sentence)
+        ∙ named) from.few) steady fault many cause (λ e. enough (is ∙ e))))
       where
-        of : length names ≤ most_images → Steady old.account.faults new.account.faults → (f : OpeningFault) → HasTooMany names (Err f) → OpeningCause (opens_to_write plan.command) names old new (Err f) → opening_answer f ≢ Memory → ⊥
+        of : length names ≤ most_images → Steady old.account.faults new.account.faults → (f : OpeningFault) → HasTooMany names (Err f)
+            → OpeningCause (opens_to_write plan.command) names old new (Err f) → opening_answer f ≢ Memory → ⊥
         of few steady (TooMany count) many cause enough = omega (arith, few, many.0, many.1)
         of few steady (Failed slot) many cause enough = steady_not_rose old.account.faults new.account.faults steady cause.faults
         of few steady memory_fault many cause enough = enough refl
 
-    pub opening_left : (calm : Type 0) (result : Answer) → result ≡ opening_answer fault → AreOpenedAs (opens_to_write plan.command) old.shelf new.slots new.held → AsksToWrite words → AreLeft calm old.shelf new.slots new.held result
-    opening_left calm result is opens asks = (subst (λ b. All (λ (s : Slot). s.write ≡ b) new.slots) writes opens.0, as_opened calm old.shelf new.held new.slots result other opens.1)
-      where
-        other : (lost : ℕ) → result ≢ found lost
-        other lost e = opening_line fault (ap error_line (sym is ∙ e) ∙ found_line lost)
+    pub opening_unfinished : (result : Answer) → result ≡ opening_answer fault → (lost : ℕ) → result ≢ found lost
+    opening_unfinished result is lost e = opening_line fault (ap error_line (sym is ∙ e) ∙ found_line lost)
 
+    pub opening_left : (calm : Type 0) (result : Answer) → result ≡ opening_answer fault → AreOpenedAs
+        (opens_to_write plan.command) old.shelf new.slots new.held → AsksToWrite words → AreLeft calm old.shelf new.slots new.held result
+    opening_left calm result is opens asks = (
+      subst (λ b. All (λ (s : Slot). s.write ≡ b) new.slots) writes opens.0,
+      as_opened calm old.shelf new.held new.slots result
+          (opening_unfinished result is) opens.1,
+    )
+      where
         writes : opens_to_write plan.command ≡ true
         writes = ap (λ (q : Plan). opens_to_write q.command) (one_plan words plan asks.0 sentence asks.1) ∙ asks.2
 
@@ -142,15 +180,18 @@ module _ (words names : Words) (plan : Plan) (sentence : IsSentence plan words) 
         of : (f : OpeningFault) → HasTooMany names (Err f) → FollowsWords words (opening_answer f)
         of (TooMany count) many = record {
           usage = λ at is. absurd (cc is);
-          limit = λ n is. let same = many.0 ∙ ap length (sym named) in inr (plan, sentence, subst (λ n. most_images < n) same many.1, ap (λ n. Limit images_limit n) same);
+          limit = λ n is. let same = many.0 ∙ ap length (sym named) in inr
+              (plan, sentence, subst (λ n. most_images < n) same many.1, ap (λ n. Limit images_limit n) same);
         }
         of (Failed slot) few = record { usage = λ at is. absurd (cc is); limit = λ n is. absurd (cc is) }
         of memory_fault few = record { usage = λ at is. absurd (cc is); limit = λ n is. absurd (cc is) }
 
-    pub opening_cause : (result : Answer) → result ≡ opening_answer fault → ((slot : ℕ) → fault ≡ Failed slot → old.sure ≡ true → IsMissing names old.shelf slot) → IsBehindWords words old new result
+    pub opening_cause : (result : Answer) → result ≡ opening_answer fault
+        → ((slot : ℕ) → fault ≡ Failed slot → old.sure ≡ true → IsMissing names old.shelf slot) → IsBehindWords words old new result
     opening_cause result is sure = subst (IsBehindWords words old new) (sym is) (of fault cause sure)
       where
-        calm : (f : OpeningFault) → NoneFailed old.account new.account → ((slot : ℕ) → opening_answer f ≢ ImageFault slot) → IsBehindWords words old new (opening_answer f)
+        calm : (f : OpeningFault) → NoneFailed old.account new.account → ((slot : ℕ) → opening_answer f ≢ ImageFault slot)
+            → IsBehindWords words old new (opening_answer f)
         calm f none other = record {
           image = λ slot is. absurd (other slot is);
           shut = λ more. absurd (omega (arith, none.shut, more));
@@ -159,12 +200,18 @@ module _ (words names : Words) (plan : Plan) (sentence : IsSentence plan words) 
           tree = λ fault e. absurd (no_tree (opening_answer f) (opening_no_tree f) fault e);
         }
 
-        of : (f : OpeningFault) → OpeningCause (opens_to_write plan.command) names old new (Err f) → ((slot : ℕ) → f ≡ Failed slot → old.sure ≡ true → IsMissing names old.shelf slot) → IsBehindWords words old new (opening_answer f)
+        of : (f : OpeningFault) → OpeningCause (opens_to_write plan.command) names old new (Err f)
+            → ((slot : ℕ) → f ≡ Failed slot → old.sure ≡ true → IsMissing names old.shelf slot) → IsBehindWords words old new (opening_answer f)
         of (TooMany count) cause sure = calm (TooMany count) cause (λ slot e. cc)
         of memory_fault cause sure = calm memory_fault cause (λ slot e. cc)
         of (Failed slot) failed sure =
             let failed' = subst (λ l. OpeningFailed (opens_to_write plan.command) l new.slots old.account new.account slot) (sym named) failed in record {
-              image = λ other is. record { plan = plan; sentence = sentence; failed = inl (subst (OpeningFailed (opens_to_write plan.command) (images_of plan words) new.slots old.account new.account) (cc) failed') };
+              image = λ other is. record {
+                plan = plan;
+                sentence = sentence;
+                failed = inl
+                    (subst (OpeningFailed (opens_to_write plan.command) (images_of plan words) new.slots old.account new.account) (cc) failed');
+              };
               shut = λ more. (slot, refl, record { plan = plan; sentence = sentence; failed = failed' });
               hidden = inr (inl (inl (slot, refl)));
               sure = λ other is certain. record {
@@ -176,67 +223,86 @@ module _ (words names : Words) (plan : Plan) (sentence : IsSentence plan words) 
             }
 
   -- the images are open, and the command was done, or not
-  module _ (old mid new : Seen) (few : length names ≤ most_images) (opened : NoneFailed old.account mid.account) (answer : Answer) (behind : IsBehindCommand plan.command mid new answer) where
+  module _ (old mid new : Seen) (few : length names ≤ most_images) (opened : NoneFailed old.account mid.account) (answer : Answer)
+      (behind : IsBehindCommand plan.command mid new answer) where
     may_want : (x : Outside) → MayWant plan.command x.out_calls → MayWantBy words x.out_calls
     may_want x may = ⊎_elim (λ scarce. inl scarce) (λ writes. inr (plan, sentence, writes)) may
 
     pub command_effect : (x y : Outside) → OpensAll names old.shelf mid.held (Ok tt)
-        → IfSome mid.held (λ images. Steady mid.account.faults new.account.faults → Comes (MayWant plan.command x.out_calls) (OrMemory (λ outcome. command_outcome plan.command words images ≡ Some outcome)) x y answer)
-        → IfSome old.shelf (λ shelf. Steady old.account.faults new.account.faults → Comes (MayWantBy words x.out_calls) (OrMemory (IsOutcome words shelf)) x y answer)
+        → IfSome mid.held (λ images. Steady mid.account.faults new.account.faults → Comes (MayWant plan.command x.out_calls)
+        (OrMemory (λ outcome. command_outcome plan.command words images ≡ Some outcome)) x y answer)
+        → IfSome old.shelf (λ shelf. Steady old.account.faults new.account.faults → Comes (MayWantBy words x.out_calls)
+        (OrMemory (IsOutcome words shelf)) x y answer)
     command_effect x y = of old.shelf mid.held
       where
         of : (shelf : Option Shelf) (held : Option Images) → OpensAll names shelf held (Ok tt)
-            → IfSome held (λ images. Steady mid.account.faults new.account.faults → Comes (MayWant plan.command x.out_calls) (OrMemory (λ outcome. command_outcome plan.command words images ≡ Some outcome)) x y answer)
-            → IfSome shelf (λ shelf. Steady old.account.faults new.account.faults → Comes (MayWantBy words x.out_calls) (OrMemory (IsOutcome words shelf)) x y answer)
+            → IfSome held (λ images. Steady mid.account.faults new.account.faults → Comes (MayWant plan.command x.out_calls)
+            (OrMemory (λ outcome. command_outcome plan.command words images ≡ Some outcome)) x y answer)
+            → IfSome shelf (λ shelf. Steady old.account.faults new.account.faults → Comes (MayWantBy words x.out_calls)
+            (OrMemory (IsOutcome words shelf)) x y answer)
         of None held opens effect = tt
         of (Some at) None opens effect = absurd opens
         of (Some at) (Some images) opens effect = λ steady.
-            comes_also (MayWant plan.command x.out_calls) (MayWantBy words x.out_calls) (OrMemory (λ outcome. command_outcome plan.command words images ≡ Some outcome)) (OrMemory (IsOutcome words at)) x y answer (may_want x)
+            comes_also (MayWant plan.command x.out_calls) (MayWantBy words x.out_calls)
+            (OrMemory (λ outcome. command_outcome plan.command words images ≡ Some outcome)) (OrMemory (IsOutcome words at)) x y answer (may_want x)
             (λ outcome one. ⊎_elim (λ is. inl (outcome_is at outcome (taken_outcome plan.command words names at images few opens ∙ is))) (λ want. inr want) one)
             (effect (subst (λ n. Steady n new.account.faults) (sym opened.faults) steady))
 
-    pub command_told : (x y : Outside) → Comes (MayWant plan.command x.out_calls) (OrBare (MayCome plan.command)) x y answer → Comes (MayWantBy words x.out_calls) (OrBare (MayFollow words)) x y answer
+    pub command_told : (x y : Outside) → Comes (MayWant plan.command x.out_calls) (OrBare (MayCome plan.command)) x y answer
+        → Comes (MayWantBy words x.out_calls) (OrBare (MayFollow words)) x y answer
     command_told x y comes =
-        comes_also (MayWant plan.command x.out_calls) (MayWantBy words x.out_calls) (OrBare (MayCome plan.command)) (OrBare (MayFollow words)) x y answer (may_want x)
+        comes_also (MayWant plan.command x.out_calls) (MayWantBy words x.out_calls) (OrBare (MayCome plan.command)) (OrBare (MayFollow words)) x y answer
+        (may_want x)
         (λ outcome one. ⊎_elim (λ is. inl (plan, sentence, is)) (λ bare. inr bare) one) comes
 
     the_images : (a b : Images) → ◌≡◌ {A = Option Images} (Some a) (Some b) → a ≡ b
     the_images a b e = cc e
 
     pub command_order : (x y : Outside) → OpensAll names old.shelf mid.held (Ok tt)
-        → ((number : ℕ) (p : RestorePlan) → plan.command ≡ Restore number p → IfSome mid.held (λ images. InOrder p (get_or words number []) images mid new x y answer))
+        → ((number : ℕ) (p : RestorePlan) → plan.command ≡ Restore number p → IfSome mid.held
+        (λ images. InOrder p (get_or words number []) images mid new x y answer))
         → IfSome old.shelf (λ shelf. FollowsOrder words shelf (opened_with old.account new) new x y answer)
     command_order x y = of old.shelf mid.held
       where
         of : (shelf : Option Shelf) (held : Option Images) → OpensAll names shelf held (Ok tt)
-            → ((number : ℕ) (p : RestorePlan) → plan.command ≡ Restore number p → IfSome held (λ images. InOrder p (get_or words number []) images mid new x y answer))
+            → ((number : ℕ) (p : RestorePlan) → plan.command ≡ Restore number p → IfSome held
+            (λ images. InOrder p (get_or words number []) images mid new x y answer))
             → IfSome shelf (λ shelf. FollowsOrder words shelf (opened_with old.account new) new x y answer)
         of None held opens order = tt
         of (Some at) None opens order = absurd opens
         of (Some at) (Some held) opens order = λ p dest images from.
             let one = one_plan words _ plan from.sentence sentence in
-            let same : ◌≡◌ {A = Option Images} (Some held) (Some images) = sym opens ∙ sym (ap (λ (q : Plan). taken (images_of q words) at) one ∙ ap (λ l. taken l at) named) ∙ from.from in
-            subst (λ before. InOrder p dest images before new x y answer) (opened_again old mid new opened (behind.reads (λ scrub. subst IsScrub (sym (ap (λ (q : Plan). q.command) one)) scrub)).same)
+            let same : ◌≡◌ {A = Option Images} (Some held) (Some images) = sym opens ∙ sym
+            (ap (λ (q : Plan). taken (images_of q words) at) one ∙ ap (λ l. taken l at) named) ∙ from.from in
+            subst (λ before. InOrder p dest images before new x y answer)
+            (opened_again old mid new opened (behind.reads (λ scrub. subst IsScrub (sym (ap (λ (q : Plan). q.command) one)) scrub)).same)
             (subst (λ d. InOrder p d images mid new x y answer) from.named
-            (subst (λ i. InOrder p (get_or words from.number []) i mid new x y answer) (the_images held images same) (order from.number p (sym (ap (λ (q : Plan). q.command) one)))))
+            (subst (λ i. InOrder p (get_or words from.number []) i mid new x y answer) (the_images held images same)
+            (order from.number p (sym (ap (λ (q : Plan). q.command) one)))))
 
     pub command_agreed : (x y : Outside) → OpensAll names old.shelf mid.held (Ok tt)
-        → IfSome mid.held (λ images. AreAgreedFor plan.command images → Comes (MayWant plan.command x.out_calls) (ComesAgreed plan.command words images) x y answer)
+        → IfSome mid.held (λ images. AreAgreedFor plan.command images → Comes (MayWant plan.command x.out_calls)
+        (ComesAgreed plan.command words images) x y answer)
         → IfSome old.shelf (λ shelf. FollowsAgreed words shelf x y answer)
     command_agreed x y = of old.shelf mid.held
       where
         Comes_so : Command → Images → Type 0
         Comes_so command images = AreAgreedFor command images → Comes (MayWant command x.out_calls) (ComesAgreed command words images) x y answer
 
-        of : (shelf : Option Shelf) (held : Option Images) → OpensAll names shelf held (Ok tt) → IfSome held (λ images. Comes_so plan.command images) → IfSome shelf (λ shelf. FollowsAgreed words shelf x y answer)
+        of : (shelf : Option Shelf) (held : Option Images) → OpensAll names shelf held (Ok tt) → IfSome held (λ images. Comes_so plan.command images)
+            → IfSome shelf (λ shelf. FollowsAgreed words shelf x y answer)
         of None held opens comes = tt
         of (Some at) None opens comes = absurd opens
         of (Some at) (Some held) opens comes = λ p images asks agreed.
             let one = one_plan words _ plan asks.sentence sentence in
-            let same : ◌≡◌ {A = Option Images} (Some held) (Some images) = sym opens ∙ sym (ap (λ (q : Plan). taken (images_of q words) at) one ∙ ap (λ l. taken l at) named) ∙ asks.from in
-            let by_command : Comes_so p.command images = subst (λ c. Comes_so c images) (sym (ap (λ (q : Plan). q.command) one)) (subst (λ i. Comes_so plan.command i) (the_images held images same) comes) in
-            comes_also (MayWant p.command x.out_calls) (MayWantBy words x.out_calls) (ComesAgreed p.command words images) (ComesAgreed p.command words images) x y answer
-            (subst (λ c. MayWant c x.out_calls → MayWantBy words x.out_calls) (sym (ap (λ (q : Plan). q.command) one)) (may_want x)) (λ outcome o. o) (by_command agreed)
+            let same : ◌≡◌ {A = Option Images} (Some held) (Some images) = sym opens ∙ sym
+            (ap (λ (q : Plan). taken (images_of q words) at) one ∙ ap (λ l. taken l at) named) ∙ asks.from in
+            let by_command : Comes_so p.command images = subst (λ c. Comes_so c images) (sym (ap (λ (q : Plan). q.command) one))
+            (subst (λ i. Comes_so plan.command i) (the_images held images same) comes) in
+            comes_also (MayWant p.command x.out_calls) (MayWantBy words x.out_calls) (ComesAgreed p.command words images)
+            (ComesAgreed p.command words images) x y answer
+            (subst (λ c. MayWant c x.out_calls → MayWantBy words x.out_calls) (sym (ap (λ (q : Plan). q.command) one)) (may_want x)) (λ outcome o. o)
+            (by_command agreed)
 
     pub none_decided : (other : Answer) → IsDecided words other → ⊥
     none_decided other decided = omega (arith, few, (too_many_decided other decided).0)
@@ -248,12 +314,15 @@ module _ (words names : Words) (plan : Plan) (sentence : IsSentence plan words) 
     command_cause kept = record {
       image = λ slot is. record { plan = plan; sentence = sentence; failed = inr (since (behind.image slot is)) };
       shut = λ more. absurd (omega (arith, more, behind.keeps.same_shut, opened.shut));
-      hidden = ⊎_elim (λ none. inl (none_failed_twice old.account mid.account new.account opened none)) (λ rest. ⊎_elim (λ fault. inr (inl fault)) (λ may. inr (inr (plan, sentence, may))) rest) behind.hidden;
-      sure = λ slot is certain. absurd (⊎_elim (λ super. cc (sym certain ∙ sym kept ∙ super.unsure)) (λ own. cc (sym certain ∙ sym kept ∙ own.1.1.unsure)) (behind.image slot is));
+      hidden = ⊎_elim (λ none. inl (none_failed_twice old.account mid.account new.account opened none))
+          (λ rest. ⊎_elim (λ fault. inr (inl fault)) (λ may. inr (inr (plan, sentence, may))) rest) behind.hidden;
+      sure = λ slot is certain. absurd (⊎_elim (λ super. cc (sym certain ∙ sym kept ∙ super.unsure)) (λ own. cc (sym certain ∙ sym kept ∙ own.1.1.unsure))
+          (behind.image slot is));
       tree = λ fault e. record {
         plan = plan;
         sentence = sentence;
-        cause = λ told. let tree = behind.tree fault e in subst (λ s. (layout : Layout) × FaultCause layout s new fault) (opened_again old mid new opened tree.0.same) (tree.1 told);
+        cause = λ told. let tree = behind.tree fault e in subst (λ s. (layout : Layout) × FaultCause layout s new fault)
+            (opened_again old mid new opened tree.0.same) (tree.1 told);
       };
     }
       where
@@ -287,12 +356,14 @@ module _ (words names : Words) (plan : Plan) (sentence : IsSentence plan words) 
     same_slots : new.slots ≡ mid.slots
     same_slots = ap (λ (s : Seen). s.slots) behind.keeps.same
 
-    pub command_unchanged : AreOpenedAs (opens_to_write plan.command) old.shelf mid.slots mid.held → (AsksToWrite words → ⊥) → AreUnchanged old.shelf new.slots new.held
+    pub command_unchanged : AreOpenedAs (opens_to_write plan.command) old.shelf mid.slots mid.held → (AsksToWrite words → ⊥)
+        → AreUnchanged old.shelf new.slots new.held
     command_unchanged opens never = of (opens_to_write plan.command) refl opens
       where
         of : (write : Bool) → opens_to_write plan.command ≡ write → AreOpenedAs write old.shelf mid.slots mid.held → AreUnchanged old.shelf new.slots new.held
         of true is opens = absurd (never (plan, sentence, is))
-        of false is opens = subst (λ slots. AreUnchanged old.shelf slots new.held) (sym same_slots) (subst (AreUnchanged old.shelf mid.slots) (sym (behind.held is)) opens)
+        of false is opens = subst (λ slots. AreUnchanged old.shelf slots new.held) (sym same_slots)
+            (subst (AreUnchanged old.shelf mid.slots) (sym (behind.held is)) opens)
 
     the_scrub : (images : Images) (shelf : Shelf) → ScrubsFrom words shelf images → plan.command ≡ Scrub true
     the_scrub images shelf from = sym (ap (λ (q : Plan). q.command) (one_plan words _ plan from.sentence sentence))
@@ -309,33 +380,27 @@ module _ (words names : Words) (plan : Plan) (sentence : IsSentence plan words) 
         of (Some at) None opens repaired = absurd opens
         of (Some at) (Some held) opens repaired = λ steady enough images from.
             let one = one_plan words _ plan from.sentence sentence in
-            let same : ◌≡◌ {A = Option Images} (Some held) (Some images) = sym opens ∙ sym (ap (λ (q : Plan). taken (images_of q words) at) one ∙ ap (λ l. taken l at) named) ∙ from.from in
+            let same : ◌≡◌ {A = Option Images} (Some held) (Some images) = sym opens ∙ sym
+            (ap (λ (q : Plan). taken (images_of q words) at) one ∙ ap (λ l. taken l at) named) ∙ from.from in
             subst (λ i. new.held ≡ Some (scrubbed_images i)) (the_images held images same)
             (repaired (the_scrub images at from) (subst (λ n. Steady n new.account.faults) (sym opened.faults) steady) enough)
 
     pub command_left : OpensAll names old.shelf mid.held (Ok tt) → AreOpenedAs (opens_to_write plan.command) old.shelf mid.slots mid.held
-        → (plan.command ≡ Scrub true → IfSome mid.held (λ images. IfSome new.held (λ left. LeavesImages (Steady mid.account.faults new.account.faults) images left answer)))
+        → (plan.command ≡ Scrub true → IfSome mid.held
+        (λ images. IfSome new.held (λ left. LeavesImages (Steady mid.account.faults new.account.faults) images left answer)))
         → AsksToWrite words → AreLeft (Steady old.account.faults new.account.faults) old.shelf new.slots new.held answer
     command_left opens are left asks = (
       subst (λ slots. All (λ (s : Slot). s.write ≡ true) slots) (sym same_slots) (subst (λ b. All (λ (s : Slot). s.write ≡ b) mid.slots) writes are.0),
-      of old.shelf mid.held opens are.1 (left (writing plan.command writes)),
+      of old.shelf mid.held opens are.1 (left (asks_scrub words plan sentence asks)),
     )
       where
         writes : opens_to_write plan.command ≡ true
         writes = ap (λ (q : Plan). opens_to_write q.command) (one_plan words plan asks.0 sentence asks.1) ∙ asks.2
 
-        writing : (command : Command) → opens_to_write command ≡ true → command ≡ Scrub true
-        writing (Scrub write) is = ap (λ b. Scrub b) is
-        writing Super is = absurd (cc is)
-        writing (Dump choice) is = absurd (cc is)
-        writing (Resolve addr) is = absurd (cc is)
-        writing (Check read_data) is = absurd (cc is)
-        writing (Restore dest p) is = absurd (cc is)
-        writing (Salvage dest p) is = absurd (cc is)
-        writing (Send dest file p) is = absurd (cc is)
-
-        at_end : (at : Shelf) (images : Images) (o : Option Images) → taken (map (λ s. s.name) mid.slots) at ≡ Some images → IfSome o (λ left. LeavesImages (Steady mid.account.faults new.account.faults) images left answer)
-            → IfSome o (λ left. (i : Images) × (taken (map (λ s. s.name) new.slots) at ≡ Some i) × LeavesImages (Steady old.account.faults new.account.faults) i left answer)
+        at_end : (at : Shelf) (images : Images) (o : Option Images) → taken (map (λ s. s.name) mid.slots) at ≡ Some images
+            → IfSome o (λ left. LeavesImages (Steady mid.account.faults new.account.faults) images left answer)
+            → IfSome o (λ left. (i : Images) × (taken (map (λ s. s.name) new.slots) at ≡ Some i)
+            × LeavesImages (Steady old.account.faults new.account.faults) i left answer)
         at_end at images None took l = tt
         at_end at images (Some left) took l = (
           images,
@@ -343,9 +408,11 @@ module _ (words names : Words) (plan : Plan) (sentence : IsSentence plan words) 
           subst (λ n. LeavesImages (Steady n new.account.faults) images left answer) opened.faults l,
         )
 
-        of : (shelf : Option Shelf) (held : Option Images) → OpensAll names shelf held (Ok tt) → IfSome shelf (λ at. IfSome held (λ images. taken (map (λ s. s.name) mid.slots) at ≡ Some images))
+        of : (shelf : Option Shelf) (held : Option Images) → OpensAll names shelf held (Ok tt)
+            → IfSome shelf (λ at. IfSome held (λ images. taken (map (λ s. s.name) mid.slots) at ≡ Some images))
             → IfSome held (λ images. IfSome new.held (λ left. LeavesImages (Steady mid.account.faults new.account.faults) images left answer))
-            → IfSome shelf (λ at. IfSome new.held (λ left. (i : Images) × (taken (map (λ s. s.name) new.slots) at ≡ Some i) × LeavesImages (Steady old.account.faults new.account.faults) i left answer))
+            → IfSome shelf (λ at. IfSome new.held (λ left. (i : Images) × (taken (map (λ s. s.name) new.slots) at ≡ Some i)
+            × LeavesImages (Steady old.account.faults new.account.faults) i left answer))
         of None held opens are left = tt
         of (Some at) None opens are left = absurd opens
         of (Some at) (Some images) opens are left = at_end at images new.held are left

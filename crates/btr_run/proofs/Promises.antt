@@ -42,11 +42,15 @@ use Rattle.btr_run.proofs.Orders.{no_steps}
 use Rattle.btr_run.proofs.Apart.{one_plan}
 
 -- the outcome of some steps and an ending
-by_steps : (steps : List Step) (ending : Ending) (answer : Answer) (found : Outcome) → outcome_by steps ending ≡ found → answer ≡ ended_answer ending → IsOutcomeOf (record { answer = answer; steps = steps }) found
-by_steps steps ending answer found is answered = subst (IsOutcomeOf (record { answer = answer; steps = steps })) is (record { rows = refl; part = refl; text = refl; answered = answered })
+by_steps : (steps : List Step) (ending : Ending) (answer : Answer) (found : Outcome) → outcome_by steps ending ≡ found → answer ≡ ended_answer ending
+    → IsOutcomeOf (record { answer = answer; steps = steps }) found
+by_steps steps ending answer found is answered = subst (IsOutcomeOf (record { answer = answer; steps = steps })) is
+    (record { rows = refl; part = refl; text = refl; answered = answered })
 
 -- The laws of btr_restore, for these calls on a rack.
-module _ (seen : Seen) (settles : SettledLaw) (then : (plan : RestorePlan) (dest : List ℕ) (start : Start) → OpenedThen plan dest start seen seen) (refused : (plan : RestorePlan) (dest : List ℕ) (start : Start) → OpenRefused plan dest start seen seen) (halted : (plan : RestorePlan) (dest : List ℕ) (start : Start) → OpenHalted plan dest start seen seen) where
+module _ (seen : Seen) (settles : SettledLaw) (then : (plan : RestorePlan) (dest : List ℕ) (start : Start) → OpenedThen plan dest start seen seen)
+    (refused : (plan : RestorePlan) (dest : List ℕ) (start : Start) → OpenRefused plan dest start seen seen)
+    (halted : (plan : RestorePlan) (dest : List ℕ) (start : Start) → OpenHalted plan dest start seen seen) where
   module _ (plan : RestorePlan) (dest : List ℕ) (images : Images) (start : Start) (begun : start_of images ≡ Ok start) where
     abbrev scan : Run Want Fault ⊥ TableResult
     scan = exec (fate images (array_layout start)) (table_scan start)
@@ -63,7 +67,8 @@ module _ (seen : Seen) (settles : SettledLaw) (then : (plan : RestorePlan) (dest
         r : Run Want Fault Step Counts
         r = exec (fate images (layout_by start table)) (listing plan dest start.sup)
 
-        of : (e : Result Counts Fault) → r.ending ≡ e → IsOutcomeOf (record { answer = listed_answer skipped_in r.ending; steps = steps_of r.marks }) (restore_outcome plan dest images)
+        of : (e : Result Counts Fault) → r.ending ≡ e → IsOutcomeOf (record { answer = listed_answer skipped_in r.ending; steps = steps_of r.marks })
+            (restore_outcome plan dest images)
         of (Ok counts) ended =
             by_steps (steps_of r.marks) (Ok (Ok counts)) (listed_answer skipped_in r.ending) (restore_outcome plan dest images)
             (settles plan dest images start seen seen (steps_of r.marks) (Ok (Ok counts)) begun none
@@ -93,17 +98,20 @@ module _ (seen : Seen) (settles : SettledLaw) (then : (plan : RestorePlan) (dest
     by_scan (Ok (Err fault)) scanned =
         by_steps [] (Ok (Err (refusal_of fault))) _ (restore_outcome plan dest images)
         (settles plan dest images start seen seen [] (Ok (Err (refusal_of fault))) begun (by_roots (Ok (Err fault)) scanned)
-        (refused plan dest start (λ n. fate images) fault (scan, goes_map (λ (n : ℕ). fate images (array_layout start)) 0 (table_scan start), (no_steps (steps_of scan.marks), scanned)))) refl
+        (refused plan dest start (λ n. fate images) fault
+        (scan, goes_map (λ (n : ℕ). fate images (array_layout start)) 0 (table_scan start), (no_steps (steps_of scan.marks), scanned)))) refl
     by_scan (Err f) scanned =
         by_steps [] (Err f) _ (restore_outcome plan dest images)
         (settles plan dest images start seen seen [] (Err f) begun (by_roots (Err f) scanned)
-        (halted plan dest start (λ n. fate images) (halt_fault f) (scan, goes_map (λ (n : ℕ). fate images (array_layout start)) 0 (table_scan start), (no_steps (steps_of scan.marks), scanned)))) refl
+        (halted plan dest start (λ n. fate images) (halt_fault f)
+        (scan, goes_map (λ (n : ℕ). fate images (array_layout start)) 0 (table_scan start), (no_steps (steps_of scan.marks), scanned)))) refl
 
   is_outcome : (plan : RestorePlan) (dest : List ℕ) (images : Images) → IsOutcomeOf (restored plan dest images) (restore_outcome plan dest images)
   unfolding restored
   is_outcome plan dest images = of (start_of images) refl
     where
-      of : (r : Result Start OpenFault) → start_of images ≡ r → IsOutcomeOf (restored_in plan dest images (with_start images (start_of images))) (restore_outcome plan dest images)
+      of : (r : Result Start OpenFault) → start_of images ≡ r → IsOutcomeOf (restored_in plan dest images (with_start images (start_of images)))
+          (restore_outcome plan dest images)
       of (Err refusal) is =
           subst (λ f. IsOutcomeOf (restored_in plan dest images (with_start images f)) (restore_outcome plan dest images)) (sym is)
           (by_steps [] (Ok (Err refusal)) _ (restore_outcome plan dest images) (sym (ap (from_start plan dest images) is)) refl)
@@ -130,7 +138,8 @@ module _ (seen : Seen) (settles : SettledLaw) (then : (plan : RestorePlan) (dest
   told_steps [] s t h = h
   told_steps (step ∷ steps) s t h = told_steps steps (sink_after s step) (after_step t step) (of s.tree h (tree_step s step))
     where
-      of : (o : Option Tree) → IfSome o (λ u. u ≡ t) → (sink_after s step).tree ≡ option_map (λ u. after_step u step) o → IfSome (sink_after s step).tree (λ u. u ≡ after_step t step)
+      of : (o : Option Tree) → IfSome o (λ u. u ≡ t) → (sink_after s step).tree ≡ option_map (λ u. after_step u step) o
+          → IfSome (sink_after s step).tree (λ u. u ≡ after_step t step)
       of None h e = subst (λ o. IfSome o (λ u. u ≡ after_step t step)) (sym e) tt
       of (Some u) h e = subst (λ o. IfSome o (λ v. v ≡ after_step t step)) (sym e) (ap (λ v. after_step v step) h)
 
@@ -147,16 +156,19 @@ module _ (seen : Seen) (settles : SettledLaw) (then : (plan : RestorePlan) (dest
           no_part_in (Some p) e rows = absurd (cc e)
 
   module _ (words : Words) (shelf : Shelf) (x y : Outside) (result : Answer) (sound : IsSound x.sink) (fresh : x.sink.stage ≡ NotStarted) where
-    stands_as : (outcome : tool.Outcome) (found : Outcome) → tool.Stands x y outcome.steps (error_line outcome.answer) → result ≡ outcome.answer → IsOutcomeOf outcome found → StandsAs x y result found
+    stands_as : (outcome : tool.Outcome) (found : Outcome) → tool.Stands x y outcome.steps (error_line outcome.answer) → result ≡ outcome.answer
+        → IsOutcomeOf outcome found → StandsAs x y result found
     stands_as outcome found stands answered is = record {
       rows = told (λ t. t.rows ≡ found.rows) (λ t e. ap (λ (u : Tree). u.rows) e ∙ is.rows);
       part = told (λ t. t.part ≡ found.part) (λ t e. ap (λ (u : Tree). u.part) e ∙ is.part);
-      text = subst (λ l. Adds x.text y.text l) (ap (λ l. l ++ error_line outcome.answer) is.text ∙ ap (λ a. found.text ++ error_line a) (sym answered)) stands.text;
+      text = subst (λ l. Adds x.text y.text l) (ap (λ l. l ++ error_line outcome.answer) is.text
+          ∙ ap (λ a. found.text ++ error_line a) (sym answered)) stands.text;
       answered = answered ∙ is.answered;
     }
       where
         told : (P : Tree → Type 0) → ((t : Tree) → t ≡ tree_after outcome.steps → P t) → IfSome y.sink.tree P
-        told P all = of y.sink.tree (subst (λ (s : Sink). IfSome s.tree (λ t. t ≡ tree_after outcome.steps)) (sym stands.sink) (told_steps outcome.steps x.sink nothing (empty_at_first x.sink sound fresh)))
+        told P all = of y.sink.tree (subst (λ (s : Sink). IfSome s.tree (λ t. t ≡ tree_after outcome.steps)) (sym stands.sink)
+            (told_steps outcome.steps x.sink nothing (empty_at_first x.sink sound fresh)))
           where
             of : (o : Option Tree) → IfSome o (λ t. t ≡ tree_after outcome.steps) → IfSome o P
             of None h = tt
@@ -164,12 +176,14 @@ module _ (seen : Seen) (settles : SettledLaw) (then : (plan : RestorePlan) (dest
 
     pub keeps_outcome : HasEffect words shelf x y result → KeepsOutcome words shelf x y result
     keeps_outcome effect plan dest images from =
-        stands_as effect.outcome (restore_outcome plan dest images) effect.stands effect.answered (subst (λ o. IsOutcomeOf o (restore_outcome plan dest images)) one (is_outcome plan dest images))
+        stands_as effect.outcome (restore_outcome plan dest images) effect.stands effect.answered
+        (subst (λ o. IsOutcomeOf o (restore_outcome plan dest images)) one (is_outcome plan dest images))
       where
         one : restored plan dest images ≡ effect.outcome
         one = cc (⊎_elim (λ usage. absurd (usage.1.no_sentence _ from.sentence))
             (λ (same : (p : Plan) × IsSentence p words × (images_outcome p.command words (images_of p words) shelf ≡ Some effect.outcome)).
-            sym (ap (λ d. Some (restored plan d images)) from.named) ∙ sym (taken_outcome (Restore from.number plan) words (drop from.first words) shelf images from.few from.from)
+            sym (ap (λ d. Some (restored plan d images)) from.named) ∙ sym
+            (taken_outcome (Restore from.number plan) words (drop from.first words) shelf images from.few from.from)
             ∙ ap (λ p. images_outcome p.command words (images_of p words) shelf) (one_plan words _ same.0 from.sentence same.1) ∙ same.2) effect.is)
 
     pub keeps_headline : Headline → HasEffect words shelf x y result → KeepsHeadline words shelf x y result

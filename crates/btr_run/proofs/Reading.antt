@@ -1,5 +1,6 @@
 -- The walk over the words of a sentence reads exactly what they say.
-use Rattle.std.proofs.Common.{◌≡◌, ◌⊎◌, inl, inr, ⊎_elim, ℕ, suc, ◌+◌, Bool, true, false, cond, List, [], ◌∷◌, ◌++◌, length, Option, Some, None, refl, sym, ap, ◌∙◌, subst, arith}
+use Rattle.std.proofs.Common.{◌≡◌, ◌⊎◌, inl, inr, ⊎_elim, ℕ, suc, ◌+◌, Bool, true, false, cond, List, [], ◌∷◌, ◌++◌, length, Option, Some, None, refl, sym, ap}
+use Rattle.std.proofs.Common.{◌∙◌, subst, arith}
 use Rattle.std.specs.Prelude.{All, ◌||◌, codes, is_some}
 use Rattle.std.specs.Bool.{Decides}
 use Rattle.std.specs.Char.{encode_utf8}
@@ -12,7 +13,8 @@ use Rattle.std.proofs.lemmas.List.{append_assoc, length-append}
 use Rattle.std.proofs.lemmas.List.Elements.{All-cons, All-nil}
 use Rattle.std.proofs.lemmas.Slice.Eq.{bytes_eq-Decides}
 use Rattle.btr_run.specs.Numbers.{IsNumber, number_of}
-use Rattle.btr_run.specs.Restores.{AreFree, IsFree, OneOption, Root, Snapshots, Verbose, Dry, Salvage, is_subvolume, option_words, options_words, with_option, with_options, with_root}
+use Rattle.btr_run.specs.Restores.{AreFree, IsFree, OneOption, Root, Snapshots, Verbose, Dry, Salvage, is_subvolume, option_words, options_words, with_option}
+use Rattle.btr_run.specs.Restores.{with_options, with_root}
 use Rattle.btr_run.specs.Walk.{Stage, behind, behind_id, behind_option, behind_part, read_by, stage, with_given}
 use Rattle.btr_run.specs.Words.{Destination, File, IsName, Number, Part, Reads, TakesDestination, Word, Words, is_file, is_name}
 use Rattle.btr_run.specs.declared.options.Options.{Options}
@@ -79,7 +81,7 @@ excluded : (a b : Bool) (place : Options → Stage) (after : Options) (t : Stage
     → ((a ≡ false) × (b ≡ false)) × (place after ≡ t)
 excluded a b place after t e = let one = flagged (a || b) place after t e in (neither a b one.0, one.1)
 
--- .. and one with an id
+-- an option with an id
 rooted : (root : Option ℕ) (s t : Stage) → cond (is_some root) None (Some s) ≡ Some t → (root ≡ None) × (s ≡ t)
 rooted None s t e = (refl, some_is s t e)
 rooted (Some id) s t e = absurd (cc e)
@@ -119,21 +121,27 @@ option_led : (left : List Part) (old : Read) (at : ℕ) (word : List ℕ) (words
 option_led left old at word words new t e rest =
     ⊎_elim (λ one. by_root one.0 (rooted old.options.root (stage (Destination ∷ left) next.Id old) t one.1))
     (λ other.
-    ⊎_elim (λ one. by_flag Snapshots (ap (λ w. w ∷ []) one.0) (flagged old.options.snapshots (with_given (Destination ∷ left) old) (with_option old.options Snapshots) t one.1))
+    ⊎_elim (λ one. by_flag Snapshots (ap (λ w. w ∷ []) one.0)
+    (flagged old.options.snapshots (with_given (Destination ∷ left) old) (with_option old.options Snapshots) t one.1))
     (λ other.
-    ⊎_elim (λ one. by_flag Verbose (ap (λ w. w ∷ []) one.0) (flagged old.options.verbose (with_given (Destination ∷ left) old) (with_option old.options Verbose) t one.1))
+    ⊎_elim (λ one. by_flag Verbose (ap (λ w. w ∷ []) one.0)
+    (flagged old.options.verbose (with_given (Destination ∷ left) old) (with_option old.options Verbose) t one.1))
     (λ other.
-    ⊎_elim (λ one. by_flag Dry (ap (λ w. w ∷ []) one.0) (excluded old.options.dry old.options.salvage (with_given (Destination ∷ left) old) (with_option old.options Dry) t one.1))
+    ⊎_elim (λ one. by_flag Dry (ap (λ w. w ∷ []) one.0)
+    (excluded old.options.dry old.options.salvage (with_given (Destination ∷ left) old) (with_option old.options Dry) t one.1))
     (λ other.
-    ⊎_elim (λ one. by_flag Salvage (ap (λ w. w ∷ []) one.0) (excluded old.options.dry old.options.salvage (with_given (Destination ∷ left) old) (with_option old.options Salvage) t one.1))
+    ⊎_elim (λ one. by_flag Salvage (ap (λ w. w ∷ []) one.0)
+    (excluded old.options.dry old.options.salvage (with_given (Destination ∷ left) old) (with_option old.options Salvage) t one.1))
     (λ other. by_name (taken (is_name word) (stage left next.Part (record old { name = at })) t other))
-    (this_or word (codes "-i") _ _ t other)) (this_or word (codes "-D") _ _ t other)) (this_or word (codes "-v") _ _ t other)) (this_or word (codes "-s") _ _ t other))
+    (this_or word (codes "-i") _ _ t other)) (this_or word (codes "-D") _ _ t other)) (this_or word (codes "-v") _ _ t other))
+    (this_or word (codes "-s") _ _ t other))
     (this_or word (codes "-r") _ _ t e)
   where
     at_stage : (s : Stage) → s ≡ t → Rest s.next s.left s.read (at + 1) words new
     at_stage s is = subst (λ (s : Stage). Rest s.next s.left s.read (at + 1) words new) (sym is) rest
 
-    by_root : word ≡ codes "-r" → (old.options.root ≡ None) × (stage (Destination ∷ left) next.Id old ≡ t) → Reads (Destination ∷ left) at (word ∷ words) old new
+    by_root : word ≡ codes "-r" → (old.options.root ≡ None) × (stage (Destination ∷ left) next.Id old ≡ t)
+        → Reads (Destination ∷ left) at (word ∷ words) old new
     by_root is one = of (at_stage (stage (Destination ∷ left) next.Id old) one.1)
       where
         of : Rest next.Id (Destination ∷ left) old (at + 1) words new → Reads (Destination ∷ left) at (word ∷ words) old new
@@ -141,7 +149,8 @@ option_led left old at word words new t e rest =
             one_option (Root r.0) left old new (one.0, r.4) (word ∷ words) r.2 at (at + 1 + 1)
             (ap (λ w. w ∷ words) is ∙ ap (λ l. codes "-r" ∷ l) r.5 ∙ ap (λ w. codes "-r" ∷ w ∷ r.2) r.3.1) (omega arith) r.6
 
-    by_flag : (option : OneOption) → word ∷ [] ≡ option_words option → IsFree old.options option × (with_given (Destination ∷ left) old (with_option old.options option) ≡ t)
+    by_flag : (option : OneOption) → word ∷ [] ≡ option_words option → IsFree old.options option
+        × (with_given (Destination ∷ left) old (with_option old.options option) ≡ t)
         → Reads (Destination ∷ left) at (word ∷ words) old new
     by_flag option is one =
         one_option option left old new one.0 (word ∷ words) words at (at + 1) (ap (λ l. l ++ words) is)
@@ -230,7 +239,8 @@ led next.Image left old at word words new t e rest =
     let names = subst (λ (s : Stage). Rest s.next s.left s.read (at + 1) words new) (sym one.1) rest in
     (All-cons IsName word words one.0 names.0, names.1)
 
-pub sound : (n : Next) (left : List Part) (old : Read) (at : ℕ) (words : Words) (new : Read) → Accepts (stage left n old) at words new → Rest n left old at words new
+pub sound : (n : Next) (left : List Part) (old : Read) (at : ℕ) (words : Words) (new : Read) → Accepts (stage left n old) at words new
+    → Rest n left old at words new
 sound next.Part left old at [] new e = absurd (cc e)
 sound next.Id left old at [] new e = absurd (cc e)
 sound next.Image left old at [] new e = (All-nil IsName, cc e)
@@ -245,14 +255,17 @@ sound n left old at (word ∷ words) new e = of (behind n left old at word) refl
 -- ---- what is read is accepted
 
 -- an option's words lead on
-one_walked : (left : List Part) (old : Read) (option : OneOption) (rest : Words) (at end : ℕ) → IsFree old.options option → at + length (option_words option) ≡ end
+one_walked : (left : List Part) (old : Read) (option : OneOption) (rest : Words) (at end : ℕ) → IsFree old.options option
+    → at + length (option_words option) ≡ end
     → reached (stage (Destination ∷ left) next.Part old) at (option_words option ++ rest)
     ≡ reached (with_given (Destination ∷ left) old (with_option old.options option)) end rest
 one_walked left old (Root id) rest at end free count =
     of old.options.root free.0
-    ∙ ap (λ o. option_and_then (λ s. reached s (at + 1 + 1) rest) (option_map (with_given (Destination ∷ left) old) (option_and_then (λ n. with_root n old.options) o)))
+    ∙ ap (λ o. option_and_then (λ s. reached s (at + 1 + 1) rest)
+    (option_map (with_given (Destination ∷ left) old) (option_and_then (λ n. with_root n old.options) o)))
     (number_read id (decimal id) (grind (arith, nat_tests, free.1), refl))
-    ∙ ap (λ b. option_and_then (λ s. reached s (at + 1 + 1) rest) (option_map (with_given (Destination ∷ left) old) (cond b (Some (with_option old.options (Root id))) None))) free.1
+    ∙ ap (λ b. option_and_then (λ s. reached s (at + 1 + 1) rest)
+    (option_map (with_given (Destination ∷ left) old) (cond b (Some (with_option old.options (Root id))) None))) free.1
     ∙ ap (λ n. reached (with_given (Destination ∷ left) old (with_option old.options (Root id))) n rest) (omega (arith, count))
   where
     of : (root : Option ℕ) → root ≡ None
@@ -261,22 +274,27 @@ one_walked left old (Root id) rest at end free count =
     of None e = refl
     of (Some n) e = absurd (cc e)
 one_walked left old Snapshots rest at end free count =
-    ap (λ b. option_and_then (λ s. reached s (at + 1) rest) (option_map (with_given (Destination ∷ left) old) (cond b None (Some (with_option old.options Snapshots))))) free
+    ap (λ b. option_and_then (λ s. reached s (at + 1) rest)
+    (option_map (with_given (Destination ∷ left) old) (cond b None (Some (with_option old.options Snapshots))))) free
     ∙ ap (λ n. reached (with_given (Destination ∷ left) old (with_option old.options Snapshots)) n rest) count
 one_walked left old Verbose rest at end free count =
-    ap (λ b. option_and_then (λ s. reached s (at + 1) rest) (option_map (with_given (Destination ∷ left) old) (cond b None (Some (with_option old.options Verbose))))) free
+    ap (λ b. option_and_then (λ s. reached s (at + 1) rest)
+    (option_map (with_given (Destination ∷ left) old) (cond b None (Some (with_option old.options Verbose))))) free
     ∙ ap (λ n. reached (with_given (Destination ∷ left) old (with_option old.options Verbose)) n rest) count
 one_walked left old Dry rest at end free count =
-    ap (λ b. option_and_then (λ s. reached s (at + 1) rest) (option_map (with_given (Destination ∷ left) old) (cond b None (Some (with_option old.options Dry)))))
+    ap (λ b. option_and_then (λ s. reached s (at + 1) rest)
+    (option_map (with_given (Destination ∷ left) old) (cond b None (Some (with_option old.options Dry)))))
     (both_false old.options.dry old.options.salvage free)
     ∙ ap (λ n. reached (with_given (Destination ∷ left) old (with_option old.options Dry)) n rest) count
 one_walked left old Salvage rest at end free count =
-    ap (λ b. option_and_then (λ s. reached s (at + 1) rest) (option_map (with_given (Destination ∷ left) old) (cond b None (Some (with_option old.options Salvage)))))
+    ap (λ b. option_and_then (λ s. reached s (at + 1) rest)
+    (option_map (with_given (Destination ∷ left) old) (cond b None (Some (with_option old.options Salvage)))))
     (both_false old.options.dry old.options.salvage free)
     ∙ ap (λ n. reached (with_given (Destination ∷ left) old (with_option old.options Salvage)) n rest) count
 
--- .. and those of some
-walked : (left : List Part) (old : Read) (options : List OneOption) (rest : Words) (at end : ℕ) → AreFree old.options options → at + length (options_words options) ≡ end
+-- the place behind the words of some options
+walked : (left : List Part) (old : Read) (options : List OneOption) (rest : Words) (at end : ℕ) → AreFree old.options options
+    → at + length (options_words options) ≡ end
     → reached (stage (Destination ∷ left) next.Part old) at (options_words options ++ rest)
     ≡ reached (with_given (Destination ∷ left) old (with_options old.options options)) end rest
 walked left old [] rest at end free count = ap (λ n. reached (stage (Destination ∷ left) next.Part old) n rest) (omega (arith, count))
@@ -298,7 +316,8 @@ named_on : (left : List Part) (old : Read) (at : ℕ) (name : List ℕ) → is_n
     → behind_option left old at name ≡ Some (stage left next.Part (record old { name = at }))
 named_on left old at name is =
     no_option name (codes "-r") _ _ is refl ∙ no_option name (codes "-s") _ _ is refl ∙ no_option name (codes "-v") _ _ is refl
-    ∙ no_option name (codes "-D") _ _ is refl ∙ no_option name (codes "-i") _ _ is refl ∙ ap (λ b. cond b (Some (stage left next.Part (record old { name = at }))) None) is
+    ∙ no_option name (codes "-D") _ _ is refl ∙ no_option name (codes "-i") _ _ is refl ∙ ap
+    (λ b. cond b (Some (stage left next.Part (record old { name = at }))) None) is
 
 pub same_word : (word : List ℕ) → bytes_eq word word ≡ true
 same_word word = of (bytes_eq word word) (bytes_eq-Decides word word)
@@ -320,7 +339,8 @@ names_accepted left old at (word ∷ names) all =
 pub accepted : (left : List Part) (at : ℕ) (words : Words) (old new : Read) → Reads left at words old new → Accepts (stage left next.Part old) at words new
 accepted [] at [] old new reads = absurd reads.0
 accepted [] at (first ∷ more) old new reads =
-    ap (λ b. at_end (option_and_then (λ s. reached s (at + 1) more) (cond b (Some (stage [] next.Image (record old { images = at }))) None))) (reads.0 0 first (omega arith))
+    ap (λ b. at_end (option_and_then (λ s. reached s (at + 1) more) (cond b (Some (stage [] next.Image (record old { images = at }))) None)))
+    (reads.0 0 first (omega arith))
     ∙ names_accepted [] (record old { images = at }) (at + 1) more (λ k d lt. reads.0 (suc k) d (omega (arith, lt))) ∙ ap (λ r. Some r) (sym reads.1)
 accepted (Word this ∷ left) at words old new reads =
     ap (λ l. at_end (reached (stage (Word this ∷ left) next.Part old) at l)) (reads.3 ∙ ap (λ t. t ++ reads.1) reads.4.0)
@@ -358,13 +378,15 @@ accepted (File ∷ left) at words old new reads =
     ∙ accepted left (at + 1) reads.1 (record old { file = at }) new
     (subst (λ m. Reads left (at + 1) reads.1 m new) reads.4.3 (subst (λ t. Reads left (at + length t) reads.1 reads.2 new) reads.4.2 reads.5))
 
-pub complete : (n : Next) (left : List Part) (old : Read) (at : ℕ) (words : Words) (new : Read) → Rest n left old at words new → Accepts (stage left n old) at words new
+pub complete : (n : Next) (left : List Part) (old : Read) (at : ℕ) (words : Words) (new : Read) → Rest n left old at words new
+    → Accepts (stage left n old) at words new
 complete next.Part left old at words new reads = accepted left at words old new reads
 complete next.Id left old at words new r =
     ap (λ l. at_end (reached (stage left next.Id old) at l)) r.5
     ∙ ap (λ o. at_end (option_and_then (λ s. reached s (at + 1) r.2) (option_map (with_given left old) (option_and_then (λ id. with_root id old.options) o))))
     (number_read r.0 r.1 r.3)
-    ∙ ap (λ b. at_end (option_and_then (λ s. reached s (at + 1) r.2) (option_map (with_given left old) (cond b (Some (with_option old.options (Root r.0))) None)))) r.4
+    ∙ ap (λ b. at_end (option_and_then (λ s. reached s (at + 1) r.2)
+    (option_map (with_given left old) (cond b (Some (with_option old.options (Root r.0))) None)))) r.4
     ∙ accepted left (at + 1) r.2 (record old { options = with_option old.options (Root r.0) }) new r.6
 complete next.Image left old at words new names = names_accepted left old at words names.0 ∙ ap (λ r. Some r) (sym names.1)
 

@@ -1,5 +1,5 @@
 -- What resolving an address comes to.
-use Rattle.std.proofs.Common.{◌≡◌, ◌⊎◌, inl, inr, ℕ, true, List, [], ◌∷◌, ◌++◌, map, fold, Option, Some, None, Result, Ok, Err, refl, sym, ap, ◌∙◌, subst}
+use Rattle.std.proofs.Common.{◌≡◌, inl, inr, ℕ, true, List, [], ◌∷◌, ◌++◌, map, fold, Option, Some, None, Result, Ok, Err, refl, sym, ap, ◌∙◌, subst}
 use Rattle.std.specs.Option.{IfSome, option_to_list}
 use Rattle.std.proofs.lemmas.List.{append-nil, map-append}
 use Rattle.btr_listing.specs.Step.{Step, Line}
@@ -17,19 +17,16 @@ use Rattle.btr_resolve.specs.Running as call
 use Rattle.btr_restore.specs.Outcome.{text_of}
 use Rattle.btr_restore.specs.Restoring.{StopCause, SinkCounts, OutCounts, ended, sink_after}
 use Rattle.btr_restore.specs.Running.{Outside, outside}
-use Rattle.btr_volume.specs.Lookup.{Program}
 use Rattle.btr_volume.specs.Start.{Images}
 use Rattle.btr_volume.specs.declared.stop.Stop.{Stop}
 use Rattle.btr_volume.specs.declared.stop.Stop.TheVariants as stop
 use Rattle.btr_volume.specs.declared.volume.Volume.{Volume}
 use Rattle.btr_walk.specs.Reading.{Map, UnreadBlock, unread_by}
-use Rattle.btr_walk.specs.declared.fault.TreeFault.{TreeFault}
-use Rattle.btr_walk.specs.declared.fault.TreeFault.TheVariants as tree
 use Rattle.btr_run.specs.Agreeing.{AreAgreed, IsResolvedOrUnread}
 use Rattle.btr_run.specs.Behind.{AnyFault, IfSteady, IsBehind}
 use Rattle.btr_run.specs.Filesystem.{MayMend, OpensAs, OpensFilesystem, filesystem_in, filesystem_of}
 use Rattle.btr_run.specs.Listed.{BesideSinks, lined, line_mark, listed_by, stopped_answer}
-use Rattle.btr_run.specs.Outcomes.{Outcome, refused, Comes, Stands, OrBare, OrMemory}
+use Rattle.btr_run.specs.Outcomes.{refused, Comes, Stands, OrBare, OrMemory}
 use Rattle.btr_run.specs.Resolved.{IsResolved, none_left_out, owners_run, resolve_outcome, resolved_in}
 use Rattle.btr_run.specs.declared.answer.Answer.{Answer}
 use Rattle.btr_run.proofs.Listings as listings
@@ -44,12 +41,13 @@ lines_sink : (lines : List (List ℕ)) (s : Sink) → s ≡ fold sink_after s (p
 lines_sink [] s = refl
 lines_sink (line ∷ lines) s = lines_sink lines s
 
--- .. and their text is theirs
+-- the text of such steps is their lines
 lines_text : (lines : List (List ℕ)) → call.whole lines ≡ text_of (put_lines lines)
 lines_text [] = refl
 lines_text (line ∷ lines) = ap (λ l. line ++ l) (lines_text lines)
 
-lines_stand : (lines : List (List ℕ)) (s : Sink) (c : CallAccount) (text text' : Option (List ℕ)) (calls calls' : CallAccount) → Adds text text' (call.whole lines)
+lines_stand : (lines : List (List ℕ)) (s : Sink) (c : CallAccount) (text text' : Option (List ℕ)) (calls calls' : CallAccount)
+    → Adds text text' (call.whole lines)
     → Stands (outside s c text calls) (outside s c text' calls') (put_lines lines) []
 lines_stand lines s c text text' calls calls' adds =
     record { sink = lines_sink lines s; text = subst (Adds text text') (lines_text lines ∙ sym (append-nil (text_of (put_lines lines)))) adds }
@@ -102,7 +100,8 @@ module _ {A : Type 0} (Is : UnreadBlock → Want → Type 0) (r : Run Want Fault
   }
 
   -- what follows a run follows it so, its lines being steps
-  follows_lined : (answer : Result A (Halt Fault UnreadBlock)) → Follows Is call.part [] r done answer → Follows Is step.part [] (lined r) (put_lines done) answer
+  follows_lined : (answer : Result A (Halt Fault UnreadBlock)) → Follows Is call.part [] r done answer
+      → Follows Is step.part [] (lined r) (put_lines done) answer
   follows_lined (Ok a) f = (ap put_lines f.0 ∙ steps_lined r.marks, f.1)
   follows_lined (Err (halt_fault x)) f = (ap put_lines f.0 ∙ steps_lined r.marks, f.1)
   follows_lined (Err (halt_unread u)) f = breaks_lined no_part no_part (λ ws. Names Is u ([] ++ ws)) none_leaves f
@@ -170,7 +169,8 @@ module _ (layout : Layout) (old new : Seen) where
   no_tree id e is cause = subst (call.StopCause layout old new) is cause
 
 -- The filesystem is open, and the address was resolved.
-module _ (addr : ℕ) (old mid new : Seen) (first : OnlyReads old mid) (volume after : Volume) (text text' : Option (List ℕ)) (calls calls' : CallAccount) (answer : Answer) (result : Result ℕ Stop)
+module _ (addr : ℕ) (old mid new : Seen) (first : OnlyReads old mid) (volume after : Volume) (text text' : Option (List ℕ)) (calls calls' : CallAccount)
+    (answer : Answer) (result : Result ℕ Stop)
     (is : answer ≡ stopped_answer none_left_out result)
     (ran : call.Ran (resolved volume.sup volume.store.layout.chunks addr) (call.world mid volume text calls) (call.world new after text' calls') result) where
   abbrev layout : Layout
@@ -205,9 +205,11 @@ module _ (addr : ℕ) (old mid new : Seen) (first : OnlyReads old mid) (volume a
   is_resolved images opened = ap (resolved_in addr images) opened
 
   pub resolved_effect : IfSteady old.held old.account mid.account (λ images. OpensFilesystem images (Ok volume))
-      → BesideSinks text calls text' calls' (λ a b. IfSteady old.held old.account new.account (λ images. Comes (Unit {0}) (OrMemory (λ outcome. resolve_outcome addr images ≡ outcome)) a b answer))
+      → BesideSinks text calls text' calls' (λ a b. IfSteady old.held old.account new.account
+      (λ images. Comes (Unit {0}) (OrMemory (λ outcome. resolve_outcome addr images ≡ outcome)) a b answer))
   resolved_effect opens s c =
-      listings.listed_effect none_left_out layout mid new (x s c) (y s c) done (did s c) result (cause_is layout mid new result ran.cause) (no_sink layout mid new c result ran.cause)
+      listings.listed_effect none_left_out layout mid new (x s c) (y s c) done (did s c) result (cause_is layout mid new result ran.cause)
+      (no_sink layout mid new c result ran.cause)
       (counts_are layout mid new calls calls' result ran.cause ran.calls) old first ran.reads volume refl answer is run (resolve_outcome addr) is_resolved
       (when_followed mid.held (steadily layout mid new IsFollowed ran.content)) opens
     where
@@ -218,7 +220,8 @@ module _ (addr : ℕ) (old mid new : Seen) (first : OnlyReads old mid) (volume a
 
   pub resolved_told : BesideSinks text calls text' calls' (λ a b. Comes (Unit {0}) (OrBare IsResolved) a b answer)
   resolved_told s c =
-      listings.listed_told none_left_out layout mid new (x s c) (y s c) done (did s c) result (cause_is layout mid new result ran.cause) (no_sink layout mid new c result ran.cause)
+      listings.listed_told none_left_out layout mid new (x s c) (y s c) done (did s c) result (cause_is layout mid new result ran.cause)
+      (no_sink layout mid new c result ran.cause)
       (counts_are layout mid new calls calls' result ran.cause ran.calls) old first ran.reads volume refl answer is IsResolved
       (λ n. record { lines = ran.lines; are = refl; ends = inl refl }) (λ f. record { lines = ran.lines; are = refl; ends = inr (f, refl) })
       (λ id none. absurd (no_tree layout mid new id result none ran.cause))
@@ -226,8 +229,10 @@ module _ (addr : ℕ) (old mid new : Seen) (first : OnlyReads old mid) (volume a
   pub resolved_agreed : IfSome old.held (λ images. OpensAs images old mid (Ok volume))
       → BesideSinks text calls text' calls' (λ a b. IfSome old.held (λ images. AreAgreed images → Comes (Unit {0}) (IsResolvedOrUnread addr images) a b answer))
   resolved_agreed opens s c =
-      listings.listed_agreed none_left_out layout mid new (x s c) (y s c) done (did s c) result (cause_is layout mid new result ran.cause) (no_sink layout mid new c result ran.cause)
-      (counts_are layout mid new calls calls' result ran.cause ran.calls) old first ran.reads volume refl answer is (λ images r. run images ≡ r) (IsResolvedOrUnread addr)
+      listings.listed_agreed none_left_out layout mid new (x s c) (y s c) done (did s c) result (cause_is layout mid new result ran.cause)
+      (no_sink layout mid new c result ran.cause)
+      (counts_are layout mid new calls calls' result ran.cause ran.calls) old first ran.reads volume refl answer is (λ images r. run images ≡ r)
+      (IsResolvedOrUnread addr)
       (λ images opened r same. inl (is_resolved images opened ∙ ap (listed_by none_left_out) same))
       (λ images opened r same u upto rest place named. inr (inl (record {
         fs = filesystem_in volume;
@@ -237,7 +242,8 @@ module _ (addr : ℕ) (old mid new : Seen) (first : OnlyReads old mid) (volume a
       (when_agreed mid.held (told_agreed layout mid new IsFollowed ran.content)) opens
     where
       when_agreed : (held : Option Images) → IfSome held (λ images. Agreed images layout → IsFollowed (fate images layout))
-          → IfSome held (λ images. Agreed images layout → (r : Run Want Fault Step ℕ) × (run images ≡ r) × Follows (unread_by layout mid new) step.part [] r done (ended result))
+          → IfSome held (λ images. Agreed images layout → (r : Run Want Fault Step ℕ) × (run images ≡ r)
+          × Follows (unread_by layout mid new) step.part [] r done (ended result))
       when_agreed None f = tt
       when_agreed (Some images) f = λ agreed. (run images, refl, follows (fate images layout) (f agreed))
 
@@ -251,4 +257,5 @@ module _ (addr : ℕ) (old mid new : Seen) (first : OnlyReads old mid) (volume a
   pub resolved_behind : IsBehind MayMend AnyFault old new answer
   resolved_behind =
       listings.listed_behind none_left_out layout mid new (x some_sink some_calls) (y some_sink some_calls) done (did some_sink some_calls) result
-      (cause_is layout mid new result ran.cause) (no_sink layout mid new some_calls result ran.cause) (counts_are layout mid new calls calls' result ran.cause ran.calls) old first ran.reads volume refl answer is
+      (cause_is layout mid new result ran.cause) (no_sink layout mid new some_calls result ran.cause)
+      (counts_are layout mid new calls calls' result ran.cause ran.calls) old first ran.reads volume refl answer is

@@ -1,5 +1,5 @@
 -- What a command comes to whose call did what some run of its program says, whatever failed: a restore, one that goes on after faults, a send.
-use Rattle.std.proofs.Common.{◌≡◌, ◌⊎◌, inl, inr, ℕ, List, [], ◌∷◌, ◌++◌, Option, Some, None, Result, Ok, Err, refl, sym, ap, ◌∙◌, subst, arith}
+use Rattle.std.proofs.Common.{◌≡◌, inl, inr, ℕ, List, [], ◌∷◌, ◌++◌, Option, Some, None, Result, Ok, Err, refl, sym, ap, ◌∙◌, subst, arith}
 use Rattle.std.specs.Option.{IfSome}
 use Rattle.std.proofs.lemmas.List.{append-nil}
 use Rattle.btr_listing.specs.Step.{Step, part}
@@ -51,14 +51,18 @@ pub one_run : {A : Type 0} (p : Program Step A) (B : Map) (r : Run Want Fault St
 one_run p B r goes = goes_one (λ (n : ℕ). B) B p r (one_map B (needs B p)) goes
 
 -- what was done and answered follows some run, by what its wants may come to
-abbrev pub Follows_by : {A : Type 0} → ((ℕ → Map) → Run Want Fault Step A → Type 0) → Result A Stop → (UnreadBlock → Want → Type 0) → (ℕ → Map) → List Step → Type 0
+abbrev pub Follows_by : {A : Type 0} → ((ℕ → Map) → Run Want Fault Step A → Type 0) → Result A Stop → (UnreadBlock → Want → Type 0) → (ℕ → Map) → List Step
+    → Type 0
 Follows_by {A} IsRun result Is Bs done = (r : Run Want Fault Step A) × IsRun Bs r × Follows Is part [] r done (ended result)
 
 -- The filesystem is open, and a call was made over it.
-module _ {A : Type 0} (left_out : A → ℕ) (IsRun : (ℕ → Map) → Run Want Fault Step A → Type 0) (run_by : Map → Run Want Fault Step A) (one : (B : Map) (r : Run Want Fault Step A) → IsRun (λ n. B) r → r ≡ run_by B)
-    (old mid new : Seen) (first : OnlyReads old mid) (volume after : Volume) (x y : Outside) (answer : Answer) (result : Result A Stop) (is : answer ≡ stopped_answer left_out result)
+module _ {A : Type 0} (left_out : A → ℕ) (IsRun : (ℕ → Map) → Run Want Fault Step A → Type 0) (run_by : Map → Run Want Fault Step A)
+    (one : (B : Map) (r : Run Want Fault Step A) → IsRun (λ n. B) r → r ≡ run_by B)
+    (old mid new : Seen) (first : OnlyReads old mid) (volume after : Volume) (x y : Outside) (answer : Answer) (result : Result A Stop)
+    (is : answer ≡ stopped_answer left_out result)
     (reads : OnlyReads mid new) (did : Did volume.store.layout (scene_of (world mid volume x)) (scene_of (world new after y)) (Follows_by IsRun result))
-    (cause : StopCause volume.store.layout mid new result) (sink_calls : SinkCounts x.sink_calls y.sink_calls result) (out_calls : OutCounts x.out_calls y.out_calls result) where
+    (cause : StopCause volume.store.layout mid new result) (sink_calls : SinkCounts x.sink_calls y.sink_calls result)
+    (out_calls : OutCounts x.out_calls y.out_calls result) where
   abbrev layout : Layout
   layout = volume.store.layout
 
@@ -84,20 +88,22 @@ module _ {A : Type 0} (left_out : A → ℕ) (IsRun : (ℕ → Map) → Run Want
       (λ images. Follows Is part [] (run images) did.done (ended result))
       (λ images goes. by_run images goes) (did.content.calls.content First (omega (arith, did.content.calls.later, steady.0), steady.1)))
 
-  -- .. or the images agree
+  -- what is told where the images agree
   abbrev IsChosen : Images → Run Want Fault Step A → Type 0
   IsChosen images r = IsRun (λ n. choices images n layout) r
 
   chosen : IfSome mid.held (λ images. Agreed images layout → (r : Run Want Fault Step A) × IsChosen images r × Follows Is part [] r did.done (ended result))
   chosen = of mid.held refl
     where
-      of : (held : Option Images) → mid.held ≡ held → IfSome held (λ images. Agreed images layout → (r : Run Want Fault Step A) × IsChosen images r × Follows Is part [] r did.done (ended result))
+      of : (held : Option Images) → mid.held ≡ held → IfSome held
+          (λ images. Agreed images layout → (r : Run Want Fault Step A) × IsChosen images r × Follows Is part [] r did.done (ended result))
       of None told = tt
       of (Some images) told = λ agreed.
           subst (λ (o : Option Images). IfSome o (λ i. (r : Run Want Fault Step A) × IsChosen i r × Follows Is part [] r did.done (ended result))) told
           (did.content.calls.content Any (subst (λ (o : Option Images). IfSome o (λ i. Agreed i layout)) (sym told) agreed))
 
-  pub ran_effect : (wanted : Images → Outcome) → ((images : Images) → filesystem_of images ≡ Ok (filesystem_in volume) → wanted images ≡ listed_by left_out (run images))
+  pub ran_effect : (wanted : Images → Outcome)
+      → ((images : Images) → filesystem_of images ≡ Ok (filesystem_in volume) → wanted images ≡ listed_by left_out (run images))
       → IfSteady old.held old.account mid.account (λ images. OpensFilesystem images (Ok volume))
       → IfSteady old.held old.account new.account (λ images. Comes (Unit {0}) (OrMemory (λ outcome. wanted images ≡ outcome)) x y answer)
   ran_effect wanted wants opens =
@@ -114,13 +120,15 @@ module _ {A : Type 0} (left_out : A → ℕ) (IsRun : (ℕ → Map) → Run Want
   ran_behind =
       listings.listed_behind left_out layout mid new x y did.done stands result cause sink_calls out_calls old first reads volume refl answer is
 
-  pub ran_agreed : (IsBy : Images → Filesystem → Run Want Fault Step A → Type 0) → ((images : Images) (r : Run Want Fault Step A) → IsChosen images r → IsBy images (filesystem_in volume) r)
+  pub ran_agreed : (IsBy : Images → Filesystem → Run Want Fault Step A → Type 0)
+      → ((images : Images) (r : Run Want Fault Step A) → IsChosen images r → IsBy images (filesystem_in volume) r)
       → (IsOne : Images → Outcome → Type 0) → ((images : Images) (outcome : Outcome) → ListsOver images left_out (IsBy images) outcome → IsOne images outcome)
       → IfSome old.held (λ images. OpensAs images old mid (Ok volume))
       → IfSome old.held (λ images. AreAgreed images → Comes (Unit {0}) (IsOne images) x y answer)
   ran_agreed IsBy by IsOne one_of opens =
       listings.listed_agreed left_out layout mid new x y did.done stands result cause sink_calls out_calls old first reads volume refl answer is IsChosen IsOne
-      (λ images opened r goes. one_of images (listed_by left_out r) (record { fs = filesystem_in volume; opened = opened; run = r; is_run = by images r goes; comes = inl refl }))
+      (λ images opened r goes. one_of images (listed_by left_out r)
+      (record { fs = filesystem_in volume; opened = opened; run = r; is_run = by images r goes; comes = inl refl }))
       (λ images opened r goes u upto rest place named. one_of images _ (record {
         fs = filesystem_in volume;
         opened = opened;

@@ -32,7 +32,8 @@ pub bare : (plan : RestorePlan) (dest : List ℕ) (images : Images) (a : Answer)
 unfolding salvage_outcome
 bare plan dest images a none = ap (salvaged_in plan dest images) none
 
-module _ (plan : RestorePlan) (dest : List ℕ) (old mid new : Seen) (first : OnlyReads old mid) (volume after : Volume) (x y : Outside) (answer : Answer) (result : Result Salvaged Stop)
+module _ (plan : RestorePlan) (dest : List ℕ) (old mid new : Seen) (first : OnlyReads old mid) (volume after : Volume) (x y : Outside) (answer : Answer)
+    (result : Result Salvaged Stop)
     (is : answer ≡ stopped_answer missed_in result) (ran : Ran (salvaging plan dest volume.sup) (world mid volume x) (world new after y) result) where
   abbrev p : Attempt Salvaged
   p = salvaging plan dest volume.sup
@@ -44,27 +45,32 @@ module _ (plan : RestorePlan) (dest : List ℕ) (old mid new : Seen) (first : On
   one B r tries = tries_one (λ (n : ℕ). B) B (λ n want. refl) p r tries
 
   -- what is salvaged of the filesystem that was opened
-  is_salvaged : (images : Images) → filesystem_of images ≡ Ok (filesystem_in volume) → salvage_outcome plan dest images ≡ listed_by missed_in (run_by (fate images volume.store.layout))
+  is_salvaged : (images : Images) → filesystem_of images ≡ Ok (filesystem_in volume) → salvage_outcome plan dest images ≡ listed_by missed_in
+      (run_by (fate images volume.store.layout))
   unfolding salvage_outcome
   is_salvaged images opened = ap (salvaged_in plan dest images) opened
 
   pub salvaged_effect : IfSteady old.held old.account mid.account (λ images. OpensFilesystem images (Ok volume))
       → IfSteady old.held old.account new.account (λ images. Comes (Unit {0}) (OrMemory (λ outcome. salvage_outcome plan dest images ≡ outcome)) x y answer)
   salvaged_effect =
-      runs.ran_effect missed_in (λ Bs. TriesTo Bs p) run_by one old mid new first volume after x y answer result is ran.reads ran.did ran.cause ran.sink_calls ran.out_calls
+      runs.ran_effect missed_in (λ Bs. TriesTo Bs p) run_by one old mid new first volume after x y answer result is ran.reads ran.did ran.cause ran.sink_calls
+      ran.out_calls
       (salvage_outcome plan dest) is_salvaged
 
   pub salvaged_told : Comes (Unit {0}) (OrBare IsRestored) x y answer
   salvaged_told =
-      runs.ran_told missed_in (λ Bs. TriesTo Bs p) run_by one old mid new first volume after x y answer result is ran.reads ran.did ran.cause ran.sink_calls ran.out_calls
+      runs.ran_told missed_in (λ Bs. TriesTo Bs p) run_by one old mid new first volume after x y answer result is ran.reads ran.did ran.cause ran.sink_calls
+      ran.out_calls
       IsRestored (λ salvaged. inl (missed_in salvaged, refl)) (λ f. inr (inr (f, refl))) (λ id none. inr (inl (id, refl)))
 
   pub salvaged_agreed : IfSome old.held (λ images. OpensAs images old mid (Ok volume))
       → IfSome old.held (λ images. AreAgreed images → Comes (Unit {0}) (IsSalvagedOrUnread plan dest images) x y answer)
   salvaged_agreed =
-      runs.ran_agreed missed_in (λ Bs. TriesTo Bs p) run_by one old mid new first volume after x y answer result is ran.reads ran.did ran.cause ran.sink_calls ran.out_calls
+      runs.ran_agreed missed_in (λ Bs. TriesTo Bs p) run_by one old mid new first volume after x y answer result is ran.reads ran.did ran.cause ran.sink_calls
+      ran.out_calls
       (IsSalvagedBy plan dest) (λ images r tries. tries) (IsSalvagedOrUnread plan dest) (λ images outcome one. inr (inl one))
 
   pub salvaged_behind : IsBehind MayMend AnyFault old new answer
   salvaged_behind =
-      runs.ran_behind missed_in (λ Bs. TriesTo Bs p) run_by one old mid new first volume after x y answer result is ran.reads ran.did ran.cause ran.sink_calls ran.out_calls
+      runs.ran_behind missed_in (λ Bs. TriesTo Bs p) run_by one old mid new first volume after x y answer result is ran.reads ran.did ran.cause ran.sink_calls
+      ran.out_calls

@@ -1,7 +1,9 @@
 -- What a scrub of an open filesystem comes to.
-use Rattle.std.proofs.Common.{◌≡◌, ◌⊎◌, inl, inr, ⊎_elim, ℕ, Bool, true, false, List, [], fold, Option, Some, None, Result, Ok, Err, refl, sym, ap, ◌∙◌, subst, arith}
+use Rattle.std.proofs.Common.{◌≡◌, ◌⊎◌, inl, inr, ⊎_elim, ℕ, Bool, true, false, List, [], fold, Option, Some, None, Result, Ok, Err, refl, sym, ap, ◌∙◌, subst}
+use Rattle.std.proofs.Common.{arith}
 use Rattle.std.specs.Option.{IfSome}
-use Rattle.std.specs.Prelude.{OnOk}
+use Rattle.std.specs.List.{All}
+use Rattle.std.specs.Prelude.{IsSomeAnd, OnOk}
 use Rattle.btr_check.specs.Running.{OfReading}
 use Rattle.btr_mend.specs.Writes.{AccountsMend, FailsAt, IsStopped, Leaves, Write, write_on, writes_if}
 use Rattle.btr_mend.specs.declared.mended.MendFault.{MendFault}
@@ -10,13 +12,17 @@ use Rattle.btr_prog.specs.Answers.{Follows, no_part}
 use Rattle.btr_prog.specs.Prog.{exec, wants_of}
 use Rattle.btr_rack.specs.Rack.{OnlyReads, Seen, Steady}
 use Rattle.btr_rack.proofs.Reading.{reads_more}
-use Rattle.btr_read.specs.Fate.{Fault, fate}
+use Rattle.btr_read.specs.Fate.{Agreed, Fault, fate}
 use Rattle.btr_read.specs.Fate as fault
 use Rattle.btr_read.specs.Layout.{Layout}
+use Rattle.btr_read.specs.Reading.{AgreedOn}
 use Rattle.btr_scrub.specs.Filesystem as scrubbed
 use Rattle.btr_scrub.specs.Gathering.{StopCause, TreeCause, checked_among, count_met, stop_halt}
 use Rattle.btr_scrub.specs.Judging.{IsUnplaced}
-use Rattle.btr_scrub.specs.Repair.{effect_of_ending, effect_unless, first_missing, meeting, met, writes}
+use Rattle.btr_scrub.specs.Plain.{is_kept, plain_among}
+use Rattle.btr_scrub.specs.Repair.{blocks, effect_of_ending, effect_unless, first_missing, meeting, met, writes}
+use Rattle.btr_scrub.specs.Right.{Committed, IsRepairable, StandsFor}
+use Rattle.btr_scrub.specs.Scrubbed.{IsSafe, called}
 use Rattle.btr_mend.specs.Syncing.{plain}
 use Rattle.btr_scrub.specs.Scrubbing.{IsOfScrub, Works, all_count_for, all_writes_for}
 use Rattle.btr_scrub.specs.Units.{Met, units_in}
@@ -39,27 +45,31 @@ use Rattle.btr_run.specs.Answers.{error_line}
 use Rattle.btr_run.specs.Checked.{found}
 use Rattle.btr_run.specs.Commands.{IsBehindCommand, IsUnmended, KeepsRack}
 use Rattle.btr_run.specs.Faults.{stop_answer, tree_answer}
-use Rattle.btr_run.specs.Filesystem.{MayMend, OpensAs, OpensFilesystem, fault_answer, filesystem_in, filesystem_of}
+use Rattle.btr_run.specs.Filesystem.{Filesystem, MayMend, OpensAs, OpensFilesystem, fault_answer, filesystem_in, filesystem_of}
 use Rattle.btr_run.specs.Outcomes.{refused, showing}
-use Rattle.btr_run.specs.Repaired.{LeavesImages, MayWrite, Scrubs, ScrubsTo}
-use Rattle.btr_run.specs.Scrubbed.{counts, filesystem_as, mending_writes, scrub_ended, scrub_in, scrub_outcome, scrub_unless, scrubbed_images, scrubbed_in, tally_shown, writes_in}
+use Rattle.btr_run.specs.Repaired.{KeepsBlocks, LeavesImages, MayWrite, Scrubs, ScrubsTo}
+use Rattle.btr_run.specs.Scrubbed.{counts, filesystem_as, mending_writes, scrub_ended, scrub_in, scrub_outcome, scrub_unless, scrubbed_images, scrubbed_in}
+use Rattle.btr_run.specs.Scrubbed.{tally_shown, writes_in}
 use Rattle.btr_run.specs.declared.answer.Answer.{Answer}
 use Rattle.btr_run.specs.declared.answer.Answer.TheVariants.{ImageFault, Memory, MissingDevice}
 use Rattle.btr_run.specs.declared.plan.Command.TheVariants.{Scrub}
-use Rattle.btr_run.proofs.Agreements.{agreeing}
+use Rattle.btr_run.proofs.Agreements.{agreeing, agreeing_opened}
 use Rattle.btr_run.proofs.Found.{found_line, found_no_memory}
 use Rattle.btr_run.proofs.Causing.{rose_behind, some_fresh}
 use Rattle.btr_run.proofs.Checks.{listed_no_image, listed_no_tree, listed_none, stop_calm, stop_line, stop_no_image, stop_none}
 use Rattle.btr_run.proofs.Faulting.{no_tree, tree_back, tree_in}
 use Rattle.btr_run.proofs.TreesShown.{NoneOf, mends_of, none_unread, steadily}
-use Rattle.btr_run.proofs.Mendings.{answered, each_told, images_by, the_images, left_nothing, outcome_by, steady_not_rose, stop_place, told_at, unwritten, writes_by}
+use Rattle.btr_run.proofs.Mendings.{answered, each_told, images_by, the_images, left_nothing, outcome_by, steady_not_rose, stop_place, told_at, unwritten}
+use Rattle.btr_run.proofs.Mendings.{writes_by}
 
 -- an answer that has a line isn't that of a scrub that was finished
 no_line : (answer : Answer) → (error_line answer ≡ [] → ⊥) → (lost : ℕ) → answer ≡ found lost → ⊥
 no_line answer line lost e = line (ap error_line e ∙ found_line lost)
 
 -- The filesystem is open.
-module _ (write : Bool) (old mid : Seen) (first : OnlyReads old mid) (volume : Volume) (content : IfSteady old.held old.account mid.account (λ images. OpensFilesystem images (Ok volume))) (opened : IfSome old.held (λ images. OpensAs images old mid (Ok volume))) where
+module _ (write : Bool) (old mid : Seen) (first : OnlyReads old mid) (volume : Volume)
+    (content : IfSteady old.held old.account mid.account (λ images. OpensFilesystem images (Ok volume)))
+    (opened : IfSome old.held (λ images. OpensAs images old mid (Ok volume))) where
   abbrev layout : Layout
   layout = volume.store.layout
 
@@ -70,12 +80,43 @@ module _ (write : Bool) (old mid : Seen) (first : OnlyReads old mid) (volume : V
   Both P images = (filesystem_of images ≡ Ok (filesystem_in volume)) × P (fate images layout)
 
   -- what was told of the block map
-  sure_told : (P : Map → Type 0) (at : Seen) → OnlyReads mid at → Tells layout mid at P → (images : Images) → old.held ≡ Some images → Steady old.account.faults at.account.faults ⊎ AreAgreed images → Both P images
+  sure_told : (P : Map → Type 0) (at : Seen) → OnlyReads mid at → Tells layout mid at P → (images : Images) → old.held ≡ Some images
+      → Steady old.account.faults at.account.faults ⊎ AreAgreed images → Both P images
   sure_told P at second tells images told sure =
       ⊎_elim (λ steady. (
-        told_at old.held (λ i. Steady old.account.faults mid.account.faults → OpensFilesystem i (Ok volume)) images told content (omega (arith, steady.0, second.later), omega (arith, steady.1, second.later)),
-        told_at mid.held (λ i. Steady mid.account.faults at.account.faults → P (fate i layout)) images (ap (λ (s : Seen). s.held) first.same ∙ told) (steadily layout mid at P tells) (omega (arith, steady.0, first.later), steady.1),
-      )) (λ agreed. told_at old.held (λ i. AreAgreed i → Both P i) images told (agreeing true old mid at first volume opened P (Both P) (λ i o p. (o, p)) tells) agreed) sure
+        told_at old.held (λ i. Steady old.account.faults mid.account.faults → OpensFilesystem i (Ok volume)) images told content
+            (omega (arith, steady.0, second.later), omega (arith, steady.1, second.later)),
+        told_at mid.held (λ i. Steady mid.account.faults at.account.faults → P (fate i layout)) images (ap (λ (s : Seen). s.held) first.same ∙ told)
+            (steadily layout mid at P tells) (omega (arith, steady.0, first.later), steady.1),
+      )) (λ agreed. told_at old.held (λ i. AreAgreed i → Both P i) images told
+      (agreeing true old mid at first volume opened P (Both P) (λ i o p. (o, p)) tells) agreed) sure
+
+  -- each checked block can be had from what is left, where it was sure what the images hold
+  abbrev HasBlocks : Seen → Type 0
+  HasBlocks new = Steady mid.account.faults new.account.faults ⊎ AgreedOn layout mid.held
+      → IfSome mid.held (λ images. IsSomeAnd new.held (λ left. (C : Committed) → IsRepairable images fs C → All (StandsFor left C) (blocks images fs)))
+
+  keeps_blocks : (new : Seen) → HasBlocks new → (images left : Images) → old.held ≡ Some images → new.held ≡ Some left
+      → Steady old.account.faults new.account.faults ⊎ AreAgreed images → filesystem_of images ≡ Ok (filesystem_in volume) → KeepsBlocks images left
+  keeps_blocks new had images left told told' sure opens other C is_other =
+      subst (λ (f : Filesystem). IsRepairable images (filesystem_as f) C → All (StandsFor left C) (blocks images (filesystem_as f)))
+      (one (sym opens ∙ is_other))
+      (subst (λ (o : Option Images). IsSomeAnd o (λ l. (D : Committed) → IsRepairable images fs D → All (StandsFor l D) (blocks images fs))) told'
+      (told_at mid.held (λ i. IsSomeAnd new.held (λ l. (D : Committed) → IsRepairable i fs D → All (StandsFor l D) (blocks i fs))) images held (had is_sure)) C)
+    where
+      one : {a b : Filesystem} → ◌≡◌ {A = Result Filesystem Answer} (Ok a) (Ok b) → a ≡ b
+      one e = cc e
+
+      held : mid.held ≡ Some images
+      held = ap (λ (s : Seen). s.held) first.same ∙ told
+
+      agreed_at : AreAgreed images → AgreedOn layout mid.held
+      agreed_at agreed = subst (λ (o : Option Images). IfSome o (λ i. Agreed i layout)) (sym held)
+          (told_at old.held (λ i. AreAgreed i → Agreed i layout) images told
+          (agreeing_opened old mid volume opened (λ i. Agreed i layout) (λ i at o agrees. agrees)) agreed)
+
+      is_sure : Steady mid.account.faults new.account.faults ⊎ AgreedOn layout mid.held
+      is_sure = ⊎_elim (λ steady. inl (omega (arith, steady.0, first.later), steady.1)) (λ agreed. inr (agreed_at agreed)) sure
 
   -- a device isn't given
   module _ (stripe : Stripe) (missing : first_missing layout ≡ Some stripe) where
@@ -96,19 +137,23 @@ module _ (write : Bool) (old mid : Seen) (first : OnlyReads old mid) (volume : V
     }
 
     pub lacking : Scrubs write old mid (Err (MissingDevice stripe.devid))
-    lacking = unwritten write old mid (MissingDevice stripe.devid) missing_behind (record { no_fault = record { no_out = λ e. cc; no_sink = λ e. cc }; line = λ e. cc })
+    lacking = unwritten write old mid (MissingDevice stripe.devid) missing_behind
+        (record { no_fault = record { no_out = λ e. cc; no_sink = λ e. cc }; line = λ e. cc })
         (each_told old.held (λ images. Steady old.account.faults mid.account.faults → ScrubsTo write images (Err (MissingDevice stripe.devid)))
-        (λ images told steady. missing_to images (told_at old.held (λ i. Steady old.account.faults mid.account.faults → OpensFilesystem i (Ok volume)) images told content steady)))
+        (λ images told steady. missing_to images
+        (told_at old.held (λ i. Steady old.account.faults mid.account.faults → OpensFilesystem i (Ok volume)) images told content steady)))
 
   module _ (given : first_missing layout ≡ None) (at : Seen) (second : OnlyReads mid at) where
     all : OnlyReads old at
     all = reads_more first second
 
     -- the blocks can't be listed
-    ending_refused : (images : Images) (f : Fault) → filesystem_of images ≡ Ok (filesystem_in volume) → (meeting images fs).ending ≡ Err f → (scrub_outcome write images ≡ refused (fault_answer f)) × (scrubbed_images images ≡ images)
+    ending_refused : (images : Images) (f : Fault) → filesystem_of images ≡ Ok (filesystem_in volume) → (meeting images fs).ending ≡ Err f
+        → (scrub_outcome write images ≡ refused (fault_answer f)) × (scrubbed_images images ≡ images)
     ending_refused images f o e = (
       outcome_by write images ∙ ap (scrub_in write images) o ∙ ap (scrub_unless write images fs) given ∙ ap (scrub_ended write images fs) e,
-      images_by images ∙ ap (scrubbed_in images) o ∙ ap (λ m. (effect_unless true images fs m).images) given ∙ ap (λ r. (effect_of_ending true images fs r).images) e,
+      images_by images ∙ ap (scrubbed_in images) o ∙ ap (λ m. (effect_unless true images fs m).images) given
+          ∙ ap (λ r. (effect_of_ending true images fs r).images) e,
     )
 
     module _ (why : Stop) (cause : StopCause {A = Tally} layout mid at (Err why)) where
@@ -157,24 +202,30 @@ module _ (write : Bool) (old mid : Seen) (first : OnlyReads old mid) (volume : V
         no_limit = λ n e. subst NoneOf e (stop_none why reading);
       }
 
-      pub halted : IfSteady old.held old.account at.account (λ images. ScrubsTo write images (Err (stop_answer why))) → Scrubs write old at (Err (stop_answer why))
+      pub halted : IfSteady old.held old.account at.account (λ images. ScrubsTo write images (Err (stop_answer why)))
+          → Scrubs write old at (Err (stop_answer why))
       halted to = unwritten write old at (stop_answer why) behind (record { no_fault = stop_calm why reading; line = stop_line why reading }) to
 
-      pub listing_stopped : (done : List Met) → Tells layout mid at (λ B. Follows (unread_by layout mid at) no_part [] (exec B (units_in volume.sup layout.chunks)) done (Err (stop_halt why))) → Scrubs write old at (Err (stop_answer why))
+      pub listing_stopped : (done : List Met) → Tells layout mid at
+          (λ B. Follows (unread_by layout mid at) no_part [] (exec B (units_in volume.sup layout.chunks)) done (Err (stop_halt why)))
+          → Scrubs write old at (Err (stop_answer why))
       listing_stopped done tells =
           halted (each_told old.held (λ images. Steady old.account.faults at.account.faults → ScrubsTo write images (Err (stop_answer why)))
           (λ images told steady.
-          let h = sure_told (λ B. Follows (unread_by layout mid at) no_part [] (exec B (units_in volume.sup layout.chunks)) done (Err (stop_halt why))) at second tells images told (inl steady) in
+          let h = sure_told (λ B. Follows (unread_by layout mid at) no_part [] (exec B (units_in volume.sup layout.chunks)) done
+          (Err (stop_halt why))) at second tells images told (inl steady) in
           of images (omega (arith, steady.0, first.later), steady.1) h.0 why h.1 cause))
         where
           of : (images : Images) → Steady mid.account.faults at.account.faults → filesystem_of images ≡ Ok (filesystem_in volume) → (s : Stop)
-              → Follows (unread_by layout mid at) no_part [] (exec (fate images layout) (units_in volume.sup layout.chunks)) done (Err (stop_halt s)) → StopCause {A = Tally} layout mid at (Err s) → ScrubsTo write images (Err (stop_answer s))
+              → Follows (unread_by layout mid at) no_part [] (exec (fate images layout) (units_in volume.sup layout.chunks)) done (Err (stop_halt s))
+              → StopCause {A = Tally} layout mid at (Err s) → ScrubsTo write images (Err (stop_answer s))
           of images steady o (stop.NoTree id) f c = inl (ending_refused images (fault.NoTree id) o f.1)
           of images steady o (stop.Tree (tree.Lost a)) f c = inl (ending_refused images (fault.Lost a) o f.1)
           of images steady o (stop.Tree (tree.Unmapped a)) f c = inl (ending_refused images (fault.Unmapped a) o f.1)
           of images steady o (stop.Tree (tree.Crosses a)) f c = inl (ending_refused images (fault.Crosses a) o f.1)
           of images steady o (stop.Tree (tree.Malformed a)) f c = inl (ending_refused images (fault.Malformed a) o f.1)
-          of images steady o (stop.Tree (tree.Unread a slot)) f c = absurd (none_unread layout mid at steady (record { addr = a; slot = slot }) (wants_of f.before) f.holds)
+          of images steady o (stop.Tree (tree.Unread a slot)) f c = absurd
+              (none_unread layout mid at steady (record { addr = a; slot = slot }) (wants_of f.before) f.holds)
           of images steady o (stop.Deletion id) f c = absurd c
           of images steady o stop.Balance f c = absurd c
           of images steady o (stop.Missing id) f c = absurd c
@@ -197,14 +248,18 @@ module _ (write : Bool) (old mid : Seen) (first : OnlyReads old mid) (volume : V
         (λ images told steady. absurd (sure_told (λ B. ⊥) at second tells images told (inl steady)).1))
 
     -- the blocks were listed, and mended
-    module _ (listed : ListedWrites) (countings : ListedCounts) (table : IsTable layout.chunks) (new : Seen) (done : List Met) (tells : Tells layout mid at (λ B. Follows (unread_by layout mid at) no_part [] (exec B (units_in volume.sup layout.chunks)) done (Ok tt))) where
+    module _ (listed : ListedWrites) (countings : ListedCounts) (table : IsTable layout.chunks) (new : Seen) (had : HasBlocks new) (done : List Met)
+        (tells : Tells layout mid at (λ B. Follows (unread_by layout mid at) no_part [] (exec B (units_in volume.sup layout.chunks)) done (Ok tt))) where
       abbrev ws : Images → List Write
-      ws images = all_writes_for layout layout.chunks (checked_among done) images
+      ws images = all_writes_for (is_kept layout (plain_among done)) layout layout.chunks (checked_among done) images
 
       abbrev Is : Map → Type 0
       Is B = Follows (unread_by layout mid at) no_part [] (exec B (units_in volume.sup layout.chunks)) done (Ok tt)
 
-      module _ (tally : Tally) (ended : Result (Unit {0}) MendFault) (works : Works layout write (all_writes_for layout layout.chunks (checked_among done)) (all_count_for layout write layout.chunks (checked_among done)) at new (first_tally (fold count_met 0 done)) tally ended) where
+      module _ (tally : Tally) (ended : Result (Unit {0}) MendFault)
+          (works : Works layout write (all_writes_for (is_kept layout (plain_among done)) layout layout.chunks (checked_among done))
+          (all_count_for (is_kept layout (plain_among done)) layout write layout.chunks (checked_among done)) at new
+          (first_tally (fold count_met 0 done)) tally ended) where
         since : Steady old.account.faults new.account.faults → Steady old.account.faults at.account.faults
         since steady = (omega (arith, steady.0, works.does.only.later), omega (arith, steady.1, works.does.only.later))
 
@@ -212,7 +267,7 @@ module _ (write : Bool) (old mid : Seen) (first : OnlyReads old mid) (volume : V
         at_images images told = ap (λ (s : Seen). s.held) all.same ∙ told
 
         writes_are : (images : Images) → done ≡ met images fs → ws images ≡ writes images fs
-        writes_are images is = ap (λ d. all_writes_for layout layout.chunks (checked_among d) images) is ∙ listed images fs
+        writes_are images is = ap (λ d. all_writes_for (is_kept layout (plain_among d)) layout layout.chunks (checked_among d) images) is ∙ listed images fs
 
         keeps : KeepsRack old new
         keeps = record {
@@ -222,30 +277,42 @@ module _ (write : Bool) (old mid : Seen) (first : OnlyReads old mid) (volume : V
           same_shut = works.does.only.same_shut ∙ all.same_shut;
         }
 
-        held_as : (e : Result (Unit {0}) MendFault) → ended ≡ e → (images : Images) → old.held ≡ Some images → Leaves (λ i. writes_if write (ws i)) (Some images) new.held e
-        held_as e is images told = subst (λ (o : Option Images). Leaves (λ i. writes_if write (ws i)) o new.held e) (at_images images told) (subst (λ r. Leaves (λ i. writes_if write (ws i)) at.held new.held r) is works.does.held)
+        held_as : (e : Result (Unit {0}) MendFault) → ended ≡ e → (images : Images) → old.held ≡ Some images
+            → Leaves (λ i. writes_if write (ws i)) (Some images) new.held e
+        held_as e is images told = subst (λ (o : Option Images). Leaves (λ i. writes_if write (ws i)) o new.held e) (at_images images told)
+            (subst (λ r. Leaves (λ i. writes_if write (ws i)) at.held new.held r) is works.does.held)
 
         unheld : write ≡ false → new.held ≡ old.held
         unheld is =
-            left_nothing at.held new.held ended (subst (λ b. Leaves (λ i. writes_if b (ws i)) at.held new.held ended) is works.does.held) ∙ ap (λ (s : Seen). s.held) all.same
+            left_nothing at.held new.held ended (subst (λ b. Leaves (λ i. writes_if b (ws i)) at.held new.held ended) is works.does.held)
+            ∙ ap (λ (s : Seen). s.held) all.same
 
-        leaves : (answer : Answer) → MayWrite answer → ((images left : Images) → old.held ≡ Some images → new.held ≡ Some left → (lost : ℕ) → answer ≡ found lost → write ≡ true → Both Is images → left ≡ scrubbed_images images)
-            → write ≡ true → IfSome old.held (λ images. IfSome new.held (λ left. LeavesImages (Steady old.account.faults new.account.faults) images left answer))
+        leaves : (answer : Answer) → MayWrite answer
+            → ((images left : Images) → old.held ≡ Some images → new.held ≡ Some left → (lost : ℕ) → answer ≡ found lost → write ≡ true → Both Is images
+            → left ≡ scrubbed_images images)
+            → write ≡ true → IfSome old.held (λ images. IfSome new.held
+            (λ left. LeavesImages (Steady old.account.faults new.account.faults) images left answer))
         leaves answer may all is =
             each_told old.held (λ images. IfSome new.held (λ left. LeavesImages (Steady old.account.faults new.account.faults) images left answer))
             (λ images told. each_told new.held (λ left. LeavesImages (Steady old.account.faults new.account.faults) images left answer)
             (λ left told'. record {
-              stopped = λ sure. stopped_at images left told told' (sure_told Is at second tells images told (⊎_elim (λ steady. inl (since steady)) (λ agreed. inr agreed) sure));
-              finished = λ lost e sure. all images left told told' lost e is (sure_told Is at second tells images told (⊎_elim (λ steady. inl (since steady)) (λ agreed. inr agreed) sure));
+              stopped = λ sure. stopped_at images left told told'
+                  (sure_told Is at second tells images told (⊎_elim (λ steady. inl (since steady)) (λ agreed. inr agreed) sure));
+              finished = λ lost e sure. all images left told told' lost e is
+                  (sure_told Is at second tells images told (⊎_elim (λ steady. inl (since steady)) (λ agreed. inr agreed) sure));
               unchanged = inr may;
+              safe = λ sure. inr (keeps_blocks new had images left told told' sure
+                  (sure_told Is at second tells images told (⊎_elim (λ steady. inl (since steady)) (λ agreed. inr agreed) sure)).0);
             }))
           where
             stopped_at : (images left : Images) → old.held ≡ Some images → new.held ≡ Some left → Both Is images → IsStopped (mending_writes images) images left
             stopped_at images left told told' h =
-                let mending : writes_if write (ws images) ≡ mending_writes images = ap (λ b. writes_if b (ws images)) is ∙ writes_are images h.1.0 ∙ sym (writes_by images ∙ ap (writes_in images) h.0 ∙ ap (λ m. (effect_unless true images fs m).writes) given
+                let mending : writes_if write (ws images) ≡ mending_writes images = ap (λ b. writes_if b (ws images)) is ∙ writes_are images h.1.0
+                ∙ sym (writes_by images ∙ ap (writes_in images) h.0 ∙ ap (λ m. (effect_unless true images fs m).writes) given
                 ∙ ap (λ r. (effect_of_ending true images fs r).writes) h.1.1) in
                 subst (λ w. IsStopped w images left) mending
-                (stop_place (λ i. writes_if write (ws i)) images left ended (subst (λ (o : Option Images). Leaves (λ i. writes_if write (ws i)) (Some images) o ended) told' (held_as ended refl images told)))
+                (stop_place (λ i. writes_if write (ws i)) images left ended
+                (subst (λ (o : Option Images). Leaves (λ i. writes_if write (ws i)) (Some images) o ended) told' (held_as ended refl images told)))
 
         unmended : (slot : ℕ) → FailsAt (IsOfScrub layout) slot (plain at) (plain new) → IsUnmended layout old new slot
         unmended slot f = record {
@@ -260,7 +327,8 @@ module _ (write : Bool) (old mid : Seen) (first : OnlyReads old mid) (volume : V
           shut = f.failed.shut ∙ all.same_shut;
         }
 
-        by_none : (answer : Answer) → tree_in answer ≡ None → NoneOf answer → ((slot : ℕ) → answer ≡ ImageFault slot → IsUnmended layout old new slot) → IsBehindCommand (Scrub write) old new answer
+        by_none : (answer : Answer) → tree_in answer ≡ None → NoneOf answer → ((slot : ℕ) → answer ≡ ImageFault slot → IsUnmended layout old new slot)
+            → IsBehindCommand (Scrub write) old new answer
         by_none answer none other image = record {
           keeps = keeps;
           reads = λ never. absurd (never tt);
@@ -278,9 +346,11 @@ module _ (write : Bool) (old mid : Seen) (first : OnlyReads old mid) (volume : V
               (λ images told steady. absurd (steady_not_rose old.account.faults new.account.faults steady (unmended slot failed).faults));
           bare = record { no_fault = record { no_out = λ e. cc; no_sink = λ e. cc }; line = λ e. cc };
           behind = by_none (ImageFault slot) refl tt (λ other e. subst (IsUnmended layout old new) (the_slot slot other e) (unmended slot failed));
-          repaired = λ w. each_told old.held (λ images. Steady old.account.faults new.account.faults → (ImageFault slot ≡ Memory → ⊥) → new.held ≡ Some (scrubbed_images images))
+          repaired = λ w. each_told old.held (λ images. Steady old.account.faults new.account.faults → (ImageFault slot ≡ Memory → ⊥)
+              → new.held ≡ Some (scrubbed_images images))
               (λ images told steady. absurd (steady_not_rose old.account.faults new.account.faults steady (unmended slot failed).faults));
           left = leaves (ImageFault slot) (inl (inl (slot, refl))) (λ images left told told' lost e w h. absurd (no_line (ImageFault slot) (λ l. cc l) lost e));
+          synced = λ w lost e. absurd (no_line (ImageFault slot) (λ l. cc l) lost e);
         }
           where
             failed : FailsAt (IsOfScrub layout) slot (plain at) (plain new)
@@ -289,54 +359,74 @@ module _ (write : Bool) (old mid : Seen) (first : OnlyReads old mid) (volume : V
             the_slot : (a b : ℕ) → ImageFault a ≡ ImageFault b → a ≡ b
             the_slot a b e = cc e
         mended (Err mend.Memory) is = record {
-          content = each_told old.held (λ images. Steady old.account.faults new.account.faults → ScrubsTo write images (Err Memory)) (λ images told steady. inr refl);
+          content = each_told old.held (λ images. Steady old.account.faults new.account.faults → ScrubsTo write images (Err Memory))
+              (λ images told steady. inr refl);
           bare = record { no_fault = record { no_out = λ e. cc; no_sink = λ e. cc }; line = λ e. cc };
           behind = by_none Memory refl tt (λ slot e. absurd (cc e));
-          repaired = λ w. each_told old.held (λ images. Steady old.account.faults new.account.faults → (Memory ≡ Memory → ⊥) → new.held ≡ Some (scrubbed_images images)) (λ images told steady enough. absurd (enough refl));
+          repaired = λ w. each_told old.held (λ images. Steady old.account.faults new.account.faults → (Memory ≡ Memory → ⊥)
+              → new.held ≡ Some (scrubbed_images images)) (λ images told steady enough. absurd (enough refl));
           left = leaves Memory (inl (inr (inr (inr refl)))) (λ images left told told' lost e w h. absurd (found_no_memory lost (sym e)));
+          synced = λ w lost e. absurd (found_no_memory lost (sym e));
         }
         mended (Ok u) is = record {
           content = each_told old.held (λ images. Steady old.account.faults new.account.faults → ScrubsTo write images (Ok tally))
               (λ images told steady. counted images told (sure_told Is at second tells images told (inl (since steady))));
           bare = tt;
-          behind = by_none (found tally.lost) (listed_no_tree tally.lost (Ok tt)) (listed_none tally.lost (Ok tt)) (λ slot e. absurd (listed_no_image tally.lost (Ok tt) slot e));
-          repaired = λ w. each_told old.held (λ images. Steady old.account.faults new.account.faults → (found tally.lost ≡ Memory → ⊥) → new.held ≡ Some (scrubbed_images images))
+          behind = by_none (found tally.lost) (listed_no_tree tally.lost (Ok tt)) (listed_none tally.lost (Ok tt))
+              (λ slot e. absurd (listed_no_image tally.lost (Ok tt) slot e));
+          repaired = λ w. each_told old.held (λ images. Steady old.account.faults new.account.faults → (found tally.lost ≡ Memory → ⊥)
+              → new.held ≡ Some (scrubbed_images images))
               (λ images told steady enough. stands images told w (sure_told Is at second tells images told (inl (since steady))));
-          left = leaves (found tally.lost) (inr (tally.lost, refl)) (λ images left told told' lost e w h. the_images left (scrubbed_images images) (sym told' ∙ stands images told w h));
+          left = leaves (found tally.lost) (inr (tally.lost, refl))
+              (λ images left told told' lost e w h. the_images left (scrubbed_images images) (sym told' ∙ stands images told w h));
+          synced = λ w lost e none. subst (λ r. OnOk r (at.unsynced ≡ [] → new.unsynced ≡ [])) is works.synced (ap (λ (s : Seen). s.unsynced) all.same ∙ none);
         }
           where
             tally_is : (images : Images) → old.held ≡ Some images → done ≡ met images fs → tally ≡ counts write images fs
             tally_is images told same =
-                told_at at.held (λ i. tally ≡ all_count_for layout write layout.chunks (checked_among done) i (first_tally (fold count_met 0 done))) images (at_images images told)
-                (subst (λ r. OnOk r (IfSome at.held (λ i. tally ≡ all_count_for layout write layout.chunks (checked_among done) i (first_tally (fold count_met 0 done))))) is works.counts)
-                ∙ ap (λ d. all_count_for layout write layout.chunks (checked_among d) images (first_tally (fold count_met 0 d))) same
+                told_at at.held (λ i. tally ≡ all_count_for (is_kept layout (plain_among done)) layout write layout.chunks (checked_among done) i
+                (first_tally (fold count_met 0 done))) images
+                (at_images images told)
+                (subst (λ r. OnOk r (IfSome at.held (λ i. tally ≡ all_count_for (is_kept layout (plain_among done)) layout write layout.chunks
+                (checked_among done) i
+                (first_tally (fold count_met 0 done))))) is works.counts)
+                ∙ ap (λ d. all_count_for (is_kept layout (plain_among d)) layout write layout.chunks (checked_among d) images
+                (first_tally (fold count_met 0 d))) same
                 ∙ countings images fs write table
 
             counted : (images : Images) → old.held ≡ Some images → Both Is images → scrub_outcome write images ≡ showing (tally_shown tally)
             counted images told h =
-                outcome_by write images ∙ ap (scrub_in write images) h.0 ∙ ap (scrub_unless write images fs) given ∙ ap (scrub_ended write images fs) h.1.1 ∙ ap (λ t. showing (tally_shown t)) (sym (tally_is images told h.1.0))
+                outcome_by write images ∙ ap (scrub_in write images) h.0 ∙ ap (scrub_unless write images fs) given ∙ ap (scrub_ended write images fs) h.1.1
+                ∙ ap (λ t. showing (tally_shown t)) (sym (tally_is images told h.1.0))
 
             stands : (images : Images) → old.held ≡ Some images → write ≡ true → Both Is images → new.held ≡ Some (scrubbed_images images)
             stands images told w h =
-                held_as (Ok u) is images told ∙ ap (λ b. Some (fold write_on images (writes_if b (ws images)))) w ∙ ap (λ l. Some (fold write_on images l)) (writes_are images h.1.0)
-                ∙ sym (ap (λ (i : Images). Some i) (images_by images ∙ ap (scrubbed_in images) h.0 ∙ ap (λ m. (effect_unless true images fs m).images) given ∙ ap (λ r. (effect_of_ending true images fs r).images) h.1.1))
+                held_as (Ok u) is images told ∙ ap (λ b. Some (fold write_on images (writes_if b (ws images)))) w
+                ∙ ap (λ l. Some (fold write_on images l)) (writes_are images h.1.0)
+                ∙ sym (ap (λ (i : Images). Some i) (images_by images ∙ ap (scrubbed_in images) h.0 ∙ ap (λ m. (effect_unless true images fs m).images) given
+                ∙ ap (λ r. (effect_of_ending true images fs r).images) h.1.1))
 
         pub worked : Scrubs write old new (answered (whole.answer_of ended tally))
         worked = mended ended refl
 
   -- what the call came to
-  pub scrubs_so : ListedWrites → ListedCounts → IsTable layout.chunks → (new : Seen) (result : Result Tally Stop) → IfSome (first_missing layout) (λ stripe. (result ≡ Err (stop.Missing stripe.devid)) × (new ≡ mid))
-      → (first_missing layout ≡ None → ScrubsAll volume.sup layout write mid new result) → Scrubs write old new (answered result)
-  scrubs_so listed countings table new result missing scrubs = of (first_missing layout) refl missing
+  pub scrubs_so : ListedWrites → ListedCounts → IsTable layout.chunks → (new : Seen) (result : Result Tally Stop)
+      → IfSome (first_missing layout) (λ stripe. (result ≡ Err (stop.Missing stripe.devid)) × (new ≡ mid))
+      → (first_missing layout ≡ None → ScrubsAll volume.sup layout write mid new result)
+      → IsSafe (called volume write mid new result) → Scrubs write old new (answered result)
+  scrubs_so listed countings table new result missing scrubs safe = of (first_missing layout) refl missing
     where
       ended_as : (r : Result Tally Stop) (n : Seen) → result ≡ r → new ≡ n → Scrubs write old n (answered r) → Scrubs write old new (answered result)
       ended_as r n is same s = subst (λ q. Scrubs write old new (answered q)) (sym is) (subst (λ m. Scrubs write old m (answered r)) (sym same) s)
 
-      by : (given : first_missing layout ≡ None) (at : Seen) → OnlyReads mid at → (done : List Met) (l : Listing) → Goes volume.sup layout write mid at new done result l → Scrubs write old new (answered result)
+      by : (given : first_missing layout ≡ None) (at : Seen) → OnlyReads mid at → (done : List Met) (l : Listing)
+          → Goes volume.sup layout write mid at new done result l → Scrubs write old new (answered result)
       by given at second done (Stopped why) g = ended_as (Err why) at g.0 g.1 (listing_stopped given at second why g.3 done g.2)
-      by given at second done Listed g = ended_as (whole.answer_of g.1.ended g.1.tally) new g.1.says refl (worked given at second listed countings table new done g.0 g.1.tally g.1.ended g.1.works)
+      by given at second done Listed g = ended_as (whole.answer_of g.1.ended g.1.tally) new g.1.says refl
+          (worked given at second listed countings table new safe.left done g.0 g.1.tally g.1.ended g.1.works)
       by given at second done (Refused f) g = ended_as (Err (stop.Tree f)) at g.0 g.1 (listing_refused given at second f g.2 g.3)
 
-      of : (m : Option Stripe) → first_missing layout ≡ m → IfSome m (λ stripe. (result ≡ Err (stop.Missing stripe.devid)) × (new ≡ mid)) → Scrubs write old new (answered result)
+      of : (m : Option Stripe) → first_missing layout ≡ m → IfSome m (λ stripe. (result ≡ Err (stop.Missing stripe.devid)) × (new ≡ mid))
+          → Scrubs write old new (answered result)
       of (Some stripe) is gone = ended_as (Err (stop.Missing stripe.devid)) mid gone.0 gone.1 (lacking stripe is)
       of None is gone = let s = scrubs is in by is s.mid s.reads s.done s.listing s.goes

@@ -1,5 +1,5 @@
 -- What is told of a scrub, and what it leaves, by what it answers.
-use Rattle.std.proofs.Common.{◌≡◌, inl, inr, ⊎_elim, ℕ, Bool, true, List, Option, Some, Result, Ok, Err, refl, sym, ap, subst}
+use Rattle.std.proofs.Common.{◌≡◌, inl, inr, ⊎_elim, ℕ, Bool, true, List, [], Option, Some, Result, Ok, Err, refl, sym, ap, ◌∙◌, subst}
 use Rattle.std.specs.Option.{IfSome}
 use Rattle.btr_rack.specs.Out.{CallAccount, Counts, Puts}
 use Rattle.btr_rack.specs.declared.error.SinkError.{SinkError}
@@ -7,7 +7,7 @@ use Rattle.btr_rack.specs.declared.error.SinkError.TheVariants.{Failed, Memory a
 use Rattle.btr_rack.specs.Rack.{Seen, Steady}
 use Rattle.btr_scrub.specs.declared.tally.Tally.{Tally}
 use Rattle.btr_volume.specs.Start.{Images}
-use Rattle.btr_run.specs.Agreeing.{AreAgreed, IsOrUnread, ScrubsAgreed}
+use Rattle.btr_run.specs.Agreeing.{AreAgreed, IsScrubbedOrUnread, ScrubsAgreed}
 use Rattle.btr_run.specs.Behind.{IfSteady}
 use Rattle.btr_run.specs.Checked.{found}
 use Rattle.btr_run.specs.Commands.{IsBehindCommand}
@@ -29,47 +29,69 @@ module _ (write : Bool) (old new : Seen) (answer result : Answer) (is : result �
   abbrev IsOneOf : Images → Outcome → Type 0
   IsOneOf images = OrMemory (λ outcome. Some (scrub_outcome write images) ≡ Some outcome)
 
-  pub refused_effect : (text : Option (List ℕ)) (account : CallAccount) → IfSteady old.held old.account new.account (λ images. Shows (OrMemory (λ outcome. Some (scrub_outcome write images) ≡ Some outcome)) text text account account result)
+  pub refused_effect : (text : Option (List ℕ)) (account : CallAccount) → IfSteady old.held old.account new.account
+      (λ images. Shows (OrMemory (λ outcome. Some (scrub_outcome write images) ≡ Some outcome)) text text account account result)
   refused_effect text account =
       when_told old.held (λ images. Steady old.account.faults new.account.faults → ScrubsTo write images (Err answer))
       (λ images. Steady old.account.faults new.account.faults → Shows (IsOneOf images) text text account account result)
       (λ images to steady. subst (Shows (IsOneOf images) text text account account) (sym is)
-      (shows_bare (IsOneOf images) text account answer (⊎_elim (λ both. inl (ap (λ o. Some o) both.0)) (λ want. inr (ap refused want)) (to steady)) s.bare.no_fault)) s.content
+      (shows_bare (IsOneOf images) text account answer (⊎_elim (λ both. inl (ap (λ o. Some o) both.0)) (λ want. inr (ap refused want))
+      (to steady)) s.bare.no_fault)) s.content
 
   pub refused_agreed : (text : Option (List ℕ)) (account : CallAccount) → IfSome old.held (λ images. AreAgreed images → ScrubsAgreed write images (Err answer))
-      → IfSome old.held (λ images. AreAgreed images → Shows (IsOrUnread (scrub_outcome write images)) text text account account result)
+      → IfSome old.held (λ images. AreAgreed images → Shows (IsScrubbedOrUnread write images) text text account account result)
   refused_agreed text account =
-      when_told old.held (λ images. AreAgreed images → ScrubsAgreed write images (Err answer)) (λ images. AreAgreed images → Shows (IsOrUnread (scrub_outcome write images)) text text account account result)
-      (λ images to agreed. subst (Shows (IsOrUnread (scrub_outcome write images)) text text account account) (sym is) (shows_bare (IsOrUnread (scrub_outcome write images)) text account answer (to agreed) s.bare.no_fault))
+      when_told old.held (λ images. AreAgreed images → ScrubsAgreed write images (Err answer))
+      (λ images. AreAgreed images → Shows (IsScrubbedOrUnread write images) text text account account result)
+      (λ images to agreed. subst (Shows (IsScrubbedOrUnread write images) text text account account) (sym is)
+      (shows_bare (IsScrubbedOrUnread write images) text account answer (to agreed) s.bare.no_fault))
 
   pub refused_told : (text : Option (List ℕ)) (account : CallAccount) → Shows (OrBare IsScrubOutcome) text text account account result
-  refused_told text account = subst (Shows (OrBare IsScrubOutcome) text text account account) (sym is) (shows_bare (OrBare IsScrubOutcome) text account answer (inr (refl, s.bare.line)) s.bare.no_fault)
+  refused_told text account = subst (Shows (OrBare IsScrubOutcome) text text account account) (sym is)
+      (shows_bare (OrBare IsScrubOutcome) text account answer (inr (refl, s.bare.line)) s.bare.no_fault)
 
   pub refused_repaired : write ≡ true → IfSteady old.held old.account new.account (λ images. (result ≡ Memory → ⊥) → new.held ≡ Some (scrubbed_images images))
-  refused_repaired w = subst (λ a. IfSteady old.held old.account new.account (λ images. (a ≡ Memory → ⊥) → new.held ≡ Some (scrubbed_images images))) (sym is) (s.repaired w)
+  refused_repaired w = subst (λ a. IfSteady old.held old.account new.account (λ images. (a ≡ Memory → ⊥) → new.held ≡ Some (scrubbed_images images))) (sym is)
+      (s.repaired w)
 
-  pub refused_left : write ≡ true → IfSome old.held (λ images. IfSome new.held (λ left. LeavesImages (Steady old.account.faults new.account.faults) images left result))
-  refused_left w = subst (λ a. IfSome old.held (λ images. IfSome new.held (λ left. LeavesImages (Steady old.account.faults new.account.faults) images left a))) (sym is) (s.left w)
+  pub refused_left : write ≡ true → IfSome old.held
+      (λ images. IfSome new.held (λ left. LeavesImages (Steady old.account.faults new.account.faults) images left result))
+  refused_left w = subst (λ a. IfSome old.held (λ images. IfSome new.held (λ left. LeavesImages (Steady old.account.faults new.account.faults) images left a)))
+      (sym is) (s.left w)
+
+  pub refused_synced : write ≡ true → (lost : ℕ) → result ≡ found lost → old.unsynced ≡ [] → new.unsynced ≡ []
+  refused_synced w lost e = s.synced w lost (sym is ∙ e)
 
   pub refused_cause : IsBehindCommand (Scrub write) old new result
   refused_cause = subst (IsBehindCommand (Scrub write) old new) (sym is) s.behind
 
 -- The scrub was done, and its line put.
-module _ (write : Bool) (old new : Seen) (tally : Tally) (s : Scrubs write old new (Ok tally)) (put : Result Unit SinkError) (result : Answer) (due : result ≡ due_after put (found tally.lost)) where
+module _ (write : Bool) (old new : Seen) (tally : Tally) (s : Scrubs write old new (Ok tally)) (put : Result Unit SinkError) (result : Answer)
+    (due : result ≡ due_after put (found tally.lost)) where
   module _ (text text' : Option (List ℕ)) (before after : CallAccount) (puts : Puts text text' (tally_text tally) put) (counted : Counts before after put) where
     shown_so : (IsOne : Outcome → Type 0) → IsOne (showing (tally_shown tally)) → Shows IsOne text text' before after result
-    shown_so IsOne one = record { shown = tally_shown tally; is_one = one; no_fault = found_calm tally.lost; put = record { put = put; puts = puts; counts = counted; due = due } }
+    shown_so IsOne one = record {
+      shown = tally_shown tally;
+      is_one = one;
+      no_fault = found_calm tally.lost;
+      put = record
+          { put = put; puts = puts; counts = counted; due = due };
+    }
 
-    pub done_effect : IfSteady old.held old.account new.account (λ images. Shows (OrMemory (λ outcome. Some (scrub_outcome write images) ≡ Some outcome)) text text' before after result)
+    pub done_effect : IfSteady old.held old.account new.account
+        (λ images. Shows (OrMemory (λ outcome. Some (scrub_outcome write images) ≡ Some outcome)) text text' before after result)
     done_effect =
         when_told old.held (λ images. Steady old.account.faults new.account.faults → ScrubsTo write images (Ok tally))
-        (λ images. Steady old.account.faults new.account.faults → Shows (OrMemory (λ outcome. Some (scrub_outcome write images) ≡ Some outcome)) text text' before after result)
+        (λ images. Steady old.account.faults new.account.faults → Shows
+        (OrMemory (λ outcome. Some (scrub_outcome write images) ≡ Some outcome)) text text' before after result)
         (λ images to steady. shown_so (OrMemory (λ outcome. Some (scrub_outcome write images) ≡ Some outcome)) (inl (ap (λ o. Some o) (to steady)))) s.content
 
-    pub done_agreed : IfSome old.held (λ images. AreAgreed images → ScrubsAgreed write images (Ok tally)) → IfSome old.held (λ images. AreAgreed images → Shows (IsOrUnread (scrub_outcome write images)) text text' before after result)
+    pub done_agreed : IfSome old.held (λ images. AreAgreed images → ScrubsAgreed write images (Ok tally))
+        → IfSome old.held (λ images. AreAgreed images → Shows (IsScrubbedOrUnread write images) text text' before after result)
     done_agreed =
-        when_told old.held (λ images. AreAgreed images → ScrubsAgreed write images (Ok tally)) (λ images. AreAgreed images → Shows (IsOrUnread (scrub_outcome write images)) text text' before after result)
-        (λ images to agreed. shown_so (IsOrUnread (scrub_outcome write images)) (inl (to agreed)))
+        when_told old.held (λ images. AreAgreed images → ScrubsAgreed write images (Ok tally))
+        (λ images. AreAgreed images → Shows (IsScrubbedOrUnread write images) text text' before after result)
+        (λ images to agreed. shown_so (IsScrubbedOrUnread write images) (inl (inl (to agreed))))
 
     pub done_told : Shows (OrBare IsScrubOutcome) text text' before after result
     done_told = shown_so (OrBare IsScrubOutcome) (inl (record { tally = tally; is = refl }))
@@ -88,12 +110,23 @@ module _ (write : Bool) (old new : Seen) (tally : Tally) (s : Scrubs write old n
       of (Err Failed) d = inl (inr (inr (inl d)))
       of (Err memory_fault) d = inl (inr (inr (inr d)))
 
-  pub done_left : write ≡ true → IfSome old.held (λ images. IfSome new.held (λ left. LeavesImages (Steady old.account.faults new.account.faults) images left result))
+  pub done_left : write ≡ true → IfSome old.held
+      (λ images. IfSome new.held (λ left. LeavesImages (Steady old.account.faults new.account.faults) images left result))
   done_left w =
       when_told old.held (λ images. IfSome new.held (λ left. LeavesImages (Steady old.account.faults new.account.faults) images left (found tally.lost)))
       (λ images. IfSome new.held (λ left. LeavesImages (Steady old.account.faults new.account.faults) images left result))
-      (λ images l. when_told new.held (λ left. LeavesImages (Steady old.account.faults new.account.faults) images left (found tally.lost)) (λ left. LeavesImages (Steady old.account.faults new.account.faults) images left result)
-      (λ left leaves. record { stopped = leaves.stopped; finished = λ lost e sure. leaves.finished tally.lost refl sure; unchanged = inr may_write }) l) (s.left w)
+      (λ images l. when_told new.held (λ left. LeavesImages (Steady old.account.faults new.account.faults) images left (found tally.lost))
+      (λ left. LeavesImages (Steady old.account.faults new.account.faults) images left result)
+      (λ left leaves. record {
+        stopped = leaves.stopped;
+        finished = λ lost e sure. leaves.finished tally.lost refl sure;
+        unchanged = inr may_write;
+        safe =
+            leaves.safe;
+      }) l) (s.left w)
+
+  pub done_synced : write ≡ true → (lost : ℕ) → result ≡ found lost → old.unsynced ≡ [] → new.unsynced ≡ []
+  done_synced w lost e = s.synced w tally.lost refl
 
   pub done_cause : IsBehindCommand (Scrub write) old new result
   done_cause = subst (IsBehindCommand (Scrub write) old new) (sym due) (record {

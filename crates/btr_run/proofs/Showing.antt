@@ -36,37 +36,51 @@ newest_at supers slot s index lt is =
     find_at (is_newest supers) supers ∙ ap (slice_get supers) index ∙ slice_get-get_or supers slot s lt ∙ ap (λ x. Some x) (sym is)
 
 -- the newest is what is shown
-pub shown_is : (images : Images) (supers : List Super) (slot : ℕ) (s : Super) → supers_from 0 images ≡ Ok supers → newest_index supers ≡ slot → slot < length supers → s ≡ get_or supers slot s → super_outcome images ≡ Some (showing (shown slot s))
+pub shown_is : (images : Images) (supers : List Super) (slot : ℕ) (s : Super) → supers_from 0 images ≡ Ok supers → newest_index supers ≡ slot
+    → slot < length supers → s ≡ get_or supers slot s → super_outcome images ≡ Some (showing (shown slot s))
 shown_is images supers slot s read index lt is =
     ap newest_shown read
     ∙ ap (option_map (λ x. showing (shown (newest_index supers) x))) (newest_at supers slot s index lt is)
     ∙ ap (λ k. Some (showing (shown k s))) index
 
 -- the text of a superblock was put, wholly or in part
-module _ (slot : ℕ) (s : Super) (old new : Option (List ℕ)) (before after : CallAccount) (put : Result Unit SinkError) (puts : Puts old new (super_text slot s) put) (counts : Counts before after put) (result : Answer) (due : result ≡ due_after put (Done 0)) where
+module _ (slot : ℕ) (s : Super) (old new : Option (List ℕ)) (before after : CallAccount) (put : Result Unit SinkError)
+    (puts : Puts old new (super_text slot s) put) (counts : Counts before after put) (result : Answer) (due : result ≡ due_after put (Done 0)) where
   shows : (IsOne : Outcome → Type 0) → IsOne (showing (shown slot s)) → Shows IsOne old new before after result
-  shows IsOne is_one = record { shown = shown slot s; is_one = is_one; no_fault = record { no_out = λ e. cc; no_sink = λ e. cc }; put = record { put = put; puts = puts; counts = counts; due = due } }
+  shows IsOne is_one = record {
+    shown = shown slot s;
+    is_one = is_one;
+    no_fault = record { no_out = λ e. cc; no_sink = λ e. cc };
+    put = record
+        { put = put; puts = puts; counts = counts; due = due };
+  }
 
   pub shown_told : Shows (OrBare IsSuperOutcome) old new before after result
   shown_told = shows (OrBare IsSuperOutcome) (inl (slot, s, refl))
 
 -- and it is that of the newest
-pub shown_effect : (old new : Account) (held : Option Images) (supers : List Super) (slot : ℕ) (s : Super) → IfSome held (λ images. supers_from 0 images ≡ Ok supers) → newest_index supers ≡ slot → slot < length supers → s ≡ get_or supers slot s
-    → (texts texts' : Option (List ℕ)) (before after : CallAccount) (put : Result Unit SinkError) → Puts texts texts' (super_text slot s) put → Counts before after put → (result : Answer) → result ≡ due_after put (Done 0)
+pub shown_effect : (old new : Account) (held : Option Images) (supers : List Super) (slot : ℕ) (s : Super)
+    → IfSome held (λ images. supers_from 0 images ≡ Ok supers) → newest_index supers ≡ slot → slot < length supers → s ≡ get_or supers slot s
+    → (texts texts' : Option (List ℕ)) (before after : CallAccount) (put : Result Unit SinkError) → Puts texts texts' (super_text slot s) put
+    → Counts before after put → (result : Answer) → result ≡ due_after put (Done 0)
     → IfSome held (λ images. Steady old.faults new.faults → Shows (OrMemory (λ outcome. super_outcome images ≡ Some outcome)) texts texts' before after result)
 shown_effect old new None supers slot s read index lt is texts texts' before after put puts counts result due = tt
 shown_effect old new (Some images) supers slot s read index lt is texts texts' before after put puts counts result due = λ steady.
-    shows slot s texts texts' before after put puts counts result due (OrMemory (λ outcome. super_outcome images ≡ Some outcome)) (inl (shown_is images supers slot s read index lt is))
+    shows slot s texts texts' before after put puts counts result due (OrMemory (λ outcome. super_outcome images ≡ Some outcome))
+    (inl (shown_is images supers slot s read index lt is))
 
 steady_not_rose : (before now : ℕ) → Steady before now → Rose before now → ⊥
 steady_not_rose before now steady rose = omega (arith, steady.0, steady.1, rose.0, rose.1)
 
 -- what `super` comes to where there are no superblocks
-refusal_comes : (images : Images) (old new : Seen) (text : Option (List ℕ)) (account : CallAccount) (refusal : OpenFault) → SupersCause {T = Vec Super Global} old new (Err refusal) → ReadsSupers images (Err refusal) → Steady old.account.faults new.account.faults
+refusal_comes : (images : Images) (old new : Seen) (text : Option (List ℕ)) (account : CallAccount) (refusal : OpenFault)
+    → SupersCause {T = Vec Super Global} old new (Err refusal) → ReadsSupers images (Err refusal) → Steady old.account.faults new.account.faults
     → Shows (OrMemory (λ outcome. super_outcome images ≡ Some outcome)) text text account account (open_answer refusal)
-refusal_comes images old new text account refusal cause read steady = shows_bare _ text account (open_answer refusal) (of refusal cause read) (open_no_fault refusal)
+refusal_comes images old new text account refusal cause read steady = shows_bare _ text account (open_answer refusal) (of refusal cause read)
+    (open_no_fault refusal)
   where
-    of : (r : OpenFault) → SupersCause {T = Vec Super Global} old new (Err r) → ReadsSupers images (Err r) → OrMemory (λ outcome. super_outcome images ≡ Some outcome) (refused (open_answer r))
+    of : (r : OpenFault) → SupersCause {T = Vec Super Global} old new (Err r) → ReadsSupers images (Err r)
+        → OrMemory (λ outcome. super_outcome images ≡ Some outcome) (refused (open_answer r))
     of (opening.ImageFault slot) cause read = absurd (steady_not_rose old.account.faults new.account.faults steady cause.faults)
     of opening.Memory cause read = inr refl
     of (opening.NoSuper slot) cause read = inl (ap newest_shown read)
@@ -108,24 +122,39 @@ supers_read {T} old new r same cause = of r cause
 
 -- where there are no superblocks
 module _ (old new : Seen) (refusal : OpenFault) (cause : SupersCause {T = Vec Super Global} old new (Err refusal)) where
-  pub refusal_effect : (held : Option Images) (text : Option (List ℕ)) (account : CallAccount) (result : Answer) → result ≡ open_answer refusal → IfSome held (λ images. ReadsSupers images (Err refusal))
-      → IfSome held (λ images. Steady old.account.faults new.account.faults → Shows (OrMemory (λ outcome. super_outcome images ≡ Some outcome)) text text account account result)
+  pub refusal_effect : (held : Option Images) (text : Option (List ℕ)) (account : CallAccount) (result : Answer) → result ≡ open_answer refusal
+      → IfSome held (λ images. ReadsSupers images (Err refusal))
+      → IfSome held (λ images. Steady old.account.faults new.account.faults → Shows
+      (OrMemory (λ outcome. super_outcome images ≡ Some outcome)) text text account account result)
   refusal_effect None text account result is read = tt
   refusal_effect (Some images) text account result is read = λ steady.
-      subst (λ a. Shows (OrMemory (λ outcome. super_outcome images ≡ Some outcome)) text text account account a) (sym is) (refusal_comes images old new text account refusal cause read steady)
+      subst (λ a. Shows (OrMemory (λ outcome. super_outcome images ≡ Some outcome)) text text account account a) (sym is)
+      (refusal_comes images old new text account refusal cause read steady)
 
-  pub refusal_told : (IsOne : Outcome → Type 0) (text : Option (List ℕ)) (account : CallAccount) (result : Answer) → result ≡ open_answer refusal → Shows (OrBare IsOne) text text account account result
-  refusal_told IsOne text account result is = subst (λ a. Shows (OrBare IsOne) text text account account a) (sym is) (shows_bare (OrBare IsOne) text account (open_answer refusal) (inr (refl, open_line refusal)) (open_no_fault refusal))
+  pub refusal_told : (IsOne : Outcome → Type 0) (text : Option (List ℕ)) (account : CallAccount) (result : Answer) → result ≡ open_answer refusal
+      → Shows (OrBare IsOne) text text account account result
+  refusal_told IsOne text account result is = subst (λ a. Shows (OrBare IsOne) text text account account a) (sym is)
+      (shows_bare (OrBare IsOne) text account (open_answer refusal) (inr (refl, open_line refusal)) (open_no_fault refusal))
 
-  pub refusal_behind : (MayFail : Answer → Type 0) (result : Answer) → result ≡ open_answer refusal → OnlyCounts old new → IsBehind MayFail AnyFault old new result
+  pub refusal_behind : (MayFail : Answer → Type 0) (result : Answer) → result ≡ open_answer refusal → OnlyCounts old new
+      → IsBehind MayFail AnyFault old new result
   refusal_behind MayFail result is same = subst (IsBehind MayFail AnyFault old new) (sym is) (of refusal cause)
     where
       reads : OnlyReads old new
       reads = supers_read {T = Vec Super Global} old new (Err refusal) same cause
 
-      calm : (r : OpenFault) → NoneFailed old.account new.account → tree_in (open_answer r) ≡ None → ((slot : ℕ) → open_answer r ≢ ImageFault slot) → ((n : ℕ) → open_answer r ≢ Limit images_limit n) → IsBehind MayFail AnyFault old new (open_answer r)
+      calm : (r : OpenFault) → NoneFailed old.account new.account → tree_in (open_answer r) ≡ None → ((slot : ℕ) → open_answer r ≢ ImageFault slot)
+          → ((n : ℕ) → open_answer r ≢ Limit images_limit n) → IsBehind MayFail AnyFault old new (open_answer r)
       calm r none no_tree no_image no_limit =
-          record { reads = reads; image = λ slot e. absurd (no_image slot e); tree = untold old new (open_answer r) no_tree; hidden = inl none; no_usage = open_no_usage r; no_limit = no_limit }
+          record {
+            reads = reads;
+            image = λ slot e. absurd (no_image slot e);
+            tree = untold old new (open_answer r) no_tree;
+            hidden = inl none;
+            no_usage =
+                open_no_usage r;
+            no_limit = no_limit;
+          }
 
       counted : (which : Which) (n m : ℕ) → IsCounted which → open_answer (opening.Limit which n) ≢ Limit images_limit m
       counted images_limit n m counts e = counts
@@ -156,7 +185,8 @@ module _ (old new : Seen) (refusal : OpenFault) (cause : SupersCause {T = Vec Su
       of (opening.Tree f) cause = absurd cause
 
 -- where a superblock's text was put, wholly or in part
-pub shown_behind : (MayFail : Answer → Type 0) (old new : Seen) (put : Result Unit SinkError) → OnlyReads old new → NoneFailed old.account new.account → (result : Answer) → result ≡ due_after put (Done 0)
+pub shown_behind : (MayFail : Answer → Type 0) (old new : Seen) (put : Result Unit SinkError) → OnlyReads old new → NoneFailed old.account new.account
+    → (result : Answer) → result ≡ due_after put (Done 0)
     → IsBehind MayFail AnyFault old new result
 shown_behind MayFail old new put reads none result due = subst (IsBehind MayFail AnyFault old new) (sym due) (record {
   reads = reads;

@@ -1,5 +1,6 @@
 -- A call that shows a text piece by piece comes to the outcome of its run.
-use Rattle.std.proofs.Common.{◌≡◌, ◌≢◌, ℕ, ◌+◌, ◌≤◌, min, List, [], ◌∷◌, ◌++◌, length, take, Option, Some, None, Result, Ok, Err, refl, sym, ap, ◌∙◌, subst, arith}
+use Rattle.std.proofs.Common.{◌≡◌, ◌≢◌, ℕ, ◌+◌, ◌≤◌, min, List, [], ◌∷◌, ◌++◌, length, take, Option, Some, None, Result, Ok, Err, refl, sym, ap, ◌∙◌, subst}
+use Rattle.std.proofs.Common.{arith}
 use Rattle.std.specs.Option.{option_to_list}
 use Rattle.std.proofs.lemmas.List.{append-nil, take_min, take-append-le}
 use Rattle.std.proofs.Math.Seq.{take-append-add, take-append_seam}
@@ -55,15 +56,18 @@ none_left before (Some t) (Wants w ∷ rest) leaves = absurd leaves
 none_left before (Some t) (Does s ∷ rest) leaves = absurd (cc (leaves.1))
 
 -- what was done before a place, and perhaps a part of the piece there, is a first part of the whole text
-cut_text : (ms before behind : List (Mark Want Text)) (left : Option Text) → ms ≡ before ++ behind → Leaves part left behind → (n : ℕ) × (whole (steps_of before ++ option_to_list left) ≡ take n (whole (steps_of ms)))
+cut_text : (ms before behind : List (Mark Want Text)) (left : Option Text) → ms ≡ before ++ behind → Leaves part left behind → (n : ℕ)
+    × (whole (steps_of before ++ option_to_list left) ≡ take n (whole (steps_of ms)))
 cut_text ms before behind left place leaves =
-    let all : whole (steps_of ms) ≡ whole (steps_of before) ++ whole (steps_of behind) = ap (λ l. whole (steps_of l)) place ∙ ap whole (steps_of-append before behind) ∙ flat_map-append (λ piece. piece) (steps_of before) (steps_of behind) in
+    let all : whole (steps_of ms) ≡ whole (steps_of before) ++ whole (steps_of behind) = ap (λ l. whole (steps_of l)) place
+    ∙ ap whole (steps_of-append before behind) ∙ flat_map-append (λ piece. piece) (steps_of before) (steps_of behind) in
     let cut = of left behind leaves in (cut.0, cut.1 ∙ ap (take cut.0) (sym all))
   where
     text : Text
     text = whole (steps_of before)
 
-    of : (o : Option Text) (rest : List (Mark Want Text)) → Leaves part o rest → (n : ℕ) × (whole (steps_of before ++ option_to_list o) ≡ take n (text ++ whole (steps_of rest)))
+    of : (o : Option Text) (rest : List (Mark Want Text)) → Leaves part o rest → (n : ℕ)
+        × (whole (steps_of before ++ option_to_list o) ≡ take n (text ++ whole (steps_of rest)))
     of None rest leaves = (length text, ap whole (append-nil (steps_of before)) ∙ sym (take-append_seam text (whole (steps_of rest))))
     of (Some t) [] leaves = absurd leaves
     of (Some t) (Wants w ∷ rest) leaves = absurd leaves
@@ -77,13 +81,15 @@ cut_text ms before behind left place leaves =
         cut_piece : t ≡ take (min leaves.0 (length s)) s
         cut_piece = let is : take leaves.0 s ≡ t = cc (leaves.1) in sym is ∙ sym (take_min leaves.0 s)
 
-module _ {A : Type 0} (answer : A → Answer) (fine : (a : A) → IsNoFault (answer a)) (r : TextRun A) (IsOne : Outcome → Type 0) (one : IsOne (showing (shown_by answer r))) (old new : Option Text) (before after : CallAccount) where
+module _ {A : Type 0} (answer : A → Answer) (fine : (a : A) → IsNoFault (answer a)) (r : TextRun A) (IsOne : Outcome → Type 0)
+    (one : IsOne (showing (shown_by answer r))) (old new : Option Text) (before after : CallAccount) where
   no_fault_in : (e : Result A Fault) → IsNoFault (ending_answer answer e)
   no_fault_in (Ok a) = fine a
   no_fault_in (Err f) = fault_no_fault f
 
   -- all of it was put
-  ended : (done : List Text) → Adds old new (whole done) → (ending : Result A Fault) → (done ≡ steps_of r.marks) × (r.ending ≡ ending) → after ≡ before → Shows IsOne old new before after (ending_answer answer ending)
+  ended : (done : List Text) → Adds old new (whole done) → (ending : Result A Fault) → (done ≡ steps_of r.marks) × (r.ending ≡ ending) → after ≡ before
+      → Shows IsOne old new before after (ending_answer answer ending)
   ended done adds ending follows same = record {
     shown = shown_by answer r;
     is_one = one;
@@ -92,7 +98,8 @@ module _ {A : Type 0} (answer : A → Answer) (fine : (a : A) → IsNoFault (ans
   }
 
   -- a first part of it was put, since the output failed
-  failed : (done : List Text) → Adds old new (whole done) → Breaks part (λ ws. Unit {0}) r done → Counts {T = Unit {0}} before after (Err sink.Failed) → Shows IsOne old new before after OutFault
+  failed : (done : List Text) → Adds old new (whole done) → Breaks part (λ ws. Unit {0}) r done → Counts {T = Unit {0}} before after (Err sink.Failed)
+      → Shows IsOne old new before after OutFault
   failed done adds broke counts =
       let cut = cut_text r.marks broke.before broke.behind broke.left broke.place broke.leaves in record {
         shown = shown_by answer r;
@@ -102,7 +109,8 @@ module _ {A : Type 0} (answer : A → Answer) (fine : (a : A) → IsNoFault (ans
       }
 
   -- or wanted memory
-  wants : (done : List Text) → Adds old new (whole done) → Breaks part (λ ws. Unit {0}) r done → Counts {T = Unit {0}} before after (Err sink.Memory) → Shows IsOne old new before after wanted
+  wants : (done : List Text) → Adds old new (whole done) → Breaks part (λ ws. Unit {0}) r done → Counts {T = Unit {0}} before after (Err sink.Memory)
+      → Shows IsOne old new before after wanted
   wants done adds broke counts =
       let cut = cut_text r.marks broke.before broke.behind broke.left broke.place broke.leaves in record {
         shown = shown_by answer r;
@@ -112,14 +120,23 @@ module _ {A : Type 0} (answer : A → Answer) (fine : (a : A) → IsNoFault (ans
       }
 
   -- or what was put ends behind a want of a block that could not be read
-  module _ (Is : UnreadBlock → Want → Type 0) (a slot : ℕ) (unread : (upto : List (Mark Want Text)) (rest : List (Mark Want Text)) → r.marks ≡ upto ++ rest → Names Is (record { addr = a; slot = slot }) (wants_of upto)
+  module _ (Is : UnreadBlock → Want → Type 0) (a slot : ℕ)
+      (unread : (upto : List (Mark Want Text)) (rest : List (Mark Want Text)) → r.marks ≡ upto ++ rest
+      → Names Is (record { addr = a; slot = slot }) (wants_of upto)
       → IsOne (showing (record { answer = Unread a slot; text = whole (steps_of upto) }))) where
-    broken : (done : List Text) → Adds old new (whole done) → Breaks no_part (λ ws. Names Is (record { addr = a; slot = slot }) ([] ++ ws)) r done → after ≡ before → Shows IsOne old new before after (Unread a slot)
+    broken : (done : List Text) → Adds old new (whole done) → Breaks no_part (λ ws. Names Is (record { addr = a; slot = slot }) ([] ++ ws)) r done
+        → after ≡ before → Shows IsOne old new before after (Unread a slot)
     broken done adds broke same = record {
       shown = record { answer = Unread a slot; text = whole (steps_of broke.before) };
       is_one = unread broke.before broke.behind broke.place broke.holds;
       no_fault = record { no_out = λ e. cc; no_sink = λ e. cc };
-      put = record { put = Ok tt; puts = subst (λ l. Adds old new (whole l)) (broke.steps ∙ none_left (steps_of broke.before) broke.left broke.behind broke.leaves) adds; counts = same; due = refl };
+      put = record {
+        put = Ok tt;
+        puts = subst (λ l. Adds old new (whole l))
+            (broke.steps ∙ none_left (steps_of broke.before) broke.left broke.behind broke.leaves) adds;
+        counts = same;
+        due = refl;
+      };
     }
 
 fine_whole : (u : Unit {0}) → IsNoFault (whole_answer u)
@@ -132,17 +149,24 @@ fine_asked (Some id) = record { no_out = λ e. cc; no_sink = λ e. cc }
 -- some kind has what a run comes to up to a block that could not be read
 abbrev pub HasUnread : {A : Type 0} → (UnreadBlock → Want → Type 0) → TextRun A → (Outcome → Type 0) → Type 0
 HasUnread Is r IsOne =
-    (u : UnreadBlock) (upto rest : List (Mark Want Text)) → r.marks ≡ upto ++ rest → Names Is u (wants_of upto) → IsOne (showing (record { answer = Unread u.addr u.slot; text = whole (steps_of upto) }))
+    (u : UnreadBlock) (upto rest : List (Mark Want Text)) → r.marks ≡ upto ++ rest → Names Is u (wants_of upto)
+    → IsOne (showing (record { answer = Unread u.addr u.slot; text = whole (steps_of upto) }))
 
 -- a call that shows a run comes to its outcome, or to a first part, up to a block that could not be read
 module _ (Is : UnreadBlock → Want → Type 0) (IsOne : Outcome → Type 0) (old new : Option Text) (before after : CallAccount) where
-  pub puts_come : (r : TextRun (Unit {0})) → IsOne (showing (shown_by whole_answer r)) → HasUnread Is r IsOne → (result : Result (Unit {0}) Stop) → Puts Is r old new result → StopCounts before after result → Shows IsOne old new before after (call_answer result)
+  pub puts_come : (r : TextRun (Unit {0})) → IsOne (showing (shown_by whole_answer r)) → HasUnread Is r IsOne → (result : Result (Unit {0}) Stop)
+      → Puts Is r old new result → StopCounts before after result → Shows IsOne old new before after (call_answer result)
   puts_come r one unread (Ok u) puts counts = ended whole_answer fine_whole r IsOne one old new before after puts.done puts.adds (Ok tt) puts.follows counts
-  puts_come r one unread (Err (Tree (tree.Lost a))) puts counts = ended whole_answer fine_whole r IsOne one old new before after puts.done puts.adds (Err (fault.Lost a)) puts.follows counts
-  puts_come r one unread (Err (Tree (tree.Unmapped a))) puts counts = ended whole_answer fine_whole r IsOne one old new before after puts.done puts.adds (Err (fault.Unmapped a)) puts.follows counts
-  puts_come r one unread (Err (Tree (tree.Crosses a))) puts counts = ended whole_answer fine_whole r IsOne one old new before after puts.done puts.adds (Err (fault.Crosses a)) puts.follows counts
-  puts_come r one unread (Err (Tree (tree.Malformed a))) puts counts = ended whole_answer fine_whole r IsOne one old new before after puts.done puts.adds (Err (fault.Malformed a)) puts.follows counts
-  puts_come r one unread (Err (Tree (tree.Unread a slot))) puts counts = broken whole_answer fine_whole r IsOne one old new before after Is a slot (unread (record { addr = a; slot = slot })) puts.done puts.adds puts.follows counts
+  puts_come r one unread (Err (Tree (tree.Lost a))) puts counts = ended whole_answer fine_whole r IsOne one old new before after puts.done puts.adds
+      (Err (fault.Lost a)) puts.follows counts
+  puts_come r one unread (Err (Tree (tree.Unmapped a))) puts counts = ended whole_answer fine_whole r IsOne one old new before after puts.done puts.adds
+      (Err (fault.Unmapped a)) puts.follows counts
+  puts_come r one unread (Err (Tree (tree.Crosses a))) puts counts = ended whole_answer fine_whole r IsOne one old new before after puts.done puts.adds
+      (Err (fault.Crosses a)) puts.follows counts
+  puts_come r one unread (Err (Tree (tree.Malformed a))) puts counts = ended whole_answer fine_whole r IsOne one old new before after puts.done puts.adds
+      (Err (fault.Malformed a)) puts.follows counts
+  puts_come r one unread (Err (Tree (tree.Unread a slot))) puts counts = broken whole_answer fine_whole r IsOne one old new before after Is a slot
+      (unread (record { addr = a; slot = slot })) puts.done puts.adds puts.follows counts
   puts_come r one unread (Err Out) puts counts = failed whole_answer fine_whole r IsOne one old new before after puts.done puts.adds puts.follows counts
   puts_come r one unread (Err Memory) puts counts = wants whole_answer fine_whole r IsOne one old new before after puts.done puts.adds puts.follows counts
   puts_come r one unread (Err (NoTree n)) puts counts = absurd puts.follows
@@ -153,14 +177,21 @@ module _ (Is : UnreadBlock → Want → Type 0) (IsOne : Outcome → Type 0) (ol
   puts_come r one unread (Err Sink) puts counts = absurd puts.follows
 
   -- the same where a tree was asked for
-  pub asked_come : (r : TextRun (Option ℕ)) → IsOne (showing (shown_by asked_answer r)) → HasUnread Is r IsOne → (result : Result (Unit {0}) Stop) → PutsAsked Is r old new result → StopCounts before after result → Shows IsOne old new before after (call_answer result)
+  pub asked_come : (r : TextRun (Option ℕ)) → IsOne (showing (shown_by asked_answer r)) → HasUnread Is r IsOne → (result : Result (Unit {0}) Stop)
+      → PutsAsked Is r old new result → StopCounts before after result → Shows IsOne old new before after (call_answer result)
   asked_come r one unread (Ok u) puts counts = ended asked_answer fine_asked r IsOne one old new before after puts.done puts.adds (Ok None) puts.follows counts
-  asked_come r one unread (Err (NoTree n)) puts counts = ended asked_answer fine_asked r IsOne one old new before after puts.done puts.adds (Ok (Some n)) puts.follows counts
-  asked_come r one unread (Err (Tree (tree.Lost a))) puts counts = ended asked_answer fine_asked r IsOne one old new before after puts.done puts.adds (Err (fault.Lost a)) puts.follows counts
-  asked_come r one unread (Err (Tree (tree.Unmapped a))) puts counts = ended asked_answer fine_asked r IsOne one old new before after puts.done puts.adds (Err (fault.Unmapped a)) puts.follows counts
-  asked_come r one unread (Err (Tree (tree.Crosses a))) puts counts = ended asked_answer fine_asked r IsOne one old new before after puts.done puts.adds (Err (fault.Crosses a)) puts.follows counts
-  asked_come r one unread (Err (Tree (tree.Malformed a))) puts counts = ended asked_answer fine_asked r IsOne one old new before after puts.done puts.adds (Err (fault.Malformed a)) puts.follows counts
-  asked_come r one unread (Err (Tree (tree.Unread a slot))) puts counts = broken asked_answer fine_asked r IsOne one old new before after Is a slot (unread (record { addr = a; slot = slot })) puts.done puts.adds puts.follows counts
+  asked_come r one unread (Err (NoTree n)) puts counts = ended asked_answer fine_asked r IsOne one old new before after puts.done puts.adds
+      (Ok (Some n)) puts.follows counts
+  asked_come r one unread (Err (Tree (tree.Lost a))) puts counts = ended asked_answer fine_asked r IsOne one old new before after puts.done puts.adds
+      (Err (fault.Lost a)) puts.follows counts
+  asked_come r one unread (Err (Tree (tree.Unmapped a))) puts counts = ended asked_answer fine_asked r IsOne one old new before after puts.done puts.adds
+      (Err (fault.Unmapped a)) puts.follows counts
+  asked_come r one unread (Err (Tree (tree.Crosses a))) puts counts = ended asked_answer fine_asked r IsOne one old new before after puts.done puts.adds
+      (Err (fault.Crosses a)) puts.follows counts
+  asked_come r one unread (Err (Tree (tree.Malformed a))) puts counts = ended asked_answer fine_asked r IsOne one old new before after puts.done puts.adds
+      (Err (fault.Malformed a)) puts.follows counts
+  asked_come r one unread (Err (Tree (tree.Unread a slot))) puts counts = broken asked_answer fine_asked r IsOne one old new before after Is a slot
+      (unread (record { addr = a; slot = slot })) puts.done puts.adds puts.follows counts
   asked_come r one unread (Err Out) puts counts = failed asked_answer fine_asked r IsOne one old new before after puts.done puts.adds puts.follows counts
   asked_come r one unread (Err Memory) puts counts = wants asked_answer fine_asked r IsOne one old new before after puts.done puts.adds puts.follows counts
   asked_come r one unread (Err (Deletion n)) puts counts = absurd puts.follows

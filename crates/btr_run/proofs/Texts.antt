@@ -1,11 +1,11 @@
 -- Words that are read one after another.
-use Rattle.std.proofs.Common.{◌≡◌, ℕ, ◌+◌, ◌<◌, ◌≤◌, List, [], ◌∷◌, ◌++◌, ⊎_elim, length, get_or, Option, Some, None, refl, sym, ap, ◌∙◌, subst, arith}
+use Rattle.std.proofs.Common.{◌≡◌, ℕ, ◌+◌, ◌<◌, ◌≤◌, List, [], ◌∷◌, ◌++◌, ⊎_elim, length, get_or, Option, Some, None, refl, sym, ◌∙◌, subst, arith}
 use Rattle.std.specs.Prelude.{slice_get}
 use Rattle.std.specs.Option.{IfSome}
 use Rattle.std.proofs.Math.Nat.{eq-or-lt_of_le}
 use Rattle.std.proofs.lemmas.List.{get_or_append_left, get_or_push, length-append}
 use Rattle.std.proofs.lemmas.Option.{get_or_from_slice_get, slice_get-get_or, slice_get_within}
-use Rattle.btr_run.specs.CommandLine.{AreAllTexts, AreTexts, IsTextOf}
+use Rattle.btr_run.specs.CommandLine.{AreTexts, IsTextOf}
 
 -- the words before one of a number were read
 pub record AreRead (words texts : List (List ℕ)) (number : ℕ) : Type 0 where
@@ -13,7 +13,7 @@ pub record AreRead (words texts : List (List ℕ)) (number : ℕ) : Type 0 where
   within : number ≤ length words
   each : (k : ℕ) → k < number → IsTextOf (get_or words k []) (get_or texts k [])
 
--- .. where they are told
+-- the words before one of a number, where they are told
 abbrev pub AreReadOf : Option (List (List ℕ)) → List (List ℕ) → ℕ → Type 0
 AreReadOf told texts number = IfSome told (λ words. AreRead words texts number)
 
@@ -28,7 +28,8 @@ one_read (Some words) texts number bytes text read is its = record {
   many = omega (arith, length-append texts (text ∷ []), read.many);
   within = omega (arith, slice_get_within words number bytes is);
   each = λ k lt. ⊎_elim (λ (same : k ≡ number). subst (λ n. IsTextOf (get_or words n []) (get_or (texts ++ text ∷ []) n [])) (sym same) last)
-      (λ (below : k < number). subst (IsTextOf (get_or words k [])) (sym (get_or_append_left texts (text ∷ []) [] k (omega (arith, below, read.many)))) (read.each k below))
+      (λ (below : k < number). subst (IsTextOf (get_or words k [])) (sym (get_or_append_left texts (text ∷ []) [] k (omega (arith, below, read.many))))
+      (read.each k below))
       (eq-or-lt_of_le (omega (arith, lt)));
 }
   where

@@ -1,5 +1,6 @@
 -- What the commands that show trees come to.
-use Rattle.std.proofs.Common.{◌≡◌, ◌≢◌, ◌⊎◌, inl, inr, ⊎_elim, ℕ, List, [], ◌∷◌, length, take, Option, Some, None, Result, Ok, Err, refl, sym, ap, ◌∙◌, subst, arith}
+use Rattle.std.proofs.Common.{◌≡◌, ◌≢◌, ◌⊎◌, inl, inr, ⊎_elim, ℕ, List, [], ◌∷◌, length, take, Option, Some, None, Result, Ok, Err, refl, sym, ap, ◌∙◌, subst}
+use Rattle.std.proofs.Common.{arith}
 use Rattle.std.specs.Option.{IfSome}
 use Rattle.std.proofs.lemmas.List.{take_all}
 use Rattle.btr_dump.specs.Pieces.{Text}
@@ -15,7 +16,6 @@ use Rattle.btr_rack.specs.declared.error.SinkError.TheVariants as sink
 use Rattle.btr_rack.proofs.Reading.{reads_more}
 use Rattle.btr_read.specs.Fate.{Agree, Agreed, fate}
 use Rattle.btr_read.specs.Layout.{Layout}
-use Rattle.btr_read.specs.Want.{addr_of}
 use Rattle.btr_read.specs.declared.want.Want.{Want}
 use Rattle.btr_read.specs.declared.want.Want.TheVariants.{Block}
 use Rattle.btr_volume.specs.Opening.{SuperUnread}
@@ -37,20 +37,24 @@ use Rattle.btr_run.specs.Outcomes.{Outcome, IsNoFault, Shows, OrBare, OrMemory, 
 use Rattle.btr_run.specs.Trees.{BreaksOff, IsTreesOutcome, asked_answer, call_answer, shown_by, trees_in, trees_outcome, trees_shown, whole_answer}
 use Rattle.btr_run.specs.declared.plan.DumpChoice.{DumpChoice}
 use Rattle.btr_run.specs.declared.answer.Answer.{Answer}
-use Rattle.btr_run.specs.declared.answer.Answer.TheVariants.{Done, Usage, NoSuper, SumKind, Foreign, Twin, Unsupported, Geometry, LogPending, BadArray, Limit, NoTree, ImageFault}
+use Rattle.btr_run.specs.declared.answer.Answer.TheVariants.{Done, Usage, NoSuper, SumKind, Foreign, Twin, Unsupported, Geometry, LogPending, BadArray, Limit}
+use Rattle.btr_run.specs.declared.answer.Answer.TheVariants.{NoTree, ImageFault}
 use Rattle.btr_run.proofs.Coming.{shows_bare, shows_also}
 use Rattle.btr_run.proofs.Coming.{when_told}
 use Rattle.btr_run.proofs.Faulting.{tree_in, tree_back}
 use Rattle.btr_run.proofs.Refusals.{open_line, open_no_fault, open_no_usage}
 use Rattle.btr_run.proofs.Shows.{HasUnread, asked_come, puts_come}
+use Rattle.btr_run.proofs.Wanted.{names_addr}
 
 steady_not_rose : (before now : ℕ) → Steady before now → Rose before now → ⊥
 steady_not_rose before now steady rose = omega (arith, steady.0, steady.1, rose.0, rose.1)
 
 -- where no read failed no block is unread
-pub none_unread : (layout : Layout) (old new : Seen) → Steady old.account.faults new.account.faults → (u : UnreadBlock) (ws : List Want) → Names (unread_by layout old new) u ws → ⊥
+pub none_unread : (layout : Layout) (old new : Seen) → Steady old.account.faults new.account.faults → (u : UnreadBlock) (ws : List Want)
+    → Names (unread_by layout old new) u ws → ⊥
 none_unread layout old new steady u [] names = names
-none_unread layout old new steady u (w ∷ ws) names = ⊎_elim (λ is. steady_not_rose old.account.faults new.account.faults steady is.unread.rose) (λ rest. none_unread layout old new steady u ws rest) names
+none_unread layout old new steady u (w ∷ ws) names = ⊎_elim (λ is. steady_not_rose old.account.faults new.account.faults steady is.unread.rose)
+    (λ rest. none_unread layout old new steady u ws rest) names
 
 -- what is told where something holds
 pub told_where : {X : Type 0} (o : Option X) (S : Type 0) (Q : X → Type 0) → (S → IfSome o Q) → IfSome o (λ x. S → Q x)
@@ -63,10 +67,13 @@ module _ (layout : Layout) (old new : Seen) where
 
   -- what calls tell where no read failed
   pub steadily : (P : Map → Type 0) → Tells layout old new P → IfSteady old.held old.account new.account (λ images. P (fate images layout))
-  steadily P tells = told_where old.held (Steady old.account.faults new.account.faults) (λ images. P (fate images layout)) (λ steady. tells.calls.content First (omega (arith, tells.calls.later, steady.0), steady.1))
+  steadily P tells = told_where old.held (Steady old.account.faults new.account.faults) (λ images. P (fate images layout))
+      (λ steady. tells.calls.content First (omega (arith, tells.calls.later, steady.0), steady.1))
 
-  steadily_block : (addr : ℕ) (P : Map → Type 0) → TellsBlock layout addr old new P → IfSteady old.held old.account new.account (λ images. P (fate images layout))
-  steadily_block addr P tells = told_where old.held (Steady old.account.faults new.account.faults) (λ images. P (fate images layout)) (λ steady. tells.calls.content First (omega (arith, tells.calls.later, steady.0), steady.1))
+  steadily_block : (addr : ℕ) (P : Map → Type 0) → TellsBlock layout addr old new P → IfSteady old.held old.account new.account
+      (λ images. P (fate images layout))
+  steadily_block addr P tells = told_where old.held (Steady old.account.faults new.account.faults) (λ images. P (fate images layout))
+      (λ steady. tells.calls.content First (omega (arith, tells.calls.later, steady.0), steady.1))
 
   -- what calls tell where the images agree
   pub told_agreed : (P : Map → Type 0) → Tells layout old new P → IfSome old.held (λ images. Agreed images layout → P (fate images layout))
@@ -74,22 +81,22 @@ module _ (layout : Layout) (old new : Seen) where
     where
       of : (held : Option Images) → old.held ≡ held → IfSome held (λ images. Agreed images layout → P (fate images layout))
       of None is = tt
-      of (Some images) is = λ agreed. subst (λ (o : Option Images). IfSome o (λ i. P (fate i layout))) is (tells.calls.content Any (subst (λ (o : Option Images). IfSome o (λ i. Agreed i layout)) (sym is) agreed))
+      of (Some images) is = λ agreed. subst (λ (o : Option Images). IfSome o (λ i. P (fate i layout))) is
+          (tells.calls.content Any (subst (λ (o : Option Images). IfSome o (λ i. Agreed i layout)) (sym is) agreed))
 
-  told_block : (addr : ℕ) (P : Map → Type 0) → TellsBlock layout addr old new P → IfSome old.held (λ images. Agree images layout (Block addr) → P (fate images layout))
+  told_block : (addr : ℕ) (P : Map → Type 0) → TellsBlock layout addr old new P → IfSome old.held
+      (λ images. Agree images layout (Block addr) → P (fate images layout))
   told_block addr P tells = of old.held refl
     where
       of : (held : Option Images) → old.held ≡ held → IfSome held (λ images. Agree images layout (Block addr) → P (fate images layout))
       of None is = tt
-      of (Some images) is = λ agree. subst (λ (o : Option Images). IfSome o (λ i. P (fate i layout))) is (tells.calls.content Any (subst (λ (o : Option Images). IfSome o (λ i. Agree i layout (Block addr))) (sym is) agree))
+      of (Some images) is = λ agree. subst (λ (o : Option Images). IfSome o (λ i. P (fate i layout))) is
+          (tells.calls.content Any (subst (λ (o : Option Images). IfSome o (λ i. Agree i layout (Block addr))) (sym is) agree))
 
   -- a run up to a block that could not be read
   breaks_off : {A : Type 0} (r : TextRun A) → HasUnread Is r (BreaksOff r)
-  breaks_off r u upto rest place named = record { unread = u; before = upto; behind = rest; place = place; wanted = of (wants_of upto) named; is = refl }
-    where
-      of : (ws : List Want) → Names Is u ws → Names (λ b want. b.addr ≡ addr_of want) u ws
-      of [] named = named
-      of (w ∷ ws) named = ⊎_elim (λ is. inl is.same_addr) (λ more. inr (of ws more)) named
+  breaks_off r u upto rest place named =
+      record { unread = u; before = upto; behind = rest; place = place; wanted = names_addr layout old new u (wants_of upto) named; is = refl }
 
   none_off : {A : Type 0} (IsOne : Outcome → Type 0) (r : TextRun A) → Steady old.account.faults new.account.faults → HasUnread Is r IsOne
   none_off IsOne r steady u upto rest place named = absurd (none_unread layout old new steady u (wants_of upto) named)
@@ -97,55 +104,77 @@ module _ (layout : Layout) (old new : Seen) where
   module _ (text text' : Option Text) (before after : CallAccount) (result : Result (Unit {0}) Stop) (counts : StopCounts before after result) where
     -- what a call comes to that shows the text of a run
     pub run_comes : (run : Map → TextRun (Unit {0})) → Tells layout old new (λ B. Puts Is (run B) text text' result)
-        → IfSteady old.held old.account new.account (λ images. Shows (λ outcome. outcome ≡ showing (shown_by whole_answer (run (fate images layout)))) text text' before after (call_answer result))
+        → IfSteady old.held old.account new.account
+        (λ images. Shows (λ outcome. outcome ≡ showing (shown_by whole_answer (run (fate images layout)))) text text' before after (call_answer result))
     run_comes run tells =
         when_told old.held (λ images. Steady old.account.faults new.account.faults → Puts Is (run (fate images layout)) text text' result)
-        (λ images. Steady old.account.faults new.account.faults → Shows (λ outcome. outcome ≡ showing (shown_by whole_answer (run (fate images layout)))) text text' before after (call_answer result))
+        (λ images. Steady old.account.faults new.account.faults → Shows
+        (λ outcome. outcome ≡ showing (shown_by whole_answer (run (fate images layout)))) text text' before after (call_answer result))
         (λ images puts steady. let IsOne : Outcome → Type 0 = λ outcome. outcome ≡ showing (shown_by whole_answer (run (fate images layout))) in
-        puts_come Is IsOne text text' before after (run (fate images layout)) refl (none_off IsOne (run (fate images layout)) steady) result (puts steady) counts) (steadily (λ B. Puts Is (run B) text text' result) tells)
+        puts_come Is IsOne text text' before after (run (fate images layout)) refl (none_off IsOne (run (fate images layout)) steady) result
+        (puts steady) counts) (steadily (λ B. Puts Is (run B) text text' result) tells)
 
     pub block_comes : (addr : ℕ) (run : Map → TextRun (Unit {0})) → TellsBlock layout addr old new (λ B. Puts Is (run B) text text' result)
-        → IfSteady old.held old.account new.account (λ images. Shows (λ outcome. outcome ≡ showing (shown_by whole_answer (run (fate images layout)))) text text' before after (call_answer result))
+        → IfSteady old.held old.account new.account
+        (λ images. Shows (λ outcome. outcome ≡ showing (shown_by whole_answer (run (fate images layout)))) text text' before after (call_answer result))
     block_comes addr run tells =
         when_told old.held (λ images. Steady old.account.faults new.account.faults → Puts Is (run (fate images layout)) text text' result)
-        (λ images. Steady old.account.faults new.account.faults → Shows (λ outcome. outcome ≡ showing (shown_by whole_answer (run (fate images layout)))) text text' before after (call_answer result))
+        (λ images. Steady old.account.faults new.account.faults → Shows
+        (λ outcome. outcome ≡ showing (shown_by whole_answer (run (fate images layout)))) text text' before after (call_answer result))
         (λ images puts steady. let IsOne : Outcome → Type 0 = λ outcome. outcome ≡ showing (shown_by whole_answer (run (fate images layout))) in
-        puts_come Is IsOne text text' before after (run (fate images layout)) refl (none_off IsOne (run (fate images layout)) steady) result (puts steady) counts) (steadily_block addr (λ B. Puts Is (run B) text text' result) tells)
+        puts_come Is IsOne text text' before after (run (fate images layout)) refl (none_off IsOne (run (fate images layout)) steady) result
+        (puts steady) counts) (steadily_block addr (λ B. Puts Is (run B) text text' result) tells)
 
     pub tree_comes : (run : Map → TextRun (Option ℕ)) → Tells layout old new (λ B. PutsAsked Is (run B) text text' result)
-        → IfSteady old.held old.account new.account (λ images. Shows (λ outcome. outcome ≡ showing (shown_by asked_answer (run (fate images layout)))) text text' before after (call_answer result))
+        → IfSteady old.held old.account new.account
+        (λ images. Shows (λ outcome. outcome ≡ showing (shown_by asked_answer (run (fate images layout)))) text text' before after (call_answer result))
     tree_comes run tells =
         when_told old.held (λ images. Steady old.account.faults new.account.faults → PutsAsked Is (run (fate images layout)) text text' result)
-        (λ images. Steady old.account.faults new.account.faults → Shows (λ outcome. outcome ≡ showing (shown_by asked_answer (run (fate images layout)))) text text' before after (call_answer result))
+        (λ images. Steady old.account.faults new.account.faults → Shows
+        (λ outcome. outcome ≡ showing (shown_by asked_answer (run (fate images layout)))) text text' before after (call_answer result))
         (λ images puts steady. let IsOne : Outcome → Type 0 = λ outcome. outcome ≡ showing (shown_by asked_answer (run (fate images layout))) in
-        asked_come Is IsOne text text' before after (run (fate images layout)) refl (none_off IsOne (run (fate images layout)) steady) result (puts steady) counts) (steadily (λ B. PutsAsked Is (run B) text text' result) tells)
+        asked_come Is IsOne text text' before after (run (fate images layout)) refl (none_off IsOne (run (fate images layout)) steady) result
+        (puts steady) counts) (steadily (λ B. PutsAsked Is (run B) text text' result) tells)
 
-    -- .. where the images agree
+    -- what it comes to where the images agree
     pub run_agreed : (run : Map → TextRun (Unit {0})) → Tells layout old new (λ B. Puts Is (run B) text text' result)
-        → IfSome old.held (λ images. Agreed images layout → Shows (λ outcome. (outcome ≡ showing (shown_by whole_answer (run (fate images layout)))) ⊎ BreaksOff (run (fate images layout)) outcome) text text' before after (call_answer result))
+        → IfSome old.held (λ images. Agreed images layout → Shows
+        (λ outcome. (outcome ≡ showing (shown_by whole_answer (run (fate images layout))))
+        ⊎ BreaksOff (run (fate images layout)) outcome) text text' before after (call_answer result))
     run_agreed run tells =
         when_told old.held (λ images. Agreed images layout → Puts Is (run (fate images layout)) text text' result)
-        (λ images. Agreed images layout → Shows (λ outcome. (outcome ≡ showing (shown_by whole_answer (run (fate images layout)))) ⊎ BreaksOff (run (fate images layout)) outcome) text text' before after (call_answer result))
+        (λ images. Agreed images layout → Shows (λ outcome. (outcome ≡ showing (shown_by whole_answer (run (fate images layout))))
+        ⊎ BreaksOff (run (fate images layout)) outcome) text text' before after (call_answer result))
         (λ images puts agreed. let r = run (fate images layout) in
-        puts_come Is (λ outcome. (outcome ≡ showing (shown_by whole_answer r)) ⊎ BreaksOff r outcome) text text' before after r (inl refl) (λ u upto rest place named. inr (breaks_off r u upto rest place named)) result (puts agreed) counts)
+        puts_come Is (λ outcome. (outcome ≡ showing (shown_by whole_answer r)) ⊎ BreaksOff r outcome) text text' before after r (inl refl)
+        (λ u upto rest place named. inr (breaks_off r u upto rest place named)) result (puts agreed) counts)
         (told_agreed (λ B. Puts Is (run B) text text' result) tells)
 
     pub block_agreed : (addr : ℕ) (run : Map → TextRun (Unit {0})) → TellsBlock layout addr old new (λ B. Puts Is (run B) text text' result)
-        → IfSome old.held (λ images. Agree images layout (Block addr) → Shows (λ outcome. (outcome ≡ showing (shown_by whole_answer (run (fate images layout)))) ⊎ BreaksOff (run (fate images layout)) outcome) text text' before after (call_answer result))
+        → IfSome old.held (λ images. Agree images layout (Block addr) → Shows
+        (λ outcome. (outcome ≡ showing (shown_by whole_answer (run (fate images layout))))
+        ⊎ BreaksOff (run (fate images layout)) outcome) text text' before after (call_answer result))
     block_agreed addr run tells =
         when_told old.held (λ images. Agree images layout (Block addr) → Puts Is (run (fate images layout)) text text' result)
-        (λ images. Agree images layout (Block addr) → Shows (λ outcome. (outcome ≡ showing (shown_by whole_answer (run (fate images layout)))) ⊎ BreaksOff (run (fate images layout)) outcome) text text' before after (call_answer result))
+        (λ images. Agree images layout (Block addr) → Shows
+        (λ outcome. (outcome ≡ showing (shown_by whole_answer (run (fate images layout))))
+        ⊎ BreaksOff (run (fate images layout)) outcome) text text' before after (call_answer result))
         (λ images puts agree. let r = run (fate images layout) in
-        puts_come Is (λ outcome. (outcome ≡ showing (shown_by whole_answer r)) ⊎ BreaksOff r outcome) text text' before after r (inl refl) (λ u upto rest place named. inr (breaks_off r u upto rest place named)) result (puts agree) counts)
+        puts_come Is (λ outcome. (outcome ≡ showing (shown_by whole_answer r)) ⊎ BreaksOff r outcome) text text' before after r (inl refl)
+        (λ u upto rest place named. inr (breaks_off r u upto rest place named)) result (puts agree) counts)
         (told_block addr (λ B. Puts Is (run B) text text' result) tells)
 
     pub tree_agreed : (run : Map → TextRun (Option ℕ)) → Tells layout old new (λ B. PutsAsked Is (run B) text text' result)
-        → IfSome old.held (λ images. Agreed images layout → Shows (λ outcome. (outcome ≡ showing (shown_by asked_answer (run (fate images layout)))) ⊎ BreaksOff (run (fate images layout)) outcome) text text' before after (call_answer result))
+        → IfSome old.held (λ images. Agreed images layout → Shows
+        (λ outcome. (outcome ≡ showing (shown_by asked_answer (run (fate images layout))))
+        ⊎ BreaksOff (run (fate images layout)) outcome) text text' before after (call_answer result))
     tree_agreed run tells =
         when_told old.held (λ images. Agreed images layout → PutsAsked Is (run (fate images layout)) text text' result)
-        (λ images. Agreed images layout → Shows (λ outcome. (outcome ≡ showing (shown_by asked_answer (run (fate images layout)))) ⊎ BreaksOff (run (fate images layout)) outcome) text text' before after (call_answer result))
+        (λ images. Agreed images layout → Shows (λ outcome. (outcome ≡ showing (shown_by asked_answer (run (fate images layout))))
+        ⊎ BreaksOff (run (fate images layout)) outcome) text text' before after (call_answer result))
         (λ images puts agreed. let r = run (fate images layout) in
-        asked_come Is (λ outcome. (outcome ≡ showing (shown_by asked_answer r)) ⊎ BreaksOff r outcome) text text' before after r (inl refl) (λ u upto rest place named. inr (breaks_off r u upto rest place named)) result (puts agreed) counts)
+        asked_come Is (λ outcome. (outcome ≡ showing (shown_by asked_answer r)) ⊎ BreaksOff r outcome) text text' before after r (inl refl)
+        (λ u upto rest place named. inr (breaks_off r u upto rest place named)) result (puts agreed) counts)
         (told_agreed (λ B. PutsAsked Is (run B) text text' result) tells)
 
 -- the filesystem isn't opened
@@ -153,23 +182,31 @@ module _ (answer result : Answer) (is : result ≡ answer) (refusal : IsRefusal 
   no_fault : IsNoFault answer
   no_fault = subst IsNoFault (sym refusal.is) (open_no_fault refusal.refusal)
 
-  pub unopened_effect : (outcome_in : Images → Result Filesystem Answer → Outcome) (bare : (images : Images) (a : Answer) → outcome_in images (Err a) ≡ refused a)
-      (old new : Account) (held : Option Images) (text : Option Text) (account : CallAccount) → IfSteady held old new (λ images. OpensFilesystem images (Err answer))
-      → IfSteady held old new (λ images. Shows (OrMemory (λ outcome. Some (outcome_in images (filesystem_of images)) ≡ Some outcome)) text text account account result)
+  pub unopened_effect : (outcome_in : Images → Result Filesystem Answer → Outcome)
+      (bare : (images : Images) (a : Answer) → outcome_in images (Err a) ≡ refused a)
+      (old new : Account) (held : Option Images) (text : Option Text) (account : CallAccount)
+      → IfSteady held old new (λ images. OpensFilesystem images (Err answer))
+      → IfSteady held old new (λ images. Shows (OrMemory
+      (λ outcome. Some (outcome_in images (filesystem_of images)) ≡ Some outcome)) text text account account result)
   unopened_effect outcome_in bare old new held text account =
       when_told held (λ images. Steady old.faults new.faults → OpensFilesystem images (Err answer))
-      (λ images. Steady old.faults new.faults → Shows (OrMemory (λ outcome. Some (outcome_in images (filesystem_of images)) ≡ Some outcome)) text text account account result)
-      (λ images opens steady. subst (λ a. Shows (OrMemory (λ outcome. Some (outcome_in images (filesystem_of images)) ≡ Some outcome)) text text account account a) (sym is)
+      (λ images. Steady old.faults new.faults → Shows (OrMemory
+      (λ outcome. Some (outcome_in images (filesystem_of images)) ≡ Some outcome)) text text account account result)
+      (λ images opens steady. subst (λ a. Shows (OrMemory
+      (λ outcome. Some (outcome_in images (filesystem_of images)) ≡ Some outcome)) text text account account a) (sym is)
       (shows_bare (OrMemory (λ outcome. Some (outcome_in images (filesystem_of images)) ≡ Some outcome)) text account answer
-      (⊎_elim (λ none. inl (ap (λ f. Some (outcome_in images f)) none ∙ ap (λ o. Some o) (bare images answer))) (λ want. inr (ap refused want)) (opens steady)) no_fault))
+      (⊎_elim (λ none. inl (ap (λ f. Some (outcome_in images f)) none ∙ ap (λ o. Some o) (bare images answer))) (λ want. inr (ap refused want))
+      (opens steady)) no_fault))
 
   pub unopened_told : (IsOne : Outcome → Type 0) (text : Option Text) (account : CallAccount) → Shows (OrBare IsOne) text text account account result
   unopened_told IsOne text account =
       subst (λ a. Shows (OrBare IsOne) text text account account a) (sym is)
       (shows_bare (OrBare IsOne) text account answer (inr (refl, λ e. open_line refusal.refusal (ap error_line (sym refusal.is) ∙ e))) no_fault)
 
-  pub unopened_behind : (IsTold : TreeFault → Type 0) (old new : Seen) → OnlyReads old new → ((slot : ℕ) → answer ≡ ImageFault slot → SuperUnread old new slot) → HasTreeCause old new answer
-      → NoneFailed old.account new.account ⊎ IsFault answer ⊎ MayMend answer → ((n : ℕ) → answer ≢ Limit images_limit n) → IsBehind MayMend IsTold old new result
+  pub unopened_behind : (IsTold : TreeFault → Type 0) (old new : Seen) → OnlyReads old new → ((slot : ℕ) → answer ≡ ImageFault slot → SuperUnread old new slot)
+      → HasTreeCause old new answer
+      → NoneFailed old.account new.account ⊎ IsFault answer ⊎ MayMend answer → ((n : ℕ) → answer ≢ Limit images_limit n)
+      → IsBehind MayMend IsTold old new result
   unopened_behind IsTold old new reads image cause hidden counted = record {
     reads = reads;
     image = λ slot e. image slot (sym is ∙ e);
@@ -180,20 +217,31 @@ module _ (answer result : Answer) (is : result ≡ answer) (refusal : IsRefusal 
   }
 
 -- The filesystem is open, and its trees were shown.
-module _ (choice : DumpChoice) (old mid new : Seen) (first : OnlyReads old mid) (second : OnlyReads mid new) (text text' : Option Text) (before after : CallAccount) (answer : Answer) (result : Result (Unit {0}) Stop) (is : answer ≡ call_answer result) where
+module _ (choice : DumpChoice) (old mid new : Seen) (first : OnlyReads old mid) (second : OnlyReads mid new) (text text' : Option Text)
+    (before after : CallAccount) (answer : Answer) (result : Result (Unit {0}) Stop) (is : answer ≡ call_answer result) where
   pub shown_effect : (volume : Volume) → IfSteady old.held old.account mid.account (λ images. OpensFilesystem images (Ok volume))
-      → IfSteady mid.held mid.account new.account (λ images. Shows (λ outcome. outcome ≡ showing (trees_shown choice (fate images volume.store.layout) volume.sup)) text text' before after (call_answer result))
-      → IfSteady old.held old.account new.account (λ images. Shows (OrMemory (λ outcome. Some (trees_outcome choice images) ≡ Some outcome)) text text' before after answer)
-  shown_effect volume opens shows = of old.held opens (subst (λ held. IfSteady held mid.account new.account (λ images. Shows (λ outcome. outcome ≡ showing (trees_shown choice (fate images volume.store.layout) volume.sup)) text text' before after (call_answer result))) (ap (λ (s : Seen). s.held) first.same) shows)
+      → IfSteady mid.held mid.account new.account
+      (λ images. Shows (λ outcome. outcome ≡ showing (trees_shown choice (fate images volume.store.layout) volume.sup)) text text' before after
+      (call_answer result))
+      → IfSteady old.held old.account new.account
+      (λ images. Shows (OrMemory (λ outcome. Some (trees_outcome choice images) ≡ Some outcome)) text text' before after answer)
+  shown_effect volume opens shows = of old.held opens
+      (subst (λ held. IfSteady held mid.account new.account
+      (λ images. Shows (λ outcome. outcome ≡ showing (trees_shown choice (fate images volume.store.layout) volume.sup)) text text' before after
+      (call_answer result))) (ap (λ (s : Seen). s.held) first.same) shows)
     where
       of : (held : Option Images) → IfSteady held old.account mid.account (λ images. OpensFilesystem images (Ok volume))
-          → IfSteady held mid.account new.account (λ images. Shows (λ outcome. outcome ≡ showing (trees_shown choice (fate images volume.store.layout) volume.sup)) text text' before after (call_answer result))
-          → IfSteady held old.account new.account (λ images. Shows (OrMemory (λ outcome. Some (trees_outcome choice images) ≡ Some outcome)) text text' before after answer)
+          → IfSteady held mid.account new.account (λ images. Shows
+          (λ outcome. outcome ≡ showing (trees_shown choice (fate images volume.store.layout) volume.sup)) text text' before after (call_answer result))
+          → IfSteady held old.account new.account (λ images. Shows (OrMemory
+          (λ outcome. Some (trees_outcome choice images) ≡ Some outcome)) text text' before after answer)
       of None opens shows = tt
       of (Some images) opens shows = λ steady.
-          let opened : filesystem_of images ≡ Ok (filesystem_in volume) = opens (omega (arith, steady.0, second.later), omega (arith, steady.1, second.later)) in
+          let opened : filesystem_of images ≡ Ok (filesystem_in volume) = opens
+          (omega (arith, steady.0, second.later), omega (arith, steady.1, second.later)) in
           subst (λ a. Shows (OrMemory (λ outcome. Some (trees_outcome choice images) ≡ Some outcome)) text text' before after a) (sym is)
-          (shows_also (λ outcome. outcome ≡ showing (trees_shown choice (fate images volume.store.layout) volume.sup)) (OrMemory (λ outcome. Some (trees_outcome choice images) ≡ Some outcome)) text text' before after (call_answer result)
+          (shows_also (λ outcome. outcome ≡ showing (trees_shown choice (fate images volume.store.layout) volume.sup))
+          (OrMemory (λ outcome. Some (trees_outcome choice images) ≡ Some outcome)) text text' before after (call_answer result)
           (λ outcome e. inl (ap (λ f. Some (trees_in choice images f)) opened ∙ ap (λ o. Some o) (sym e)))
           (shows (omega (arith, steady.0, first.later), steady.1)))
 
@@ -205,7 +253,8 @@ tree_no_fault (tree.Unmapped a) = record { no_out = λ e. cc; no_sink = λ e. cc
 tree_no_fault (tree.Crosses a) = record { no_out = λ e. cc; no_sink = λ e. cc }
 tree_no_fault (tree.Malformed a) = record { no_out = λ e. cc; no_sink = λ e. cc }
 
-module _ (text text' : Option Text) (before after : CallAccount) (answer : Answer) (result : Result (Unit {0}) Stop) (is : answer ≡ call_answer result) (counts : StopCounts before after result) where
+module _ (text text' : Option Text) (before after : CallAccount) (answer : Answer) (result : Result (Unit {0}) Stop) (is : answer ≡ call_answer result)
+    (counts : StopCounts before after result) where
   pub shown_told : Grows text text' → Shows (OrBare IsTreesOutcome) text text' before after answer
   shown_told grows = subst (λ a. Shows (OrBare IsTreesOutcome) text text' before after a) (sym is) (of result counts)
     where
@@ -216,11 +265,46 @@ module _ (text text' : Option Text) (before after : CallAccount) (answer : Answe
       calm = record { no_out = λ e. cc; no_sink = λ e. cc }
 
       of : (r : Result (Unit {0}) Stop) → StopCounts before after r → Shows (OrBare IsTreesOutcome) text text' before after (call_answer r)
-      of (Ok u) counts = record { shown = record { answer = Done 0; text = grows.more }; is_one = inl (record { shown = record { answer = Done 0; text = grows.more }; is = refl; ends = inl refl }); no_fault = calm; put = record { put = Ok tt; puts = grows.adds; counts = counts; due = refl } }
-      of (Err (stop.Tree f)) counts = record { shown = record { answer = tree_answer f; text = grows.more }; is_one = inl (record { shown = record { answer = tree_answer f; text = grows.more }; is = refl; ends = inr (inr (f, refl)) }); no_fault = tree_no_fault f; put = record { put = Ok tt; puts = grows.adds; counts = counts; due = refl } }
-      of (Err (stop.NoTree id)) counts = record { shown = record { answer = NoTree id; text = grows.more }; is_one = inl (record { shown = record { answer = NoTree id; text = grows.more }; is = refl; ends = inr (inl (id, refl)) }); no_fault = record { no_out = λ e. cc; no_sink = λ e. cc }; put = record { put = Ok tt; puts = grows.adds; counts = counts; due = refl } }
-      of (Err stop.Out) counts = record { shown = record { answer = Done 0; text = grows.more }; is_one = inl (record { shown = record { answer = Done 0; text = grows.more }; is = refl; ends = inl refl }); no_fault = calm; put = record { put = Err sink.Failed; puts = some; counts = counts; due = refl } }
-      of (Err stop.Memory) counts = record { shown = record { answer = Done 0; text = grows.more }; is_one = inl (record { shown = record { answer = Done 0; text = grows.more }; is = refl; ends = inl refl }); no_fault = calm; put = record { put = Err sink.Memory; puts = some; counts = counts; due = refl } }
+      of (Ok u) counts = record {
+        shown = record { answer = Done 0; text = grows.more };
+        is_one = inl
+            (record { shown = record { answer = Done 0; text = grows.more }; is = refl; ends = inl refl });
+        no_fault = calm;
+        put = record
+            { put = Ok tt; puts = grows.adds; counts = counts; due = refl };
+      }
+      of (Err (stop.Tree f)) counts = record {
+        shown = record { answer = tree_answer f; text = grows.more };
+        is_one = inl
+            (record { shown = record { answer = tree_answer f; text = grows.more }; is = refl; ends = inr (inr (f, refl)) });
+        no_fault = tree_no_fault f;
+        put =
+            record { put = Ok tt; puts = grows.adds; counts = counts; due = refl };
+      }
+      of (Err (stop.NoTree id)) counts = record {
+        shown = record { answer = NoTree id; text = grows.more };
+        is_one = inl
+            (record { shown = record { answer = NoTree id; text = grows.more }; is = refl; ends = inr (inl (id, refl)) });
+        no_fault = record
+            { no_out = λ e. cc; no_sink = λ e. cc };
+        put = record { put = Ok tt; puts = grows.adds; counts = counts; due = refl };
+      }
+      of (Err stop.Out) counts = record {
+        shown = record { answer = Done 0; text = grows.more };
+        is_one = inl
+            (record { shown = record { answer = Done 0; text = grows.more }; is = refl; ends = inl refl });
+        no_fault = calm;
+        put = record
+            { put = Err sink.Failed; puts = some; counts = counts; due = refl };
+      }
+      of (Err stop.Memory) counts = record {
+        shown = record { answer = Done 0; text = grows.more };
+        is_one = inl
+            (record { shown = record { answer = Done 0; text = grows.more }; is = refl; ends = inl refl });
+        no_fault = calm;
+        put = record
+            { put = Err sink.Memory; puts = some; counts = counts; due = refl };
+      }
       of (Err (stop.Deletion id)) counts = absurd counts
       of (Err stop.Balance) counts = absurd counts
       of (Err (stop.Missing id)) counts = absurd counts
@@ -261,7 +345,8 @@ mends_of answer none_of refusal by e = of refusal by (subst NoneOf e none_of)
     of (opening.Tree f) by none = by
     of opening.Memory by none = by
 
-module _ (old mid new : Seen) (first : OnlyReads old mid) (second : OnlyReads mid new) (before after : CallAccount) (answer : Answer) (result : Result (Unit {0}) Stop) (is : answer ≡ call_answer result) (counts : StopCounts before after result) where
+module _ (old mid new : Seen) (first : OnlyReads old mid) (second : OnlyReads mid new) (before after : CallAccount) (answer : Answer)
+    (result : Result (Unit {0}) Stop) (is : answer ≡ call_answer result) (counts : StopCounts before after result) where
   no_image : (slot : ℕ) → call_answer result ≢ ImageFault slot
   no_image slot = of result counts
     where
@@ -305,7 +390,8 @@ module _ (old mid new : Seen) (first : OnlyReads old mid) (second : OnlyReads mi
     where
       of : (r : Result (Unit {0}) Stop) → StopCause layout mid new r → tree_in (call_answer r) ≡ Some fault → FaultCause layout old new fault
       of (Ok u) cause e = absurd (cc e)
-      of (Err (stop.Tree f)) cause e = let same : f ≡ fault = cc (sym (tree_back f) ∙ e) in subst (FaultCause layout old new) same (cause_since new layout layout f refl first cause)
+      of (Err (stop.Tree f)) cause e = let same : f ≡ fault = cc (sym (tree_back f) ∙ e) in subst (FaultCause layout old new) same
+          (cause_since new layout layout f refl first cause)
       of (Err (stop.NoTree id)) cause e = absurd (cc e)
       of (Err stop.Out) cause e = absurd (cc e)
       of (Err stop.Memory) cause e = absurd (cc e)

@@ -1,5 +1,6 @@
 -- Where words go wrong: along one form of sentences, and along all.
-use Rattle.std.proofs.Common.{◌≡◌, ◌⊎◌, inl, inr, ⊎_elim, Bool, true, false, cond, ℕ, ◌+◌, ◌<◌, ◌≤◌, List, [], ◌++◌, length, take, get_or, Option, Some, None, refl, sym, ap, ◌∙◌, subst, arith, Ordering, Less, Equal, Greater, is_lt, is_le, nat_cmp}
+use Rattle.std.proofs.Common.{◌≡◌, ◌⊎◌, inl, inr, ⊎_elim, Bool, true, false, cond, ℕ, ◌+◌, ◌<◌, ◌≤◌, List, [], ◌++◌, length, take, get_or, Option, Some, None}
+use Rattle.std.proofs.Common.{refl, sym, ap, ◌∙◌, subst, arith, Ordering, Less, Equal, Greater, is_lt, is_le, nat_cmp}
 use Rattle.std.specs.Option.{option_and_then}
 use Rattle.std.proofs.Math.Nat.{eq-or-lt_of_le}
 use Rattle.std.specs.Ordering.{ord_max}
@@ -26,19 +27,22 @@ was_read sentence words here read led is =
     sound next.Part (parts_of sentence) (nothing_of sentence) 0 words read (ap (option_and_then (λ (t : Stage). read_by t.next t.read)) led ∙ is)
 
 -- from each place of it some words lead on
-begins : (sentence : Sentence) (words : Words) (here : Stage) → reached (start sentence) 0 words ≡ Some here → (rest : Words) × (read : Read) × IsRead sentence (words ++ rest) read
+begins : (sentence : Sentence) (words : Words) (here : Stage) → reached (start sentence) 0 words ≡ Some here → (rest : Words) × (read : Read)
+    × IsRead sentence (words ++ rest) read
 begins sentence words here led =
     let more = live here.next here.left here.read (length words) in (
       more.0,
       more.1,
       sound next.Part (parts_of sentence) (nothing_of sentence) 0 (words ++ more.0) more.1
-          (ap (option_and_then (λ (t : Stage). read_by t.next t.read)) (reached_from words more.0 (start sentence) here 0 (length words) (omega arith) led) ∙ more.2),
+          (ap (option_and_then (λ (t : Stage). read_by t.next t.read)) (reached_from words more.0 (start sentence) here 0 (length words) (omega arith) led)
+          ∙ more.2),
     )
 
 nowhere : (o : Option Stage) (read : Read) → o ≡ None → option_and_then (λ (t : Stage). read_by t.next t.read) o ≡ Some read → ⊥
 nowhere o read none some = cc (sym (ap (option_and_then (λ (t : Stage). read_by t.next t.read)) none) ∙ some)
 
-pub short_at : (sentence : Sentence) (words : Words) (i : ℕ) (d : List ℕ) (here : Stage) → i < length words → reached (start sentence) 0 (take i words) ≡ Some here
+pub short_at : (sentence : Sentence) (words : Words) (i : ℕ) (d : List ℕ) (here : Stage) → i < length words
+    → reached (start sentence) 0 (take i words) ≡ Some here
     → step here i (get_or words i d) ≡ None → IsShort sentence words i
 short_at sentence words i d here lt led stuck = record {
   none = λ read is. further (length words) [] read lt (subst (λ l. IsRead sentence l read) (sym whole) is);
@@ -58,9 +62,11 @@ short_at sentence words i d here lt led stuck = record {
 pub short_end : (sentence : Sentence) (words : Words) (here : Stage) → reached (start sentence) 0 words ≡ Some here → read_by here.next here.read ≡ None
     → IsShort sentence words (length words)
 short_end sentence words here led none = record {
-  none = λ read is. cc (sym none ∙ sym (ap (option_and_then (λ (t : Stage). read_by t.next t.read)) led) ∙ accepted (parts_of sentence) 0 words (nothing_of sentence) read is);
+  none = λ read is. cc (sym none ∙ sym (ap (option_and_then (λ (t : Stage). read_by t.next t.read)) led)
+      ∙ accepted (parts_of sentence) 0 words (nothing_of sentence) read is);
   within = omega arith;
-  begins = subst (λ l. (rest : Words) × (read : Read) × IsRead sentence (l ++ rest) read) (sym (take_all (length words) words (omega arith))) (begins sentence words here led);
+  begins = subst (λ l. (rest : Words) × (read : Read) × IsRead sentence (l ++ rest) read) (sym (take_all (length words) words (omega arith)))
+      (begins sentence words here led);
   longest = λ n below le. absurd (omega (arith, below, le));
 }
 
@@ -133,7 +139,8 @@ one_tried words longest number at tried short = of (ord_max nat_cmp longest at) 
       begin = ⊎_elim (λ is. subst (λ n. Begins (take n words)) (sym is) tried.begin)
           (λ is. subst (λ n. Begins (take n words)) (sym is) (short_begins words at (form_at number) short)) larger.one;
       each = λ k lt. ⊎_elim
-          (λ (is : k ≡ number). subst (λ n. IsNoneOf words top (form_at n)) (sym is) (none_longer words at top (form_at number) larger.second (short_none words at (form_at number) short)))
+          (λ (is : k ≡ number). subst (λ n. IsNoneOf words top (form_at n)) (sym is)
+          (none_longer words at top (form_at number) larger.second (short_none words at (form_at number) short)))
           (λ (below : k < number). none_longer words longest top (form_at k) larger.first (tried.each k below)) (eq-or-lt_of_le (omega (arith, lt)));
     }
 

@@ -7,7 +7,9 @@ use Rattle.btr_text.specs.Pieces.{hex_text}
 use Rattle.btr_volume.specs.declared.which.Which.{Which}
 use Rattle.btr_volume.specs.declared.which.Which.TheVariants.{Images, Stripes, Chunks}
 use Rattle.btr_run.specs.declared.answer.Answer.{Answer}
-use Rattle.btr_run.specs.declared.answer.Answer.TheVariants.{Done, Found, Lost, Malformed, Unmapped, Crosses, Usage, NoSuper, SumKind, Foreign, Twin, Diverged, Unsupported, Geometry, LogPending, BadArray, BadChunk, Limit, NoTree, DeletionPending, BalancePending, MissingDevice, Unread, ImageFault, SinkFault, OutFault, Memory}
+use Rattle.btr_run.specs.declared.answer.Answer.TheVariants.{Done, Found, Lost, Malformed, Unmapped, Crosses, Usage, NoSuper, SumKind, Foreign, Twin, Diverged}
+use Rattle.btr_run.specs.declared.answer.Answer.TheVariants.{Unsupported, Geometry, LogPending, BadArray, BadChunk, Limit, NoTree, DeletionPending}
+use Rattle.btr_run.specs.declared.answer.Answer.TheVariants.{BalancePending, MissingDevice, Unread, ImageFault, SinkFault, OutFault, Memory}
 
 -- the exit status
 abbrev pub code_of : Answer → ℕ

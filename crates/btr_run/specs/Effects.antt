@@ -18,7 +18,8 @@ use Rattle.btr_run.specs.declared.answer.Answer.TheVariants.{Usage, Limit}
 -- what a command of some words comes to over named images of a shelf; None where an image can't be taken from it
 abbrev pub images_outcome : Command → Words → Words → Shelf → Option Outcome
 images_outcome command words names shelf =
-    if nat_lt most_images (length names) then Some (refused (Limit Images (length names))) else option_and_then (command_outcome command words) (taken names shelf)
+    if nat_lt most_images (length names) then Some (refused (Limit Images (length names))) else option_and_then (command_outcome command words)
+    (taken names shelf)
 
 -- what the words come to over a shelf
 abbrev pub IsOutcome : Words → Shelf → Outcome → Type 0

@@ -6,7 +6,9 @@ use Rattle.btr_volume.specs.declared.fault.OpenFault.TheVariants as opening
 use Rattle.btr_volume.specs.declared.stop.Stop.{Stop}
 use Rattle.btr_volume.specs.declared.stop.Stop.TheVariants as stop
 use Rattle.btr_run.specs.declared.answer.Answer.{Answer}
-use Rattle.btr_run.specs.declared.answer.Answer.TheVariants.{Lost, Malformed, Unmapped, Crosses, NoSuper, SumKind, Foreign, Twin, Diverged, Unsupported, Geometry, LogPending, BadArray, BadChunk, Limit, NoTree, DeletionPending, BalancePending, MissingDevice, Unread, ImageFault, SinkFault, OutFault, Memory}
+use Rattle.btr_run.specs.declared.answer.Answer.TheVariants.{Lost, Malformed, Unmapped, Crosses, NoSuper, SumKind, Foreign, Twin, Diverged, Unsupported}
+use Rattle.btr_run.specs.declared.answer.Answer.TheVariants.{Geometry, LogPending, BadArray, BadChunk, Limit, NoTree, DeletionPending, BalancePending}
+use Rattle.btr_run.specs.declared.answer.Answer.TheVariants.{MissingDevice, Unread, ImageFault, SinkFault, OutFault, Memory}
 
 abbrev pub tree_answer : TreeFault → Answer
 tree_answer (tree.Lost addr) = Lost addr

@@ -20,9 +20,10 @@ taken (name ∷ names) shelf = option_and_then (λ bytes. option_map (λ more. b
 
 -- the opened images were opened to be written, or only to be read, and hold what the shelf held under their names, where that is told
 abbrev pub AreOpenedAs : Bool → Option Shelf → List Slot → Option (List (List ℕ)) → Type 0
-AreOpenedAs write shelf slots held = All (λ s. s.write ≡ write) slots × IfSome shelf (λ at. IfSome held (λ images. taken (map (λ s. s.name) slots) at ≡ Some images))
+AreOpenedAs write shelf slots held = All (λ s. s.write ≡ write) slots × IfSome shelf
+    (λ at. IfSome held (λ images. taken (map (λ s. s.name) slots) at ≡ Some images))
 
--- .. only to be read
+-- the opened images were opened only to be read, and hold what the shelf held
 abbrev pub AreUnchanged : Option Shelf → List Slot → Option (List (List ℕ)) → Type 0
 AreUnchanged shelf slots held = AreOpenedAs false shelf slots held
 

@@ -28,6 +28,7 @@ pub mod Promise
 pub mod Order
 pub mod Agreeing
 pub mod Repaired
+pub mod Rescued
 pub mod Run
 pub mod CommandLine
 pub mod Program

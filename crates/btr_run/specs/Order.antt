@@ -1,5 +1,5 @@
 -- What a restore did and answered whatever failed: the steps of its journey up to some place.
-use Rattle.std.specs.Prelude.{◌≡◌, ◌⊎◌, ℕ, List, [], take, Ok, Err}
+use Rattle.std.specs.Prelude.{◌≡◌, ◌⊎◌, ℕ, ◌≤◌, List, [], length, take, Ok, Err}
 use Rattle.btr_chunk.specs.declared.chunk.Chunk.{Chunk}
 use Rattle.btr_files.specs.declared.plan.RestorePlan.{RestorePlan}
 use Rattle.btr_prog.specs.Answers.{Fault as halt_fault, Unread as halt_unread, Broke}
@@ -19,7 +19,7 @@ use Rattle.btr_run.specs.Outcomes.{Stands}
 use Rattle.btr_run.specs.Promise.{RestoresFrom}
 use Rattle.btr_run.specs.Words.{Words}
 use Rattle.btr_run.specs.declared.answer.Answer.{Answer}
-use Rattle.btr_run.specs.declared.answer.Answer.TheVariants.{Done, Unread}
+use Rattle.btr_run.specs.declared.answer.Answer.TheVariants.{Done, Memory, OutFault, Unread}
 
 -- The images agree: of each block that is tested all candidates that pass are equal, as the table of the images finds them.
 abbrev pub IsAgreed : Images → Start → Type 0
@@ -41,30 +41,32 @@ pub record KeepsTo (P : List Step → journey.Answer → Type 0) (x y : Outside)
   pub stands : Stands x y done line
   pub answered : AnswersAs answer result
 
--- .. behind which a first part of the line of an answer stands
-pub record KeepsSo (P : List Step → journey.Answer → Type 0) (x y : Outside) (result : Answer) : Type 0 where
-  pub last : Answer
+-- Behind such steps the line of the answer that was due stands, and that is the answer; or the output refused the line, or memory was wanted for it: then a
+-- first part of it stands, and this is the answer.
+pub record KeepsLine (P : List Step → journey.Answer → Type 0) (x y : Outside) (result : Answer) : Type 0 where
+  pub due : Answer
   pub some : ℕ
-  pub keeps : KeepsTo P x y (take some (error_line last)) result
+  pub keeps : KeepsTo P x y (take some (error_line due)) due
+  pub ends : ((result ≡ due) × (length (error_line due) ≤ some)) ⊎ (result ≡ OutFault) ⊎ (result ≡ Memory)
 
 -- a restore from some images follows its journey, where each sector without a checksum is any of its candidates
 abbrev pub InOrder : RestorePlan → List ℕ → Images → Seen → Seen → Outside → Outside → Answer → Type 0
 InOrder plan dest images old new x y result =
     (start : Start) → start_of images ≡ Ok start → IsAgreed images start → KeepsTo (journey.Follows plan dest start old new (choices images)) x y [] result
 
--- .. so does one from images of a shelf
+-- a restore from images of a shelf follows its journey so
 abbrev pub FollowsOrder : Words → Shelf → Seen → Seen → Outside → Outside → Answer → Type 0
 FollowsOrder words shelf old new x y result =
     (plan : RestorePlan) (dest : List ℕ) (images : Images) → RestoresFrom words shelf plan dest images → InOrder plan dest images old new x y result
 
--- .. and behind it a first part of a line stands
+-- a restore from images of a shelf follows its journey, and behind it the line of its answer was put
 abbrev pub KeepsOrder : Words → Shelf → Seen → Seen → Outside → Outside → Answer → Type 0
 KeepsOrder words shelf old new x y result =
     (plan : RestorePlan) (dest : List ℕ) (images : Images) (start : Start)
     → RestoresFrom words shelf plan dest images
     → start_of images ≡ Ok start
     → IsAgreed images start
-    → KeepsSo (journey.Follows plan dest start old new (choices images)) x y result
+    → KeepsLine (journey.Follows plan dest start old new (choices images)) x y result
 
 -- over honest images whose committed blocks hold all that is needed it follows the committed journey, or stopped where the images lack a block of it
 abbrev pub KeepsCommittedOrder : Words → Shelf → Seen → Seen → Outside → Outside → Answer → Type 0
@@ -75,4 +77,5 @@ KeepsCommittedOrder words shelf old new x y result =
     → IsAgreed images start
     → IsHonest C images (layout_by start table)
     → IsClosed plan dest images start C table
-    → KeepsSo (λ done answer. journey.Follows plan dest start old new (committed_choices C images) done answer ⊎ journey.LostAt plan dest images start C done answer) x y result
+    → KeepsLine (λ done answer. journey.Follows plan dest start old new (committed_choices C images) done answer
+    ⊎ journey.LostAt plan dest images start C done answer) x y result

@@ -101,7 +101,7 @@ pub record StandsPartly (x y : Outside) (outcome : Outcome) (line : List ℕ) : 
 abbrev pub CallFailed : CallAccount → CallAccount → Type 0
 CallFailed before after = (before.sure ≡ false) × Rose before.faults after.faults
 
--- .. and nothing but its count of faults changed
+-- such a call failed, and nothing but its count of faults changed
 abbrev pub OneFailed : CallAccount → CallAccount → Type 0
 OneFailed before after = CallFailed before after × (after ≡ record before { faults = after.faults })
 
@@ -115,8 +115,10 @@ pub data How : Type 0 where
 -- what was done by then, and the answer that is due; memory may be wanted where May says so, and the sink may fail behind the output
 abbrev pub HasEnded : Type 0 → Outside → Outside → Outcome → Answer → How → Type 0
 HasEnded May x y outcome result Whole = (result ≡ outcome.answer) × (y.sink_calls ≡ x.sink_calls) × (y.out_calls ≡ x.out_calls) × Stands x y outcome.steps []
-HasEnded May x y outcome result SinkFailed = (result ≡ SinkFault) × OneFailed x.sink_calls y.sink_calls × ((y.out_calls ≡ x.out_calls) ⊎ OneFailed x.out_calls y.out_calls) × StandsPartly x y outcome []
-HasEnded May x y outcome result OutFailed = (result ≡ OutFault) × OneFailed x.out_calls y.out_calls × (y.sink_calls ≡ x.sink_calls) × StandsPartly x y outcome []
+HasEnded May x y outcome result SinkFailed = (result ≡ SinkFault) × OneFailed x.sink_calls y.sink_calls
+    × ((y.out_calls ≡ x.out_calls) ⊎ OneFailed x.out_calls y.out_calls) × StandsPartly x y outcome []
+HasEnded May x y outcome result OutFailed = (result ≡ OutFault) × OneFailed x.out_calls y.out_calls × (y.sink_calls ≡ x.sink_calls)
+    × StandsPartly x y outcome []
 HasEnded May x y outcome result Wanted = (result ≡ Memory) × May × (y.sink_calls ≡ x.sink_calls) × (y.out_calls ≡ x.out_calls) × StandsPartly x y outcome []
 
 -- One of some outcomes came: its steps were done, or a first part of them. A fault of the output or of the sink is no outcome.

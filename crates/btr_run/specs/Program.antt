@@ -1,10 +1,9 @@
 -- The program: a run of its words, and the status that it ends with.
-use Rattle.std.specs.Prelude.{◌≡◌, ◌⊎◌, ℕ, List, Option}
-use Rattle.btr_restore.specs.Running.{Outside}
+use Rattle.std.specs.Prelude.{◌≡◌, ◌⊎◌, ℕ, Option}
 use Rattle.btr_run.specs.Answers.{code_of, error_line}
 use Rattle.btr_run.specs.CommandLine.{AreTexts}
 use Rattle.btr_run.specs.Outcomes.{IsPut}
-use Rattle.btr_run.specs.Run.{Eyes, Given, HasWholeEffect, IsAnswered, KeepsFirstPart, LeavesItsImages, RestoresCommitted, Run, outside_behind, outside_before}
+use Rattle.btr_run.specs.Run.{Eyes, HasWholeEffect, IsAnswered, KeepsFirstPart, LeavesItsImages, RestoresCommitted, Run, outside_behind, outside_before}
 use Rattle.btr_run.specs.Words.{Words}
 use Rattle.btr_run.specs.declared.answer.Answer.{Answer}
 use Rattle.btr_run.specs.declared.answer.Answer.TheVariants.{Memory}

@@ -28,4 +28,5 @@ restored plan dest images = restored_in plan dest images (filesystem_of images)
 
 -- what restoring may come to, whatever its blocks are: behind some steps its end, or that there is no such tree, or a tree that can't be read on
 abbrev pub IsRestored : Outcome → Type 0
-IsRestored outcome = ((skipped : ℕ) × (outcome.answer ≡ Done skipped)) ⊎ ((id : ℕ) × (outcome.answer ≡ NoTree id)) ⊎ ((fault : TreeFault) × (outcome.answer ≡ tree_answer fault))
+IsRestored outcome = ((skipped : ℕ) × (outcome.answer ≡ Done skipped)) ⊎ ((id : ℕ) × (outcome.answer ≡ NoTree id))
+    ⊎ ((fault : TreeFault) × (outcome.answer ≡ tree_answer fault))

@@ -40,7 +40,7 @@ root_or_top (Some id) = id
 abbrev pub plan_by : Options → RestorePlan
 plan_by given = record { root = root_or_top given.root; snapshots = given.snapshots; verbose = given.verbose; dry = given.dry }
 
--- .. a send
+-- what they ask a send for
 abbrev pub send_by : Options → SendPlan
 send_by given = record { root = root_or_top given.root }
 

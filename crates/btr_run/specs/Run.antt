@@ -9,6 +9,7 @@ use Rattle.btr_rack.specs.Sink.{Sink}
 use Rattle.btr_restore.specs.Running.{Outside, outside}
 use Rattle.btr_run.specs.Agreeing.{AreAgreedFor, ComesAgreed, FollowsAgreed, KeepsAgreed}
 use Rattle.btr_run.specs.Behind.{IfSteady}
+use Rattle.btr_run.specs.Checked.{found}
 use Rattle.btr_run.specs.Causes.{HidesNone, ImageCause, IsBehindWords, IsMissingImage, IsShut, TreeCause, opened_with}
 use Rattle.btr_run.specs.Commands.{CallsSink, IsBehindCommand, MayCome, MayWant, command_outcome}
 use Rattle.btr_run.specs.Effects.{AsksForSink, FollowsWords, HasEffect, HasPart, IsDecided, IsOutcome, IsTold, MayFollow, MayWantBy}
@@ -129,7 +130,7 @@ module _ {R T O : Type 0} (run : Run R T O) where
 
   -- ---- 2. Where nothing failed, the answer and all that was done are what the words and the bytes of the images come to.
 
-  -- .. for a restore also in rows and files
+  -- all that was done and answered is what they come to, for a restore also in rows and files
   pub record ComesTo (shelf : Shelf) : Type 0 where
     pub effect : HasEffect run.words shelf outside_before outside_behind run.answer
     pub outcome : KeepsOutcome run.words shelf outside_before outside_behind run.answer
@@ -150,10 +151,16 @@ module _ {R T O : Type 0} (run : Run R T O) where
         KeepsCommittedOrder run.words shelf (opened_with before.account behind) behind outside_before outside_behind run.answer)
 
   -- ---- 5. The images are only read, but by a scrub that writes: this leaves exactly what mends them, or a first part of it.
+
+  -- behind a scrub that was finished nothing waits for a sync, where nothing did before
+  abbrev pub IsSynced : Type 0
+  IsSynced = (lost : ℕ) → run.answer ≡ found lost → before.unsynced ≡ [] → behind.unsynced ≡ []
+
   pub record LeavesItsImages : Type 0 where
     pub unchanged : (AsksToWrite run.words → ⊥) → AreUnchanged before.shelf behind.slots behind.held
     pub repaired : OfShelf IsPutWell (λ shelf. KeepsRepair run.words shelf behind.held)
     pub left : AsksToWrite run.words → AreLeft AreImagesSteady before.shelf behind.slots behind.held run.answer
+    pub synced : AsksToWrite run.words → IsSynced
 
   -- ---- before its last line is put
 
@@ -173,8 +180,9 @@ module _ {R T O : Type 0} (run : Run R T O) where
     pub unchanged : (AsksToWrite run.words → ⊥) → AreUnchanged before.shelf behind.slots behind.held
     pub repaired : OfShelf AreImagesSteady (λ shelf. run.answer ≢ Memory → KeepsRepair run.words shelf behind.held)
     pub left : AsksToWrite run.words → AreLeft AreImagesSteady before.shelf behind.slots behind.held run.answer
+    pub synced : AsksToWrite run.words → IsSynced
 
-  -- .. by a command over the images that were opened before
+  -- the same by a command over the images that were opened before
   pub record IsPerformed (command : Command) : Type 0 where
     pub effect : IfSteady before.held before.account behind.account (λ images.
         Comes (MayWant command outside_before.out_calls) (OrMemory (λ outcome. command_outcome command run.words images ≡ Some outcome))
@@ -191,3 +199,4 @@ module _ {R T O : Type 0} (run : Run R T O) where
         → IfSteady before.held before.account behind.account (λ images. run.answer ≢ Memory → behind.held ≡ Some (scrubbed_images images))
     pub left : command ≡ Scrub true
         → IfSome before.held (λ images. IfSome behind.held (λ left. LeavesImages AreImagesSteady images left run.answer))
+    pub synced : command ≡ Scrub true → IsSynced

@@ -37,7 +37,7 @@ abbrev pub scrub_ended : Bool → Images → scrubbed.Filesystem → Result (Uni
 scrub_ended write images fs (Ok _) = showing (tally_shown (counts write images fs))
 scrub_ended write images fs (Err fault) = refused (fault_answer fault)
 
--- .. if each device is given
+-- what it comes to, if each device is given
 abbrev pub scrub_unless : Bool → Images → scrubbed.Filesystem → Option Stripe → Outcome
 scrub_unless write images fs (Some stripe) = refused (MissingDevice stripe.devid)
 scrub_unless write images fs None = scrub_ended write images fs (meeting images fs).ending

@@ -9,7 +9,7 @@ use Rattle.btr_run.specs.declared.answer.Answer.TheVariants.{Done, SinkFault, Ou
 abbrev pub IsStored : Bool → Answer → Type 0
 IsStored waits answer = ((skipped : ℕ) → answer ≢ Done skipped) → answer ≢ SinkFault → waits ≡ false
 
--- .. but where a call of the sink failed, and the output refused the line of that
+-- the same, but where a call of the sink failed, and the output refused the line of that
 abbrev pub IsStoredOrTold : Bool → CallAccount → CallAccount → Answer → Type 0
 IsStoredOrTold waits before after answer =
     ((skipped : ℕ) → answer ≢ Done skipped) → answer ≢ SinkFault

@@ -53,7 +53,7 @@ pub record BreaksOff {A : Type 0} (r : TextRun A) (outcome : Outcome) : Type 0 w
   pub wanted : Names (λ u want. u.addr ≡ addr_of want) unread (wants_of before)
   pub is : outcome ≡ showing (record { answer = Unread unread.addr unread.slot; text = whole (steps_of before) })
 
--- .. of the trees that are asked for
+-- the text of the trees that are asked for is shown so
 abbrev pub BreaksOffIn : DumpChoice → Map → Super → Outcome → Type 0
 BreaksOffIn All blocks s outcome = BreaksOff (exec blocks (all_trees s)) outcome
 BreaksOffIn (Block addr) blocks s outcome = BreaksOff (exec blocks (block_shown (kind_in s) addr)) outcome

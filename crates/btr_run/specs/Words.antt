@@ -13,7 +13,8 @@ use Rattle.btr_run.specs.declared.plan.Command.TheVariants as command
 use Rattle.btr_run.specs.declared.plan.DumpChoice.TheVariants as dump
 use Rattle.btr_run.specs.declared.plan.Plan.{Plan}
 use Rattle.btr_run.specs.declared.sentence.Sentence.{Sentence}
-use Rattle.btr_run.specs.declared.sentence.Sentence.TheVariants.{Super, DumpAll, DumpBlock, DumpTree, DumpRoots, Resolve, Check, CheckData, Scrub, ScrubRead, Roots, Restore, Send}
+use Rattle.btr_run.specs.declared.sentence.Sentence.TheVariants.{Super, DumpAll, DumpBlock, DumpTree, DumpRoots, Resolve, Check, CheckData, Scrub, ScrubRead}
+use Rattle.btr_run.specs.declared.sentence.Sentence.TheVariants.{Roots, Restore, Send}
 
 abbrev pub Words : Type 0
 Words = List (List ℕ)
@@ -112,7 +113,7 @@ Reads (part ∷ parts) at words old new =
 abbrev pub nothing : Read
 nothing = record { number = 0; options = no_options; name = 0; file = 0; images = 0 }
 
--- .. but that a send takes no option but an id
+-- the same, but that a send takes no option but an id
 abbrev pub options_of : Sentence → Options
 options_of Send = id_alone
 options_of sentence = no_options

@@ -1,6 +1,6 @@
 // The command `check`.
 ghost use Rattle.std.specs.Prelude.{◌≡◌, ◌<◌, length, IfSome, Some};
-ghost use Rattle.btr_run.specs.Agreeing.{AreAgreed, IsOrUnread};
+ghost use Rattle.btr_run.specs.Agreeing.{AreAgreed, IsCheckedOrUnread};
 ghost use Rattle.btr_run.specs.Answers.{answer_of};
 ghost use Rattle.btr_run.specs.Behind.{IfSteady, IsBehind, IsUnread};
 ghost use Rattle.btr_run.specs.Checked.{IsCheckOutcome, check_outcome, found};
@@ -29,7 +29,7 @@ pub(crate) fn show_findings<R: Rack, O: Out>(
         Shows (OrMemory (λ outcome. Some (check_outcome read_data images) ≡ Some outcome))
         (O.text out.old) (O.text out.new) (O.account out.old) (O.account out.new) (answer_of result)) }
     ensures agreed { IfSome (R.seen rack.old).held (λ images. AreAgreed images →
-        Shows (IsOrUnread (check_outcome read_data images))
+        Shows (IsCheckedOrUnread read_data images)
         (O.text out.old) (O.text out.new) (O.account out.old) (O.account out.new) (answer_of result)) }
     ensures told { Shows (OrBare IsCheckOutcome)
         (O.text out.old) (O.text out.new) (O.account out.old) (O.account out.new) (answer_of result) }

@@ -10,6 +10,7 @@ mod checking;
 mod command_line;
 mod commands;
 mod filesystem;
+mod laws;
 mod newest;
 mod opening;
 mod options;
@@ -30,5 +31,6 @@ mod trees;
 
 pub use answer::Answer;
 pub use command_line::CommandLine;
+pub use laws::mending_keeps_restores;
 pub use running::run;
 pub use starting::program;

@@ -57,6 +57,7 @@ pub(crate) fn open_images<R: Rack>(
         → (R.seen rack.old).sure ≡ true → IsMissing (map string_bytes names.now) (R.seen rack.old).shelf slot) }
     ensures opened { AreOpenedAs write (R.seen rack.old).shelf (R.seen rack.new).slots (R.seen rack.new).held }
     ensures kept { OnOk result ((R.seen rack.new).sure ≡ (R.seen rack.old).sure) }
+    ensures unsynced { OnOk result ((R.seen rack.new).unsynced ≡ (R.seen rack.old).unsynced) }
     ensures count { OnOk result (length (R.seen rack.new).slots ≡ length names.now) }
 {
     if names.len() > MOST_IMAGES {

@@ -2,6 +2,7 @@
 ghost use Rattle.std.specs.Prelude.{◌≡◌, ◌<◌, length, IfSome};
 ghost use Rattle.btr_rack.specs.Sink.{NotStarted};
 ghost use Rattle.btr_restore.specs.Running.{KeepsSink, outside};
+ghost use Rattle.btr_run.specs.Agreeing.{AreAgreed, IsRestoredOrUnopened};
 ghost use Rattle.btr_run.specs.Answers.{answer_of};
 ghost use Rattle.btr_run.specs.Behind.{AnyFault, IfSteady, IsBehind};
 ghost use Rattle.btr_run.specs.Filesystem.{MayMend};
@@ -41,6 +42,10 @@ pub(crate) fn restore_files<R: Rack, T: TreeSink, O: Out>(
         (outside (T.sink tree.new) (T.account tree.new) (O.text out.new) (O.account out.new)) (answer_of result) }
     ensures order { IfSome (R.seen rack.old).held (λ images.
         InOrder plan.now dest.now images (R.seen rack.old) (R.seen rack.new)
+        (outside (T.sink tree.old) (T.account tree.old) (O.text out.old) (O.account out.old))
+        (outside (T.sink tree.new) (T.account tree.new) (O.text out.new) (O.account out.new)) (answer_of result)) }
+    ensures agreed { IfSome (R.seen rack.old).held (λ images. AreAgreed images →
+        Comes (Unit {0}) (IsRestoredOrUnopened images)
         (outside (T.sink tree.old) (T.account tree.old) (O.text out.old) (O.account out.old))
         (outside (T.sink tree.new) (T.account tree.new) (O.text out.new) (O.account out.new)) (answer_of result)) }
     ensures stored { IsStored (T.waits tree.new) (answer_of result) }

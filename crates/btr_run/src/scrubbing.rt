@@ -1,9 +1,9 @@
 // The command `scrub start`.
-ghost use Rattle.std.specs.Prelude.{◌≡◌, ◌≢◌, ◌<◌, true, length, IfSome, Some};
+ghost use Rattle.std.specs.Prelude.{◌≡◌, ◌≢◌, ◌<◌, ℕ, [], true, length, IfSome, Some};
 ghost use Rattle.btr_mend.specs.Writes.{AreWritable};
 ghost use Rattle.btr_rack.specs.Rack.{Steady};
 ghost use Rattle.btr_text.specs.Pieces.{text_of};
-ghost use Rattle.btr_run.specs.Agreeing.{AreAgreed, IsOrUnread, ScrubsAgreed};
+ghost use Rattle.btr_run.specs.Agreeing.{AreAgreed, IsScrubbedOrUnread, ScrubsAgreed};
 ghost use Rattle.btr_run.specs.Answers.{answer_of};
 ghost use Rattle.btr_run.specs.Behind.{IfSteady};
 ghost use Rattle.btr_run.specs.Checked.{found};
@@ -36,7 +36,7 @@ pub(crate) fn scrub_images<R: Rack, O: Out>(
         Shows (OrMemory (λ outcome. Some (scrub_outcome write images) ≡ Some outcome))
         (O.text out.old) (O.text out.new) (O.account out.old) (O.account out.new) (answer_of result)) }
     ensures agreed { IfSome (R.seen rack.old).held (λ images. AreAgreed images →
-        Shows (IsOrUnread (scrub_outcome write images))
+        Shows (IsScrubbedOrUnread write images)
         (O.text out.old) (O.text out.new) (O.account out.old) (O.account out.new) (answer_of result)) }
     ensures told { Shows (OrBare IsScrubOutcome)
         (O.text out.old) (O.text out.new) (O.account out.old) (O.account out.new) (answer_of result) }
@@ -46,6 +46,8 @@ pub(crate) fn scrub_images<R: Rack, O: Out>(
     ensures left { write ≡ true → IfSome (R.seen rack.old).held (λ images. IfSome (R.seen rack.new).held (λ left.
         LeavesImages (Steady (R.seen rack.old).account.faults (R.seen rack.new).account.faults)
         images left (answer_of result))) }
+    ensures synced { write ≡ true → (lost : ℕ) → answer_of result ≡ found lost
+        → (R.seen rack.old).unsynced ≡ [] → (R.seen rack.new).unsynced ≡ [] }
     ensures cause { IsBehindCommand (Command.Scrub write) (R.seen rack.old) (R.seen rack.new) (answer_of result) }
 {
     let tally = scrub_filesystem(alloc, write, rack)?;

@@ -19,4 +19,5 @@ returns-clause-opened g c = opened_as (g.R.Rack.seen c.args.rack.now) (g.R.Rack.
 pub returns-in_err-open-clause-opened : goal.returns-in_err-open-clause-opened
 returns-in_err-open-clause-opened g c =
     let p = err_from_is_err_and c.from_residual.result c.from_residual.ensures.1 in
-    refused_as (g.R.Rack.seen c.args.rack.now) (g.R.Rack.seen c.open.new.rack) c.in_err-open.field-0.0 c.from_residual.result (p.1 ∙ ap (λ a. Err a) p.2) c.in_err-open.ensures.content
+    refused_as (g.R.Rack.seen c.args.rack.now) (g.R.Rack.seen c.open.new.rack) c.in_err-open.field-0.0 c.from_residual.result
+    (p.1 ∙ ap (λ a. Err a) p.2) c.in_err-open.ensures.content

@@ -6,7 +6,8 @@ use Rattle.btr_run.proofs.Numerals.{number_read, number_none}
 use Rattle.btr_run.proofs.place.number.Goals as goal
 
 pub returns-in_default : goal.returns-in_default
-returns-in_default c = sym (number_none c.args.word.now (λ n is. absurd (cc (parse-decimal 64 n c.args.word.now c.parse.result is.0 is.0 is.1 c.parse.ensures.value.0, c.in_default.is))))
+returns-in_default c = sym (number_none c.args.word.now
+    (λ n is. absurd (cc (parse-decimal 64 n c.args.word.now c.parse.result is.0 is.0 is.1 c.parse.ensures.value.0, c.in_default.is))))
 
 pub returns-then-eq : goal.returns-then-eq
 returns-then-eq c =

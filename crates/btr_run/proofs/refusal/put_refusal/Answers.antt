@@ -7,4 +7,5 @@ use Rattle.btr_run.proofs.refusal.put_refusal.Goals as goal
 
 pub returns-in-Done-clause-text : goal.returns-in-Done-clause-text
 returns-in-Done-clause-text g c =
-    subst (λ (answer : Answer). Adds (g.O.Out.text c.args.out.now) (g.O.Out.text c.args.out.now) (error_line answer)) (sym c.in-Done.is) (adds_nothing (g.O.Out.text c.args.out.now))
+    subst (λ (answer : Answer). Adds (g.O.Out.text c.args.out.now) (g.O.Out.text c.args.out.now) (error_line answer)) (sym c.in-Done.is)
+    (adds_nothing (g.O.Out.text c.args.out.now))

@@ -14,7 +14,8 @@ use Rattle.btr_run.proofs.Obeyed as obeyed
 use Rattle.btr_run.proofs.Openings.{unopened}
 use Rattle.btr_run.proofs.running.carry_out.Goals as goal
 
-as_many : (xs : List (String Global)) (k n : ℕ) → n < length (map string_bytes (take (length xs - k) (drop k xs))) → n < length (take (length xs - k) (drop k xs))
+as_many : (xs : List (String Global)) (k n : ℕ) → n < length (map string_bytes (take (length xs - k) (drop k xs)))
+    → n < length (take (length xs - k) (drop k xs))
 as_many xs k n lt = omega (arith, length-map (take (length xs - k) (drop k xs)) string_bytes)
 
 pub returns-in-Err : goal.returns-in-Err
@@ -51,4 +52,4 @@ returns g c =
     (names_are c.args.words.now c.in-Ok.plan.images) c.open_images.new.rack c.perform.new.rack c.perform.new.tree c.perform.new.out _
     c.in_ok-open_images.ensures.limit c.in_ok-open_images.ensures.cause c.in_ok-open_images.ensures.images
     (subst (λ write. AreOpenedAs write old.shelf mid.slots mid.held) c.writes.ensures c.in_ok-open_images.ensures.opened)
-    c.in_ok-open_images.ensures.kept c.perform.ensures
+    c.in_ok-open_images.ensures.kept c.in_ok-open_images.ensures.unsynced c.perform.ensures

@@ -7,12 +7,14 @@ returns-clause-answered g c = answered _ c.finish.new.out c.finish.result c.fini
 pub returns-clause-effect : goal.returns-clause-effect
 returns-clause-effect g c =
     effect _ c.finish.new.out c.finish.result c.finish.ensures.put c.carry_out-done.ensures
-    c.settled.ensures c.opened_then.ensures.listed c.opened_then.ensures.refused c.opened_then.ensures.halted (g.met.T.TreeSink.sound c.args.tree.now) c.requires.fresh
+    c.settled.ensures c.opened_then.ensures.listed c.opened_then.ensures.refused c.opened_then.ensures.halted
+    (g.met.T.TreeSink.sound c.args.tree.now) c.requires.fresh
 
 pub returns-clause-headline : goal.returns-clause-headline
 returns-clause-headline g c =
     committed _ c.finish.new.out c.finish.result c.finish.ensures.put c.carry_out-done.ensures
-    c.settled.ensures c.opened_then.ensures.listed c.opened_then.ensures.refused c.opened_then.ensures.halted (g.met.T.TreeSink.sound c.args.tree.now) c.requires.fresh c.headline.ensures
+    c.settled.ensures c.opened_then.ensures.listed c.opened_then.ensures.refused c.opened_then.ensures.halted
+    (g.met.T.TreeSink.sound c.args.tree.now) c.requires.fresh c.headline.ensures
 
 pub returns-clause-part : goal.returns-clause-part
 returns-clause-part g c = first_part _ c.finish.new.out c.finish.result c.finish.ensures.put c.carry_out-done.ensures c.committed_order.ensures

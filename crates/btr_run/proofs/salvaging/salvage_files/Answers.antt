@@ -1,7 +1,7 @@
-use Rattle.std.proofs.Common.{◌≡◌, ◌∙◌, inl, inr, ⊎_elim, Ok, Err, refl, ap}
+use Rattle.std.proofs.Common.{◌∙◌, inl, inr, ⊎_elim, Ok, Err, refl, ap}
 use Rattle.btr_rack.specs.Sink.{is_in_file}
 use Rattle.btr_restore.specs.Running.{Outside, outside}
-use Rattle.btr_run.specs.Agreeing.{IsOrUnread, IsSalvagedOrUnread}
+use Rattle.btr_run.specs.Agreeing.{IsOrUnopened, IsSalvagedOrUnread}
 use Rattle.btr_run.specs.Answers.{answer_of}
 use Rattle.btr_run.specs.Behind.{AnyFault}
 use Rattle.btr_run.specs.Faults.{stop_answer}
@@ -20,14 +20,17 @@ returns-in_err-volume-clause-effect g c =
     let old = g.R.Rack.seen c.args.rack.now in
     let new = g.R.Rack.seen c.open_filesystem.new.rack in
     let answer = c.in_err-volume.field-0.0 in
-    unopened_effect answer (answer_of c.from_residual.result) (answer_gives c.from_residual.result answer c.from_residual.ensures.1) c.in_err-volume.ensures.refusal
+    unopened_effect answer (answer_of c.from_residual.result) (answer_gives c.from_residual.result answer c.from_residual.ensures.1)
+    c.in_err-volume.ensures.refusal
     (salvage_outcome c.args.plan.now c.args.dest.now) (bare c.args.plan.now c.args.dest.now) old.account new.account old.held
-    (outside (g.T.TreeSink.sink c.args.tree.now) (g.T.TreeSink.account c.args.tree.now) (g.O.Out.text c.args.out.now) (g.O.Out.account c.args.out.now)) c.in_err-volume.ensures.content
+    (outside (g.T.TreeSink.sink c.args.tree.now) (g.T.TreeSink.account c.args.tree.now) (g.O.Out.text c.args.out.now)
+    (g.O.Out.account c.args.out.now)) c.in_err-volume.ensures.content
 
 pub returns-in_err-volume-clause-told : goal.returns-in_err-volume-clause-told
 returns-in_err-volume-clause-told g c =
     let answer = c.in_err-volume.field-0.0 in
-    unopened_told answer (answer_of c.from_residual.result) (answer_gives c.from_residual.result answer c.from_residual.ensures.1) c.in_err-volume.ensures.refusal IsRestored
+    unopened_told answer (answer_of c.from_residual.result) (answer_gives c.from_residual.result answer c.from_residual.ensures.1)
+    c.in_err-volume.ensures.refusal IsRestored
     (outside (g.T.TreeSink.sink c.args.tree.now) (g.T.TreeSink.account c.args.tree.now) (g.O.Out.text c.args.out.now) (g.O.Out.account c.args.out.now))
 
 pub returns-in_err-volume-clause-agreed : goal.returns-in_err-volume-clause-agreed
@@ -35,9 +38,11 @@ returns-in_err-volume-clause-agreed g c =
     let old = g.R.Rack.seen c.args.rack.now in
     let new = g.R.Rack.seen c.open_filesystem.new.rack in
     let answer = c.in_err-volume.field-0.0 in
-    let x : Outside = outside (g.T.TreeSink.sink c.args.tree.now) (g.T.TreeSink.account c.args.tree.now) (g.O.Out.text c.args.out.now) (g.O.Out.account c.args.out.now) in
+    let x : Outside = outside (g.T.TreeSink.sink c.args.tree.now) (g.T.TreeSink.account c.args.tree.now) (g.O.Out.text c.args.out.now)
+    (g.O.Out.account c.args.out.now) in
     when_told old.held _ _ (λ images comes agreed.
-    comes_also (Unit {0}) (Unit {0}) (IsOrUnread (salvage_outcome c.args.plan.now c.args.dest.now images)) (IsSalvagedOrUnread c.args.plan.now c.args.dest.now images) x x
+    comes_also (Unit {0}) (Unit {0}) (IsOrUnopened images (salvage_outcome c.args.plan.now c.args.dest.now images))
+    (IsSalvagedOrUnread c.args.plan.now c.args.dest.now images) x x
     (answer_of c.from_residual.result) (λ u. u) (λ outcome o. ⊎_elim (λ is. inl is) (λ unread. inr (inr unread)) o) (comes agreed))
     (unopened_comes (salvage_outcome c.args.plan.now c.args.dest.now) (bare c.args.plan.now c.args.dest.now) old new answer
     (answer_of c.from_residual.result) (answer_gives c.from_residual.result answer c.from_residual.ensures.1) x c.in_err-volume.ensures.opened)
@@ -51,80 +56,102 @@ returns-in_err-volume-clause-cause g c =
     let new = g.R.Rack.seen c.open_filesystem.new.rack in
     let answer = c.in_err-volume.field-0.0 in
     let e = c.in_err-volume.ensures in
-    unopened_behind answer (answer_of c.from_residual.result) (answer_gives c.from_residual.result answer c.from_residual.ensures.1) e.refusal AnyFault old new e.reads e.image e.tree e.hidden e.counted
+    unopened_behind answer (answer_of c.from_residual.result) (answer_gives c.from_residual.result answer c.from_residual.ensures.1) e.refusal AnyFault old new
+    e.reads e.image e.tree e.hidden e.counted
 
 pub returns-in_err-salvaged-clause-effect : goal.returns-in_err-salvaged-clause-effect
 returns-in_err-salvaged-clause-effect g c =
-    salvaged_effect c.args.plan.now c.args.dest.now (g.R.Rack.seen c.args.rack.now) (g.R.Rack.seen c.open_filesystem.new.rack) (g.R.Rack.seen c.salvage.new.rack) c.in_ok-volume.ensures.reads
+    salvaged_effect c.args.plan.now c.args.dest.now (g.R.Rack.seen c.args.rack.now) (g.R.Rack.seen c.open_filesystem.new.rack)
+    (g.R.Rack.seen c.salvage.new.rack) c.in_ok-volume.ensures.reads
     c.in_ok-volume.volume c.salvage.new.vol
     (outside (g.T.TreeSink.sink c.args.tree.now) (g.T.TreeSink.account c.args.tree.now) (g.O.Out.text c.args.out.now) (g.O.Out.account c.args.out.now))
-    (outside (g.T.TreeSink.sink c.salvage.new.tree) (g.T.TreeSink.account c.salvage.new.tree) (g.O.Out.text c.salvage.new.out) (g.O.Out.account c.salvage.new.out))
+    (outside (g.T.TreeSink.sink c.salvage.new.tree) (g.T.TreeSink.account c.salvage.new.tree) (g.O.Out.text c.salvage.new.out)
+    (g.O.Out.account c.salvage.new.out))
     (answer_of c.from_residual-in_err-salvaged.result) (Err c.in_err-salvaged.field-0.0)
-    (answer_gives c.from_residual-in_err-salvaged.result (stop_answer c.in_err-salvaged.field-0.0) c.from_residual-in_err-salvaged.ensures.1) c.in_err-salvaged.ensures.ran c.in_ok-volume.ensures.content
+    (answer_gives c.from_residual-in_err-salvaged.result (stop_answer c.in_err-salvaged.field-0.0) c.from_residual-in_err-salvaged.ensures.1)
+    c.in_err-salvaged.ensures.ran c.in_ok-volume.ensures.content
 
 pub returns-in_err-salvaged-clause-told : goal.returns-in_err-salvaged-clause-told
 returns-in_err-salvaged-clause-told g c =
-    salvaged_told c.args.plan.now c.args.dest.now (g.R.Rack.seen c.args.rack.now) (g.R.Rack.seen c.open_filesystem.new.rack) (g.R.Rack.seen c.salvage.new.rack) c.in_ok-volume.ensures.reads
+    salvaged_told c.args.plan.now c.args.dest.now (g.R.Rack.seen c.args.rack.now) (g.R.Rack.seen c.open_filesystem.new.rack)
+    (g.R.Rack.seen c.salvage.new.rack) c.in_ok-volume.ensures.reads
     c.in_ok-volume.volume c.salvage.new.vol
     (outside (g.T.TreeSink.sink c.args.tree.now) (g.T.TreeSink.account c.args.tree.now) (g.O.Out.text c.args.out.now) (g.O.Out.account c.args.out.now))
-    (outside (g.T.TreeSink.sink c.salvage.new.tree) (g.T.TreeSink.account c.salvage.new.tree) (g.O.Out.text c.salvage.new.out) (g.O.Out.account c.salvage.new.out))
+    (outside (g.T.TreeSink.sink c.salvage.new.tree) (g.T.TreeSink.account c.salvage.new.tree) (g.O.Out.text c.salvage.new.out)
+    (g.O.Out.account c.salvage.new.out))
     (answer_of c.from_residual-in_err-salvaged.result) (Err c.in_err-salvaged.field-0.0)
-    (answer_gives c.from_residual-in_err-salvaged.result (stop_answer c.in_err-salvaged.field-0.0) c.from_residual-in_err-salvaged.ensures.1) c.in_err-salvaged.ensures.ran
+    (answer_gives c.from_residual-in_err-salvaged.result (stop_answer c.in_err-salvaged.field-0.0) c.from_residual-in_err-salvaged.ensures.1)
+    c.in_err-salvaged.ensures.ran
 
 pub returns-in_err-salvaged-clause-agreed : goal.returns-in_err-salvaged-clause-agreed
 returns-in_err-salvaged-clause-agreed g c =
-    salvaged_agreed c.args.plan.now c.args.dest.now (g.R.Rack.seen c.args.rack.now) (g.R.Rack.seen c.open_filesystem.new.rack) (g.R.Rack.seen c.salvage.new.rack) c.in_ok-volume.ensures.reads
+    salvaged_agreed c.args.plan.now c.args.dest.now (g.R.Rack.seen c.args.rack.now) (g.R.Rack.seen c.open_filesystem.new.rack)
+    (g.R.Rack.seen c.salvage.new.rack) c.in_ok-volume.ensures.reads
     c.in_ok-volume.volume c.salvage.new.vol
     (outside (g.T.TreeSink.sink c.args.tree.now) (g.T.TreeSink.account c.args.tree.now) (g.O.Out.text c.args.out.now) (g.O.Out.account c.args.out.now))
-    (outside (g.T.TreeSink.sink c.salvage.new.tree) (g.T.TreeSink.account c.salvage.new.tree) (g.O.Out.text c.salvage.new.out) (g.O.Out.account c.salvage.new.out))
+    (outside (g.T.TreeSink.sink c.salvage.new.tree) (g.T.TreeSink.account c.salvage.new.tree) (g.O.Out.text c.salvage.new.out)
+    (g.O.Out.account c.salvage.new.out))
     (answer_of c.from_residual-in_err-salvaged.result) (Err c.in_err-salvaged.field-0.0)
-    (answer_gives c.from_residual-in_err-salvaged.result (stop_answer c.in_err-salvaged.field-0.0) c.from_residual-in_err-salvaged.ensures.1) c.in_err-salvaged.ensures.ran c.in_ok-volume.ensures.opened
+    (answer_gives c.from_residual-in_err-salvaged.result (stop_answer c.in_err-salvaged.field-0.0) c.from_residual-in_err-salvaged.ensures.1)
+    c.in_err-salvaged.ensures.ran c.in_ok-volume.ensures.opened
 
 pub returns-in_err-salvaged-clause-cause : goal.returns-in_err-salvaged-clause-cause
 returns-in_err-salvaged-clause-cause g c =
-    salvaged_behind c.args.plan.now c.args.dest.now (g.R.Rack.seen c.args.rack.now) (g.R.Rack.seen c.open_filesystem.new.rack) (g.R.Rack.seen c.salvage.new.rack) c.in_ok-volume.ensures.reads
+    salvaged_behind c.args.plan.now c.args.dest.now (g.R.Rack.seen c.args.rack.now) (g.R.Rack.seen c.open_filesystem.new.rack)
+    (g.R.Rack.seen c.salvage.new.rack) c.in_ok-volume.ensures.reads
     c.in_ok-volume.volume c.salvage.new.vol
     (outside (g.T.TreeSink.sink c.args.tree.now) (g.T.TreeSink.account c.args.tree.now) (g.O.Out.text c.args.out.now) (g.O.Out.account c.args.out.now))
-    (outside (g.T.TreeSink.sink c.salvage.new.tree) (g.T.TreeSink.account c.salvage.new.tree) (g.O.Out.text c.salvage.new.out) (g.O.Out.account c.salvage.new.out))
+    (outside (g.T.TreeSink.sink c.salvage.new.tree) (g.T.TreeSink.account c.salvage.new.tree) (g.O.Out.text c.salvage.new.out)
+    (g.O.Out.account c.salvage.new.out))
     (answer_of c.from_residual-in_err-salvaged.result) (Err c.in_err-salvaged.field-0.0)
-    (answer_gives c.from_residual-in_err-salvaged.result (stop_answer c.in_err-salvaged.field-0.0) c.from_residual-in_err-salvaged.ensures.1) c.in_err-salvaged.ensures.ran
+    (answer_gives c.from_residual-in_err-salvaged.result (stop_answer c.in_err-salvaged.field-0.0) c.from_residual-in_err-salvaged.ensures.1)
+    c.in_err-salvaged.ensures.ran
 
 pub returns-clause-effect : goal.returns-clause-effect
 returns-clause-effect g c =
-    salvaged_effect c.args.plan.now c.args.dest.now (g.R.Rack.seen c.args.rack.now) (g.R.Rack.seen c.open_filesystem.new.rack) (g.R.Rack.seen c.salvage.new.rack) c.in_ok-volume.ensures.reads
+    salvaged_effect c.args.plan.now c.args.dest.now (g.R.Rack.seen c.args.rack.now) (g.R.Rack.seen c.open_filesystem.new.rack)
+    (g.R.Rack.seen c.salvage.new.rack) c.in_ok-volume.ensures.reads
     c.in_ok-volume.volume c.salvage.new.vol
     (outside (g.T.TreeSink.sink c.args.tree.now) (g.T.TreeSink.account c.args.tree.now) (g.O.Out.text c.args.out.now) (g.O.Out.account c.args.out.now))
-    (outside (g.T.TreeSink.sink c.salvage.new.tree) (g.T.TreeSink.account c.salvage.new.tree) (g.O.Out.text c.salvage.new.out) (g.O.Out.account c.salvage.new.out))
+    (outside (g.T.TreeSink.sink c.salvage.new.tree) (g.T.TreeSink.account c.salvage.new.tree) (g.O.Out.text c.salvage.new.out)
+    (g.O.Out.account c.salvage.new.out))
     (Done c.saturating_add.result) (Ok c.in_ok-salvaged.salvaged) (ap Done c.saturating_add.ensures) c.in_ok-salvaged.ensures.ran c.in_ok-volume.ensures.content
 
 pub returns-clause-told : goal.returns-clause-told
 returns-clause-told g c =
-    salvaged_told c.args.plan.now c.args.dest.now (g.R.Rack.seen c.args.rack.now) (g.R.Rack.seen c.open_filesystem.new.rack) (g.R.Rack.seen c.salvage.new.rack) c.in_ok-volume.ensures.reads
+    salvaged_told c.args.plan.now c.args.dest.now (g.R.Rack.seen c.args.rack.now) (g.R.Rack.seen c.open_filesystem.new.rack)
+    (g.R.Rack.seen c.salvage.new.rack) c.in_ok-volume.ensures.reads
     c.in_ok-volume.volume c.salvage.new.vol
     (outside (g.T.TreeSink.sink c.args.tree.now) (g.T.TreeSink.account c.args.tree.now) (g.O.Out.text c.args.out.now) (g.O.Out.account c.args.out.now))
-    (outside (g.T.TreeSink.sink c.salvage.new.tree) (g.T.TreeSink.account c.salvage.new.tree) (g.O.Out.text c.salvage.new.out) (g.O.Out.account c.salvage.new.out))
+    (outside (g.T.TreeSink.sink c.salvage.new.tree) (g.T.TreeSink.account c.salvage.new.tree) (g.O.Out.text c.salvage.new.out)
+    (g.O.Out.account c.salvage.new.out))
     (Done c.saturating_add.result) (Ok c.in_ok-salvaged.salvaged) (ap Done c.saturating_add.ensures) c.in_ok-salvaged.ensures.ran
 
 pub returns-clause-agreed : goal.returns-clause-agreed
 returns-clause-agreed g c =
-    salvaged_agreed c.args.plan.now c.args.dest.now (g.R.Rack.seen c.args.rack.now) (g.R.Rack.seen c.open_filesystem.new.rack) (g.R.Rack.seen c.salvage.new.rack) c.in_ok-volume.ensures.reads
+    salvaged_agreed c.args.plan.now c.args.dest.now (g.R.Rack.seen c.args.rack.now) (g.R.Rack.seen c.open_filesystem.new.rack)
+    (g.R.Rack.seen c.salvage.new.rack) c.in_ok-volume.ensures.reads
     c.in_ok-volume.volume c.salvage.new.vol
     (outside (g.T.TreeSink.sink c.args.tree.now) (g.T.TreeSink.account c.args.tree.now) (g.O.Out.text c.args.out.now) (g.O.Out.account c.args.out.now))
-    (outside (g.T.TreeSink.sink c.salvage.new.tree) (g.T.TreeSink.account c.salvage.new.tree) (g.O.Out.text c.salvage.new.out) (g.O.Out.account c.salvage.new.out))
+    (outside (g.T.TreeSink.sink c.salvage.new.tree) (g.T.TreeSink.account c.salvage.new.tree) (g.O.Out.text c.salvage.new.out)
+    (g.O.Out.account c.salvage.new.out))
     (Done c.saturating_add.result) (Ok c.in_ok-salvaged.salvaged) (ap Done c.saturating_add.ensures) c.in_ok-salvaged.ensures.ran c.in_ok-volume.ensures.opened
 
 pub returns-clause-cause : goal.returns-clause-cause
 returns-clause-cause g c =
-    salvaged_behind c.args.plan.now c.args.dest.now (g.R.Rack.seen c.args.rack.now) (g.R.Rack.seen c.open_filesystem.new.rack) (g.R.Rack.seen c.salvage.new.rack) c.in_ok-volume.ensures.reads
+    salvaged_behind c.args.plan.now c.args.dest.now (g.R.Rack.seen c.args.rack.now) (g.R.Rack.seen c.open_filesystem.new.rack)
+    (g.R.Rack.seen c.salvage.new.rack) c.in_ok-volume.ensures.reads
     c.in_ok-volume.volume c.salvage.new.vol
     (outside (g.T.TreeSink.sink c.args.tree.now) (g.T.TreeSink.account c.args.tree.now) (g.O.Out.text c.args.out.now) (g.O.Out.account c.args.out.now))
-    (outside (g.T.TreeSink.sink c.salvage.new.tree) (g.T.TreeSink.account c.salvage.new.tree) (g.O.Out.text c.salvage.new.out) (g.O.Out.account c.salvage.new.out))
+    (outside (g.T.TreeSink.sink c.salvage.new.tree) (g.T.TreeSink.account c.salvage.new.tree) (g.O.Out.text c.salvage.new.out)
+    (g.O.Out.account c.salvage.new.out))
     (Done c.saturating_add.result) (Ok c.in_ok-salvaged.salvaged) (ap Done c.saturating_add.ensures) c.in_ok-salvaged.ensures.ran
 
 pub returns-in_err-salvaged-clause-stored : goal.returns-in_err-salvaged-clause-stored
 returns-in_err-salvaged-clause-stored g c = λ undone other.
     c.in_err-salvaged.ensures.stored
-    (λ is. other (answer_gives c.from_residual-in_err-salvaged.result (stop_answer c.in_err-salvaged.field-0.0) c.from_residual-in_err-salvaged.ensures.1 ∙ ap stop_answer is))
+    (λ is. other (answer_gives c.from_residual-in_err-salvaged.result (stop_answer c.in_err-salvaged.field-0.0) c.from_residual-in_err-salvaged.ensures.1
+    ∙ ap stop_answer is))
 
 pub returns-clause-stored : goal.returns-clause-stored
 returns-clause-stored g c = λ undone other. absurd (undone c.saturating_add.result refl)

@@ -25,7 +25,8 @@ returns-then-b-eq0 c =
     let b = get_or field i 0 in
     let rest = drop (i + 1) field in
     sym (append-nil (name_text (take i field)))
-    ∙ ap (λ l. name_text (take i field) ++ l) (sym (at_drop_more label_text field i 0 c.loop-i-test.true ∙ label_end b rest c.if-b-eq0.true)) ∙ c.loop-i.invariant
+    ∙ ap (λ l. name_text (take i field) ++ l) (sym (at_drop_more label_text field i 0 c.loop-i-test.true ∙ label_end b rest c.if-b-eq0.true))
+    ∙ c.loop-i.invariant
 
 pub returns : goal.returns
 returns c =

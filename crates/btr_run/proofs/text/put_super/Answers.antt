@@ -8,7 +8,8 @@ unfolding super_text
 returns-in_err-push_all-clause-text g c =
     let s = c.args.s.now in
     cut_puts c.from_residual.result c.from_residual.ensures.0 c.new-text.ensures
-    (cut_longer (bits_text s) (cut_longer (sizes_text s) (cut_longer (roots_text s) (cut_longer (name_text s.label) (cut_as (ids_text c.args.slot s) c.ids.ensures c.in_err-push_all.ensures.text)))))
+    (cut_longer (bits_text s) (cut_longer (sizes_text s)
+    (cut_longer (roots_text s) (cut_longer (name_text s.label) (cut_as (ids_text c.args.slot s) c.ids.ensures c.in_err-push_all.ensures.text)))))
 
 pub returns-in_err-push_all-2-clause-text : goal.returns-in_err-push_all-2-clause-text
 unfolding super_text
@@ -17,7 +18,8 @@ returns-in_err-push_all-2-clause-text g c =
     let ids = wrote_as (ids_text c.args.slot s) c.ids.ensures c.in_ok-push_all.ensures.text in
     let name = ap (λ l. codes "\nlabel [" ++ l ++ codes "]") c.label_of.ensures in
     cut_puts c.from_residual-in_err-push_all-2.result c.from_residual-in_err-push_all-2.ensures.0 c.new-text.ensures
-    (cut_longer (bits_text s) (cut_longer (sizes_text s) (cut_longer (roots_text s) (cut_then ids (cut_as (name_text s.label) name c.in_err-push_all-2.ensures.text)))))
+    (cut_longer (bits_text s) (cut_longer (sizes_text s)
+    (cut_longer (roots_text s) (cut_then ids (cut_as (name_text s.label) name c.in_err-push_all-2.ensures.text)))))
 
 pub returns-in_err-push_all-3-clause-text : goal.returns-in_err-push_all-3-clause-text
 unfolding super_text
@@ -26,7 +28,8 @@ returns-in_err-push_all-3-clause-text g c =
     let ids = wrote_as (ids_text c.args.slot s) c.ids.ensures c.in_ok-push_all.ensures.text in
     let name = wrote_as (name_text s.label) (ap (λ l. codes "\nlabel [" ++ l ++ codes "]") c.label_of.ensures) c.in_ok-push_all-2.ensures.text in
     cut_puts c.from_residual-in_err-push_all-3.result c.from_residual-in_err-push_all-3.ensures.0 c.new-text.ensures
-    (cut_longer (bits_text s) (cut_longer (sizes_text s) (cut_then (wrote_then ids name) (cut_as (roots_text s) c.roots.ensures c.in_err-push_all-3.ensures.text))))
+    (cut_longer (bits_text s) (cut_longer (sizes_text s)
+    (cut_then (wrote_then ids name) (cut_as (roots_text s) c.roots.ensures c.in_err-push_all-3.ensures.text))))
 
 pub returns-in_err-push_all-4-clause-text : goal.returns-in_err-push_all-4-clause-text
 unfolding super_text
@@ -58,4 +61,5 @@ returns-clause-text g c =
     let roots = wrote_as (roots_text s) c.roots.ensures c.in_ok-push_all-3.ensures.text in
     let sizes = wrote_as (sizes_text s) c.sizes.ensures c.in_ok-push_all-4.ensures.text in
     let bits = wrote_as (bits_text s) c.bits.ensures c.in_ok-push_all-5.ensures.text in
-    wrote_put (g.O.Out.text c.flush.new.out) c.flush.result c.new-text.ensures (wrote_then (wrote_then (wrote_then (wrote_then ids name) roots) sizes) bits) c.flush.ensures.text
+    wrote_put (g.O.Out.text c.flush.new.out) c.flush.result c.new-text.ensures
+    (wrote_then (wrote_then (wrote_then (wrote_then ids name) roots) sizes) bits) c.flush.ensures.text

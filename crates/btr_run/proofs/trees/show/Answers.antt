@@ -16,8 +16,11 @@ returns-in-All-clause-content g c =
     let volume = c.args.volume.now in
     let old = g.R.Rack.seen c.args.rack.now in
     let new = g.R.Rack.seen c.dump_all.new.rack in
-    subst (λ choice. IfSteady old.held old.account new.account (λ images. Shows (λ outcome. outcome ≡ showing (trees_shown choice (fate images volume.store.layout) volume.sup)) (g.O.Out.text c.args.out.now) (g.O.Out.text c.dump_all.new.out) (g.O.Out.account c.args.out.now) (g.O.Out.account c.dump_all.new.out) (call_answer c.dump_all.result))) (sym c.in-All.is)
-    (run_comes volume.store.layout old new (g.O.Out.text c.args.out.now) (g.O.Out.text c.dump_all.new.out) (g.O.Out.account c.args.out.now) (g.O.Out.account c.dump_all.new.out)
+    subst (λ choice. IfSteady old.held old.account new.account
+    (λ images. Shows (λ outcome. outcome ≡ showing (trees_shown choice (fate images volume.store.layout) volume.sup)) (g.O.Out.text c.args.out.now)
+    (g.O.Out.text c.dump_all.new.out) (g.O.Out.account c.args.out.now) (g.O.Out.account c.dump_all.new.out) (call_answer c.dump_all.result))) (sym c.in-All.is)
+    (run_comes volume.store.layout old new (g.O.Out.text c.args.out.now) (g.O.Out.text c.dump_all.new.out) (g.O.Out.account c.args.out.now)
+    (g.O.Out.account c.dump_all.new.out)
     c.dump_all.result c.dump_all.ensures.account (λ B. exec B (all_trees volume.sup)) c.dump_all.ensures.content)
 
 pub returns-in-Block-clause-content : goal.returns-in-Block-clause-content
@@ -25,17 +28,26 @@ returns-in-Block-clause-content g c =
     let volume = c.args.volume.now in
     let old = g.R.Rack.seen c.args.rack.now in
     let new = g.R.Rack.seen c.dump_block.new.rack in
-    subst (λ choice. IfSteady old.held old.account new.account (λ images. Shows (λ outcome. outcome ≡ showing (trees_shown choice (fate images volume.store.layout) volume.sup)) (g.O.Out.text c.args.out.now) (g.O.Out.text c.dump_block.new.out) (g.O.Out.account c.args.out.now) (g.O.Out.account c.dump_block.new.out) (call_answer c.dump_block.result))) (sym c.in-Block.is)
-    (block_comes volume.store.layout old new (g.O.Out.text c.args.out.now) (g.O.Out.text c.dump_block.new.out) (g.O.Out.account c.args.out.now) (g.O.Out.account c.dump_block.new.out)
-    c.dump_block.result c.dump_block.ensures.account c.in-Block.addr (λ B. exec B (block_shown (kind_in volume.sup) c.in-Block.addr)) c.dump_block.ensures.content)
+    subst (λ choice. IfSteady old.held old.account new.account
+    (λ images. Shows (λ outcome. outcome ≡ showing (trees_shown choice (fate images volume.store.layout) volume.sup)) (g.O.Out.text c.args.out.now)
+    (g.O.Out.text c.dump_block.new.out) (g.O.Out.account c.args.out.now) (g.O.Out.account c.dump_block.new.out) (call_answer c.dump_block.result)))
+    (sym c.in-Block.is)
+    (block_comes volume.store.layout old new (g.O.Out.text c.args.out.now) (g.O.Out.text c.dump_block.new.out) (g.O.Out.account c.args.out.now)
+    (g.O.Out.account c.dump_block.new.out)
+    c.dump_block.result c.dump_block.ensures.account c.in-Block.addr (λ B. exec B
+    (block_shown (kind_in volume.sup) c.in-Block.addr)) c.dump_block.ensures.content)
 
 pub returns-in-Tree-clause-content : goal.returns-in-Tree-clause-content
 returns-in-Tree-clause-content g c =
     let volume = c.args.volume.now in
     let old = g.R.Rack.seen c.args.rack.now in
     let new = g.R.Rack.seen c.dump_tree.new.rack in
-    subst (λ choice. IfSteady old.held old.account new.account (λ images. Shows (λ outcome. outcome ≡ showing (trees_shown choice (fate images volume.store.layout) volume.sup)) (g.O.Out.text c.args.out.now) (g.O.Out.text c.dump_tree.new.out) (g.O.Out.account c.args.out.now) (g.O.Out.account c.dump_tree.new.out) (call_answer c.dump_tree.result))) (sym c.in-Tree.is)
-    (tree_comes volume.store.layout old new (g.O.Out.text c.args.out.now) (g.O.Out.text c.dump_tree.new.out) (g.O.Out.account c.args.out.now) (g.O.Out.account c.dump_tree.new.out)
+    subst (λ choice. IfSteady old.held old.account new.account
+    (λ images. Shows (λ outcome. outcome ≡ showing (trees_shown choice (fate images volume.store.layout) volume.sup)) (g.O.Out.text c.args.out.now)
+    (g.O.Out.text c.dump_tree.new.out) (g.O.Out.account c.args.out.now) (g.O.Out.account c.dump_tree.new.out) (call_answer c.dump_tree.result)))
+    (sym c.in-Tree.is)
+    (tree_comes volume.store.layout old new (g.O.Out.text c.args.out.now) (g.O.Out.text c.dump_tree.new.out) (g.O.Out.account c.args.out.now)
+    (g.O.Out.account c.dump_tree.new.out)
     c.dump_tree.result c.dump_tree.ensures.account (λ B. exec B (asked_tree volume.sup c.in-Tree.id)) c.dump_tree.ensures.content)
 
 pub returns-in-RootLines-clause-content : goal.returns-in-RootLines-clause-content
@@ -43,8 +55,12 @@ returns-in-RootLines-clause-content g c =
     let volume = c.args.volume.now in
     let old = g.R.Rack.seen c.args.rack.now in
     let new = g.R.Rack.seen c.list_roots.new.rack in
-    subst (λ choice. IfSteady old.held old.account new.account (λ images. Shows (λ outcome. outcome ≡ showing (trees_shown choice (fate images volume.store.layout) volume.sup)) (g.O.Out.text c.args.out.now) (g.O.Out.text c.list_roots.new.out) (g.O.Out.account c.args.out.now) (g.O.Out.account c.list_roots.new.out) (call_answer c.list_roots.result))) (sym c.in-RootLines.is)
-    (run_comes volume.store.layout old new (g.O.Out.text c.args.out.now) (g.O.Out.text c.list_roots.new.out) (g.O.Out.account c.args.out.now) (g.O.Out.account c.list_roots.new.out)
+    subst (λ choice. IfSteady old.held old.account new.account
+    (λ images. Shows (λ outcome. outcome ≡ showing (trees_shown choice (fate images volume.store.layout) volume.sup)) (g.O.Out.text c.args.out.now)
+    (g.O.Out.text c.list_roots.new.out) (g.O.Out.account c.args.out.now) (g.O.Out.account c.list_roots.new.out) (call_answer c.list_roots.result)))
+    (sym c.in-RootLines.is)
+    (run_comes volume.store.layout old new (g.O.Out.text c.args.out.now) (g.O.Out.text c.list_roots.new.out) (g.O.Out.account c.args.out.now)
+    (g.O.Out.account c.list_roots.new.out)
     c.list_roots.result c.list_roots.ensures.account (λ B. exec B (roots_shown volume.sup)) c.list_roots.ensures.content)
 
 pub returns-in-All-clause-agreed : goal.returns-in-All-clause-agreed
@@ -52,33 +68,48 @@ returns-in-All-clause-agreed g c =
     let volume = c.args.volume.now in
     let old = g.R.Rack.seen c.args.rack.now in
     let new = g.R.Rack.seen c.dump_all.new.rack in
-    subst (λ choice. IfSome old.held (λ images. Agreed images volume.store.layout → AgreesOn choice images volume.store.layout → Shows (ShowsUpTo choice (fate images volume.store.layout) volume.sup) (g.O.Out.text c.args.out.now) (g.O.Out.text c.dump_all.new.out) (g.O.Out.account c.args.out.now) (g.O.Out.account c.dump_all.new.out) (call_answer c.dump_all.result))) (sym c.in-All.is)
+    subst (λ choice. IfSome old.held (λ images. Agreed images volume.store.layout → AgreesOn choice images volume.store.layout
+    → Shows (ShowsUpTo choice (fate images volume.store.layout) volume.sup) (g.O.Out.text c.args.out.now) (g.O.Out.text c.dump_all.new.out)
+    (g.O.Out.account c.args.out.now) (g.O.Out.account c.dump_all.new.out) (call_answer c.dump_all.result))) (sym c.in-All.is)
     (when_told old.held _ _ (λ images shows agreed agree. shows agreed)
-    (run_agreed volume.store.layout old new (g.O.Out.text c.args.out.now) (g.O.Out.text c.dump_all.new.out) (g.O.Out.account c.args.out.now) (g.O.Out.account c.dump_all.new.out) c.dump_all.result c.dump_all.ensures.account (λ B. exec B (all_trees volume.sup)) c.dump_all.ensures.content))
+    (run_agreed volume.store.layout old new (g.O.Out.text c.args.out.now) (g.O.Out.text c.dump_all.new.out) (g.O.Out.account c.args.out.now)
+    (g.O.Out.account c.dump_all.new.out) c.dump_all.result c.dump_all.ensures.account (λ B. exec B (all_trees volume.sup)) c.dump_all.ensures.content))
 
 pub returns-in-Block-clause-agreed : goal.returns-in-Block-clause-agreed
 returns-in-Block-clause-agreed g c =
     let volume = c.args.volume.now in
     let old = g.R.Rack.seen c.args.rack.now in
     let new = g.R.Rack.seen c.dump_block.new.rack in
-    subst (λ choice. IfSome old.held (λ images. Agreed images volume.store.layout → AgreesOn choice images volume.store.layout → Shows (ShowsUpTo choice (fate images volume.store.layout) volume.sup) (g.O.Out.text c.args.out.now) (g.O.Out.text c.dump_block.new.out) (g.O.Out.account c.args.out.now) (g.O.Out.account c.dump_block.new.out) (call_answer c.dump_block.result))) (sym c.in-Block.is)
+    subst (λ choice. IfSome old.held (λ images. Agreed images volume.store.layout → AgreesOn choice images volume.store.layout
+    → Shows (ShowsUpTo choice (fate images volume.store.layout) volume.sup) (g.O.Out.text c.args.out.now) (g.O.Out.text c.dump_block.new.out)
+    (g.O.Out.account c.args.out.now) (g.O.Out.account c.dump_block.new.out) (call_answer c.dump_block.result))) (sym c.in-Block.is)
     (when_told old.held _ _ (λ images shows agreed agree. shows agree)
-    (block_agreed volume.store.layout old new (g.O.Out.text c.args.out.now) (g.O.Out.text c.dump_block.new.out) (g.O.Out.account c.args.out.now) (g.O.Out.account c.dump_block.new.out) c.dump_block.result c.dump_block.ensures.account c.in-Block.addr (λ B. exec B (block_shown (kind_in volume.sup) c.in-Block.addr)) c.dump_block.ensures.content))
+    (block_agreed volume.store.layout old new (g.O.Out.text c.args.out.now) (g.O.Out.text c.dump_block.new.out) (g.O.Out.account c.args.out.now)
+    (g.O.Out.account c.dump_block.new.out) c.dump_block.result c.dump_block.ensures.account c.in-Block.addr
+    (λ B. exec B (block_shown (kind_in volume.sup) c.in-Block.addr)) c.dump_block.ensures.content))
 
 pub returns-in-Tree-clause-agreed : goal.returns-in-Tree-clause-agreed
 returns-in-Tree-clause-agreed g c =
     let volume = c.args.volume.now in
     let old = g.R.Rack.seen c.args.rack.now in
     let new = g.R.Rack.seen c.dump_tree.new.rack in
-    subst (λ choice. IfSome old.held (λ images. Agreed images volume.store.layout → AgreesOn choice images volume.store.layout → Shows (ShowsUpTo choice (fate images volume.store.layout) volume.sup) (g.O.Out.text c.args.out.now) (g.O.Out.text c.dump_tree.new.out) (g.O.Out.account c.args.out.now) (g.O.Out.account c.dump_tree.new.out) (call_answer c.dump_tree.result))) (sym c.in-Tree.is)
+    subst (λ choice. IfSome old.held (λ images. Agreed images volume.store.layout → AgreesOn choice images volume.store.layout
+    → Shows (ShowsUpTo choice (fate images volume.store.layout) volume.sup) (g.O.Out.text c.args.out.now) (g.O.Out.text c.dump_tree.new.out)
+    (g.O.Out.account c.args.out.now) (g.O.Out.account c.dump_tree.new.out) (call_answer c.dump_tree.result))) (sym c.in-Tree.is)
     (when_told old.held _ _ (λ images shows agreed agree. shows agreed)
-    (tree_agreed volume.store.layout old new (g.O.Out.text c.args.out.now) (g.O.Out.text c.dump_tree.new.out) (g.O.Out.account c.args.out.now) (g.O.Out.account c.dump_tree.new.out) c.dump_tree.result c.dump_tree.ensures.account (λ B. exec B (asked_tree volume.sup c.in-Tree.id)) c.dump_tree.ensures.content))
+    (tree_agreed volume.store.layout old new (g.O.Out.text c.args.out.now) (g.O.Out.text c.dump_tree.new.out) (g.O.Out.account c.args.out.now)
+    (g.O.Out.account c.dump_tree.new.out) c.dump_tree.result c.dump_tree.ensures.account
+    (λ B. exec B (asked_tree volume.sup c.in-Tree.id)) c.dump_tree.ensures.content))
 
 pub returns-in-RootLines-clause-agreed : goal.returns-in-RootLines-clause-agreed
 returns-in-RootLines-clause-agreed g c =
     let volume = c.args.volume.now in
     let old = g.R.Rack.seen c.args.rack.now in
     let new = g.R.Rack.seen c.list_roots.new.rack in
-    subst (λ choice. IfSome old.held (λ images. Agreed images volume.store.layout → AgreesOn choice images volume.store.layout → Shows (ShowsUpTo choice (fate images volume.store.layout) volume.sup) (g.O.Out.text c.args.out.now) (g.O.Out.text c.list_roots.new.out) (g.O.Out.account c.args.out.now) (g.O.Out.account c.list_roots.new.out) (call_answer c.list_roots.result))) (sym c.in-RootLines.is)
+    subst (λ choice. IfSome old.held (λ images. Agreed images volume.store.layout → AgreesOn choice images volume.store.layout
+    → Shows (ShowsUpTo choice (fate images volume.store.layout) volume.sup) (g.O.Out.text c.args.out.now) (g.O.Out.text c.list_roots.new.out)
+    (g.O.Out.account c.args.out.now) (g.O.Out.account c.list_roots.new.out) (call_answer c.list_roots.result))) (sym c.in-RootLines.is)
     (when_told old.held _ _ (λ images shows agreed agree. shows agreed)
-    (run_agreed volume.store.layout old new (g.O.Out.text c.args.out.now) (g.O.Out.text c.list_roots.new.out) (g.O.Out.account c.args.out.now) (g.O.Out.account c.list_roots.new.out) c.list_roots.result c.list_roots.ensures.account (λ B. exec B (roots_shown volume.sup)) c.list_roots.ensures.content))
+    (run_agreed volume.store.layout old new (g.O.Out.text c.args.out.now) (g.O.Out.text c.list_roots.new.out) (g.O.Out.account c.args.out.now)
+    (g.O.Out.account c.list_roots.new.out) c.list_roots.result c.list_roots.ensures.account
+    (λ B. exec B (roots_shown volume.sup)) c.list_roots.ensures.content))
