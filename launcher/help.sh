@@ -37,9 +37,9 @@ IMAGES are files or block devices, at most 64. A name must be valid UTF-8: one t
 at its number. A link with another name helps. A name that begins with - is written ./-NAME.
 
 Exit status: 0 all was done, 1 a block is damaged or lost, something was found, or entries were skipped and named, 2 the
-words are no command, 3 the images can't be read here, or there is no such tree, 4 an image, the destination or the output
-failed, or a block could not be read, 5 out of memory. In a checkout also 126 where the program can't be built,
-and 127 where rt, which builds it, isn't on the PATH.
+words are no command, 3 the images can't be read or checked here, there is no such tree or device, or an image that would be
+written is mounted, 4 an image, the destination or the output failed, or a block could not be read, 5 out of memory. In a
+checkout also 126 where the program can't be built, and 127 where rt, which builds it, isn't on the PATH.
 TEXT
 }
 
@@ -125,6 +125,9 @@ with inodes, subvolumes with their names, chunks with device extents and block g
 Each block is read from the first of its copies, or of the ways to rebuild it by parities, whose checksum, address and header
 are right, so a damaged copy of a block that another copy gives is no finding. Not all devices need be given.
 
+It doesn't look at quotas, the free space tree and cache, the uuid tree, values of extended attributes, size and nbytes of
+files, generations other than those of tree blocks, and sizes of devices.
+
 A filesystem isn't checked where a block of its root tree is damaged, with a line such as "error: lost block ADDR" and status
 1, nor where a balance is pending, a subvolume is being deleted, or the extent tree or the device tree is missing, with status
 3. A filesystem whose log tree waits to be replayed is refused.
@@ -145,19 +148,21 @@ a file is verified. A file of which a sector has no checksum is written, and nam
   -s     snapshots in it too; without it they are skipped
   -v     names each directory and file: "dir PATH", "file PATH"
   -D     names them, and writes nothing and reads no bytes of files
-  -i     goes on past blocks that are lost. Each file is read twice, and is begun only where all of it can be had: "broken
-         CAUSE ADDR PATH" names an entry that can't, and "part CAUSE ADDR PATH" a directory of which a part is lost, with
-         the block. The last line says how many of these there are: "directories D files F skipped S broken X". A block
-         that can't be read ends the run here too: copy such a disk first, as by ddrescue
+  -i     goes on past blocks that are lost. Each file is read twice, and is begun only where all of it is there. "broken
+         CAUSE ADDR PATH" names an entry that is left out since the block at ADDR is lost, and "part CAUSE ADDR PATH" a
+         directory of which a part is lost. The last line says how many of these there are: "directories D files F
+         skipped S broken X". A block that can't be read since its image failed ends the run here too: copy such a disk
+         first, as by ddrescue
   -l     prints a line for each tree, as inspect-internal dump-tree -r does; those from 256 on are subvolumes and snapshots
 
 Options come in any order, each once, and before DEST. Entries that can't be copied are skipped and named: "skip CAUSE
 PATH". Symbolic links, special files, owners, modes, times and extended attributes are not restored, and files with a
 compressed or encoded extent are skipped. The last line is "directories D files F skipped S"; the status is 1 where S
-isn't 0.
+or X isn't 0.
 
-Where no copy of a block is left all before it stands, the file that it belongs to up to that block, and the line of the error,
-such as "error: lost block ADDR", comes last, with status 1. Where DEST fails that is "error: the destination failed", 4.
+Where no copy of a block is left, and -i isn't given, all before it stands, the file that it belongs to up to that block.
+The line of the error, such as "error: lost block ADDR", comes last, with status 1. Where DEST fails that is "error: the
+destination failed", with status 4.
 TEXT
 }
 

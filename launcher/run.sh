@@ -153,8 +153,8 @@ say_older() {
             if (fsid[i] == fsid[first] && generation[i] + 0 < newest) print at[i], newest - generation[i], at[first] }
     ' | while read -r old by new; do
         say "image $old is older than image $new by $by generations: it missed the last writes"
-        say "  its blocks are taken only where they pass their test, but a file without checksums, which has none, may have old bytes from it"
-        say "  where such a file matters and the other images are enough, leave image $old out"
+        say "  it is read last: trees and files with checksums don't suffer, but a file without checksums has old bytes where no other image has them"
+        say "  where old bytes are worse than none, leave image $old out"
     done
 }
 
@@ -281,6 +281,27 @@ reason_of() {
     fi | head -n 1
 }
 
+# Says what can be seen of the destination, if there is one: why it can't be written, or how much room it has.
+explain_destination() {
+    [ -n "$destination" ] && [ "$kind" != dry ] || return 0
+    parent=${destination%"${destination##*[!/]}"}
+    case $parent in
+    */*) parent=${parent%/*}/ ;;
+    *) parent=. ;;
+    esac
+    if [ ! -d "$parent" ]; then
+        say "the destination is $destination: there is no folder $parent"
+    elif [ -e "$destination" ] && [ ! -d "$destination" ]; then
+        say "the destination is $destination: it is no folder"
+    elif [ -d "$destination" ] && [ ! -w "$destination" ]; then
+        say "the destination is $destination: it can't be written"
+    else
+        [ -d "$destination" ] && parent=$destination
+        free=$(LC_ALL=C df -Pk -- "$parent" 2>/dev/null | awk 'NR == 2 { print int($4 * 1024 / 1000000) }')
+        say "the destination is $destination${free:+, with $free MB free; nothing that is there is overwritten}"
+    fi
+}
+
 # Says of each image that can't be opened or read what it is called, and why. Where all can be, only what each is called.
 explain_images() {
     shift "$before"
@@ -330,7 +351,12 @@ run() {
     case $status in
     2) ! can_say || explain_usage "$@" ;;
     3) [ -z "$kind" ] || ! can_say || explain_features "$@" ;;
-    4) [ -z "$kind" ] || ! can_say || explain_images "$@" ;;
+    4)
+        if [ -n "$kind" ] && can_say; then
+            explain_images "$@"
+            explain_destination
+        fi
+        ;;
     esac
     exit "$status"
 }

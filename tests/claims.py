@@ -1,5 +1,6 @@
 #!/usr/bin/env python3
-"""Looks whether each crate, file, function, clause and definition that docs/CLAIMS.md names is there, and whether each promise of README.md has a row.
+"""Looks whether each crate, file, function, clause and definition that docs/CLAIMS.md names is there, whether each promise of README.md has a row, and,
+where `rt` is on the PATH, whether both name its kit.
 
     python3 tests/claims.py
 
@@ -8,6 +9,8 @@ definition has to stand in the function's contract or in that of its trait, and 
 """
 import pathlib
 import re
+import shutil
+import subprocess
 import sys
 
 TOP = pathlib.Path(__file__).resolve().parent.parent
@@ -56,10 +59,18 @@ def wrong_with(claim, defined):
     return None
 
 
+def without_kit():
+    """Returns what is wrong with the pages that have to name the kit."""
+    if not shutil.which("rt"):
+        return []
+    kit = subprocess.run(["rt", "version"], check=True, capture_output=True, text=True).stdout.strip()
+    return [f"{page} doesn't name {kit}" for page in ("README.md", "docs/CLAIMS.md") if kit not in (TOP / page).read_text()]
+
+
 def main():
     rows = [line for line in (TOP / "docs/CLAIMS.md").read_text().splitlines() if line.startswith("| ") and not line.startswith("| Claim")]
     readme = (TOP / "README.md").read_text().partition("## What is promised")[2].partition("\n## ")[0]
-    wrong, defined = [], definitions()
+    wrong, defined = without_kit(), definitions()
     for row in rows:
         cells = [cell.strip() for cell in row.strip("|").split("|")]
         if len(cells) != 5:

@@ -8,7 +8,14 @@
 set -u
 top=$(cd "$(dirname "$0")/.." && pwd)
 room=$(mktemp -d)
-trap 'umount "$room/mount" 2>/dev/null; [ -z "${loop:-}" ] || losetup -d "$loop"; rm -rf "$room"' EXIT
+leave() {
+    umount "$room/mount" 2>/dev/null
+    for each in "${loop:-}" "${first:-}" "${second:-}"; do
+        [ -z "$each" ] || losetup -d "$each"
+    done
+    rm -rf "$room"
+}
+trap leave EXIT
 passed=0 failed=0
 
 # is WHAT WANTED GOT
@@ -142,6 +149,17 @@ test_images() {
     call restore -s -i -r 300 to missing
     has 'behind a destination' '^btrfs-offline: image 0 is missing: ' "$err"
     is 'as the program saw it' 'error: image 1 failed' "$out"
+    has 'the destination, and its room' '^btrfs-offline: the destination is to, with [0-9]* MB free; nothing that is there is overwritten$' "$err"
+    call restore to/ a
+    has 'a slash after its name' '^btrfs-offline: the destination is to/, with [0-9]* MB free' "$err"
+    call restore none/to/ a
+    has 'no parent, and a slash' '^btrfs-offline: the destination is none/to/: there is no folder none/$' "$err"
+    call restore none/to a
+    has 'a destination without a parent' '^btrfs-offline: the destination is none/to: there is no folder none/$' "$err"
+    call send b name a
+    has 'a destination that is a file' '^btrfs-offline: the destination is b: it is no folder$' "$err"
+    call restore -D to a
+    is 'a dry run has no destination' 'btrfs-offline: image 0 is a' "$err"
     call check a b
     is 'whole images are named' 'btrfs-offline: image 0 is a,btrfs-offline: image 1 is b' "$(paste -sd , "$room/err")"
 }
@@ -153,6 +171,8 @@ test_older() {
     does 'exit 0'
     call check a b
     has 'an older image' '^btrfs-offline: image 1 is older than image 0 by 12 generations' "$err"
+    has 'what that means' '^btrfs-offline:   it is read last: .* a file without checksums has old bytes where no other image has them$' "$err"
+    has 'what to do' '^btrfs-offline:   where old bytes are worse than none, leave image 1 out$' "$err"
     call check b a
     has 'in either order' '^btrfs-offline: image 0 is older than image 1 by 12 generations' "$err"
     call check b
@@ -172,6 +192,15 @@ test_sync() {
     call restore to a
     is 'the destination is synced' "-f -- to" "$(cat syncs)"
     is 'its status' 0 "$status"
+    for words in 'restore -i to a' 'restore -r 257 -s -v to a' 'send to name a' 'send -r 257 to name a'; do
+        # shellcheck disable=SC2086
+        call $words
+        is "$words: the destination is synced" "-f -- to" "$(cat syncs)"
+    done
+    does 'echo "error: lost block 4096"; exit 1'
+    call restore to a
+    is 'also after a lost block' "1 -f -- to" "$status $(cat syncs)"
+    does 'echo "directories 0 files 0 skipped 0"'
     for words in 'restore -D to a' 'restore -l a' 'check a' 'restore -x to a'; do
         # shellcheck disable=SC2086
         call $words
@@ -183,6 +212,29 @@ test_sync() {
     is 'the output stays' 'directories 0 files 0 skipped 0' "$out"
     has 'its line' "^btrfs-offline: the destination failed: to couldn't be synced (Input/output error)" "$err"
     true >sync-does
+}
+
+# A filesystem of two devices that is mounted, which the kernel tells otherwise than one of a single device.
+test_mounted_devices() {
+    truncate -s 128M first second
+    first='' second=''
+    command -v mkfs.btrfs >/dev/null 2>&1 && mkfs.btrfs -q -d raid1 -m raid1 first second >/dev/null 2>&1 &&
+        first=$(losetup -f --show first 2>/dev/null) && second=$(losetup -f --show second 2>/dev/null) &&
+        btrfs device scan "$first" "$second" >/dev/null 2>&1 && mkdir -p mount && mount "$first" mount 2>/dev/null
+    # shellcheck disable=SC2181
+    if [ $? != 0 ]; then
+        echo 'left out: what is mounted of several devices, which takes root, loop devices and mkfs.btrfs'
+        return
+    fi
+    does 'echo scrubbed'
+    for image in "$first" "$second" first second; do
+        call scrub start "$image"
+        is "mounted $image: status" 3 "$status"
+        is "mounted $image: the program isn't run" '' "$out$(cat calls 2>/dev/null)"
+    done
+    umount mount
+    call scrub start "$first" "$second"
+    is 'unmounted devices' 0scrubbed "$status$out"
 }
 
 test_mounted() {
@@ -268,6 +320,7 @@ for crate in btr_low btr_high btr_tool; do
     if [ ! -f crates/\$crate/out/rlib/stamp ]; then
         mkdir -p crates/\$crate/out/rlib
         /bin/sleep 0.\${slow:-2}
+        eval "\${waits:-}"
         echo "\$crate" >>"$room/proved"
         true >crates/\$crate/out/rlib/stamp
     fi
@@ -337,6 +390,9 @@ test_build_goes_on() {
     has 'it says so' 'the build was cut off' "$(cat err)"
     is 'one crate was proved' btr_low "$(cat proved)"
     printf '#!/bin/sh\nexec /bin/sleep 0.002\n' >stubs/sleep && chmod +x stubs/sleep
+    # (a crate is proved until its line is there, however slow the machine is)
+    # shellcheck disable=SC2016
+    printf 'waits='\''for _ in $(seq 300); do grep -q "of 3 crates, btr_" "%s" && break; /bin/sleep 0.1; done'\''\n' "$room/err" >"$room/rt-does"
     build --build
     is 'it goes on' 'btr_low btr_high btr_tool' "$(paste -sd ' ' proved)"
     has 'it says how far it is' '^btrfs-offline: [123] of 3 crates, btr_[a-z]* since [0-9]* s$' "$err"

@@ -40,9 +40,18 @@ cmp -s "$folder/all" "$folder/few" || { echo 'the output differs' >&2; wrong=1; 
 expect 'an image, with the output closed' 4
 "$program" super "$image" <&- >&- 2>&-
 expect 'an image, with all closed' 4
+# (a scrub opens its images to write, so what is put to a closed output must not come to stand in one)
+binary=$top/crates/btr_tool/out/launcher/btr_tool
+"$binary" scrub start "$image" >&-
+expect 'a scrub, with the output closed' 4
+"$binary" scrub start "$image" <&- >&- 2>&-
+expect 'a scrub, with all closed' 4
+"$binary" super "$image" "$(printf '\377')" >"$folder/refused"
+expect "a word that isn't UTF-8" 2
+[ "$(cat "$folder/refused")" = 'error: usage error at word 2' ] || { echo "a word that isn't UTF-8: $(cat "$folder/refused")" >&2; wrong=1; }
 
 if command -v strace >/dev/null 2>&1; then
-    strace -o "$folder/calls" "$top/crates/btr_tool/out/launcher/btr_tool" super "$image" <&- >&- 2>&-
+    strace -o "$folder/calls" "$binary" super "$image" <&- >&- 2>&-
     expect 'an image, traced' 4
     opened=$(grep -F "\"$image\"" "$folder/calls" | sed -n 's/^open.* = \([0-9]*\)$/\1/p')
     if [ "${opened:-0}" -le 2 ]; then
@@ -116,7 +125,6 @@ fi
 
 # Each call of the system fails once, at each of its first times, or is interrupted once.
 if command -v strace >/dev/null 2>&1; then
-    binary=$top/crates/btr_tool/out/launcher/btr_tool
     for call in openat mkdir chdir stat lstat fstat newfstatat lseek pread64 pwrite64 ftruncate write; do
         for error in EIO EINTR ENOSPC; do
             for time in 1 2 3 5 8; do

@@ -2,10 +2,11 @@
 # Makes the package in two folders, on two file systems where there are two, from what is committed, with a small program in place of the
 # real one; compares the bytes, looks at what is in it, and asks lintian:
 #
-#     tests/package.sh
+#     tests/package.sh [PROGRAM]
 #
-# It needs neither the kit nor a built program; dpkg-deb, and lintian where it is there. The gate doesn't run it.
+# It needs neither the kit nor a built program, but takes one that is given; dpkg-deb, and lintian where it is there. The gate doesn't run it.
 set -u
+packed=$(readlink -f "${1:-/bin/true}")
 top=$(cd "$(dirname "$0")/.." && pwd)
 room=$(mktemp -d)
 other=$(mktemp -d -p /dev/shm 2>/dev/null || mktemp -d)
@@ -19,13 +20,13 @@ is() {
     printf '%s: wanted\n%s\ngot\n%s\n' "$1" "$2" "$3"
 }
 
-# An `rt` that proves nothing, and makes a program that is on each machine.
+# An `rt` that proves nothing, and makes a program that is on each machine, or the one that is given.
 mkdir -p "$room/stubs"
-cat >"$room/stubs/rt" <<'STUB'
+cat >"$room/stubs/rt" <<STUB
 #!/bin/sh
-case $1 in
+case \$1 in
 version) echo 'a kit' ;;
-run) mkdir -p out && cp /bin/true out/btr_tool ;;
+run) mkdir -p out && cp "$packed" out/btr_tool ;;
 esac
 STUB
 chmod +x "$room/stubs/rt"

@@ -6,8 +6,9 @@
 # Each is filled through a mount on loop devices, unmounted, and checked by `btrfs check`; then `check --check-data-csum` has to say `no findings`, and
 # `restore -s` to write the same directories and files as a mount shows, but for what it names as left out. Of a set that bears it, one image is then
 # zeroed behind its superblocks: `scrub start` has to leave nothing bad, and `check` and `restore` to say and write the same again, but for the file
-# without checksums, of which no copy can be told to be the right one. ONLY="NAME.." makes these sets alone, SIZE=600M is how large an image is, and KEEP=1
-# keeps them. It needs root, loop devices, a kernel with btrfs, btrfs-progs, and attr. The gate doesn't run it.
+# without checksums, of which no copy can be told to be the right one. ONLY="NAME.." makes these sets alone, SIZE=600M is how large an image is, COUNT=100000 how
+# many files one folder has, and KEEP=1 keeps them. Times and the most memory of `check` and `restore` are told. It needs root, loop devices, a kernel with
+# btrfs, btrfs-progs, attr, time and Python. The gate doesn't run it.
 set -u
 program=$(readlink -f "${1:?tests/sets.sh PROGRAM [FOLDER]}")
 room=${2:-$(mktemp -d)}
@@ -78,6 +79,85 @@ converted() {
     fill "$1/again"
 }
 
+# A folder of many files, and one file with many names, most of which stand in items of their own.
+crowded() {
+    mkdir "$1/files" "$1/links"
+    python3 - "$1" "${COUNT:-100000}" <<'END'
+import os, sys
+top, count = sys.argv[1], int(sys.argv[2])
+for n in range(count):
+    with open(f"{top}/files/file {n}", "wb") as it:
+        it.write(b"%d" % n if n % 3 else b"")
+open(f"{top}/links/0", "wb").write(b"linked")
+for n in range(1, count * 6 // 10):
+    os.link(f"{top}/links/0", f"{top}/links/{n}")
+END
+}
+
+# 500 snapshots of few bytes each, since each comes out whole.
+many_snapshots() {
+    btrfs -q subvolume create "$1/sub"
+    for i in $(seq 1 40); do head -c $((i * 97)) /dev/urandom >"$1/sub/file$i"; done
+    for i in $(seq 1 500); do
+        echo "$i" >"$1/sub/file$((i % 40))"
+        btrfs -q subvolume snapshot -r "$1/sub" "$1/snapshot$i"
+    done
+}
+
+# 600 directories in one another; a path of more than 4096 bytes; and names that are odd.
+deep() {
+    (cd "$1" && for i in $(seq 1 600); do echo "$i" >file && mkdir d && cd d || exit; done)
+    local name
+    name=$(printf 'n%.0s' $(seq 1 250))
+    (cd "$1" && for i in $(seq 1 20); do mkdir "$name" && cd "$name" && echo "$i" >file || exit; done)
+    mkdir "$1/odd"
+    for name in ' ' $'\\' $'\n' $'\t' $'\xff\xfe' '*' '...' '-rf' "'" '"' '%s' $'\x01' $'\xe2\x80\xae'; do echo "$name" >"$1/odd/$name"; done
+}
+
+# One extent in 6200 places of a file.
+deduped() {
+    python3 - "$1" <<'END'
+import fcntl, os, struct, sys
+with open(f"{sys.argv[1]}/source", "w+b") as source, open(f"{sys.argv[1]}/places", "w+b") as places:
+    source.write(os.urandom(16384))
+    source.flush()
+    os.fsync(source.fileno())
+    for n in range(6200):
+        fcntl.ioctl(places.fileno(), 0x4020940D, struct.pack("=qQQQ", source.fileno(), 0, 4096, 4096 * n))
+END
+}
+
+# Files until there is no room for another.
+full() {
+    fill "$1"
+    for i in $(seq 1 100000); do head -c 100000 /dev/urandom >"$1/full$i" 2>/dev/null || break; done
+    for i in $(seq 1 100000); do head -c 1000 /dev/urandom >"$1/small$i" 2>/dev/null || break; done
+    rm -f "$1/many/file3"*
+    sync "$1"
+}
+
+# Through seven profiles.
+through() {
+    fill "$1"
+    for profile in raid0 raid1 raid10 raid5 raid6 raid1c3 raid1c4; do
+        btrfs -q balance start -f -dconvert="$profile" -mconvert="${profile/raid0/raid1}" "$1" >/dev/null
+        echo "$profile" >"$1/$profile"
+    done
+}
+
+# A device is taken out, one is given again, and one is made smaller.
+moved() {
+    local device
+    fill "$1"
+    device=$(btrfs filesystem show "$1" | sed -n 's/.*devid *2 .*path //p')
+    btrfs -q device remove 2 "$1"
+    fill "$1/between"
+    btrfs -q device add -f "$device" "$1"
+    btrfs -q balance start -f -d -m "$1" >/dev/null
+    btrfs -q filesystem resize 1:-100M "$1" >/dev/null
+    fill "$1/again"
+}
+
 # NAME, how many images, the options of mkfs.btrfs, those of the mount, and what fills it.
 one() {
     local name=$1 count=$2 make=$3 options=$4 fills=$5 at="$room/$1" devices=() images=()
@@ -105,7 +185,7 @@ judge() {
     mount -o ro,subvolid=5 "$device" "$at/mount"
     same "$name" "$at" "$@"
     umount "$at/mount"
-    echo "$name: $(tail -1 "$at/said")"
+    echo "$name: $(tail -1 "$at/said"); check $(cat "$at/checked"), restore $(cat "$at/measured")"
     case $name in
     raid1 | raid1c3 | raid1c4 | raid10 | raid5 | raid6)
         mount -o ro,subvolid=5 "$device" "$at/mount" && cp -a "$at/mount" "$at/shown" && umount "$at/mount"
@@ -124,12 +204,24 @@ judge() {
 same() {
     local name=$1 at=$2
     shift 2
-    holds "$name: check" "$("$program" check --check-data-csum "$@" | head -3)" 'no findings'
+    holds "$name: check" "$(measured "$at/checked" check --check-data-csum "$@" | head -3)" 'no findings'
     mkdir "$at/restored"
-    "$program" restore -s "$at/restored" "$@" >"$at/said"
+    measured "$at/measured" restore -s "$at/restored" "$@" >"$at/said"
     (cd "$at/mount" && left_out "$at/said" "$at/restored")
     case $name in *mended) find "$at/restored" -name plain -delete ;; esac
-    holds "$name: restore" "$(diff -r --no-dereference -x fifo "$at/mount" "$at/restored" 2>&1 | head -3)" ''
+    holds "$name: restore" "$(diff <(listed "$at/mount") <(listed "$at/restored") | head -3)" ''
+}
+
+# What stands below a folder, also where paths are too long for a call: the paths, and the sums and names of files.
+listed() {
+    (cd "$1" && find . ! -name fifo -printf '%y %P %l\0' | sort -z | tr '\n\0' '?\n' && find . -type f -execdir sha256sum -z '{}' + | sort -z | tr '\n\0' '?\n')
+}
+
+# Calls the program, and keeps how long it took and how much memory it had.
+measured() {
+    local into=$1
+    shift
+    /usr/bin/time -q -o "$into" -f '%e s, %M kB' "$program" "$@"
 }
 
 # Counts whether what was said is what was wanted.
@@ -166,5 +258,14 @@ one zstd 1 '' compress-force=zstd reflinks
 for profile in single dup; do one "$profile" 1 "-d $profile -m $profile" defaults fill; done
 for profile in raid0 raid1 raid1c3 raid1c4 raid10 raid5 raid6; do one "$profile" 4 "-d $profile -m $profile" defaults reflinks; done
 one converted 4 '' defaults converted
+one crowded 1 '' defaults crowded
+one many-snapshots 1 '' defaults many_snapshots
+one deep 1 '' defaults deep
+one deduped 1 '' defaults deduped
+SIZE=${SIZE:-300M} one full 1 '' defaults full
+SIZE=${SIZE:-300M} one mixed-full 1 -M defaults full
+SIZE=${SIZE:-1200M} one through 4 '' defaults through
+one moved 3 '-d raid1 -m raid1' defaults moved
+SIZE=${SIZE:-1T} one sparse 1 '' defaults fill
 echo "$passed passed, $failed failed"
 [ "$failed" = 0 ]
