@@ -39,3 +39,6 @@ pub mod ScrubsTold
 pub mod Mended
 pub mod Texts
 pub mod Rescues
+pub mod Honests
+pub mod Seeking
+pub mod Linked

@@ -29,6 +29,8 @@ pub mod Order
 pub mod Agreeing
 pub mod Repaired
 pub mod Rescued
+pub mod Honest
+pub mod Linked
 pub mod Run
 pub mod CommandLine
 pub mod Program

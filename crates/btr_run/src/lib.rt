@@ -31,6 +31,6 @@ mod trees;
 
 pub use answer::Answer;
 pub use command_line::CommandLine;
-pub use laws::mending_keeps_restores;
+pub use laws::{mending_keeps_restores, owners_counted, salvage_is_committed, send_is_stream};
 pub use running::run;
 pub use starting::program;

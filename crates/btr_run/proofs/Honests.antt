@@ -1,0 +1,82 @@
+-- What a command comes to that lists is its run, whole where the answer is that all was done.
+use Rattle.std.proofs.Common.{◌≡◌, ℕ, List, Result, Ok, Err, refl, sym, ap, ◌∙◌, subst}
+use Rattle.btr_files.specs.declared.plan.RestorePlan.{RestorePlan}
+use Rattle.btr_listing.specs.Step.{Step}
+use Rattle.btr_prog.specs.Prog.{Run, exec, steps_of}
+use Rattle.btr_read.specs.Fate.{Fault, fate}
+use Rattle.btr_read.specs.Fate as fault
+use Rattle.btr_read.specs.declared.want.Want.{Want}
+use Rattle.btr_restore.specs.Committed.{committed}
+use Rattle.btr_restore.specs.Journey.{listing}
+use Rattle.btr_restore.specs.Outcome.{tree_after}
+use Rattle.btr_salvage.specs.Laws.{HonestSalvage}
+use Rattle.btr_salvage.specs.Left.{IsLeft}
+use Rattle.btr_salvage.specs.Salvaging.{salvage_run}
+use Rattle.btr_send.specs.Restored.{IsStreamOf, SentLaw, members_of_rows, restores, sends}
+use Rattle.btr_send.specs.declared.plan.SendPlan.{SendPlan}
+use Rattle.btr_volume.specs.Start.{Images}
+use Rattle.btr_run.specs.Filesystem.{filesystem_of}
+use Rattle.btr_run.specs.Honest.{SalvageIsCommitted, SendIsStream}
+use Rattle.btr_run.specs.Listed.{listed_answer, listed_by}
+use Rattle.btr_run.specs.Outcomes.{Outcome}
+use Rattle.btr_run.specs.Restored.{skipped_in}
+use Rattle.btr_run.specs.Salvaged.{missed_in, salvage_outcome, salvaged_in}
+use Rattle.btr_run.specs.Sent.{send_outcome, sent_in}
+use Rattle.btr_run.specs.declared.answer.Answer.TheVariants.{Done}
+
+-- a listing came to its end, with this much left out
+record Ended {A : Type 0} (left_out : A → ℕ) (r : Run Want Fault Step A) (n : ℕ) : Type 0 where
+  value : A
+  ends : r.ending ≡ Ok value
+  counted : n ≡ left_out value
+
+ended : {A : Type 0} (left_out : A → ℕ) (r : Run Want Fault Step A) (n : ℕ) → listed_answer left_out r.ending ≡ Done n → Ended left_out r n
+ended {A = A} left_out r n is = of r.ending refl is
+  where
+    same : (a b : ℕ) → Done a ≡ Done b → a ≡ b
+    same a b e = cc e
+
+    of : (e : Result A Fault) → r.ending ≡ e → listed_answer left_out e ≡ Done n → Ended left_out r n
+    of (Ok a) e is = record { value = a; ends = e; counted = sym (same (left_out a) n is) }
+    of (Err (fault.Unmapped addr)) e is = absurd (cc is)
+    of (Err (fault.Crosses addr)) e is = absurd (cc is)
+    of (Err (fault.Lost addr)) e is = absurd (cc is)
+    of (Err (fault.Malformed addr)) e is = absurd (cc is)
+    of (Err (fault.NoTree id)) e is = absurd (cc is)
+
+salvage_by : (plan : RestorePlan) (dest : List ℕ) (images : Images) → salvage_outcome plan dest images ≡ salvaged_in plan dest images (filesystem_of images)
+unfolding salvage_outcome
+salvage_by plan dest images = refl
+
+send_by : (plan : SendPlan) (dest name : List ℕ) (images : Images) → send_outcome plan dest name images ≡ sent_in plan dest name images (filesystem_of images)
+unfolding send_outcome
+send_by plan dest name images = refl
+
+pub salvage_is_committed : HonestSalvage → SalvageIsCommitted
+salvage_is_committed law plan dest images fs C counts missed dry opened honest ends answer =
+    let r = salvage_run (fate images fs.layout) plan dest fs.sup in
+    let is : salvage_outcome plan dest images ≡ listed_by missed_in r = salvage_by plan dest images ∙ ap (salvaged_in plan dest images) opened in
+    let end = ended missed_in r missed (sym (ap (λ (o : Outcome). o.answer) is) ∙ answer) in
+    record {
+      salvaged = end.value;
+      missing = end.counted;
+      left = subst (IsLeft plan dest fs.sup (fate images fs.layout) (committed C images fs.layout) counts end.value
+          (steps_of (exec (committed C images fs.layout) (listing plan dest fs.sup)).marks)) (sym (ap (λ (o : Outcome). o.steps) is))
+          (law plan dest fs.sup images fs.layout C counts end.value dry honest ends end.ends);
+    }
+
+pub send_is_stream : SentLaw → SendIsStream
+send_is_stream law plan dest name images fs skipped opened sectors named answer =
+    let B = fate images fs.layout in
+    let r = exec B (sends fs.sup plan.root dest name) in
+    let is : send_outcome plan dest name images ≡ listed_by skipped_in r = send_by plan dest name images ∙ ap (sent_in plan dest name images) opened in
+    let end = ended skipped_in r skipped (sym (ap (λ (o : Outcome). o.answer) is) ∙ answer) in
+    let sent = law B fs.sup plan.root dest name end.value sectors named end.ends in
+    record {
+      counts = end.value;
+      missing = end.counted;
+      restored = sent.restored;
+      stream = subst (λ steps. IsStreamOf dest name (tree_after steps).rows
+          (members_of_rows (tree_after (steps_of (exec B (restores fs.sup plan.root dest name)).marks)).rows))
+          (sym (ap (λ (o : Outcome). o.steps) is)) sent.stream;
+    }
