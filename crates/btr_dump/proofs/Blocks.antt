@@ -1,5 +1,5 @@
 -- One block, and its text.
-use Rattle.std.proofs.Common.{◌≡◌, ℕ, ◌≤◌, leb, true, cond, length, List, [], ◌∷◌, ◌++◌, Option, Some, None, IfSome, IsSomeAnd, set, Result, Ok, Err, refl, sym, ap, ◌∙◌, subst, arith}
+use Rattle.std.proofs.Common.{◌≡◌, ℕ, ◌≤◌, leb, true, cond, length, List, [], ◌∷◌, ◌++◌, Option, Some, None, IfSome, IsSomeAnd, Result, Ok, Err, refl, sym, ap, ◌∙◌, subst, arith}
 use Rattle.btr_prog.specs.Prog.{Prog, Need, Wants, Does, given, exec, wants_of}
 use Rattle.btr_prog.specs.Answers.{Halt, Follows}
 use Rattle.btr_prog.specs.Calls as calls
@@ -7,7 +7,7 @@ use Rattle.btr_prog.specs.Calls.{Sure, First, Any}
 use Rattle.btr_prog.proofs.Successive.{calls_as}
 use Rattle.btr_prog.proofs.Follow.{want_came, want_faults, want_unread, follows_alone}
 use Rattle.btr_base.specs.declared.kind.SumKind.{SumKind}
-use Rattle.std.proofs.lemmas.List.{append-nil, set-set, set-get_or}
+use Rattle.std.proofs.lemmas.List.{append-nil}
 use Rattle.btr_block_text.specs.Block.{block_text}
 use Rattle.std.proofs.lemmas.Bool.Decides.{nat_tests}
 use Rattle.btr_node.specs.Node.{node_of}
@@ -22,7 +22,7 @@ use Rattle.btr_read.specs.Fate.{fate as fate_at, fate_of}
 use Rattle.btr_read.specs.Fetch.{IsFetched, FitsFetch}
 use Rattle.btr_read.specs.Layout.{Layout}
 use Rattle.btr_read.specs.Reading.{OnMap, shown}
-use Rattle.btr_read.specs.Store.{Blocks, Lent, SameLoans, block_of, with_loan, IsLentBy}
+use Rattle.btr_read.specs.Store.{Blocks, Lent, block_of}
 use Rattle.btr_read.specs.declared.fault.ReadFault.{ReadFault}
 use Rattle.btr_read.specs.declared.fault.ReadFault.TheVariants as read
 use Rattle.btr_read.specs.declared.want.Want.{Want}
@@ -146,14 +146,6 @@ module _ (layout : Layout) (old new : Seen) (kind : SumKind) (addr : ℕ) (reads
   block_cause store (read.Unread a slot) fits = (Block addr, fits)
   block_cause store (read.Unmapped a) fits = (Block addr, fits)
   block_cause store (read.Crosses a) fits = (Block addr, fits)
-
--- a loan that was given back
-pub lent_back : (old new after : Blocks) (want : Want) (loan : Lent) → IsLentBy old new want loan → after ≡ with_loan new loan.slot None → SameLoans old after
-lent_back old new after want loan t given = record {
-  layout = ap (λ (s : Blocks). s.layout) given ∙ t.layout;
-  loans = ap (λ (s : Blocks). s.loans) given ∙ ap (λ (l : List (Option (List ℕ))). set l loan.slot None) t.after.1
-      ∙ (set-set old.loans loan.slot (Some t.after.0) None ∙ (ap (set old.loans loan.slot) (sym t.free) ∙ set-get_or old.loans loan.slot None));
-}
 
 -- what follows of a call
 pub tells_drawn : (layout : Layout) (addr : ℕ) (old new : Seen) (P Q : Map → Type 0) → ((B : Map) → P B → Q B) → TellsBlock layout addr old new P → TellsBlock layout addr old new Q

@@ -4,7 +4,7 @@ use Rattle.std.proofs.lemmas.Bool.{false≢true}
 use Rattle.std.proofs.Math.Seq.{take-append-add}
 use Rattle.btr_prog.specs.Prog.{steps_of}
 use Rattle.btr_prog.specs.Answers.{Halt, Broke, Follows}
-use Rattle.btr_rack.specs.Out.{Adds, CallAccount, Counts}
+use Rattle.btr_rack.specs.Out.{Adds}
 use Rattle.btr_rack.specs.declared.error.SinkError.{SinkError}
 use Rattle.btr_rack.specs.declared.error.SinkError.TheVariants as sink
 use Rattle.btr_read.specs.Fate as fate
@@ -15,15 +15,11 @@ use Rattle.btr_volume.specs.declared.stop.Stop.{Stop}
 use Rattle.btr_volume.specs.declared.stop.Stop.TheVariants.{NoTree, Tree, Deletion, Balance, Missing, Image, Sink, Out, Memory}
 use Rattle.btr_dump.specs.Pieces.{Text}
 use Rattle.btr_dump.specs.Showing.{part, whole, TextRun, Puts, WroteAll, Writes}
-use Rattle.btr_dump.specs.Stops.{stop_of, is_cut, StopCounts}
+use Rattle.btr_dump.specs.Stops.{stop_of, is_cut}
 use Rattle.btr_dump.proofs.Writing.{IsDone, done_value, done_fault, broke_in}
 
 module _ (Is : UnreadBlock → Want → Type 0) (r : TextRun (Unit {0})) where
-  -- all that was written is put
-  all_put : (begun mid new : Option Text) (waits : Text) (answer : Result (Unit {0}) (Halt fate.Fault UnreadBlock)) (w : WroteAll Is [] r begun mid [] waits answer) → Adds mid new waits → Adds begun new (whole w.done)
-  all_put begun mid new waits answer w adds = subst (Adds begun new) w.wrote.whole (adds_twice begun mid new w.wrote.put waits w.wrote.adds adds)
-
-  -- a first part of it is
+  -- a first part of all that was written is put
   some_put : (begun mid new : Option Text) (waits : Text) (n : ℕ) (answer : Result (Unit {0}) (Halt fate.Fault UnreadBlock)) (w : WroteAll Is [] r begun mid [] waits answer) → IsDone r w.done → Adds mid new (take n waits)
       → (done : List Text) × Adds begun new (whole done) × Follows Is part [] r done (Err Broke)
   some_put begun mid new waits n answer w d adds =
@@ -42,18 +38,6 @@ module _ (Is : UnreadBlock → Want → Type 0) (r : TextRun (Unit {0})) where
   finish_cut begun new waits (Err (Missing n)) cut w = absurd w
   finish_cut begun new waits (Err (Image slot)) cut w = absurd w
   finish_cut begun new waits (Err Sink) cut w = absurd w
-
-  pub finish_whole : (begun mid new : Option Text) (waits : Text) (shown : Result (Unit {0}) Stop) → is_cut shown ≡ false → Writes Is [] r begun mid [] waits shown → Adds mid new waits → Puts Is r begun new shown
-  finish_whole begun mid new waits (Ok u) cut w adds = record { done = w.done; adds = all_put begun mid new waits (Ok u) w adds; follows = w.follows }
-  finish_whole begun mid new waits (Err Out) cut w adds = absurd (false≢true (sym cut))
-  finish_whole begun mid new waits (Err Memory) cut w adds = absurd (false≢true (sym cut))
-  finish_whole begun mid new waits (Err (NoTree n)) cut w adds = absurd w
-  finish_whole begun mid new waits (Err (Tree f)) cut w adds = record { done = w.done; adds = all_put begun mid new waits (Err (halt_of f)) w adds; follows = w.follows }
-  finish_whole begun mid new waits (Err (Deletion n)) cut w adds = absurd w
-  finish_whole begun mid new waits (Err Balance) cut w adds = absurd w
-  finish_whole begun mid new waits (Err (Missing n)) cut w adds = absurd w
-  finish_whole begun mid new waits (Err (Image slot)) cut w adds = absurd w
-  finish_whole begun mid new waits (Err Sink) cut w adds = absurd w
 
   -- the output's refusal of the rest
   pub finish_refused : (begun mid new : Option Text) (waits : Text) (shown : Result (Unit {0}) Stop) (n : ℕ) (e : SinkError) → is_cut shown ≡ false → Writes Is [] r begun mid [] waits shown → Adds mid new (take n waits) → Puts Is r begun new (Err (stop_of e))
@@ -74,26 +58,3 @@ module _ (Is : UnreadBlock → Want → Type 0) (r : TextRun (Unit {0})) where
       refused : (e : SinkError) → (done : List Text) × Adds begun new (whole done) × Follows Is part [] r done (Err Broke) → Puts Is r begun new (Err (stop_of e))
       refused sink.Failed b = record { done = b.0; adds = b.1; follows = b.2 }
       refused sink.Memory b = record { done = b.0; adds = b.1; follows = b.2 }
-
--- the account of the output
-pub counts_whole : (begun mid new : CallAccount) (shown : Result (Unit {0}) Stop) → new ≡ mid → StopCounts begun mid shown → StopCounts begun new shown
-counts_whole begun mid new shown same counts = subst (λ a. StopCounts begun a shown) (sym same) counts
-
-pub counts_refused : (begun mid new : CallAccount) (shown : Result (Unit {0}) Stop) (e : SinkError) → is_cut shown ≡ false → Counts {T = Unit {0}} mid new (Err e) → StopCounts begun mid shown → StopCounts {A = Unit {0}} begun new (Err (stop_of e))
-counts_refused begun mid new shown e cut counts was = refused e (subst (λ a. Counts {T = Unit {0}} a new (Err e)) (same shown cut was) counts)
-  where
-    same : (shown : Result (Unit {0}) Stop) → is_cut shown ≡ false → StopCounts begun mid shown → mid ≡ begun
-    same (Ok u) cut w = w
-    same (Err (Tree f)) cut w = w
-    same (Err Out) cut w = absurd (false≢true (sym cut))
-    same (Err Memory) cut w = absurd (false≢true (sym cut))
-    same (Err (NoTree n)) cut w = w
-    same (Err (Deletion n)) cut w = absurd w
-    same (Err Balance) cut w = absurd w
-    same (Err (Missing n)) cut w = absurd w
-    same (Err (Image slot)) cut w = absurd w
-    same (Err Sink) cut w = absurd w
-
-    refused : (e : SinkError) → Counts {T = Unit {0}} begun new (Err e) → StopCounts {A = Unit {0}} begun new (Err (stop_of e))
-    refused sink.Failed c = c
-    refused sink.Memory c = c

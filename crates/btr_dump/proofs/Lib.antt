@@ -2,7 +2,6 @@ pub mod Asking
 pub mod Blocks
 pub mod Endings
 pub mod Growing
-pub mod Items
 pub mod Loops
 pub mod Parts
 pub mod Rooting

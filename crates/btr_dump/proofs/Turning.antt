@@ -20,7 +20,7 @@ use Rattle.btr_volume.specs.declared.stop.Stop.{Stop}
 use Rattle.btr_dump.specs.Pieces.{Text, Shown, if_formed, item_root, item_trees, tree_if, tree_shown}
 use Rattle.btr_dump.specs.Showing.{TextRun, GoesOn, WroteAll, Writes}
 use Rattle.btr_dump.specs.Trees.{GivesItem}
-use Rattle.btr_dump.proofs.Items.{left_same, on_more}
+use Rattle.btr_walk.proofs.Staying.{left_same, on_more}
 use Rattle.btr_dump.proofs.Loops.{turn_goes, turn_moves, turn_stops}
 
 -- the root that a ROOT_ITEM was read to have, if any

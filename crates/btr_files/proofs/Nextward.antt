@@ -1,6 +1,5 @@
 -- A file goes on to its next extent.
-use Rattle.std.proofs.Common.{◌≡◌, ℕ, ◌+◌, ◌<◌, ◌≤◌, List, [], ◌++◌, Option, Some, None, IfSome, IsSomeAnd, Ok, Err, sym, ap, ◌∙◌, subst, get_or}
-use Rattle.std.proofs.lemmas.List.Elements.{Contains-append_left}
+use Rattle.std.proofs.Common.{◌≡◌, ℕ, ◌+◌, ◌<◌, ◌≤◌, List, [], ◌++◌, Option, Some, None, IsSomeAnd, Ok, Err, sym, ap, ◌∙◌, subst}
 use Rattle.btr_base.specs.declared.key.Key.{Key}
 use Rattle.btr_base.specs.declared.kind.SumKind.{SumKind}
 use Rattle.btr_items.specs.FileExtent.{inline_data}
@@ -8,17 +7,15 @@ use Rattle.btr_prog.specs.Prog.{exec}
 use Rattle.btr_read.specs.Store.{Blocks}
 use Rattle.btr_read.specs.declared.want.Want.{Want}
 use Rattle.btr_walk.specs.declared.fault.TreeFault.{TreeFault}
-use Rattle.btr_walk.specs.declared.frame.Frame.{Frame}
 use Rattle.btr_walk.specs.declared.rest.Rest.{Rest}
 use Rattle.btr_walk.specs.declared.scan.Scan.{Scan}
-use Rattle.btr_walk.specs.declared.scan_place.ScanPlace.{ScanPlace}
 use Rattle.btr_walk.specs.Going.{IsOn}
-use Rattle.btr_walk.specs.Le.{TreeItem, want_of}
+use Rattle.btr_walk.specs.Le.{TreeItem}
 use Rattle.btr_walk.specs.Range.{RangeProg}
 use Rattle.btr_walk.specs.Reading.{Map, UnreadBlock}
 use Rattle.btr_walk.specs.Rests.{rest_left, IsRestOn, met_last, Rests}
-use Rattle.btr_walk.specs.Scans.{IsFrame, IsKept}
 use Rattle.btr_walk.specs.ScanEnds.{left_of, HoldsLeaf}
+use Rattle.btr_walk.proofs.Staying.{on_more}
 use Rattle.btr_files.specs.declared.extent.Ahead.{Ahead}
 use Rattle.btr_files.specs.declared.progress.Progress.{Progress}
 use Rattle.btr_files.specs.declared.progress.Source.{Source}
@@ -30,32 +27,6 @@ use Rattle.btr_files.proofs.Onwards.{Pieces, of_then}
 use Rattle.btr_files.proofs.Rows.{scan_of, rest_is}
 
 -- ---- where more was seen, a scan can still go on
-module _ (lo hi : Key) (B : Map) (seen more : List Want) where
-  frame_on : (level : ℕ) (o : Option Frame) → IfSome o (IsFrame lo hi B seen level) → IfSome o (IsFrame lo hi B (seen ++ more) level)
-  frame_on level None f = tt
-  frame_on level (Some frame) f = record {
-    block = f.block;
-    came = f.came;
-    is = f.is;
-    read = Contains-append_left seen more (want_of level frame.spot) f.read;
-    up = f.up;
-    some = f.some;
-    more = f.more;
-    within = f.within;
-    behind = f.behind;
-    low = f.low;
-    high = f.high;
-  }
-
-  kept_on : (o : Option Frame) → IfSome o (IsKept B seen) → IfSome o (IsKept B (seen ++ more))
-  kept_on None k = tt
-  kept_on (Some frame) k = record { block = k.block; came = k.came; is = k.is; read = Contains-append_left seen more (want_of 0 frame.spot) k.read; within = k.within }
-
-  on_more : (place : ScanPlace) → IsOn lo hi B seen place → IsOn lo hi B (seen ++ more) place
-  on_more place on = record {
-    rest = record { frames = λ k. frame_on (k + 1) (get_or place.rest.path k None) (on.rest.frames k); above = on.rest.above; up = on.rest.up };
-    kept = kept_on place.leaf on.kept;
-  }
 
 pub rest_more : (B : Map) (seen more : List Want) (rest : Rest) → IsRestOn B seen rest → IsRestOn B (seen ++ more) rest
 rest_more B seen more rest on = on_more rest.lo rest.hi B seen more rest.place on

@@ -32,7 +32,7 @@ use Rattle.btr_walk.specs.Reading.{Map, unread_by, tree_fault, halt_of, answer_o
 use Rattle.btr_volume.specs.declared.root.TreeRoot.{TreeRoot}
 use Rattle.btr_volume.specs.Looking.{Looks}
 use Rattle.btr_volume.specs.Lookup.{Lookup}
-use Rattle.btr_volume.proofs.Looked.{drawn}
+use Rattle.btr_walk.proofs.Joined.{drawn}
 use Rattle.btr_files.specs.Content.{want_by, sector_want}
 use Rattle.btr_files.specs.Giving.{IsSectorWant, IsSectorLent, SectorComes}
 use Rattle.btr_files.specs.Maps.{maps_by, TellsAll}

@@ -17,11 +17,10 @@ use Rattle.btr_super.specs.declared.superblock.Super.{Super}
 use Rattle.btr_walk.specs.Reading.{HasCause, Map, answer_of, halt_of, unread_by}
 use Rattle.btr_walk.specs.declared.fault.TreeFault.{TreeFault}
 use Rattle.btr_walk.proofs.Fetched.{cause_since, since}
-use Rattle.btr_walk.proofs.Joined.{joined}
+use Rattle.btr_walk.proofs.Joined.{drawn, joined}
 use Rattle.btr_volume.specs.Looking.{Looks, SameVolume}
 use Rattle.btr_volume.specs.Lookup.{Lookup}
 use Rattle.btr_volume.specs.declared.volume.Volume.{Volume}
-use Rattle.btr_volume.proofs.Looked.{drawn}
 use Rattle.btr_listing.specs.Looked.{CanLook, Looked}
 
 -- calls in a row only read, and left the volume as it was

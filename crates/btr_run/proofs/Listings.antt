@@ -1,7 +1,7 @@
 -- What a command comes to whose run does steps in the sink and in the output, whichever command it is.
 use Rattle.std.proofs.Common.{◌≡◌, ◌≢◌, inl, inr, ⊎_elim, ℕ, List, [], ◌∷◌, ◌++◌, Option, Some, None, Result, Ok, Err, refl, sym, ap, ◌∙◌, subst, arith}
 use Rattle.std.specs.Option.{IfSome}
-use Rattle.btr_dump.proofs.Telling.{cause_since}
+use Rattle.btr_walk.proofs.Fetched.{cause_since}
 use Rattle.btr_listing.specs.Step.{Step, part}
 use Rattle.btr_prog.specs.Answers.{Breaks, Follows, Leaves, Names, no_part}
 use Rattle.btr_prog.specs.Prog.{Mark, Wants, Does, Run, steps_of, wants_of}

@@ -6,7 +6,7 @@ use Rattle.std.proofs.lemmas.List.{take_all}
 use Rattle.btr_dump.specs.Pieces.{Text}
 use Rattle.btr_dump.specs.Showing.{Grows, TextRun, TellsBlock, Puts, PutsAsked}
 use Rattle.btr_dump.specs.Stops.{StopCause, StopCounts}
-use Rattle.btr_dump.proofs.Telling.{cause_since}
+use Rattle.btr_walk.proofs.Fetched.{cause_since}
 use Rattle.btr_prog.specs.Answers.{Names}
 use Rattle.btr_prog.specs.Calls.{Any, First}
 use Rattle.btr_prog.specs.Prog.{wants_of}

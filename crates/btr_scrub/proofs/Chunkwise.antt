@@ -19,13 +19,13 @@ use Rattle.btr_volume.specs.Tree.{key, last}
 use Rattle.btr_volume.specs.declared.root.TreeRoot.{TreeRoot}
 use Rattle.btr_volume.specs.declared.stop.Stop.{Stop as TheStop}
 use Rattle.btr_volume.specs.declared.volume.Volume.{Volume}
-use Rattle.btr_volume.proofs.Looked.{drawn}
+use Rattle.btr_walk.proofs.Joined.{drawn}
+use Rattle.btr_walk.proofs.Lending.{same_then}
 use Rattle.btr_scrub.specs.Extents.{span_of}
 use Rattle.btr_scrub.specs.Gathering.{Gathers, Scene, ended, scene}
 use Rattle.btr_scrub.specs.Scanning.{IsSpanAt, IsSpanIn, Scanned}
 use Rattle.btr_scrub.specs.Units.{in_chunk, in_chunks, items_met}
 use Rattle.btr_scrub.specs.declared.extent.Span.{Span}
-use Rattle.btr_scrub.proofs.Scanning.{loans_then}
 
 pub contains_at : (chunks : List Chunk) (i : ℕ) (chunk : Chunk) → slice_get chunks i ≡ Some chunk → Contains chunks chunk
 contains_at chunks i chunk e = (i, slice_get_within chunks i chunk e, get_or_from_slice_get chunks i chunk chunk e)
@@ -59,7 +59,7 @@ pub gathers_scan : (s : Super) (sums : Option TreeRoot) (chunk : Chunk) (x y : S
     → Gathers (items_met s sums chunk 0 p) x (scene y.rack after y.list) r
 gathers_scan s sums chunk x y scan scan' r after p h same sup back serves none program = record {
   reads = h.reads;
-  volume = record { sup = sup ∙ h.sup; store = loans_then (subst (λ b. SameLoans b (without_leaf y.vol.store scan')) (no_leaf x.vol.store scan none) h.others) back };
+  volume = record { sup = sup ∙ h.sup; store = same_then (subst (λ b. SameLoans b (without_leaf y.vol.store scan')) (no_leaf x.vol.store scan none) h.others) back };
   serves = serves;
   done = h.done;
   lists = h.lists;

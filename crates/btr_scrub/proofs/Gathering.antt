@@ -1,25 +1,22 @@
 -- Calls that list the checked blocks, one after another.
-use Rattle.std.proofs.Common.{◌≡◌, ℕ, List, [], ◌∷◌, ◌++◌, Option, Some, None, Result, Ok, Err, OnOk, refl, sym, ap, ◌∙◌, subst, inl, inr, append-nil, append_assoc}
+use Rattle.std.proofs.Common.{◌≡◌, ℕ, List, [], ◌∷◌, ◌++◌, Result, Ok, Err, OnOk, refl, sym, ap, ◌∙◌, subst, inl, inr, append-nil, append_assoc}
 use Rattle.std.specs.Prelude.{fold}
 use Rattle.btr_prog.specs.Answers.{Broke, Follows, no_part}
-use Rattle.btr_prog.specs.Calls.{Sure}
 use Rattle.btr_prog.specs.Prog.{Return, Stop, Emit, Mark, run, prepend, bind, exec, steps_of, wants_of}
 use Rattle.btr_prog.specs.Quiet.{quiet}
 use Rattle.btr_prog.proofs.Follow.{broke_here, follows_alone, follows_as, follows_behind, follows_halt, follows_then}
 use Rattle.btr_prog.proofs.Quieting.{follows_quiet}
 use Rattle.btr_prog.proofs.Runs.{after-ok, exec-bind, prepend-prepend, steps_of-append}
-use Rattle.btr_prog.proofs.Successive.{calls_none, calls_then}
 use Rattle.btr_rack.specs.Rack.{OnlyReads, Seen, next_count}
 use Rattle.btr_rack.proofs.Reading.{reads_more, reads_none}
 use Rattle.btr_read.specs.Fate as fate
 use Rattle.btr_read.specs.Fate.{fate}
 use Rattle.btr_read.specs.Layout.{Layout}
-use Rattle.btr_read.specs.Reading.{OnMap}
 use Rattle.btr_read.specs.Serves.{Serves}
 use Rattle.btr_read.specs.declared.want.Want.{Want}
 use Rattle.btr_walk.specs.declared.fault.TreeFault.{TreeFault}
 use Rattle.btr_walk.specs.declared.fault.TreeFault.TheVariants as tree
-use Rattle.btr_walk.specs.Reading.{FaultCause, HasCause, Map, Tells, halt_of, unread_by}
+use Rattle.btr_walk.specs.Reading.{FaultCause, HasCause, halt_of, unread_by}
 use Rattle.btr_walk.proofs.Fetched.{cause_since, since}
 use Rattle.btr_super.specs.declared.superblock.Super.{Super}
 use Rattle.btr_volume.specs.Looking.{Looks, SameVolume}
@@ -27,7 +24,7 @@ use Rattle.btr_volume.specs.Lookup.{Lookup}
 use Rattle.btr_volume.specs.declared.stop.Stop.{Stop as TheStop}
 use Rattle.btr_volume.specs.declared.stop.Stop.TheVariants as stop
 use Rattle.btr_volume.specs.declared.volume.Volume.{Volume}
-use Rattle.btr_volume.proofs.Looked.{drawn}
+use Rattle.btr_walk.proofs.Joined.{drawn, joined, unread_on}
 use Rattle.btr_scrub.specs.Gathering.{Gathers, IsCrossing, Lists, ListsUnits, Reaches, Scene, TreeCause, StopCause, checked_among, count_met, ended, scene, stop_halt}
 use Rattle.btr_scrub.specs.Listed.{AddsTo, IsList, kept_wants}
 use Rattle.btr_scrub.specs.Plain.{plain_among}
@@ -75,23 +72,6 @@ lists_counted x y addr is same count plain = record {
 }
 
 -- ---- what is told
-
-on_both : (layout : Layout) (P Q R : Map → Type 0) → ((B : Map) → P B → Q B → R B) → (sure : Sure) (h : Option (List (List ℕ))) → OnMap layout P sure h → OnMap layout Q sure h → OnMap layout R sure h
-on_both layout P Q R f sure None p q = tt
-on_both layout P Q R f sure (Some images) p q = f (fate images layout) p q
-
-on_all : (layout : Layout) (Q : Map → Type 0) → ((B : Map) → Q B) → (sure : Sure) (h : Option (List (List ℕ))) → OnMap layout Q sure h
-on_all layout Q f sure None = tt
-on_all layout Q f sure (Some images) = f (fate images layout)
-
--- what two calls over one layout tell
-pub joined : {layout layout' : Layout} {a b c : Seen} (P Q R : Map → Type 0) → layout' ≡ layout → ((B : Map) → P B → Q B → R B) → Tells layout a b P → Tells layout' b c Q → Tells layout a c R
-joined {layout} {layout'} {a} {b} {c} P Q R e f one two =
-    record { calls = calls_then (λ sure h p q. on_both layout P Q R f sure h p q) one.calls (subst (λ l. Tells l b c Q) e two).calls }
-
--- and no call
-pub told_none : (layout : Layout) {a : Seen} (Q : Map → Type 0) → ((B : Map) → Q B) → Tells layout a a Q
-told_none layout {a} Q f = record { calls = calls_none (λ sure. on_all layout Q f sure a.held) }
 
 pub same_then : {a b c : Volume} → SameVolume a b → SameVolume b c → SameVolume a c
 same_then one two = record { sup = two.sup ∙ one.sup; store = record { layout = two.store.layout ∙ one.store.layout; loans = two.store.loans ∙ one.store.loans } }
@@ -154,7 +134,7 @@ gathers_value a x is serves = record {
   serves = serves;
   done = [];
   lists = lists_none x.list is;
-  content = told_none x.vol.store.layout (λ B. Follows {S = Met} (unread_by x.vol.store.layout x.rack x.rack) no_part [] (run [] (Ok a)) [] (Ok a)) (λ B. (refl, refl));
+  content = unread_on x.vol.store.layout (λ B. Follows {S = Met} (unread_by x.vol.store.layout x.rack x.rack) no_part [] (run [] (Ok a)) [] (Ok a)) (λ B. (refl, refl));
   cause = tt;
 }
 
@@ -166,7 +146,7 @@ gathers_met m rack vol x y l serves = record {
   serves = serves;
   done = m ∷ [];
   lists = l;
-  content = told_none vol.store.layout (λ B. Follows (unread_by vol.store.layout rack rack) no_part [] (exec B (Emit m (Return tt))) (m ∷ []) (Ok tt)) (λ B. (refl, refl));
+  content = unread_on vol.store.layout (λ B. Follows (unread_by vol.store.layout rack rack) no_part [] (exec B (Emit m (Return tt))) (m ∷ []) (Ok tt)) (λ B. (refl, refl));
   cause = tt;
 }
 
@@ -178,7 +158,7 @@ gathers_memory p rack vol l m serves = record {
   serves = serves;
   done = [];
   lists = tt;
-  content = told_none vol.store.layout (λ B. Follows (unread_by vol.store.layout rack rack) no_part [] (exec B p) [] (Err Broke)) (λ B. broke_here (unread_by vol.store.layout rack rack) no_part [] (exec B p));
+  content = unread_on vol.store.layout (λ B. Follows (unread_by vol.store.layout rack rack) no_part [] (exec B p) [] (Err Broke)) (λ B. broke_here (unread_by vol.store.layout rack rack) no_part [] (exec B p));
   cause = tt;
 }
 
@@ -190,7 +170,7 @@ gathers_malformed {A} leaf x serves = record {
   serves = serves;
   done = [];
   lists = tt;
-  content = told_none x.vol.store.layout (λ B. Follows {S = Met} {A = A} (unread_by x.vol.store.layout x.rack x.rack) no_part [] (run [] (Err (fate.Malformed leaf))) [] (Err (halt_of (tree.Malformed leaf)))) (λ B. (refl, refl));
+  content = unread_on x.vol.store.layout (λ B. Follows {S = Met} {A = A} (unread_by x.vol.store.layout x.rack x.rack) no_part [] (run [] (Err (fate.Malformed leaf))) [] (Err (halt_of (tree.Malformed leaf)))) (λ B. (refl, refl));
   cause = tt;
 }
 
@@ -263,7 +243,7 @@ reaches_none p x is serves = record {
   serves = serves;
   done = [];
   lists = lists_none x.list is;
-  content = told_none x.vol.store.layout (λ B. (before : List (Mark Want Met)) × (exec B p ≡ prepend before (exec B p)) × ([] ≡ steps_of before)) (λ B. ([], refl, refl));
+  content = unread_on x.vol.store.layout (λ B. (before : List (Mark Want Met)) × (exec B p ≡ prepend before (exec B p)) × ([] ≡ steps_of before)) (λ B. ([], refl, refl));
 }
 
 module _ {A C : Type 0} (p : Meeting C) (q : Meeting A) (k : A → Meeting C) (x y : Scene) (h : Reaches p (bind q k) x y) where
@@ -314,7 +294,7 @@ gathers_crossing {A} addr x serves crosses = record {
   serves = serves;
   done = [];
   lists = tt;
-  content = told_none x.vol.store.layout (λ B. Follows {S = Met} {A = A} (unread_by x.vol.store.layout x.rack x.rack) no_part [] (run [] (Err (fate.Crosses addr))) [] (Err (halt_of (tree.Crosses addr)))) (λ B. (refl, refl));
+  content = unread_on x.vol.store.layout (λ B. Follows {S = Met} {A = A} (unread_by x.vol.store.layout x.rack x.rack) no_part [] (run [] (Err (fate.Crosses addr))) [] (Err (halt_of (tree.Crosses addr)))) (λ B. (refl, refl));
   cause = inr crosses;
 }
 
@@ -330,7 +310,7 @@ gathers_no_tree {A} id x serves = record {
   serves = serves;
   done = [];
   lists = tt;
-  content = told_none x.vol.store.layout (λ B. Follows {S = Met} {A = A} (unread_by x.vol.store.layout x.rack x.rack) no_part [] (run [] (Err (fate.NoTree id))) [] (Err (stop_halt (stop.NoTree id)))) (λ B. (refl, refl));
+  content = unread_on x.vol.store.layout (λ B. Follows {S = Met} {A = A} (unread_by x.vol.store.layout x.rack x.rack) no_part [] (run [] (Err (fate.NoTree id))) [] (Err (stop_halt (stop.NoTree id)))) (λ B. (refl, refl));
   cause = tt;
 }
 

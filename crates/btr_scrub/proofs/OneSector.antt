@@ -28,7 +28,7 @@ use Rattle.btr_volume.specs.Lookup.{formed}
 use Rattle.btr_volume.specs.Tree.{key}
 use Rattle.btr_volume.specs.declared.root.TreeRoot.{TreeRoot}
 use Rattle.btr_volume.specs.declared.volume.Volume.{Volume}
-use Rattle.btr_volume.proofs.Looked.{drawn}
+use Rattle.btr_walk.proofs.Joined.{drawn}
 use Rattle.btr_files.specs.Sums.{covers, is_sums, kind_in, sum_at, sum_found, sum_in, sums_objectid}
 use Rattle.btr_scrub.specs.Gathering.{Gathers, scene}
 use Rattle.btr_scrub.specs.Listed.{AddsTo}

@@ -17,6 +17,9 @@ use Rattle.btr_walk.specs.declared.fault.TreeFault.{TreeFault}
 use Rattle.btr_walk.specs.declared.fault.TreeFault.TheVariants as tree
 use Rattle.btr_walk.specs.declared.scan.Scan.{Scan}
 use Rattle.btr_walk.proofs.Fetched.{since}
+use Rattle.btr_walk.proofs.Joined.{joined, unread_on}
+use Rattle.btr_walk.proofs.Lending.{same_then}
+use Rattle.btr_walk.proofs.Staying.{ready_same}
 use Rattle.btr_volume.specs.declared.root.TreeRoot.{TreeRoot}
 use Rattle.btr_volume.specs.declared.stop.Stop.{Stop as TheStop}
 use Rattle.btr_volume.specs.declared.stop.Stop.TheVariants as stop
@@ -28,8 +31,8 @@ use Rattle.btr_scrub.specs.Units.{Meeting, extent_met, items_met}
 use Rattle.btr_scrub.specs.declared.extent.Extent.{Extent}
 use Rattle.btr_scrub.specs.declared.collecting.NextExtent.{NextExtent}
 use Rattle.btr_scrub.specs.declared.collecting.NextExtent.TheVariants.{End, Other, Broken, Found}
-use Rattle.btr_scrub.proofs.Gathering.{joined, lists_none, lists_then, stop_cause_since, told_none, tree_cause}
-use Rattle.btr_scrub.proofs.Scanning.{between_ends, between_extent, between_halts, between_none, between_other, between_stops, loans_then, ready_same, same_layout, without_same}
+use Rattle.btr_scrub.proofs.Gathering.{lists_none, lists_then, stop_cause_since, tree_cause}
+use Rattle.btr_scrub.proofs.Scanning.{between_ends, between_extent, between_halts, between_none, between_other, between_stops, same_layout, without_same}
 
 -- what an item says is what comes next
 pub next_by : (s : Super) (Is : UnreadBlock → Want → Type 0) (B : Map) (seen : List Want) (old new : Blocks) (scan scan' : Scan) (next : NextExtent) → Comes s B seen old new scan scan' next → NextBy s Is B seen old new scan scan' (Ok next)
@@ -54,7 +57,7 @@ module _ (s : Super) (sums : Option TreeRoot) (chunk : Chunk) (x : Scene) (scan 
     ready = ready;
     done = [];
     lists = lists_none x.list is;
-    content = told_none x.vol.store.layout (λ B. Between s sums chunk B x.vol.store x.vol.store scan scan 0 []) (λ B. between_none s sums chunk B x.vol.store scan (on B));
+    content = unread_on x.vol.store.layout (λ B. Between s sums chunk B x.vol.store x.vol.store scan scan 0 []) (λ B. between_none s sums chunk B x.vol.store scan (on B));
   }
 
   module _ (y : Scene) (at at' : Scan) (end : ℕ) (u : Underway s sums chunk x y scan at end) (rack : Seen) (vol : Volume) (sup : vol.sup ≡ y.vol.sup) (reads : OnlyReads y.rack rack)
@@ -85,7 +88,7 @@ module _ (s : Super) (sums : Option TreeRoot) (chunk : Chunk) (x : Scene) (scan 
     scanned_ends t = record {
       reads = reads_more u.reads reads;
       sup = sup ∙ u.sup;
-      others = loans_then u.others others;
+      others = same_then u.others others;
       ready = ready;
       done = u.done;
       lists = u.lists;
@@ -99,7 +102,7 @@ module _ (s : Super) (sums : Option TreeRoot) (chunk : Chunk) (x : Scene) (scan 
     scanned_fault f cause t = record {
       reads = reads_more u.reads reads;
       sup = sup ∙ u.sup;
-      others = loans_then u.others others;
+      others = same_then u.others others;
       ready = ready;
       done = u.done;
       lists = tt;
@@ -115,7 +118,7 @@ module _ (s : Super) (sums : Option TreeRoot) (chunk : Chunk) (x : Scene) (scan 
       underway_other t = record {
         reads = reads_more u.reads reads;
         sup = sup ∙ u.sup;
-        others = loans_then u.others others;
+        others = same_then u.others others;
         ready = ready;
         done = u.done;
         lists = u.lists;
@@ -128,7 +131,7 @@ module _ (s : Super) (sums : Option TreeRoot) (chunk : Chunk) (x : Scene) (scan 
       scanned_broken leaf t = record {
         reads = reads_more u.reads reads;
         sup = sup ∙ u.sup;
-        others = loans_then u.others others;
+        others = same_then u.others others;
         ready = ready;
         done = u.done ++ [];
         lists = tt;
@@ -160,7 +163,7 @@ module _ (s : Super) (sums : Option TreeRoot) (chunk : Chunk) (x : Scene) (scan 
         underway_extent end' g = record {
           reads = reads_more (reads_more u.reads reads) g.reads;
           sup = g.volume.sup ∙ (sup ∙ u.sup);
-          others = loans_then (loans_then u.others others) (without_same vol.store z.vol.store at' g.volume.store);
+          others = same_then (same_then u.others others) (without_same vol.store z.vol.store at' g.volume.store);
           ready = ready_same rack z.rack vol.store z.vol.store at' g.volume.store g.serves ready;
           done = u.done ++ g.done;
           lists = lists_then x.list y.list z.list u.done g.done u.lists g.lists;
@@ -173,7 +176,7 @@ module _ (s : Super) (sums : Option TreeRoot) (chunk : Chunk) (x : Scene) (scan 
         scanned_stops e g = record {
           reads = reads_more (reads_more u.reads reads) g.reads;
           sup = g.volume.sup ∙ (sup ∙ u.sup);
-          others = loans_then (loans_then u.others others) (without_same vol.store z.vol.store at' g.volume.store);
+          others = same_then (same_then u.others others) (without_same vol.store z.vol.store at' g.volume.store);
           ready = ready_same rack z.rack vol.store z.vol.store at' g.volume.store g.serves ready;
           done = u.done ++ g.done;
           lists = tt;

@@ -1,5 +1,5 @@
 -- A lookup by one item.
-use Rattle.std.proofs.Common.{◌≡◌, ℕ, List, [], Option, Some, None, Result, Ok, Err, refl, sym, ap, ◌∙◌, subst}
+use Rattle.std.proofs.Common.{◌≡◌, List, [], Option, Some, None, Result, Ok, Err, refl, sym, ap, ◌∙◌, subst}
 use Rattle.btr_base.specs.declared.key.Key.{Key}
 use Rattle.btr_prog.specs.Prog.{Return, exec, bind}
 use Rattle.btr_prog.specs.Answers.{Follows, no_part}
@@ -19,20 +19,9 @@ use Rattle.btr_walk.specs.Le.{TreeItem, le}
 use Rattle.btr_walk.specs.Lending.{base}
 use Rattle.btr_walk.specs.Reading.{Map, UnreadBlock, Tells, unread_by, halt_of, answer_of}
 use Rattle.btr_walk.specs.Showing.{FindsItem, item_of, items_of}
-use Rattle.btr_prog.specs.Calls.{Sure}
-use Rattle.btr_prog.proofs.Successive.{calls_as}
-use Rattle.btr_read.specs.Fate.{fate}
-use Rattle.btr_read.specs.Reading.{OnMap}
+use Rattle.btr_walk.proofs.Joined.{drawn}
 use Rattle.btr_volume.specs.Lookup.{Lookup}
 use Rattle.btr_volume.specs.Looking.{Looks, Judges}
-
-on_one : (layout : Layout) (P Q : Map → Type 0) → ((B : Map) → P B → Q B) → (sure : Sure) (h : Option (List (List ℕ))) → OnMap layout P sure h → OnMap layout Q sure h
-on_one layout P Q f sure None p = tt
-on_one layout P Q f sure (Some images) p = f (fate images layout) p
-
--- what follows of one call
-pub drawn : (layout : Layout) {a b : Seen} (P Q : Map → Type 0) → ((B : Map) → P B → Q B) → Tells layout a b P → Tells layout a b Q
-drawn layout P Q f one = record { calls = calls_as (λ sure h p. on_one layout P Q f sure h p) one.calls }
 
 -- what was found is judged; a fault is passed on
 abbrev pub JudgesFound : {A : Type 0} → (Option TreeItem → Lookup A) → Result (Option TreeItem) TreeFault → Result A TreeFault → Type 0

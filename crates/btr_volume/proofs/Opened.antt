@@ -3,8 +3,7 @@ use Rattle.std.proofs.Common.{◌≡◌, ◌⊎◌, inl, inr, ℕ, ◌<◌, map,
 use Rattle.std.specs.Prelude.{slice_get}
 use Rattle.std.proofs.lemmas.List.Folds.{find_at}
 use Rattle.std.proofs.lemmas.Option.{slice_get-get_or}
-use Rattle.std.proofs.Common.{true, ◌≤◌, IsErrAnd, arith}
-use Rattle.btr_volume.specs.Start.{is_geometry}
+use Rattle.std.proofs.Common.{IsErrAnd, arith}
 use Rattle.btr_base.specs.Sum.{kind_of_type}
 use Rattle.btr_base.specs.declared.kind.SumKind.{SumKind}
 use Rattle.btr_chunk.specs.Array.{array_of}
@@ -13,21 +12,14 @@ use Rattle.btr_read.specs.Store.{Blocks}
 use Rattle.btr_read.specs.declared.device.Member.{Member}
 use Rattle.btr_super.specs.Newest.{newest, newest_index, is_newest}
 use Rattle.btr_volume.specs.Start.{Start, Images, layout_by, supers_from, start_of, start_with, start_by, started, with_kind, with_array, array_bytes, devices_from, refusals, first_refusal}
-use Rattle.btr_volume.specs.Refusing.{IsRefusal}
 use Rattle.std.specs.Option.{IfSome}
-use Rattle.btr_base.specs.Key.{last_key}
-use Rattle.btr_base.specs.declared.memory.Memory.{Memory as no_memory}
 use Rattle.btr_chunk.specs.declared.chunk.Chunk.{Chunk}
 use Rattle.btr_rack.specs.Rack.{Seen}
 use Rattle.btr_read.specs.Layout.{Layout}
 use Rattle.btr_super.specs.declared.superblock.Super.{Super}
-use Rattle.btr_walk.specs.Folding.{FoldFollows}
-use Rattle.btr_walk.specs.Reading.{Map, Tells, unread_by}
-use Rattle.btr_walk.specs.declared.folder.FoldFault.{FoldFault}
-use Rattle.btr_walk.specs.declared.folder.FoldFault.TheVariants as folds
-use Rattle.btr_walk.specs.declared.fault.TreeFault.{TreeFault}
-use Rattle.btr_volume.specs.Table.{TableResult, refusal_of, table_step, whole_table, first_key, chunk_root}
-use Rattle.btr_volume.specs.Opening.{ScansTable, ReadsTable, MakesStore, Begins, NoneAtFault, Prepares, SupersCause, OpenCause, TableCause, Opens, Scans, start_in}
+use Rattle.btr_walk.specs.Reading.{Map, unread_by}
+use Rattle.btr_volume.specs.Table.{TableResult}
+use Rattle.btr_volume.specs.Opening.{ReadsTable, MakesStore, Begins, NoneAtFault, Prepares, SupersCause, OpenCause, TableCause, Opens, Scans, start_in}
 use Rattle.btr_volume.specs.declared.volume.Volume.{Volume}
 use Rattle.btr_prog.specs.Prog.{exec}
 use Rattle.btr_prog.specs.Answers.{Follows, no_part}
@@ -48,29 +40,6 @@ use Rattle.btr_read.specs.Store.{with_chunks}
 use Rattle.btr_read.proofs.Serving.{serving, serves_anew}
 use Rattle.btr_volume.specs.declared.fault.OpenFault.{OpenFault}
 use Rattle.btr_volume.specs.declared.fault.OpenFault.TheVariants.{ImageFault, NoSuper, SumKind as kind_fault, Foreign, Twin, Diverged, Unsupported, Geometry, LogPending, BadArray, BadChunk as bad_chunk, Limit, Tree, Memory}
-use Rattle.btr_volume.specs.declared.fault.TableFault.{TableFault}
-use Rattle.btr_volume.specs.declared.fault.TableFault.TheVariants.{Stripes, BadChunk, Chunks}
-
-module _ (s : Super) (layout : Layout) (old new : Seen) (table : List Chunk) (same : table ≡ layout.chunks) where
-  abbrev Folds : Result TableResult (FoldFault no_memory) → Type 0
-  Folds r = Tells layout old new (λ B. FoldFollows table_step whole_table (unread_by layout old new) B table (chunk_root s) first_key last_key r)
-
-  abbrev FoldsFrom : List Chunk → Result TableResult (FoldFault no_memory) → Type 0
-  FoldsFrom from r = Tells layout old new (λ B. FoldFollows table_step whole_table (unread_by layout old new) B from (chunk_root s) first_key last_key r)
-
-  pub table_read : (chunks : List Chunk) → Folds (Ok (Ok chunks)) → ReadsTable s layout old new (Ok chunks)
-  table_read chunks h = subst (λ from. FoldsFrom from (Ok (Ok chunks))) same h
-
-  pub table_refused : (fault : TableFault) (refusal : OpenFault) → refusal ≡ refusal_of fault → Folds (Ok (Err fault)) → ReadsTable s layout old new (Err refusal)
-  table_refused fault refusal is h = subst (λ (x : OpenFault). ReadsTable s layout old new (Err x)) (sym is) (by fault (subst (λ from. FoldsFrom from (Ok (Err fault))) same h))
-    where
-      by : (fault : TableFault) → ScansTable s layout old new (Ok (Err fault)) → ReadsTable s layout old new (Err (refusal_of fault))
-      by (Stripes n) h = (Stripes n, refl, h)
-      by (BadChunk start) h = (BadChunk start, refl, h)
-      by Chunks h = (Chunks, refl, h)
-
-  pub table_unread : (fault : TreeFault) → Folds (Err (folds.Tree fault)) → ReadsTable s layout old new (Err (Tree fault))
-  table_unread fault h = subst (λ from. FoldsFrom from (Err (folds.Tree fault))) same h
 
 -- the superblock at the index of the newest is the newest
 pub newest_at : (supers : List Super) (slot : ℕ) (s : Super) → newest_index supers ≡ slot → slot < length supers → s ≡ get_or supers slot s → newest supers ≡ Some s
@@ -78,46 +47,6 @@ newest_at supers slot s index lt is =
     find_at (is_newest supers) supers ∙ ap (slice_get supers) index ∙ slice_get-get_or supers slot s lt ∙ ap (λ x. Some x) (sym is)
 
 module _ (supers : List Super) (s : Super) (is : newest supers ≡ Some s) (lens : List ℕ) where
-  begun_as : (refusal : OpenFault) → start_by supers lens (newest supers) ≡ Err refusal → Begins supers lens (Err refusal)
-  begun_as Memory e = tt
-  begun_as (ImageFault slot) e = e
-  begun_as (NoSuper slot) e = e
-  begun_as (kind_fault n) e = e
-  begun_as (Foreign slot) e = e
-  begun_as (Twin slot) e = e
-  begun_as (Diverged slot) e = e
-  begun_as (Unsupported bits) e = e
-  begun_as Geometry e = e
-  begun_as LogPending e = e
-  begun_as BadArray e = e
-  begun_as (bad_chunk start) e = e
-  begun_as (Limit which n) e = e
-  begun_as (Tree fault) e = e
-
-  -- refused by the superblocks alone
-  pub begun_refused : (refusal : OpenFault) → IsRefusal (first_refusal (refusals supers s)) (Err refusal) → Begins supers lens (Err refusal)
-  begun_refused refusal e = begun_as refusal (ap (start_by supers lens) is ∙ ap (started s (devices_from s.generation 0 supers lens)) e)
-
-  accepted : (r : Result Unit OpenFault) → r ≡ Ok tt → IsRefusal (first_refusal (refusals supers s)) r → start_by supers lens (newest supers) ≡ with_kind s (devices_from s.generation 0 supers lens) (kind_of_type s.csum_type)
-  accepted r e none = ap (start_by supers lens) is ∙ ap (started s (devices_from s.generation 0 supers lens)) (subst (IsRefusal (first_refusal (refusals supers s))) e none)
-
-  -- refused by the store
-  pub begun_unstored : (refusal : OpenFault) → first_refusal (refusals supers s) ≡ None → MakesStore s (Err refusal) → Begins supers lens (Err refusal)
-  begun_unstored Memory none made = tt
-  begun_unstored (ImageFault slot) none made = ap (start_by supers lens) is ∙ ap (started s (devices_from s.generation 0 supers lens)) none ∙ made (devices_from s.generation 0 supers lens)
-  begun_unstored (NoSuper slot) none made = ap (start_by supers lens) is ∙ ap (started s (devices_from s.generation 0 supers lens)) none ∙ made (devices_from s.generation 0 supers lens)
-  begun_unstored (kind_fault n) none made = ap (start_by supers lens) is ∙ ap (started s (devices_from s.generation 0 supers lens)) none ∙ made (devices_from s.generation 0 supers lens)
-  begun_unstored (Foreign slot) none made = ap (start_by supers lens) is ∙ ap (started s (devices_from s.generation 0 supers lens)) none ∙ made (devices_from s.generation 0 supers lens)
-  begun_unstored (Twin slot) none made = ap (start_by supers lens) is ∙ ap (started s (devices_from s.generation 0 supers lens)) none ∙ made (devices_from s.generation 0 supers lens)
-  begun_unstored (Diverged slot) none made = ap (start_by supers lens) is ∙ ap (started s (devices_from s.generation 0 supers lens)) none ∙ made (devices_from s.generation 0 supers lens)
-  begun_unstored (Unsupported bits) none made = ap (start_by supers lens) is ∙ ap (started s (devices_from s.generation 0 supers lens)) none ∙ made (devices_from s.generation 0 supers lens)
-  begun_unstored Geometry none made = ap (start_by supers lens) is ∙ ap (started s (devices_from s.generation 0 supers lens)) none ∙ made (devices_from s.generation 0 supers lens)
-  begun_unstored LogPending none made = ap (start_by supers lens) is ∙ ap (started s (devices_from s.generation 0 supers lens)) none ∙ made (devices_from s.generation 0 supers lens)
-  begun_unstored BadArray none made = ap (start_by supers lens) is ∙ ap (started s (devices_from s.generation 0 supers lens)) none ∙ made (devices_from s.generation 0 supers lens)
-  begun_unstored (bad_chunk start) none made = ap (start_by supers lens) is ∙ ap (started s (devices_from s.generation 0 supers lens)) none ∙ made (devices_from s.generation 0 supers lens)
-  begun_unstored (Limit which n) none made = ap (start_by supers lens) is ∙ ap (started s (devices_from s.generation 0 supers lens)) none ∙ made (devices_from s.generation 0 supers lens)
-  begun_unstored (Tree fault) none made = ap (start_by supers lens) is ∙ ap (started s (devices_from s.generation 0 supers lens)) none ∙ made (devices_from s.generation 0 supers lens)
-
   -- the volume that begins
   pub begun : (store store' : Blocks) → first_refusal (refusals supers s) ≡ None → MakesStore s (Ok store) → store'.layout ≡ record (store.layout) { devices = devices_from s.generation 0 supers lens } → Begins supers lens (Ok (record { store = store'; sup = s }))
   begun store store' none made layout =
@@ -141,12 +70,6 @@ array_kept s devices (Some kind) x e = by (array_of (array_bytes s)) e
 -- the chunks of a store that was made are the array's
 pub array_made : (s : Super) (store : Blocks) → MakesStore s (Ok store) → array_of (array_bytes s) ≡ Ok store.layout.chunks
 array_made s store made = array_kept s [] (kind_of_type s.csum_type) _ (made.3 [])
-
-pub nodes_fit : (s : Super) → is_geometry s ≡ true → (4096 ≤ s.nodesize) × (s.nodesize ≤ 65536)
-nodes_fit s e = grind arith
-
-pub array_fits : (s : Super) → is_geometry s ≡ true → s.sys_chunk_array_size ≤ 2048
-array_fits s e = grind arith
 
 -- no call failed, so nothing of the rack is other than it was
 pub same_seen : (old new : Seen) → OnlyCounts old new → NoneFailed old.account new.account → new ≡ old

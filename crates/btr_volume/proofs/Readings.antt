@@ -1,7 +1,7 @@
 -- The superblocks of the images, read one after another.
 use Rattle.std.proofs.Common.{◌≡◌, ◌≢◌, ℕ, ◌+◌, ◌<◌, ◌≤◌, false, List, [], ◌∷◌, ◌++◌, length, map, drop, get_or, Option, Some, None, Result, Ok, Err, refl, sym, ap, ◌∙◌, arith, add-one}
 use Rattle.std.specs.Option.{IfSome}
-use Rattle.std.proofs.lemmas.List.{append_assoc, append-nil, length-map, drop_all}
+use Rattle.std.proofs.lemmas.List.{append_assoc, length-map}
 use Rattle.std.proofs.Math.Seq.{drop-cons}
 use Rattle.btr_rack.specs.Rack.{Slot, Seen, Account, NoneFailed, Rose, OnlyCounts, next_count, image_of}
 use Rattle.btr_super.specs.Slot.{image_super, FailedAtPlace}
@@ -28,14 +28,6 @@ ReadSoFar held before slot = IfSome held (λ images. supers_from 0 images ≡ pr
 -- what reading a slot's superblock found
 abbrev pub Found : Option Images → ℕ → Result Super SlotFault → Type 0
 Found held slot r = IfSome held (λ images. r ≢ Err Failed → image_super (image_of images slot) ≡ r)
-
-pub none_read : (held : Option Images) → ReadSoFar held [] 0
-none_read None = tt
-none_read (Some images) = sym (of (supers_from 0 images))
-  where
-    of : (r : Result (List Super) OpenFault) → prefixed [] r ≡ r
-    of (Ok more) = refl
-    of (Err refusal) = refl
 
 -- as many images as slots
 many : (images : Images) (slots : List Slot) → map length images ≡ map (λ s. s.len) slots → length images ≡ length slots
@@ -65,16 +57,8 @@ module _ (slots : List Slot) (before : List Super) (slot : ℕ) (within : slot <
   read_fault (Some images) no_copy sized so found = so ∙ ap (prefixed before) (next_super images slot (Err no_copy) (omega (arith, many images slots sized)) (found (λ e. cc)))
   read_fault (Some images) (kind_fault n) sized so found = so ∙ ap (prefixed before) (next_super images slot (Err (kind_fault n)) (omega (arith, many images slots sized)) (found (λ e. cc)))
 
-pub read_all : (slots : List Slot) (before : List Super) (slot : ℕ) (held : Option Images) → Sized held slots → length slots ≤ slot → ReadSoFar held before slot → IfSome held (λ images. supers_from 0 images ≡ Ok before)
-read_all slots before slot None sized all so = tt
-read_all slots before slot (Some images) sized all so =
-    so ∙ ap (λ l. prefixed before (supers_from slot l)) (drop_all slot images (omega (arith, many images slots sized))) ∙ ap (λ l. Ok l) (append-nil before)
-
 pub only_counts_twice : (old mid new : Seen) → OnlyCounts old mid → OnlyCounts mid new → OnlyCounts old new
 only_counts_twice old mid new a b = b ∙ ap {A = Seen} (λ s. record s { account = new.account }) a
-
-pub none_failed_yet : (account : Account) → NoneFailed account account
-none_failed_yet account = record { faults = omega arith; fresh = refl; missed = refl; last = refl; opening = refl; shut = refl }
 
 pub none_failed_twice : (old mid new : Account) → NoneFailed old mid → NoneFailed mid new → NoneFailed old new
 none_failed_twice old mid new a b = record {

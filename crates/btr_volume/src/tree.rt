@@ -1,16 +1,12 @@
 // The roots of trees.
-ghost use Rattle.std.specs.Prelude.{◌≡◌, ◌≤◌, [], Some, None, IfSome};
-ghost use Rattle.btr_base.specs.Key.{last_key};
-ghost use Rattle.btr_rack.specs.Rack.{Seen, OnlyReads};
+ghost use Rattle.std.specs.Prelude.{◌≡◌, ◌≤◌, Some, IfSome};
+ghost use Rattle.btr_rack.specs.Rack.{OnlyReads};
 ghost use Rattle.btr_read.specs.Serves.{Serves};
-ghost use Rattle.btr_read.specs.Store.{Blocks, SameLoans, free_count, IsLiveIn};
-ghost use Rattle.btr_walk.specs.Going.{IsOn};
+ghost use Rattle.btr_read.specs.Store.{SameLoans, free_count, IsLiveIn};
 ghost use Rattle.btr_walk.specs.Lending.{base};
-ghost use Rattle.btr_walk.specs.Range.{range};
-ghost use Rattle.btr_walk.specs.Reading.{Map, HasCause};
-ghost use Rattle.btr_walk.specs.ScanEnds.{left_of, IsReady};
+ghost use Rattle.btr_walk.specs.Reading.{HasCause};
 ghost use Rattle.btr_walk.specs.Showing.{item_of};
-ghost use Rattle.btr_volume.specs.Table.{first_key, chunk_root};
+ghost use Rattle.btr_volume.specs.Table.{chunk_root};
 ghost use Rattle.btr_items.specs.Form.{map_ok};
 ghost use Rattle.btr_items.specs.RootItem.{root_item_of};
 ghost use Rattle.btr_volume.specs.Tree.{root_root, root_want, named_root, is_root_of, described, root_found, root_in, tree_of};
@@ -22,7 +18,7 @@ use btr_items::{ItemFault, RootItem};
 use btr_rack::Rack;
 use btr_read::{Loan, Store, Want};
 use btr_super::Super;
-use btr_walk::{Found, RootPlace, Scan, TreeFault, find_le};
+use btr_walk::{Found, RootPlace, TreeFault, find_le};
 
 const ROOT_TREE: u64 = 1;
 
@@ -191,18 +187,5 @@ impl Volume {
             CHUNK_TREE => Ok(Some(named_root(id, chunk_root(&self.sup)))),
             _ => find_root(&mut self.store, &root_root(&self.sup), id, rack),
         }
-    }
-
-    /// A scan of the whole root tree; nothing is read yet.
-    pub fn root_scan(&self) -> Scan
-        ensures lo { result.lo ≡ first_key }
-        ensures hi { result.hi ≡ last_key }
-        ensures leaf { result.leaf ≡ None }
-        ensures ready { (rack : Seen) (store : Blocks) → Serves rack store → IsReady rack store result }
-        ensures program { (B : Map) (store : Blocks)
-            → left_of B store result ≡ range first_key last_key (root_root self.now.sup) }
-        ensures on { (B : Map) → IsOn first_key last_key B [] result.place }
-    {
-        Scan::new(&root_root(&self.sup), FIRST_KEY, LAST_KEY)
     }
 }

@@ -1,5 +1,5 @@
 -- What a fetch says of a block that was read.
-use Rattle.std.proofs.Common.{◌≡◌, ℕ, List, Bool, true, false, Option, Some, None, IfSome, IsSome, IsSomeAnd, ◌≤◌, All, Any, length, Result, Ok, IsErrAnd, Err, refl, sym, ap, ◌∙◌, subst, arith}
+use Rattle.std.proofs.Common.{◌≡◌, ℕ, List, Bool, false, Option, Some, None, IfSome, IsSomeAnd, ◌≤◌, All, Any, length, Result, Ok, IsErrAnd, Err, refl, sym, ap, ◌∙◌, subst, arith}
 use Rattle.std.specs.Option.{is_some}
 use Rattle.btr_rack.specs.Rack.{Seen, OnlyReads}
 use Rattle.btr_read.specs.Fate.{Lost, Unmapped, Crosses, passing, fate, sought}
@@ -22,20 +22,11 @@ use Rattle.btr_walk.specs.Le.{want_of}
 pub some_block : (store : Blocks) (loan : Lent) (block : List ℕ) (P : List ℕ → Type 0) → block_of store loan ≡ Some block → P block → IsSomeAnd (block_of store loan) P
 some_block store loan block P is h = subst (λ o. IsSomeAnd o P) (sym is) h
 
-some_is : (o : Option Node) → is_some o ≡ true → IsSome o
-some_is (Some x) e = refl
-some_is None e = cc
-
 none_is : (o : Option Node) → is_some o ≡ false → o ≡ None
 none_is (Some x) e = cc
 none_is None e = refl
 
--- a block that was judged is a good one that fits its spot
-pub good_block : (level : ℕ) (spot : Spot) (o : Option (List ℕ)) (r : Bool) → IsSomeAnd o (λ block. r ≡ is_some (judged level spot block)) → r ≡ true → IsSomeAnd o (λ block. IsSome (judged level spot block))
-good_block level spot (Some block) r h e = some_is (judged level spot block) (sym h ∙ e)
-good_block level spot None r h e = absurd h
-
--- .. or it isn't
+-- a block that was judged isn't a good one that fits its spot
 pub bad_block : (B : Map) (level : ℕ) (spot : Spot) (o : Option (List ℕ)) (r : Bool) → IsSomeAnd o (λ block. B (want_of level spot) ≡ Ok block) → IsSomeAnd o (λ block. r ≡ is_some (judged level spot block)) → r ≡ false → (block : List ℕ) × (B (want_of level spot) ≡ Ok block) × (judged level spot block ≡ None)
 bad_block B level spot (Some block) r came h e = (block, came, none_is (judged level spot block) (sym h ∙ e))
 bad_block B level spot None r came h e = absurd came

@@ -208,9 +208,6 @@ pub shaped_arrived : (place after : Where) (o : Option LeafAt) → NearsReached 
 shaped_arrived place after None n = n
 shaped_arrived place after (Some l) n = (n.0, omega (arith, n.1))
 
-pub hand_some : (store : Blocks) (leaf : Option LeafAt) (l : LeafAt) → leaf ≡ Some l → IfSome leaf (IsInHand store) → IsInHand store l
-hand_some store leaf l e h = subst (λ x. IfSome x (IsInHand store)) e h
-
 -- the same over a layout that is equal
 pub from_as : (layout layout' : Layout) (old new : Seen) (lo hi : Key) (place after : Where) (store : Blocks) (a : Advanced) → layout' ≡ layout
     → Tells layout' old new (λ B. FromPlace lo hi (unread_by layout' old new) B place after store a) → Tells layout old new (λ B. FromPlace lo hi (unread_by layout old new) B place after store a)

@@ -39,9 +39,6 @@ module _ (lo hi : Key) (B : Map) where
   abbrev pub Leads : Where → Where → Type 0
   Leads from to = (seen : List Want) → IsAlong lo hi B seen from → Comes lo hi B seen from (place_prog lo hi B to) to
 
-  pub leads_none : (place : Where) → Leads place place
-  leads_none place seen on = record { past = []; is = refl; on = subst (λ (x : List Want). IsAlong lo hi B x place) (sym (append-nil seen)) on }
-
   -- one after another
   abbrev comes_then : (seen : List Want) (from at : Where) (c : RangeProg) (after : Where) → (x : Comes lo hi B seen from (place_prog lo hi B at) at) → Comes lo hi B (seen ++ x.past) at c after → Comes lo hi B seen from c after
   comes_then seen from at c after x y = record {

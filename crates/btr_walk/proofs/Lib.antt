@@ -10,6 +10,7 @@ pub mod Choosing
 pub mod Belows
 pub mod Entered
 pub mod Repeated
+pub mod Staying
 pub mod Paths
 pub mod Items
 pub mod Ranking

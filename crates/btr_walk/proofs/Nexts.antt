@@ -142,20 +142,7 @@ near_none scan leaf' after e on h =
     let x : rank_leaf leaf' scan.place.leaf ≡ rank_leaf None scan.place.leaf = ap (λ l. rank_leaf l scan.place.leaf) e in
     omega (arith, x, on, leaf_gone scan.place scan.leaf h)
 
--- a scan that has no leaf in hand is paused
-pub paused_none : (store : Blocks) (scan : Scan) (leaf' : Option LeafAt) → scan.leaf ≡ None → leaf' ≡ None → Paused store store scan (scan_at scan scan.place leaf')
-paused_none store scan leaf' e f = record {
-  lo = refl;
-  hi = refl;
-  leaf = f;
-  kept = subst (λ x. IfSome x (λ l. scan.place.leaf ≡ Some (frame_of l))) (sym e) tt;
-  rest = refl;
-  rank = ap (λ l. rank_on scan.place l) (f ∙ sym e);
-  program = λ B seen h. ap (λ l. left scan.lo scan.hi B store l scan.place) (f ∙ sym e);
-  on = λ B seen h on. on;
-}
-
--- .. or gives its leaf back
+-- a scan gives its leaf back
 module _ (store after : Blocks) (scan : Scan) (leaf' : Option LeafAt) (l : LeafAt) (is : scan.leaf ≡ Some l) (hand : IfSome scan.leaf (IsInHand store)) (none : leaf' ≡ None) where
   abbrev kept : Frame
   kept = record { spot = l.spot; next = l.next; end = l.end }

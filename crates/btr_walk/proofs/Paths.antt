@@ -1,9 +1,7 @@
 -- How a scan goes on from place to place.
 use Rattle.std.proofs.Common.{◌≡◌, inl, inr, ℕ, zero, suc, ◌+◌, ◌-◌, ◌<◌, ◌≤◌, List, [], ◌∷◌, ◌++◌, length, get_or, set, drop, replicate, Option, Some, None, IfSome, IsSomeAnd, Result, Ok, Err, refl, sym, ap, ◌∙◌, subst, append-nil, arith}
-use Rattle.std.specs.List.{Contains}
 use Rattle.std.proofs.lemmas.Bool.{cases_eq}
 use Rattle.std.proofs.lemmas.List.{get_or-set_same, get_or-set_other, set-get_or}
-use Rattle.std.proofs.lemmas.List.Elements.{Contains-append_left, Contains-append_right}
 use Rattle.btr_base.specs.declared.key.Key.{Key}
 use Rattle.btr_prog.specs.Prog.{Return, Wants, first, exec}
 use Rattle.btr_prog.specs.Answers.{Names, Follows, no_part}
@@ -28,6 +26,8 @@ use Rattle.btr_walk.specs.Scans.{part_items, todo_prog, frame_prog, frame_or_res
 use Rattle.btr_walk.specs.Entering.{IsEntered, HasLevel}
 use Rattle.btr_walk.specs.Again.{IsAgain}
 use Rattle.btr_walk.proofs.Halting.{need_halts, named}
+use Rattle.btr_walk.proofs.Ranking.{above_fits, low_todo}
+use Rattle.btr_walk.proofs.Staying.{frame_more, last_read}
 use Rattle.btr_walk.specs.Going.{path_prog, place_prog, IsAlong, ComesTo, IsGone}
 
 -- a path of a new scan
@@ -78,43 +78,12 @@ module _ (lo hi : Key) (B : Map) where
     up = refl;
   }
 
-  -- frames that were read before
-  seen_more : (seen more : List Want) (level : ℕ) (frame : Frame) → IsFrame lo hi B seen level frame → IsFrame lo hi B (seen ++ more) level frame
-  seen_more seen more level frame f = record {
-    block = f.block;
-    came = f.came;
-    is = f.is;
-    read = Contains-append_left seen more (want_of level frame.spot) f.read;
-    up = f.up;
-    some = f.some;
-    more = f.more;
-    within = f.within;
-    behind = f.behind;
-    low = f.low;
-    high = f.high;
-  }
-
-  seen_if : (seen more : List Want) (level : ℕ) (o : Option Frame) → IfSome o (IsFrame lo hi B seen level) → IfSome o (IsFrame lo hi B (seen ++ more) level)
-  seen_if seen more level None h = tt
-  seen_if seen more level (Some frame) h = seen_more seen more level frame h
-
   -- the frames of a path of which one was changed
   frames_set : (seen more : List Want) (fs : List (Option Frame)) (i : ℕ) (o : Option Frame) → i < length fs → ((k : ℕ) → IfSome (get_or fs k None) (IsFrame lo hi B seen (k + 1))) → IfSome o (IsFrame lo hi B (seen ++ more) (i + 1)) → (k : ℕ) → IfSome (get_or (set fs i o) k None) (IsFrame lo hi B (seen ++ more) (k + 1))
   frames_set seen more fs i o lt h g k = elim (cases_eq k i) [
     | inl e ↦ subst (λ (j : ℕ). IfSome (get_or (set fs i o) j None) (IsFrame lo hi B (seen ++ more) (j + 1))) (sym e) (subst (λ x. IfSome x (IsFrame lo hi B (seen ++ more) (i + 1))) (sym (get_or-set_same fs i o None lt)) g)
-    | inr ne ↦ subst (λ x. IfSome x (IsFrame lo hi B (seen ++ more) (k + 1))) (sym (get_or-set_other fs i k o None ne)) (seen_if seen more (k + 1) (get_or fs k None) (h k))
+    | inr ne ↦ subst (λ x. IfSome x (IsFrame lo hi B (seen ++ more) (k + 1))) (sym (get_or-set_other fs i k o None ne)) (frame_more lo hi B seen more (k + 1) (get_or fs k None) (h k))
   ]
-
-  above_set : (fs : List (Option Frame)) (i : ℕ) (o : Option Frame) (todo : Option Todo) → ((k : ℕ) → k < i → get_or fs k None ≡ None) → IfSome todo (λ t. t.level ≤ i) → IfSome todo (λ t. (k : ℕ) → k < t.level → get_or (set fs i o) k None ≡ None)
-  above_set fs i o None h l = tt
-  above_set fs i o (Some t) h l = λ k lt. get_or-set_other fs i k o None (λ e. absurd (omega (arith, e, lt, l))) ∙ h k (omega (arith, lt, l))
-
-  lower : (todo : Option Todo) (level i : ℕ) → level - 1 ≡ i → IfSome todo (λ t. t.level ≡ level - 1) → IfSome todo (λ t. t.level ≤ i)
-  lower None level i e h = tt
-  lower (Some t) level i e h = omega (arith, e, h)
-
-  last_read : (seen : List Want) (w : Want) → Contains (seen ++ (w ∷ [])) w
-  last_read seen w = Contains-append_right seen (w ∷ []) w (0, omega arith, refl)
 
   -- a block that was to be read is a leaf
   pub gone_leaf : (Is : UnreadBlock → Want → Type 0) (path : List (Option Frame)) (todo : Todo) (store : Blocks) (l : LeafAt) → IsEntered lo hi Is B todo store (Ok (entered.Leaf l)) → IsGone lo hi Is B (record { path = path; todo = Some todo }) (record { path = path; todo = None }) store (Ok (Leaf l))
@@ -126,7 +95,7 @@ module _ (lo hi : Key) (B : Map) where
         comes = record {
           past = want_of todo.level todo.spot ∷ [];
           is = g (path_prog lo hi B 0 path);
-          on = record { frames = λ k. seen_if seen (want_of todo.level todo.spot ∷ []) (k + 1) (get_or path k None) (on.frames k); above = tt; up = tt };
+          on = record { frames = λ k. frame_more lo hi B seen (want_of todo.level todo.spot ∷ []) (k + 1) (get_or path k None) (on.frames k); above = tt; up = tt };
         };
         held = h.1 (seen ++ (want_of todo.level todo.spot ∷ [])) (last_read seen (want_of todo.level todo.spot));
       }
@@ -148,7 +117,7 @@ module _ (lo hi : Key) (B : Map) where
         is = ap (λ x. exec B (range_at lo hi todo.level todo.spot x)) old ∙ (e.0 (behind i path) ∙ ap (λ x. first (Wants w) (exec B (todo_prog lo hi b.todo x))) (sym new));
         on = subst (λ x. IsAlong lo hi B (seen ++ (w ∷ [])) (record { path = x; todo = b.todo })) (sym set_is) (record {
           frames = frames_set seen (w ∷ []) path i b.frame within on.frames (subst (λ (x : ℕ). IfSome b.frame (IsFrame lo hi B (seen ++ (w ∷ [])) x)) (sym level) (e.1 (seen ++ (w ∷ [])) (last_read seen w)));
-          above = above_set path i b.frame b.todo clear (lower b.todo todo.level i refl e.3);
+          above = above_fits path i b.frame b.todo clear (low_todo b.todo todo.level i refl e.3);
           up = e.2;
         });
       }
@@ -170,8 +139,8 @@ module _ (lo hi : Key) (B : Map) where
         past = [];
         is = ap (exec B) (old ∙ a.program (behind i path) ∙ ap (todo_prog lo hi b.todo) (sym new));
         on = subst (λ x. IsAlong lo hi B (seen ++ []) (record { path = x; todo = b.todo })) (sym set_is) (record {
-          frames = frames_set seen [] path i b.frame within on.frames (seen_if seen [] (i + 1) b.frame (subst (λ (x : ℕ). IfSome b.frame (IsFrame lo hi B seen x)) level_is a.frame_is));
-          above = above_set path i b.frame b.todo clear (lower b.todo level i (omega (arith, level_is)) a.level_is);
+          frames = frames_set seen [] path i b.frame within on.frames (frame_more lo hi B seen [] (i + 1) b.frame (subst (λ (x : ℕ). IfSome b.frame (IsFrame lo hi B seen x)) level_is a.frame_is));
+          above = above_fits path i b.frame b.todo clear (low_todo b.todo level i (omega (arith, level_is)) a.level_is);
           up = a.up;
         });
       }

@@ -3,7 +3,7 @@ use Rattle.std.proofs.Common.{◌≡◌, inl, inr, ℕ, zero, suc, ◌+◌, ◌-
 use Rattle.std.specs.List.{Contains}
 use Rattle.std.proofs.lemmas.Bool.{cases_eq}
 use Rattle.std.proofs.lemmas.List.{drop_all, get_or-set_same, get_or-set_other, set-get_or}
-use Rattle.std.proofs.lemmas.List.Elements.{Contains-append_left, Contains-append_right}
+use Rattle.std.proofs.lemmas.List.Elements.{Contains-append_left}
 use Rattle.btr_node.specs.Block.{KeyPointer, items, pointers}
 use Rattle.btr_node.specs.declared.node.Node.TheVariants.{Leaf, Inner}
 use Rattle.btr_prog.specs.Prog.{Return, Wants, Does, first, given, exec}
@@ -32,6 +32,7 @@ use Rattle.btr_walk.specs.Preorder.{frame_blocks, blocks_or_rest, todo_blocks, p
 use Rattle.btr_walk.proofs.Belows.{drop_at}
 use Rattle.btr_walk.proofs.Halting.{need_halts, named}
 use Rattle.btr_walk.proofs.Ranking.{above_fits, low_todo}
+use Rattle.btr_walk.proofs.Staying.{last_read}
 use Rattle.btr_walk.proofs.Ways.{IsLeafAt, IsInnerAt}
 
 -- a node with all its children
@@ -222,9 +223,6 @@ module _ (B : Map) where
       node_at_level n spot block rest is e
       ∙ ap (λ x. first (Wants (want_of (suc n) spot)) (first (Does (tree_block (suc n) spot block)) (exec B (each (blocks_at x) (pointers block) spot.up rest)))) m
       ∙ ap (λ (x : List KeyPointer). first (Wants (want_of (suc n) spot)) (first (Does (tree_block (suc n) spot block)) (exec B (each (blocks_at (suc n - 1)) x spot.up rest)))) (sym (ap pointers_in e))
-
-  last_read : (seen : List Want) (w : Want) → Contains (seen ++ (w ∷ [])) w
-  last_read seen w = Contains-append_right seen (w ∷ []) w (0, omega arith, refl)
 
   pub enters_leaf : (ahead : Ahead) (block : List ℕ) (seen : List Want) → IsLeafAt ahead.todo.level ahead.todo.spot block → B (want_of ahead.todo.level ahead.todo.spot) ≡ Ok block → IsAmong B seen (place_of ahead) → Enters B seen (place_of ahead) (record { path = ahead.path; todo = None }) (want_of ahead.todo.level ahead.todo.spot) (tree_block ahead.todo.level ahead.todo.spot block)
   enters_leaf ahead block seen leaf e on =

@@ -163,9 +163,6 @@ module _ (B : Map) (key : Key) (root : RootPlace) where
       (other : Key) → key_number key ≤ key_number other → is_below spot.up other ≡ true → at B other level spot ≡ at B key level spot
       → at B other root.level (root_spot root) ≡ at B key root.level (root_spot root)
 
-  pub carries_none : Carries root.level (root_spot root)
-  carries_none other le less same = same
-
   pub carries_down : (level : ℕ) (spot child : Spot) (block : List ℕ) → Carries level spot → IsInnerAt level spot block → le_child key (pointers block) spot.up ≡ Some child → B (want_of level spot) ≡ Ok block → Carries (level - 1) child
   carries_down level spot child block carries inner some came other le less same =
       let all = all_below_up level spot block (Inner (pointers block)) inner.is in

@@ -5,7 +5,6 @@ use Rattle.btr_base.specs.Key.{key_number}
 use Rattle.btr_node.specs.Block.{KeyPointer, pointers}
 use Rattle.btr_node.specs.declared.node.Node.TheVariants.{Inner}
 use Rattle.btr_read.specs.Fate as fate
-use Rattle.btr_read.specs.Store.{Blocks}
 use Rattle.btr_read.specs.declared.want.Want.{Want}
 use Rattle.btr_walk.specs.declared.entering.Below.{Below}
 use Rattle.btr_walk.specs.declared.fault.TreeFault.{TreeFault}
@@ -18,7 +17,7 @@ use Rattle.btr_walk.specs.Le.{want_of}
 use Rattle.btr_walk.specs.Range.{RangeProg, over, range_at}
 use Rattle.btr_walk.specs.Scans.{pointers_in, frame_prog, IsFrame}
 use Rattle.btr_walk.specs.Again.{later, IsChild, IsNextBelow, IsNext, IsAgainBelow, IsAgain, Rereads}
-use Rattle.btr_walk.specs.Reading.{Map, UnreadBlock, Reads}
+use Rattle.btr_walk.specs.Reading.{Map, UnreadBlock}
 use Rattle.btr_walk.proofs.Choosing.{over_none, bound_behind}
 use Rattle.btr_walk.proofs.Belows.{all_later, all_at, over_at}
 
@@ -99,10 +98,3 @@ again_from lo hi Is B level frame (Err (tree.Unread a slot)) h = h
 again_from lo hi Is B level frame (Err (tree.Unmapped a)) h = λ seen f. fault_never lo hi B level frame seen f (fate.Unmapped a) h
 again_from lo hi Is B level frame (Err (tree.Crosses a)) h = λ seen f. fault_never lo hi B level frame seen f (fate.Crosses a) h
 again_from lo hi Is B level frame (Err (tree.Malformed a)) h = λ seen f. elim h.2 [ inl bad ↦ bad_never lo hi B level frame seen f h.0 h.1 bad | inr le ↦ stale_never lo hi B level frame seen f h.0 h.1 le ]
-
-pub rereads_err : (Is : UnreadBlock → Want → Type 0) (B : Map) (level : ℕ) (frame : Frame) (store : Blocks) (x : TreeFault) → Reads Is B level frame.spot store (Err x) → Rereads Is B level frame (Err x)
-rereads_err Is B level frame store (tree.Lost a) h = h
-rereads_err Is B level frame store (tree.Unread a slot) h = h
-rereads_err Is B level frame store (tree.Unmapped a) h = h
-rereads_err Is B level frame store (tree.Crosses a) h = h
-rereads_err Is B level frame store (tree.Malformed a) h = (h.1.0, h.1.1, inl h.1.2)

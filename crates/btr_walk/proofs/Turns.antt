@@ -4,9 +4,7 @@ use Rattle.btr_base.specs.declared.key.Key.{Key}
 use Rattle.btr_prog.specs.Prog.{Wants, Does, Run, run, first, prepend, exec, steps_of, wants_of, want_marks}
 use Rattle.btr_prog.specs.Answers.{Follows, no_part}
 use Rattle.btr_prog.proofs.Follow.{broke_here, follows_as, follows_behind}
-use Rattle.btr_rack.specs.Rack.{Seen, OnlyReads}
 use Rattle.btr_read.specs.Fate as fate
-use Rattle.btr_read.specs.Layout.{Layout}
 use Rattle.btr_read.specs.Store.{Blocks, Lent, SameLoans, free_count}
 use Rattle.btr_read.specs.declared.want.Want.{Want}
 use Rattle.btr_walk.specs.declared.fault.TreeFault.{TreeFault}
@@ -25,8 +23,7 @@ use Rattle.btr_walk.specs.Lending.{base}
 use Rattle.btr_walk.specs.Going.{IsOn}
 use Rattle.btr_walk.specs.ScanEnds.{left_of, Gives, IsNextOn}
 use Rattle.btr_walk.specs.Folds.{Next, folded_over, folded}
-use Rattle.btr_walk.specs.Folding.{fold_answer, FoldCause, IsTaken, to_fold, Turns, Ends, TurnsBy, IsTurned, result_of, IsRun, FoldFollows}
-use Rattle.btr_walk.proofs.Fetched.{cause_since}
+use Rattle.btr_walk.specs.Folding.{fold_answer, IsTaken, to_fold, Turns, Ends, TurnsBy, IsTurned, result_of, IsRun, FoldFollows}
 use Rattle.btr_walk.proofs.Folds.{fold_run, exec_fold, fold_past, fold_go, fold_end, fold_broken, fold_halts, fold_ends, wants_value, wants_fault}
 
 -- the layout of a store without a loan
@@ -39,10 +36,6 @@ same_layout old new loan loan' s = sym (base_layout new loan') ∙ (s.layout ∙
 
 pub same_room : (old new : Blocks) → SameLoans old new → 4 ≤ free_count old → 4 ≤ free_count new
 same_room old new s h = subst (λ l. 4 ≤ count_by is_none l) (sym s.loans) h
-
-pub fold_cause_since : (A : Type 0) {E : Type 0} {a b : Seen} (c : Seen) (layout layout' : Layout) (f : FoldFault E) → layout' ≡ layout → OnlyReads a b → FoldCause {A = A} layout' b c (Err f) → FoldCause {A = A} layout a c (Err f)
-fold_cause_since A c layout layout' (Tree f) e earlier h = cause_since c layout layout' f e earlier h
-fold_cause_since A c layout layout' (Own x) e earlier h = tt
 
 module _ {St R : Type 0} (step : St → TreeItem → Next St R) (answer : St → R) (B : Map) (Is : UnreadBlock → Want → Type 0) (old new : Blocks) (scan scan' : Scan) where
   pub turned_err : (E : Type 0) (st : St) (f : TreeFault) → IsNextOn Is B old new scan scan' (Err f) → IsTurned step answer {E = E} Is B old new scan scan' st st (Err (Tree f))
@@ -93,9 +86,6 @@ module _ {St R : Type 0} (step : St → TreeItem → Next St R) (answer : St →
   -- how far a fold has come, from whatever was seen before
   abbrev pub Led : Blocks → Scan → St → Type 0
   Led store scan state = (seen : List Want) → IsOn first_scan.lo first_scan.hi B seen first_scan.place → Turns step answer B seen first_store store first_scan scan first_state state
-
-  pub led_none : Led first_store first_scan first_state
-  led_none seen on = record { past = []; is = refl; on = subst (λ (x : List Want). IsOn first_scan.lo first_scan.hi B x first_scan.place) (sym (append-nil seen)) on }
 
   module _ (Is : UnreadBlock → Want → Type 0) (store : Blocks) (scan : Scan) (state : St) (same_lo : scan.lo ≡ first_scan.lo) (same_hi : scan.hi ≡ first_scan.hi) where
     on_as : (seen : List Want) → IsOn first_scan.lo first_scan.hi B seen scan.place → IsOn scan.lo scan.hi B seen scan.place

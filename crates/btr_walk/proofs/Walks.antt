@@ -22,6 +22,7 @@ use Rattle.btr_walk.specs.Preorder.{place_blocks, place_of, IsAhead, Enters, IsE
 use Rattle.btr_walk.proofs.Joined.{drawn, block_is}
 use Rattle.btr_walk.proofs.Lending.{given_back, same_then}
 use Rattle.btr_walk.proofs.Preorders.{gives_entered}
+use Rattle.btr_walk.proofs.Turns.{base_layout}
 
 some_as : {A : Type 0} (o : Option A) (P Q : A → Type 0) → ((a : A) → P a → Q a) → IsSomeAnd o P → IsSomeAnd o Q
 some_as None P Q f h = h
@@ -50,10 +51,6 @@ lends_block old mid new want e same t = record { others = same_then same (given_
 step_as : (layout layout' : Layout) (before now : Seen) (place : Where) (store : Blocks) (r : Result (Option Entry) TreeFault) → layout' ≡ layout
     → Tells layout' before now (λ B. IsStep (unread_by layout' before now) B place store r) → Tells layout before now (λ B. IsStep (unread_by layout before now) B place store r)
 step_as layout layout' before now place store r e h = subst (λ (l : Layout). Tells l before now (λ B. IsStep (unread_by l before now) B place store r)) e h
-
-base_layout : (store : Blocks) (loan : Option Lent) → (base store loan).layout ≡ store.layout
-base_layout store None = refl
-base_layout store (Some loan) = refl
 
 module _ (store mid new : Blocks) (scan : BlockScan) (taken : Option Lent) (is_taken : taken ≡ scan.loan) (back : SameLoans (base store taken) mid) (before now : Seen) (serves : Serves now new) where
   abbrev Is : UnreadBlock → Want → Type 0

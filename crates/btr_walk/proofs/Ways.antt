@@ -10,7 +10,7 @@ use Rattle.btr_node.specs.declared.node.Node.TheVariants.{Leaf, Inner}
 use Rattle.btr_node.proofs.Leaves.{level-leaf}
 use Rattle.btr_node.proofs.Inners.{level-inner}
 use Rattle.btr_prog.specs.Prog.{BlockMap, Prog, Mark, Wants, Run, run, first, prepend, given, exec, steps_of, wants_of}
-use Rattle.btr_prog.specs.Answers.{Halt, Fault, Unread, Follows, no_part, Names}
+use Rattle.btr_prog.specs.Answers.{Halt, Fault, Unread, Follows, no_part}
 use Rattle.btr_prog.proofs.Follow.{follows_behind}
 use Rattle.btr_read.specs.Fate as fate
 use Rattle.btr_read.specs.Store.{Blocks}
@@ -21,6 +21,7 @@ use Rattle.btr_walk.specs.declared.spot.Spot.{Spot}
 use Rattle.btr_walk.specs.Spot.{keys_of, fits, fitting, judged}
 use Rattle.btr_walk.specs.Le.{TreeItem, tree_item, want_of, le_item, le_child, le_leaf, le_inner, go_down, le_at}
 use Rattle.btr_walk.specs.Reading.{UnreadBlock, halt_of, Reads}
+use Rattle.btr_walk.proofs.Halting.{names_last}
 
 -- what a judged block of a level is: a leaf at level 0, an inner node else
 pub record IsLeafAt (level : ℕ) (spot : Spot) (block : List ℕ) : Type 0 where
@@ -91,9 +92,6 @@ module _ (B : BlockMap Want fate.Fault) (key : Key) where
     pub before : List (Mark Want ⊥)
     pub is : at from root ≡ prepend before (at level spot)
 
-  pub way_none : (level : ℕ) (spot : Spot) → Way level spot level spot
-  way_none level spot = record { before = []; is = refl }
-
   pub way_ends : (Is : UnreadBlock → Want → Type 0) (from level : ℕ) (root spot : Spot) (ans : Answer) → Way from root level spot → ((seen : List Want) → Ends Is level spot seen ans) → Ends Is from root [] ans
   way_ends Is from level root spot ans way h =
       subst (λ r. Follows Is no_part [] r [] ans) (sym way.is)
@@ -124,10 +122,6 @@ module _ (B : BlockMap Want fate.Fault) (key : Key) where
   bad_at : (Is : UnreadBlock → Want → Type 0) (level : ℕ) (spot : Spot) (block : List ℕ) (seen : List Want) → B (want_of level spot) ≡ Ok block → judged level spot block ≡ None → Ends Is level spot seen (Err (Fault (fate.Malformed spot.addr)))
   bad_at Is zero spot block seen e is = ended Is 0 spot (run (Wants (want_of 0 spot) ∷ []) (Err (fate.Malformed spot.addr))) seen (Err (Fault (fate.Malformed spot.addr))) (at_leaf spot block None e is) (refl, refl)
   bad_at Is (suc n) spot block seen e is = ended Is (suc n) spot (run (Wants (want_of (suc n) spot) ∷ []) (Err (fate.Malformed spot.addr))) seen (Err (Fault (fate.Malformed spot.addr))) (at_inner n spot block None e is) (refl, refl)
-
-  names_last : (Is : UnreadBlock → Want → Type 0) (u : UnreadBlock) (seen : List Want) (w : Want) → Is u w → Names Is u (seen ++ (w ∷ []))
-  names_last Is u [] w e = inl e
-  names_last Is u (v ∷ seen) w e = inr (names_last Is u seen w e)
 
   unread_at : (Is : UnreadBlock → Want → Type 0) (level : ℕ) (spot : Spot) (u : UnreadBlock) (seen : List Want) → Is u (want_of level spot) → Ends Is level spot seen (Err (Unread u))
   unread_at Is zero spot u seen e = record { before = Wants (want_of 0 spot) ∷ []; behind = (given (B (want_of 0 spot)) (λ b. exec B (le_leaf key spot (judged 0 spot b)))).marks; left = None; place = refl; steps = refl; leaves = tt; holds = names_last Is u seen (want_of 0 spot) e }

@@ -8,7 +8,8 @@ use Rattle.btr_prog.specs.Prog.{exec}
 use Rattle.btr_dump.specs.Pieces.{block_shown, held_block, held_in}
 use Rattle.btr_dump.specs.Showing.{TellsBlock, Writes}
 use Rattle.btr_dump.specs.Stops.{StopCause}
-use Rattle.btr_dump.proofs.Blocks.{block_failed, block_came, block_cause, lent_back}
+use Rattle.btr_walk.proofs.Lending.{given_back}
+use Rattle.btr_dump.proofs.Blocks.{block_failed, block_came, block_cause}
 use Rattle.btr_dump.proofs.Growing.{grows_none, run_grows, no_block}
 use Rattle.btr_dump.proofs.block.show_block.Goals as goal
 
@@ -32,7 +33,7 @@ pub returns-clause-serves : goal.returns-clause-serves
 returns-clause-serves g c = subst (Serves (g.R.Rack.seen c.fetch.new.rack)) (sym c.give.ensures) (serves_given (g.R.Rack.seen c.fetch.new.rack) c.fetch.new.store c.in-Ok.loan.slot c.in-Ok.ensures.serves)
 
 pub returns-clause-loans : goal.returns-clause-loans
-returns-clause-loans g c = lent_back _ _ _ (Block c.args.addr) c.in-Ok.loan c.in-Ok.ensures.lent c.give.ensures
+returns-clause-loans g c = given_back _ _ _ (Block c.args.addr) c.in-Ok.loan c.in-Ok.ensures.lent c.give.ensures
 
 pub returns-clause-cause : goal.returns-clause-cause
 returns-clause-cause g c = c.write_held-shown.ensures.cause c.args.store.now.layout (g.R.Rack.seen c.args.rack.now) (g.R.Rack.seen c.fetch.new.rack)

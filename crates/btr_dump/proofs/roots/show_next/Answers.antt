@@ -10,7 +10,7 @@ use Rattle.btr_dump.specs.Pieces.{item_line, item_lines}
 use Rattle.btr_dump.specs.Showing.{Turns}
 use Rattle.btr_dump.proofs.Loops.{turn_halts, turn_ends, turn_goes, turn_stops}
 use Rattle.btr_dump.proofs.Rooting.{no_wants}
-use Rattle.btr_dump.proofs.Telling.{drawn}
+use Rattle.btr_walk.proofs.Joined.{drawn}
 use Rattle.btr_dump.proofs.Growing.{grows_none, run_grows, no_block}
 use Rattle.btr_dump.proofs.roots.show_next.Goals as goal
 

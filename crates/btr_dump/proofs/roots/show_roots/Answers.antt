@@ -11,7 +11,8 @@ use Rattle.btr_volume.specs.Tree.{root_root, named_root}
 use Rattle.btr_dump.specs.Pieces.{root_line, item_lines, roots_shown}
 use Rattle.btr_dump.specs.Showing.{Writes}
 use Rattle.btr_dump.proofs.Rooting.{two_cut, two_then}
-use Rattle.btr_dump.proofs.Telling.{drawn, told_none, on_as}
+use Rattle.btr_walk.proofs.Joined.{drawn, unread_on}
+use Rattle.btr_dump.proofs.Telling.{on_as}
 use Rattle.btr_dump.proofs.Growing.{grows_twice, text_grows}
 use Rattle.btr_dump.proofs.roots.show_roots.Goals as goal
 
@@ -22,7 +23,7 @@ returns-in-Err-clause-content g c =
     let rack = g.R.Rack.seen c.args.rack.now in
     let old = g.O.Out.text c.args.out.now in
     let new = g.O.Out.text c.write_tops.new.out in
-    told_none layout (λ B. Writes {A = Unit {0}} (unread_by layout rack rack) [] (exec B (roots_shown s)) old new c.args.text.now c.write_tops.new.text (Err c.stop_of.result))
+    unread_on layout (λ B. Writes {A = Unit {0}} (unread_by layout rack rack) [] (exec B (roots_shown s)) old new c.args.text.now c.write_tops.new.text (Err c.stop_of.result))
     (λ B. subst (λ e. Writes {A = Unit {0}} (unread_by layout rack rack) [] (exec B (roots_shown s)) old new c.args.text.now c.write_tops.new.text (Err e)) (sym c.stop_of.ensures)
     (two_cut (unread_by layout rack rack) B (root_line (named_root 1 (root_root s))) (root_line (named_root 3 (chunk_root s))) (item_lines (range first_key last_key (root_root s))) old new c.args.text.now c.write_tops.new.text c.in-Err.refusal c.in-Err.ensures.text))
 

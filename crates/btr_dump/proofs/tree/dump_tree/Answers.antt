@@ -7,7 +7,8 @@ use Rattle.btr_walk.specs.Reading.{unread_by, answer_of}
 use Rattle.btr_dump.specs.Pieces.{kind_in, asked_tree, tree_shown}
 use Rattle.btr_dump.specs.Showing.{Puts, PutsAsked}
 use Rattle.btr_dump.proofs.Asking.{asked_fault, asked_none, asked_some}
-use Rattle.btr_dump.proofs.Telling.{drawn, joined, since}
+use Rattle.btr_walk.proofs.Fetched.{since}
+use Rattle.btr_walk.proofs.Joined.{drawn, joined}
 use Rattle.btr_dump.proofs.Growing.{grows_none}
 use Rattle.btr_dump.proofs.tree.dump_tree.Goals as goal
 

@@ -7,7 +7,11 @@ use Rattle.btr_walk.specs.Preorder.{IsAmong, blocks_left, blocks_rank}
 use Rattle.btr_dump.specs.Pieces.{blocks_shown}
 use Rattle.btr_dump.specs.Showing.{Writes, GoesOn, Turns, TurnNears}
 use Rattle.btr_dump.proofs.Loops.{goes_none, goes_more, goes_ends}
-use Rattle.btr_dump.proofs.Telling.{joined, told_none, since, same_then, same_layout, same_room, stop_cause_since, counts_since}
+use Rattle.btr_walk.proofs.Fetched.{since}
+use Rattle.btr_walk.proofs.Joined.{joined, unread_on}
+use Rattle.btr_walk.proofs.Lending.{same_then}
+use Rattle.btr_walk.proofs.Turns.{same_layout, same_room}
+use Rattle.btr_dump.proofs.Telling.{stop_cause_since, counts_since}
 use Rattle.btr_dump.proofs.Growing.{grows_none, grows_twice}
 use Rattle.btr_dump.proofs.tree.show_blocks.Goals as goal
 
@@ -24,7 +28,7 @@ loop-stop-init g c =
       layout = refl;
       account = refl;
       grows = grows_none (g.O.Out.text c.args.out.now);
-      tells = told_none store.layout (λ B. (seen : List Want) → IsAmong B seen scan.place → GoesOn (λ ws. IsAmong B ws scan.place) (exec B (blocks_shown kind (blocks_left B scan))) (exec B (blocks_shown kind (blocks_left B scan))) seen (g.O.Out.text c.args.out.now) (g.O.Out.text c.args.out.now) c.args.text.now c.args.text.now)
+      tells = unread_on store.layout (λ B. (seen : List Want) → IsAmong B seen scan.place → GoesOn (λ ws. IsAmong B ws scan.place) (exec B (blocks_shown kind (blocks_left B scan))) (exec B (blocks_shown kind (blocks_left B scan))) seen (g.O.Out.text c.args.out.now) (g.O.Out.text c.args.out.now) c.args.text.now c.args.text.now)
           (λ B seen on. goes_none (λ ws. IsAmong B ws scan.place) (exec B (blocks_shown kind (blocks_left B scan))) seen (g.O.Out.text c.args.out.now) c.args.text.now on);
     }
 

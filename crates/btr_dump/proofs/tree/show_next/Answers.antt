@@ -9,7 +9,7 @@ use Rattle.btr_dump.specs.Pieces.{held_block, held_in, met_block, blocks_shown}
 use Rattle.btr_dump.specs.Showing.{Turns}
 use Rattle.btr_dump.proofs.Blocks.{met_wants_none, met_written}
 use Rattle.btr_dump.proofs.Loops.{turn_halts, turn_ends, turn_goes, turn_stops}
-use Rattle.btr_dump.proofs.Telling.{drawn}
+use Rattle.btr_walk.proofs.Joined.{drawn}
 use Rattle.btr_dump.proofs.Growing.{grows_none, run_grows, no_block}
 use Rattle.btr_dump.proofs.tree.show_next.Goals as goal
 

@@ -9,7 +9,7 @@ use Rattle.btr_walk.specs.Reading.{unread_by}
 use Rattle.btr_dump.specs.Pieces.{tree_text, blocks_shown, tree_shown}
 use Rattle.btr_dump.specs.Showing.{Writes}
 use Rattle.btr_dump.proofs.Rooting.{one_cut, one_then}
-use Rattle.btr_dump.proofs.Telling.{drawn, told_none}
+use Rattle.btr_walk.proofs.Joined.{drawn, unread_on}
 use Rattle.btr_dump.proofs.Growing.{grows_twice, text_grows}
 use Rattle.btr_dump.proofs.tree.show_tree.Goals as goal
 
@@ -22,7 +22,7 @@ returns-in-Err-clause-content g c =
     let old = g.O.Out.text c.args.out.now in
     let new = g.O.Out.text c.push_all.new.out in
     let line = tree_text root.id root.offset in
-    told_none layout (λ B. Writes {A = Unit {0}} (unread_by layout rack rack) [] (exec B (tree_shown kind root)) old new c.args.text.now c.push_all.new.self (Err c.stop_of.result))
+    unread_on layout (λ B. Writes {A = Unit {0}} (unread_by layout rack rack) [] (exec B (tree_shown kind root)) old new c.args.text.now c.push_all.new.self (Err c.stop_of.result))
     (λ B. subst (λ e. Writes {A = Unit {0}} (unread_by layout rack rack) [] (exec B (tree_shown kind root)) old new c.args.text.now c.push_all.new.self (Err e)) (sym c.stop_of.ensures)
     (one_cut (unread_by layout rack rack) B line (blocks_shown kind (blocks root.place)) old new c.args.text.now c.push_all.new.self c.in-Err.refusal (cut_as line c.tree_line.ensures c.in-Err.ensures.text)))
 

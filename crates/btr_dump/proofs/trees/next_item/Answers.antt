@@ -6,7 +6,7 @@ use Rattle.btr_walk.specs.ScanEnds.{IsNextOn}
 use Rattle.btr_walk.specs.Showing.{item_of}
 use Rattle.btr_dump.specs.Trees.{NextItemBy}
 use Rattle.btr_dump.specs.declared.trees.NextItem.TheVariants as item
-use Rattle.btr_dump.proofs.Telling.{drawn}
+use Rattle.btr_walk.proofs.Joined.{drawn}
 use Rattle.btr_dump.proofs.trees.next_item.Goals as goal
 
 pub returns-in-Some-clause-content : goal.returns-in-Some-clause-content

@@ -12,7 +12,9 @@ use Rattle.btr_dump.specs.Pieces.{all_trees, item_trees, kind_in, top_trees}
 use Rattle.btr_dump.specs.Showing.{Writes}
 use Rattle.btr_dump.proofs.Growing.{grows_twice}
 use Rattle.btr_dump.proofs.Parts.{first_stops, second_then}
-use Rattle.btr_dump.proofs.Telling.{drawn, joined, on_as, since}
+use Rattle.btr_walk.proofs.Fetched.{since}
+use Rattle.btr_walk.proofs.Joined.{drawn, joined}
+use Rattle.btr_dump.proofs.Telling.{on_as}
 use Rattle.btr_dump.proofs.trees.show_all.Goals as goal
 
 pub returns-in-Err-clause-content : goal.returns-in-Err-clause-content

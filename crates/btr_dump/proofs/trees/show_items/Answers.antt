@@ -8,8 +8,12 @@ use Rattle.btr_walk.specs.ScanEnds.{left_of, rank_of}
 use Rattle.btr_dump.specs.Pieces.{item_trees}
 use Rattle.btr_dump.specs.Showing.{Writes, GoesOn, Turns, TurnNears}
 use Rattle.btr_dump.proofs.Loops.{goes_none, goes_more, goes_ends}
-use Rattle.btr_dump.proofs.Telling.{joined, told_none, since, same_then, same_layout, on_as, stop_cause_since, counts_since}
-use Rattle.btr_dump.proofs.Items.{room_same}
+use Rattle.btr_walk.proofs.Fetched.{since}
+use Rattle.btr_walk.proofs.Joined.{joined, unread_on}
+use Rattle.btr_walk.proofs.Lending.{same_then}
+use Rattle.btr_walk.proofs.Turns.{same_layout}
+use Rattle.btr_dump.proofs.Telling.{on_as, stop_cause_since, counts_since}
+use Rattle.btr_walk.proofs.Staying.{room_same}
 use Rattle.btr_dump.proofs.Growing.{grows_none, grows_twice}
 use Rattle.btr_dump.proofs.trees.show_items.Goals as goal
 
@@ -28,7 +32,7 @@ loop-stop-init g c =
       hi = refl;
       account = refl;
       grows = grows_none (g.O.Out.text c.args.out.now);
-      tells = told_none store.layout (λ B. (seen : List Want) → IsOn scan.lo scan.hi B seen scan.place → GoesOn (λ ws. IsOn scan.lo scan.hi B ws scan.place) (exec B (item_trees kind (left_of B store scan))) (exec B (item_trees kind (left_of B store scan))) seen (g.O.Out.text c.args.out.now) (g.O.Out.text c.args.out.now) c.args.text.now c.args.text.now)
+      tells = unread_on store.layout (λ B. (seen : List Want) → IsOn scan.lo scan.hi B seen scan.place → GoesOn (λ ws. IsOn scan.lo scan.hi B ws scan.place) (exec B (item_trees kind (left_of B store scan))) (exec B (item_trees kind (left_of B store scan))) seen (g.O.Out.text c.args.out.now) (g.O.Out.text c.args.out.now) c.args.text.now c.args.text.now)
           (λ B seen on. goes_none (λ ws. IsOn scan.lo scan.hi B ws scan.place) (exec B (item_trees kind (left_of B store scan))) seen (g.O.Out.text c.args.out.now) c.args.text.now on);
     }
 

@@ -8,10 +8,13 @@ use Rattle.btr_walk.specs.ScanEnds.{left_of}
 use Rattle.btr_dump.specs.Pieces.{item_root, item_trees, tree_if, tree_shown}
 use Rattle.btr_dump.specs.Showing.{GoesOn, Turns, Writes}
 use Rattle.btr_dump.specs.Trees.{NextItemBy}
-use Rattle.btr_dump.proofs.Items.{room_beside, room_same}
+use Rattle.btr_walk.proofs.Staying.{room_beside, room_same}
 use Rattle.btr_dump.proofs.Loops.{turn_halts, turn_ends}
 use Rattle.btr_dump.proofs.Parts.{writes_behind}
-use Rattle.btr_dump.proofs.Telling.{drawn, joined, same_layout, since, stop_cause_since}
+use Rattle.btr_walk.proofs.Fetched.{since}
+use Rattle.btr_walk.proofs.Joined.{drawn, joined}
+use Rattle.btr_walk.proofs.Turns.{same_layout}
+use Rattle.btr_dump.proofs.Telling.{stop_cause_since}
 use Rattle.btr_dump.proofs.Turning.{other_goes, tree_goes, tree_stops}
 use Rattle.btr_dump.proofs.trees.show_next.Goals as goal
 

@@ -7,7 +7,8 @@ use Rattle.btr_dump.specs.Pieces.{kind_in, top_trees, tree_shown}
 use Rattle.btr_dump.specs.Showing.{Writes}
 use Rattle.btr_dump.proofs.Growing.{grows_twice}
 use Rattle.btr_dump.proofs.Parts.{first_stops, second_then}
-use Rattle.btr_dump.proofs.Telling.{drawn, joined, since}
+use Rattle.btr_walk.proofs.Fetched.{since}
+use Rattle.btr_walk.proofs.Joined.{drawn, joined}
 use Rattle.btr_dump.proofs.trees.show_tops.Goals as goal
 
 pub returns-in-Err-clause-content : goal.returns-in-Err-clause-content

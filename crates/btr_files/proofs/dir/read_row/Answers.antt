@@ -4,7 +4,7 @@ use Rattle.btr_walk.specs.declared.found.Found.{Found}
 use Rattle.btr_walk.specs.Reading.{Map, unread_by}
 use Rattle.btr_walk.specs.ScanEnds.{IsNextOn, NextNears}
 use Rattle.btr_walk.specs.Showing.{item_of}
-use Rattle.btr_volume.proofs.Looked.{drawn}
+use Rattle.btr_walk.proofs.Joined.{drawn}
 use Rattle.btr_files.specs.Listing.{IsNextRow}
 use Rattle.btr_files.proofs.Rows.{next_some, next_none, next_fault, row_cause, row_nears}
 use Rattle.btr_files.proofs.dir.read_row.Goals as goal

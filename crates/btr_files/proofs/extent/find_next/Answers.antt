@@ -1,6 +1,6 @@
 use Rattle.std.proofs.Common.{Ok, Err, Option, subst}
 use Rattle.btr_walk.specs.Reading.{unread_by}
-use Rattle.btr_volume.proofs.Looked.{drawn}
+use Rattle.btr_walk.proofs.Joined.{drawn}
 use Rattle.btr_files.specs.declared.extent.Ahead.{Ahead}
 use Rattle.btr_files.specs.declared.progress.Todo.TheVariants.{Over}
 use Rattle.btr_files.specs.Ahead.{IsLooked, IsNextExtent, KeepsItem}

@@ -4,7 +4,7 @@ use Rattle.btr_walk.specs.declared.found.Found.{Found}
 use Rattle.btr_walk.specs.Reading.{Map, unread_by}
 use Rattle.btr_walk.specs.ScanEnds.{IsNextOn}
 use Rattle.btr_walk.specs.Showing.{item_of}
-use Rattle.btr_volume.proofs.Looked.{drawn}
+use Rattle.btr_walk.proofs.Joined.{drawn}
 use Rattle.btr_files.specs.Ahead.{IsNextExtent}
 use Rattle.btr_files.proofs.Extending.{found_good, found_fault}
 use Rattle.btr_files.proofs.Reaching.{extent_err, extent_none, extent_some, extent_fault, broken_cause}

@@ -7,7 +7,8 @@ use Rattle.btr_walk.specs.ScanEnds.{rank_of, without_leaf}
 use Rattle.btr_scrub.specs.Gathering.{Gathers, scene}
 use Rattle.btr_scrub.specs.Units.{extent_met}
 use Rattle.btr_scrub.specs.Scanning.{ItemNears, NextTold}
-use Rattle.btr_scrub.proofs.Scanning.{ready_same, room_beside, room_same, same_layout, without_same}
+use Rattle.btr_walk.proofs.Staying.{ready_same, room_beside, room_same}
+use Rattle.btr_scrub.proofs.Scanning.{same_layout, without_same}
 use Rattle.btr_scrub.proofs.Underways.{scanned_broken, scanned_ends, scanned_fault, scanned_stops, underway_extent, underway_first, underway_other}
 use Rattle.btr_scrub.proofs.collecting.gather_items.Goals as goal
 

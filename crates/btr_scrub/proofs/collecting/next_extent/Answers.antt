@@ -4,7 +4,7 @@ use Rattle.btr_walk.specs.Going.{IsOn}
 use Rattle.btr_walk.specs.Reading.{unread_by}
 use Rattle.btr_walk.specs.ScanEnds.{IsNextOn}
 use Rattle.btr_walk.specs.Showing.{item_of}
-use Rattle.btr_volume.proofs.Looked.{drawn}
+use Rattle.btr_walk.proofs.Joined.{drawn}
 use Rattle.btr_scrub.specs.Scanning.{NextBy}
 use Rattle.btr_scrub.proofs.Underways.{next_by}
 use Rattle.btr_scrub.proofs.collecting.next_extent.Goals as goal

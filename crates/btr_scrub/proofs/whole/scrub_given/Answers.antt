@@ -3,7 +3,7 @@ use Rattle.btr_prog.specs.Answers.{Follows, no_part}
 use Rattle.btr_prog.specs.Prog.{exec}
 use Rattle.btr_read.specs.Layout.{Layout}
 use Rattle.btr_walk.specs.Reading.{unread_by}
-use Rattle.btr_volume.proofs.Looked.{drawn}
+use Rattle.btr_walk.proofs.Joined.{drawn}
 use Rattle.btr_scrub.specs.Gathering.{checked_among}
 use Rattle.btr_scrub.specs.Judging.{Judged}
 use Rattle.btr_scrub.specs.Order.{AreApart}

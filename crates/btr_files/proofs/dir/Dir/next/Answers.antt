@@ -2,7 +2,7 @@ use Rattle.std.proofs.Common.{Result, Ok, Err, Option, Some, None, refl, ◌∙�
 use Rattle.btr_read.specs.Store.{free_count}
 use Rattle.btr_walk.specs.Reading.{Map, HasCause, unread_by}
 use Rattle.btr_walk.specs.declared.fault.TreeFault.{TreeFault}
-use Rattle.btr_volume.proofs.Looked.{drawn}
+use Rattle.btr_walk.proofs.Joined.{drawn}
 use Rattle.btr_files.specs.declared.dir_row.DirRow.{DirRow}
 use Rattle.btr_files.specs.Listing.{IsNextRow, IsNextEntry, KeepsName, RowNears}
 use Rattle.btr_files.proofs.Rows.{ready_is, free_is, same_through, dir_some, dir_ends, dir_fault, dir_nears}

@@ -1,8 +1,9 @@
--- A scan between whose items other blocks are read.
-use Rattle.std.proofs.Common.{◌≡◌, ◌≤◌, ◌+◌, ℕ, List, ◌++◌, Option, Some, None, get_or, set, take, count_by, is_none, length, refl, sym, ap, subst, arith}
+-- What stays of a scan while other blocks are read.
+use Rattle.std.proofs.Common.{◌≡◌, ◌≤◌, ◌+◌, ℕ, List, [], ◌∷◌, ◌++◌, Option, Some, None, get_or, set, take, count_by, is_none, length, refl, sym, ap, subst, arith}
 use Rattle.std.specs.Option.{IfSome, IsSome, IsSomeAnd, option_map}
 use Rattle.std.specs.Bool.{IsTrue}
-use Rattle.std.proofs.lemmas.List.Elements.{Contains-append_left}
+use Rattle.std.specs.List.{Contains}
+use Rattle.std.proofs.lemmas.List.Elements.{Contains-append_left, Contains-append_right}
 use Rattle.btr_base.specs.declared.key.Key.{Key}
 use Rattle.btr_node.specs.Block.{is_leaf, items}
 use Rattle.btr_rack.specs.Rack.{Seen}
@@ -23,9 +24,13 @@ use Rattle.btr_walk.specs.declared.frame.Frame.{Frame}
 use Rattle.btr_walk.specs.declared.scan.Scan.{Scan}
 use Rattle.btr_walk.specs.declared.scan_place.ScanPlace.{ScanPlace}
 
+-- a block that was read last is among those that were read
+pub last_read : (seen : List Want) (w : Want) → Contains (seen ++ (w ∷ [])) w
+last_read seen w = Contains-append_right seen (w ∷ []) w (0, omega arith, refl)
+
 -- a scan's place stays one where more was read
 module _ (lo hi : Key) (B : Map) (seen more : List Want) where
-  frame_more : (level : ℕ) (frame : Option Frame) → IfSome frame (IsFrame lo hi B seen level) → IfSome frame (IsFrame lo hi B (seen ++ more) level)
+  pub frame_more : (level : ℕ) (frame : Option Frame) → IfSome frame (IsFrame lo hi B seen level) → IfSome frame (IsFrame lo hi B (seen ++ more) level)
   frame_more level None f = tt
   frame_more level (Some frame) f = record {
     block = f.block;
