@@ -28,7 +28,7 @@ use Rattle.btr_read.specs.Fate.{fate, Agreed}
 use Rattle.btr_read.specs.Reading.{AgreedOn, OnMap, shown}
 use Rattle.btr_volume.specs.Maps.{array_layout}
 use Rattle.btr_volume.specs.Table.{table_scan}
-use Rattle.btr_volume.specs.Opening.{ComparesRoots, OpenedIsAlike, OpenedIsOfImages}
+use Rattle.btr_volume.specs.Opening.{StartOf, ComparesRoots, OpenedIsAlike, OpenedIsOfImages}
 use Rattle.btr_volume.specs.Tree.{root_want}
 use Rattle.btr_read.specs.Comparing.{Compares, disagreeing}
 use Rattle.btr_read.proofs.Compared.{compares_before, compares_steady}
@@ -144,21 +144,22 @@ module _ (old new : Seen) where
   told_early (Some images) refusal h = opens_early images refusal h
 
   -- a refusal by the chunk tree
-  pub refused_late : (layout : Layout) (refusal : OpenFault) (T U : Type 0) → TableCause {T = T} layout old new (Err refusal) → OpenCause {T = U} old new (Err refusal)
-  refused_late layout Memory T U h = tt
-  refused_late layout (Tree fault) T U h = (layout, h)
-  refused_late layout (bad_chunk start) T U h = tt
-  refused_late layout (Limit which n) T U h = h
-  refused_late layout (ImageFault slot) T U h = absurd h
-  refused_late layout (NoSuper slot) T U h = absurd h
-  refused_late layout (kind_fault n) T U h = absurd h
-  refused_late layout (Foreign slot) T U h = absurd h
-  refused_late layout (Twin slot) T U h = absurd h
-  refused_late layout (Diverged slot) T U h = absurd h
-  refused_late layout (Unsupported bits) T U h = absurd h
-  refused_late layout Geometry T U h = absurd h
-  refused_late layout LogPending T U h = absurd h
-  refused_late layout BadArray T U h = absurd h
+  pub refused_late : (begun : StartOf old) (refusal : OpenFault) (T U : Type 0)
+      → TableCause {T = T} (array_layout begun.start) old new (Err refusal) → OpenCause {T = U} old new (Err refusal)
+  refused_late begun Memory T U h = tt
+  refused_late begun (Tree fault) T U h = (begun, h)
+  refused_late begun (bad_chunk start) T U h = tt
+  refused_late begun (Limit which n) T U h = h
+  refused_late begun (ImageFault slot) T U h = absurd h
+  refused_late begun (NoSuper slot) T U h = absurd h
+  refused_late begun (kind_fault n) T U h = absurd h
+  refused_late begun (Foreign slot) T U h = absurd h
+  refused_late begun (Twin slot) T U h = absurd h
+  refused_late begun (Diverged slot) T U h = absurd h
+  refused_late begun (Unsupported bits) T U h = absurd h
+  refused_late begun Geometry T U h = absurd h
+  refused_late begun LogPending T U h = absurd h
+  refused_late begun BadArray T U h = absurd h
 
   module _ (volume : Volume) where
     opens_late : (images : Images) (refusal : OpenFault) (layout : Layout) (T : Type 0) → TableCause {T = T} layout old new (Err refusal) → start_of images ≡ Ok (start_in volume) → ReadsTable volume.sup volume.store.layout old new (Err refusal) → Opens images old new (Err refusal)
@@ -231,14 +232,9 @@ module _ (old now new : Seen) (volume : Volume) (store : Blocks) (chunks : List 
     differ = compared (Some slot) h;
   })
 
-  pub diverged_cause : (slot : ℕ) (T : Type 0) → Compares store.layout (root_want volume.sup) now new (Some slot)
-      → OpenCause {T = T} old new (Err (Diverged slot))
-  diverged_cause slot T h = inr (record {
-    layout = store.layout;
-    want = root_want volume.sup;
-    differ = compares_before store.layout
-        (root_want volume.sup) old now new (Some slot) first h;
-  })
+  pub diverged_cause : (slot : ℕ) (T : Type 0) → IfSome old.held (λ images. start_of images ≡ Ok (start_in volume))
+      → Compares store.layout (root_want volume.sup) now new (Some slot) → OpenCause {T = T} old new (Err (Diverged slot))
+  diverged_cause slot T is h = inr (record { start = start_in volume; is = is }, chunks, compared (Some slot) h)
 
 -- a rack serves a store with other chunks
 pub served_anew : (rack : Seen) (store store' : Blocks) (chunks : List Chunk) → Serves rack store → store' ≡ with_chunks store chunks → Serves rack store'

@@ -1,5 +1,5 @@
 -- What opening the images of a rack answers.
-use Rattle.std.specs.Prelude.{◌≡◌, ◌⊎◌, ℕ, ◌≤◌, false, List, [], replicate, Contains, Option, Some, None, Result, Ok, Err, ⊤, Vec}
+use Rattle.std.specs.Prelude.{◌≡◌, ◌⊎◌, ℕ, ◌≤◌, false, List, [], replicate, Contains, Option, Some, None, IfSome, Result, Ok, Err, ⊤, Vec}
 use Rattle.std.specs.declared.alloc.Global.{Global}
 use Rattle.btr_base.specs.Key.{last_key}
 use Rattle.btr_base.specs.Sum.{kind_of_type}
@@ -15,7 +15,6 @@ use Rattle.btr_read.specs.Layout.{Layout}
 use Rattle.btr_read.specs.Serves.{Serves}
 use Rattle.btr_read.specs.Store.{Blocks, none_kept}
 use Rattle.btr_read.specs.declared.device.Member.{Member}
-use Rattle.btr_read.specs.declared.want.Want.{Want}
 use Rattle.btr_super.specs.Newest.{newest}
 use Rattle.btr_super.specs.Slot.{places}
 use Rattle.btr_super.specs.declared.superblock.Super.{Super}
@@ -167,22 +166,25 @@ Opens images old new (Err (Tree fault)) = Starts images old new (Err (halt_of fa
 Opens images old new (Err (Diverged slot)) = (start_of images ≡ Err (Diverged slot)) ⊎ RootsDiffer images old new slot
 Opens images old new (Err refusal) = (start_of images ≡ Err refusal) ⊎ ((fault : TableFault) × (refusal_of fault ≡ refusal) × Starts images old new (Ok (Err fault)))
 
--- the candidates of some block, found by some layout, don't agree
-pub record BlocksDiffer (old new : Seen) (slot : ℕ) : Type 0 where
-  pub layout : Layout
-  pub want : Want
-  pub differ : Compares layout want old new (Some slot)
+-- what the images of a rack begin with, where the rack tells them
+pub record StartOf (rack : Seen) : Type 0 where
+  pub start : Start
+  pub is : IfSome rack.held (λ images. start_of images ≡ Ok start)
 
--- What lies behind a refusal: a superblock that could not be read; a block of the chunk tree that could not be had, found by some layout; a block whose
--- candidates don't agree; for the refusals by the superblocks no call failed. There are never too many images.
+-- What lies behind a refusal: a superblock that could not be read; a block that could not be had of
+-- the layout of the images' array; candidates of the root tree's root block that don't agree, found
+-- by some chunks behind the images' start; for the refusals by the superblocks no call failed. There
+-- are never too many images.
 abbrev pub OpenCause : {T : Type 0} → Seen → Seen → Result T OpenFault → Type 0
 OpenCause old new (Ok volume) = ⊤
 OpenCause old new (Err (ImageFault slot)) = SuperUnread old new slot
-OpenCause old new (Err (Tree fault)) = (layout : Layout) × FaultCause layout old new fault
+OpenCause old new (Err (Tree fault)) = (begun : StartOf old) × FaultCause (array_layout begun.start) old new fault
 OpenCause old new (Err (BadChunk start)) = ⊤
 OpenCause old new (Err (Limit which n)) = IsCounted which
 OpenCause old new (Err Memory) = ⊤
-OpenCause old new (Err (Diverged slot)) = NoneFailed old.account new.account ⊎ BlocksDiffer old new slot
+OpenCause old new (Err (Diverged slot)) =
+    NoneFailed old.account new.account
+    ⊎ ((begun : StartOf old) × (chunks : List Chunk) × ComparesRoots begun.start chunks old new (Some slot))
 OpenCause old new (Err refusal) = NoneFailed old.account new.account
 
 -- a volume can be read from a rack, no loan is live, and its nodes are as long as its superblock says

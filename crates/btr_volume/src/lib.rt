@@ -23,6 +23,6 @@ pub use laws::{opened_is_alike, opened_is_of_images};
 pub use root::TreeRoot;
 pub use stop::Stop;
 pub use supers::read_supers;
-pub use tree::{chunk_root, named_root, root_at, root_root, root_want};
+pub use tree::{chunk_root, named_root, root_at, root_root};
 pub use volume::Volume;
 pub use which::Which;

@@ -50,8 +50,8 @@ pub fn root_root(s: &Super) -> RootPlace
     }
 }
 
-/// The same as it is sought.
-pub fn root_want(s: &Super) -> Want
+// The same as it is sought.
+pub(crate) fn root_want(s: &Super) -> Want
     ensures { result ≡ root_want s.now }
 {
     Want::Tree {

@@ -7,7 +7,7 @@ use Rattle.btr_rack.specs.Rack.{Seen, OnlyReads}
 use Rattle.btr_read.specs.Comparing.{Compares}
 use Rattle.btr_read.specs.Layout.{Layout}
 use Rattle.btr_read.specs.Store.{Blocks, SameLoans, with_chunks}
-use Rattle.btr_volume.specs.Opening.{Opens, OpenCause, TableCause, ReadsTable}
+use Rattle.btr_volume.specs.Opening.{Opens, OpenCause, TableCause, ReadsTable, start_in}
 use Rattle.btr_volume.proofs.Opened.{same_seen, refused_early, told_early, refused_late, told_late, told_opened, told_diverged, diverged_cause, served_anew, passed}
 use Rattle.btr_volume.proofs.volume.Volume.open.Goals as goal
 
@@ -31,7 +31,8 @@ returns-in_err-chunks-clause-cause g c =
     let same : mid ≡ old = same_seen old mid c.in_ok-volume.ensures.same c.in_ok-volume.ensures.cause in
     let layout = c.in_ok-volume.volume.store.layout in
     passed (λ r. OpenCause old new r) c.from_residual-in_err-chunks.result c.in_err-chunks.field-0.0 c.from_residual-in_err-chunks.ensures.1
-    (refused_late old new layout c.in_err-chunks.field-0.0 (List Chunk) Volume (subst (λ (s : Seen). TableCause {T = List Chunk} layout s new (Err c.in_err-chunks.field-0.0)) same c.in_err-chunks.ensures.cause))
+    (refused_late old new (record { start = start_in c.in_ok-volume.volume; is = c.in_ok-volume.ensures.content })
+    c.in_err-chunks.field-0.0 (List Chunk) Volume (subst (λ (s : Seen). TableCause {T = List Chunk} layout s new (Err c.in_err-chunks.field-0.0)) same c.in_err-chunks.ensures.cause))
 
 pub returns-in_err-chunks-clause-content : goal.returns-in_err-chunks-clause-content
 returns-in_err-chunks-clause-content g c =
@@ -92,7 +93,8 @@ returns-in-Some-clause-cause g c =
     diverged_cause old now new volume store chunks (scanned old mid now same c.in_ok-chunks.ensures.reads) e.reads
     (layout_is volume c.read_table.new.store store chunks c.replace_chunks.ensures c.in_ok-chunks.ensures.loans)
     (table_is old mid now volume chunks same c.in_ok-chunks.ensures.content)
-    c.in-Some.slot Volume (subst (λ w. Compares store.layout w now new (Some c.in-Some.slot)) c.root_want.ensures e.answer)
+    c.in-Some.slot Volume c.in_ok-volume.ensures.content
+    (subst (λ w. Compares store.layout w now new (Some c.in-Some.slot)) c.root_want.ensures e.answer)
 
 pub returns-in-Some-clause-content : goal.returns-in-Some-clause-content
 returns-in-Some-clause-content g c =
