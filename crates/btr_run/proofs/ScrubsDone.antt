@@ -19,14 +19,14 @@ use Rattle.btr_read.specs.Reading.{AgreedOn}
 use Rattle.btr_scrub.specs.Filesystem as scrubbed
 use Rattle.btr_scrub.specs.Gathering.{StopCause, TreeCause, checked_among, count_met, stop_halt}
 use Rattle.btr_scrub.specs.Judging.{IsUnplaced}
-use Rattle.btr_scrub.specs.Plain.{is_kept, plain_among}
+use Rattle.btr_scrub.specs.Plain.{plain_among}
 use Rattle.btr_scrub.specs.Repair.{blocks, effect_of_ending, effect_unless, first_missing, meeting, met, writes}
 use Rattle.btr_scrub.specs.Right.{Committed, IsRepairable, StandsFor}
 use Rattle.btr_scrub.specs.Scrubbed.{IsSafe, called}
 use Rattle.btr_mend.specs.Syncing.{plain}
-use Rattle.btr_scrub.specs.Scrubbing.{IsOfScrub, Works, all_count_for, all_writes_for}
+use Rattle.btr_scrub.specs.Scrubbing.{IsOfScrub, Works}
 use Rattle.btr_scrub.specs.Units.{Met, units_in}
-use Rattle.btr_scrub.specs.Whole.{Goes, Listed, ListedCounts, ListedWrites, Listing, Refused, ScrubsAll, Stopped, first_tally}
+use Rattle.btr_scrub.specs.Whole.{Goes, Listed, ListedCounts, ListedWrites, Listing, Refused, ScrubsAll, Stopped, first_tally, listed_count_for, listed_writes_for}
 use Rattle.btr_scrub.specs.Whole as whole
 use Rattle.btr_scrub.specs.declared.tally.Tally.{Tally}
 use Rattle.btr_chunk.specs.Table.{IsTable}
@@ -251,14 +251,14 @@ module _ (write : Bool) (old mid : Seen) (first : OnlyReads old mid) (volume : V
     module _ (listed : ListedWrites) (countings : ListedCounts) (table : IsTable layout.chunks) (new : Seen) (had : HasBlocks new) (done : List Met)
         (tells : Tells layout mid at (λ B. Follows (unread_by layout mid at) no_part [] (exec B (units_in volume.sup layout.chunks)) done (Ok tt))) where
       abbrev ws : Images → List Write
-      ws images = all_writes_for (is_kept layout (plain_among done)) layout layout.chunks (checked_among done) images
+      ws images = listed_writes_for layout (checked_among done) (plain_among done) images
 
       abbrev Is : Map → Type 0
       Is B = Follows (unread_by layout mid at) no_part [] (exec B (units_in volume.sup layout.chunks)) done (Ok tt)
 
       module _ (tally : Tally) (ended : Result (Unit {0}) MendFault)
-          (works : Works layout write (all_writes_for (is_kept layout (plain_among done)) layout layout.chunks (checked_among done))
-          (all_count_for (is_kept layout (plain_among done)) layout write layout.chunks (checked_among done)) at new
+          (works : Works layout write (listed_writes_for layout (checked_among done) (plain_among done))
+          (listed_count_for layout write (checked_among done) (plain_among done)) at new
           (first_tally (fold count_met 0 done)) tally ended) where
         since : Steady old.account.faults new.account.faults → Steady old.account.faults at.account.faults
         since steady = (omega (arith, steady.0, works.does.only.later), omega (arith, steady.1, works.does.only.later))
@@ -267,7 +267,7 @@ module _ (write : Bool) (old mid : Seen) (first : OnlyReads old mid) (volume : V
         at_images images told = ap (λ (s : Seen). s.held) all.same ∙ told
 
         writes_are : (images : Images) → done ≡ met images fs → ws images ≡ writes images fs
-        writes_are images is = ap (λ d. all_writes_for (is_kept layout (plain_among d)) layout layout.chunks (checked_among d) images) is ∙ listed images fs
+        writes_are images is = ap (λ d. listed_writes_for layout (checked_among d) (plain_among d) images) is ∙ listed images fs
 
         keeps : KeepsRack old new
         keeps = record {
@@ -384,13 +384,12 @@ module _ (write : Bool) (old mid : Seen) (first : OnlyReads old mid) (volume : V
           where
             tally_is : (images : Images) → old.held ≡ Some images → done ≡ met images fs → tally ≡ counts write images fs
             tally_is images told same =
-                told_at at.held (λ i. tally ≡ all_count_for (is_kept layout (plain_among done)) layout write layout.chunks (checked_among done) i
+                told_at at.held (λ i. tally ≡ listed_count_for layout write (checked_among done) (plain_among done) i
                 (first_tally (fold count_met 0 done))) images
                 (at_images images told)
-                (subst (λ r. OnOk r (IfSome at.held (λ i. tally ≡ all_count_for (is_kept layout (plain_among done)) layout write layout.chunks
-                (checked_among done) i
+                (subst (λ r. OnOk r (IfSome at.held (λ i. tally ≡ listed_count_for layout write (checked_among done) (plain_among done) i
                 (first_tally (fold count_met 0 done))))) is works.counts)
-                ∙ ap (λ d. all_count_for (is_kept layout (plain_among d)) layout write layout.chunks (checked_among d) images
+                ∙ ap (λ d. listed_count_for layout write (checked_among d) (plain_among d) images
                 (first_tally (fold count_met 0 d))) same
                 ∙ countings images fs write table
 

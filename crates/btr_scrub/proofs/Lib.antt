@@ -39,7 +39,9 @@ pub mod Rowwise
 pub mod OneRow
 pub mod PlainRuns
 pub mod Keepings
+pub mod Doubting
 pub mod Told
+pub mod Sufficing
 pub mod Outside
 pub mod SoundRows
 pub mod Outliving

@@ -22,7 +22,7 @@ use Rattle.btr_scrub.proofs.InWrong.{IsWrong, range_is_wrong}
 use Rattle.btr_scrub.proofs.Lists.{all_from, all_in, any_in, in_flat}
 use Rattle.btr_scrub.proofs.Outliving.{block_outlives}
 use Rattle.btr_scrub.proofs.SoundRows.{CanBeHad}
-use Rattle.btr_scrub.proofs.Told.{listed_writes, targets_met}
+use Rattle.btr_scrub.proofs.Told.{writes_beside, targets_met}
 use Rattle.btr_scrub.proofs.Unitwise.{units_apart}
 
 module _ (images : Images) (fs : Filesystem) (table : IsTable fs.layout.chunks) (own : HaveOwnSlots fs.layout.devices) (lengths : HaveLengths images fs.layout) (bytes : AreBytes images)
@@ -56,12 +56,12 @@ module _ (images : Images) (fs : Filesystem) (table : IsTable fs.layout.chunks) 
   may_hold_anything C left h keeps =
       all_from (StandsFor left C) (blocks images fs) (λ t i.
       block_outlives (columns_kept images fs) images layout C wants table own h.given lengths (had C h) (apart C h) left t (subst (In t) (sym same) i)
-      (subst (λ ws. KeepsOutside (map (λ (w : Write). w.range) ws) images left) (sym (listed_writes images fs)) keeps))
+      (subst (λ ws. KeepsOutside (map (λ (w : Write). w.range) ws) images left) (sym (writes_beside images fs)) keeps))
 
   pub lie_in_wrong : RangesLieInWrong images fs
   lie_in_wrong C h = all_from Lies (ranges images fs) (λ range i.
       of range (range_is_wrong (columns_kept images fs) images layout C wants table own h.given lengths (had C h) (apart C h) range
-      (subst (λ ws. In range (map (λ (w : Write). w.range) ws)) (sym (listed_writes images fs)) i)))
+      (subst (λ ws. In range (map (λ (w : Write). w.range) ws)) (sym (writes_beside images fs)) i)))
     where
       Lies : Range → Type 0
       Lies range = Any (λ row. LiesInWrong images layout C row range) (rows images fs) ⊎ Any (IsOfWrongCopy images C range) (blocks images fs)

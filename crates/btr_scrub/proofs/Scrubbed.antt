@@ -27,14 +27,14 @@ use Rattle.btr_mend.proofs.Doing.{stopped_first}
 use Rattle.btr_scrub.specs.Devices.{HaveLengths}
 use Rattle.btr_scrub.specs.Gathering.{StopCause, checked_among, count_met, stop_halt}
 use Rattle.btr_scrub.specs.Leaves.{KeepsOutside}
-use Rattle.btr_scrub.specs.Plain.{is_kept, plain_among}
+use Rattle.btr_scrub.specs.Plain.{plain_among}
 use Rattle.btr_scrub.specs.Repair.{Effect, blocks, devid_of, effect, effect_of_ending, effect_unless, first_missing, meeting, stood_tally, stop_of, tally, writes}
 use Rattle.btr_scrub.specs.Right.{AreBytes, Committed, IsRepairable, RangesLieInWrong, RangesMayHoldAnything, StandsFor}
 use Rattle.btr_scrub.specs.Scrubbed.{AnswersAs, Called, HasEffect, IsImageFault, IsLeftBy, IsSafe, IsScrubbed, IsSure, OfImages, ReadsAt}
 use Rattle.btr_mend.specs.Syncing.{plain}
-use Rattle.btr_scrub.specs.Scrubbing.{IsOfScrub, Works, all_count_for, all_writes_for}
+use Rattle.btr_scrub.specs.Scrubbing.{IsOfScrub, Works}
 use Rattle.btr_scrub.specs.Units.{Met, units_in}
-use Rattle.btr_scrub.specs.Whole.{Goes, Listed, Listing, Refused, ScrubsAll, Stopped, answer_of, first_tally}
+use Rattle.btr_scrub.specs.Whole.{Goes, Listed, Listing, Refused, ScrubsAll, Stopped, answer_of, first_tally, listed_count_for, listed_writes_for}
 use Rattle.btr_scrub.specs.declared.tally.Tally.{Tally}
 use Rattle.btr_scrub.proofs.Outside.{works_keep_the_rest}
 use Rattle.btr_scrub.proofs.Pasting.{keeps_none}
@@ -188,10 +188,10 @@ module _ (c : Called) where
 
     module _ (table : IsTable layout.chunks) (own : HaveOwnSlots layout.devices) (lengths : (images : Images) → c.old.held ≡ Some images → HaveLengths images layout) (mid : Seen) (reads : OnlyReads c.old mid) (done : List Met)
         (tells : Tells layout c.old mid (λ B. Follows (unread_by layout c.old mid) no_part [] (exec B (units_in c.fs.sup layout.chunks)) done (Ok tt))) (tally' : Tally) (ended : Result (Unit {0}) MendFault)
-        (works : Works layout c.write (all_writes_for (is_kept layout (plain_among done)) layout layout.chunks (checked_among done)) (all_count_for (is_kept layout (plain_among done)) layout c.write layout.chunks (checked_among done)) mid c.new (first_tally (fold count_met 0 done)) tally' ended)
+        (works : Works layout c.write (listed_writes_for layout (checked_among done) (plain_among done)) (listed_count_for layout c.write (checked_among done) (plain_among done)) mid c.new (first_tally (fold count_met 0 done)) tally' ended)
         (says : c.result ≡ answer_of ended tally') where
       abbrev ws : Images → List Write
-      ws images = all_writes_for (is_kept layout (plain_among done)) layout layout.chunks (checked_among done) images
+      ws images = listed_writes_for layout (checked_among done) (plain_among done) images
 
       abbrev Done : Images → Type 0
       Done images = Follows (unread_by layout c.old mid) no_part [] (exec (fate images layout) (units_in c.fs.sup layout.chunks)) done (Ok tt)
@@ -203,7 +203,7 @@ module _ (c : Called) where
       mid_held images e = ap (λ (s : Seen). s.held) reads.same ∙ e
 
       writes_are : (images : Images) → Done images → ws images ≡ writes images c.fs
-      writes_are images d = ap (λ m. all_writes_for (is_kept layout (plain_among m)) layout layout.chunks (checked_among m) images) d.0 ∙ listed_writes images c.fs
+      writes_are images d = ap (λ m. listed_writes_for layout (checked_among m) (plain_among m) images) d.0 ∙ listed_writes images c.fs
 
       effect_ok : (images : Images) → Done images → effect c.write images c.fs ≡ effect_of_ending c.write images c.fs (Ok tt)
       effect_ok images d = effect_is images (Ok tt) d.1
@@ -225,9 +225,9 @@ module _ (c : Called) where
 
           tally_is : tally' ≡ stood_tally (tally images c.fs c.write)
           tally_is =
-              told mid.held (λ i. tally' ≡ all_count_for (is_kept layout (plain_among done)) layout c.write layout.chunks (checked_among done) i (first_tally (fold count_met 0 done))) images (mid_held images e)
-              (subst (λ r. OnOk r (IfSome mid.held (λ i. tally' ≡ all_count_for (is_kept layout (plain_among done)) layout c.write layout.chunks (checked_among done) i (first_tally (fold count_met 0 done))))) is works.counts)
-              ∙ ap (λ m. all_count_for (is_kept layout (plain_among m)) layout c.write layout.chunks (checked_among m) images (first_tally (fold count_met 0 m))) d.0
+              told mid.held (λ i. tally' ≡ listed_count_for layout c.write (checked_among done) (plain_among done) i (first_tally (fold count_met 0 done))) images (mid_held images e)
+              (subst (λ r. OnOk r (IfSome mid.held (λ i. tally' ≡ listed_count_for layout c.write (checked_among done) (plain_among done) i (first_tally (fold count_met 0 done))))) is works.counts)
+              ∙ ap (λ m. listed_count_for layout c.write (checked_among m) (plain_among m) images (first_tally (fold count_met 0 m))) d.0
               ∙ listed_counts images c.fs c.write table
 
           all_done : HasEffect c images left
@@ -254,7 +254,7 @@ module _ (c : Called) where
             by : (b : Bool) → c.write ≡ b → KeepsOutside (map (λ (w : Write). w.range) (writes_if c.write (ws images))) images left
             by true w =
                 subst (λ b. KeepsOutside (map (λ (w : Write). w.range) (writes_if b (ws images))) images left) (sym w)
-                (works_keep_the_rest (is_kept layout (plain_among done)) layout c.write (checked_among done) (all_count_for (is_kept layout (plain_among done)) layout c.write layout.chunks (checked_among done)) mid c.new (first_tally (fold count_met 0 done)) tally' ended images left
+                (works_keep_the_rest layout c.write (checked_among done) (plain_among done) (listed_count_for layout c.write (checked_among done) (plain_among done)) mid c.new (first_tally (fold count_met 0 done)) tally' ended images left
                 table own given (lengths images e) (mid_held images e) g works)
             by false w =
                 let same : left ≡ images = same_Some left images (sym g ∙ ap (λ (s : Seen). s.held) (works.unwritten w).same ∙ mid_held images e) in

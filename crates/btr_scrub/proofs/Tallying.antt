@@ -33,7 +33,7 @@ use Rattle.btr_scrub.proofs.Lists.{at_in}
 use Rattle.btr_scrub.proofs.Positions.{is_sought}
 use Rattle.btr_scrub.proofs.RowNumbers.{all_rows, row_fits, same_start}
 use Rattle.btr_scrub.proofs.Sums.{IsOnce, sum_flat, sum_map, sum_one, sum_parts, sum_parts_of, sum_zero}
-use Rattle.btr_scrub.proofs.Told.{targets_met}
+use Rattle.btr_scrub.proofs.Told.{columns_are, targets_met}
 use Rattle.btr_scrub.specs.Plain.{KeptColumns}
 
 -- ---- counts that stand still
@@ -278,7 +278,8 @@ same_tally a b blocks bad repaired lost parity unchecked = λ i. record { blocks
 
 pub listed_counts : ListedCounts
 listed_counts images fs write table =
-    ap (λ n. all_count_for kept layout write layout.chunks wants images (first_tally n)) (unchecked_among ms 0 ∙ ap stood whole)
+    ap (λ k. all_count_for k layout write layout.chunks wants images (first_tally (fold count_met 0 ms))) (columns_are images fs)
+    ∙ ap (λ n. all_count_for kept layout write layout.chunks wants images (first_tally n)) (unchecked_among ms 0 ∙ ap stood whole)
     ∙ ap (λ ts. fold (count_chunk kept images layout write ts) (first_tally (stood unchecked)) layout.chunks) (targets_met layout ms)
     ∙ same_tally (fold (count_chunk kept images layout write us) (first_tally (stood unchecked)) layout.chunks) (stood_tally (tally images fs write))
     (blocks_are kept images layout write us table placed unchecked)

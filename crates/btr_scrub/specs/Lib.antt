@@ -1,6 +1,7 @@
 pub mod Filesystem
 pub mod Units
 pub mod Plain
+pub mod Doubts
 pub mod Repair
 pub mod Devices
 pub mod Leaves
@@ -19,5 +20,6 @@ pub mod Order
 pub mod Judging
 pub mod Rowing
 pub mod Scrubbing
+pub mod Judged
 pub mod Whole
 pub mod Scrubbed

@@ -1,11 +1,12 @@
 -- Plain sectors, which are sectors of data without a checksum, and the columns of full stripes whose parities are kept for their sake.
-use Rattle.std.specs.Prelude.{◌≡◌, ℕ, zero, suc, ◌+◌, ◌*◌, ◌==◌, ◌&&◌, Bool, false, not, List, [], ◌∷◌, length, Option, Some, None, IsSomeAnd, ◌<◌, ◌≤◌, slice_get}
+use Rattle.std.specs.Prelude.{◌≡◌, ℕ, zero, suc, ◌+◌, ◌*◌, ◌==◌, ◌&&◌, ◌||◌, Bool, false, not, List, [], ◌∷◌, length, Option, Some, None, IsSomeAnd, ◌<◌, ◌≤◌, slice_get, slice_index_or}
 use Rattle.std.specs.List.{flat_map, list_any, range_with_len}
 use Rattle.std.specs.Option.{option_map_or}
 use Rattle.btr_chunk.specs.Chunk.{data_count}
 use Rattle.btr_chunk.specs.Mapping.{place_at}
 use Rattle.btr_chunk.specs.declared.chunk.Chunk.{Chunk}
 use Rattle.btr_chunk.specs.declared.place.Part.TheVariants.{Slice}
+use Rattle.btr_chunk.specs.declared.place.StripePlace.{StripePlace}
 use Rattle.btr_read.specs.Layout.{Layout, device_in}
 use Rattle.btr_scrub.specs.Units.{Met, Checked, Unchecked}
 use Rattle.btr_scrub.specs.declared.plain.PlainRun.{PlainRun}
@@ -55,23 +56,45 @@ slices_of chunk = data_count chunk.profile (length chunk.stripes)
 abbrev pub sector_addr : Chunk → ℕ → ℕ → ℕ → ℕ
 sector_addr chunk row slice column = chunk.start + (row * slices_of chunk + slice) * 65536 + column * 4096
 
--- the image of a device is older: it missed writes
-abbrev pub is_on_older : Layout → ℕ → Bool
-is_on_older layout devid = option_map_or (λ device. device.older) (device_in layout.devices devid) false
+-- by slot, the images on which some checked block doesn't pass at its place
+abbrev pub Failing : Type 0
+Failing = ℕ → Bool
+
+-- the image of a device is in doubt: it is older, as it missed writes, or some checked block doesn't
+-- pass at its place on it
+abbrev pub is_doubtful : Layout → Failing → ℕ → Bool
+is_doubtful layout failing devid =
+    option_map_or (λ device. device.older || failing device.slot) (device_in layout.devices devid) false
 
 -- some image of a chunk is
-abbrev pub has_older : Layout → Chunk → Bool
-has_older layout chunk = list_any (λ stripe. is_on_older layout stripe.devid) chunk.stripes
+abbrev pub has_doubtful : Layout → Failing → Chunk → Bool
+has_doubtful layout failing chunk =
+    list_any (λ stripe. is_doubtful layout failing stripe.devid) chunk.stripes
 
--- a slice is newer than what some other image of its chunk holds: an image is older, and the slice's own isn't
-abbrev pub is_newer : Layout → Chunk → ℕ → ℕ → Bool
-is_newer layout chunk row slice =
-    has_older layout chunk && not (is_on_older layout (place_at chunk (Slice slice) (record { row = row; index = slice; rest = 0 })).devid)
+-- where a slice of a row begins
+abbrev pub slice_place : Chunk → ℕ → ℕ → StripePlace
+slice_place chunk row slice =
+    place_at chunk (Slice slice) (record { row = row; index = slice; rest = 0 })
 
--- the parities of a column are kept as they are: a plain sector stands in it, in a slice that isn't newer
-abbrev pub is_kept : Layout → List ℕ → Chunk → ℕ → ℕ → Bool
-is_kept layout plain chunk row column =
-    list_any (λ slice. not (is_newer layout chunk row slice) && is_plain plain (sector_addr chunk row slice column)) (range_with_len 0 (slices_of chunk))
+-- a slice is surer than what some other image of its chunk holds: an image is in doubt, and the
+-- slice's own isn't
+abbrev pub is_surer : Layout → Failing → Chunk → ℕ → ℕ → Bool
+is_surer layout failing chunk row slice =
+    has_doubtful layout failing chunk && not (is_doubtful layout failing (slice_place chunk row slice).devid)
+
+-- a plain sector stands in a column, in a slice that isn't surer
+abbrev pub is_unsure : Layout → Failing → List ℕ → Chunk → ℕ → ℕ → ℕ → Bool
+is_unsure layout failing plain chunk row column slice =
+    not (is_surer layout failing chunk row slice) && is_plain plain (sector_addr chunk row slice column)
+
+-- the parities of a column are kept as they are: some plain sector stands so in it
+abbrev pub is_kept : Layout → Failing → List ℕ → Chunk → ℕ → ℕ → Bool
+is_kept layout failing plain chunk row column =
+    list_any (is_unsure layout failing plain chunk row column) (range_with_len 0 (slices_of chunk))
+
+-- what flags say, by slot
+abbrev pub flagged : List Bool → Failing
+flagged flags slot = slice_index_or flags slot false
 
 -- whether the parities of a column are kept, by its chunk and its row
 abbrev pub KeptColumns : Type 0

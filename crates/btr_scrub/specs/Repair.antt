@@ -19,6 +19,7 @@ use Rattle.btr_volume.specs.declared.stop.Stop.{Stop}
 use Rattle.btr_volume.specs.declared.stop.Stop.TheVariants as stop
 use Rattle.btr_scrub.specs.declared.tally.Tally.{Tally}
 use Rattle.btr_scrub.specs.Filesystem.{Filesystem}
+use Rattle.btr_scrub.specs.Doubts.{failing}
 use Rattle.btr_scrub.specs.Plain.{KeptColumns, is_kept, plain_among}
 use Rattle.btr_scrub.specs.Units.{Met, Checked, Unchecked, units}
 use Rattle.btr_mend.specs.Blocks.{bad_parts, is_lost, block_writes}
@@ -93,7 +94,7 @@ module _ (images : List (List ℕ)) (fs : Filesystem) where
 
   -- the columns whose parities are kept as they are, for the sake of the plain sectors
   abbrev pub columns_kept : KeptColumns
-  columns_kept = is_kept fs.layout (plain_among met)
+  columns_kept = is_kept fs.layout (failing images blocks) (plain_among met)
 
   abbrev pub rows : List Row
   rows = flat_map (rows_in columns_kept blocks) fs.layout.chunks

@@ -10,7 +10,7 @@ use btr_read::{Store, Want};
 use btr_walk::TreeFault;
 
 // How many bytes a block has.
-fn len_of(want: &Want, nodesize: u32) -> u64
+pub(crate) fn len_of(want: &Want, nodesize: u32) -> u64
     ensures { (setting : Setting) → setting.nodesize ≡ nodesize → result ≡ len_of setting want.now }
 {
     match want {

@@ -1,28 +1,41 @@
 // The columns of full stripes whose parities are kept for the sake of plain sectors.
 ghost use Rattle.std.specs.Prelude.{◌≡◌, ℕ, ◌+◌, ◌*◌, ◌<◌, ◌≤◌, ◌^◌, ◌&&◌, ◌||◌, not, None, length, IsSomeAnd, false, slice_get, slice_index_or};
 ghost use Rattle.btr_chunk.specs.Chunk.{IsChunk, mirrors, stripe_length};
-ghost use Rattle.btr_scrub.specs.Plain.{has_older, is_kept, is_newer, is_on_older, is_plain, slices_of};
+ghost use Rattle.btr_scrub.specs.Judged.{kept_beside};
+ghost use Rattle.btr_scrub.specs.Plain.{flagged, has_doubtful, is_doubtful, is_plain, is_surer, slices_of};
 
+use crate::beside::Beside;
 use crate::plain::Plain;
 use btr_chunk::{Chunk, Elements, Part, Profile, place_of};
 use btr_read::Store;
 
-// Whether the image of a device is older: it missed writes.
-fn is_on_older(devid: u64, store: &Store) -> bool
-    ensures { result ≡ is_on_older store.now.layout devid }
+// What flags say of a slot.
+fn flagged(flags: &[bool], slot: usize) -> bool
+    ensures { result ≡ flagged flags.now slot }
+{
+    if slot < flags.len() {
+        flags[slot]
+    } else {
+        false
+    }
+}
+
+// Whether the image of a device is in doubt: it is older, or flagged.
+fn is_doubtful(devid: u64, failing: &[bool], store: &Store) -> bool
+    ensures { result ≡ is_doubtful store.now.layout (flagged failing.now) devid }
 {
     match store.device(devid) {
-        Some(device) => device.older,
+        Some(device) => device.older || flagged(failing, device.slot),
         None => false,
     }
 }
 
 // Whether some image of a chunk is.
-fn has_older(chunk: &Chunk, store: &Store) -> bool
-    ensures { result ≡ has_older store.now.layout chunk.now }
+fn has_doubtful(chunk: &Chunk, failing: &[bool], store: &Store) -> bool
+    ensures { result ≡ has_doubtful store.now.layout (flagged failing.now) chunk.now }
 {
     for i in 0..chunk.stripes.len() {
-        if is_on_older(chunk.stripes.at(i).devid, store) {
+        if is_doubtful(chunk.stripes.at(i).devid, failing, store) {
             return true;
         }
     }
@@ -43,20 +56,21 @@ fn slice_count(chunk: &Chunk) -> u32
     chunk.stripes.len() as u32 - parities
 }
 
-// Whether some image of a chunk is older, and that of a slice isn't.
-fn is_newer(chunk: &Chunk, row: u64, slice: u32, store: &Store) -> bool
+// Whether some image of a chunk is in doubt, and that of a slice isn't.
+fn is_surer(chunk: &Chunk, row: u64, slice: u32, failing: &[bool], store: &Store) -> bool
     requires sound { IsChunk chunk.now }
     requires parity { mirrors chunk.now ≡ None }
     requires slice { slice < slices_of chunk.now }
     requires fits { row * 65536 + 65536 ≤ stripe_length chunk.now }
-    ensures { result ≡ is_newer store.now.layout chunk.now row slice }
+    ensures { result ≡ is_surer store.now.layout (flagged failing.now) chunk.now row slice }
 {
     let at = Elements {
         row,
         index: slice,
         rest: 0,
     };
-    has_older(chunk, store) && !is_on_older(place_of(chunk, Part::Slice(slice), &at).devid, store)
+    let place = place_of(chunk, Part::Slice(slice), &at);
+    has_doubtful(chunk, failing, store) && !is_doubtful(place.devid, failing, store)
 }
 
 fn either(one: bool, other: bool) -> bool
@@ -65,43 +79,48 @@ fn either(one: bool, other: bool) -> bool
     one || other
 }
 
-// Whether a plain sector begins at an address, in a slice that isn't newer.
-fn keeps(addr: u64, newer: bool, plain: &Plain) -> bool
-    ensures { result ≡ (not newer && is_plain plain.now addr) }
+// Whether a plain sector begins at an address, in a slice that isn't surer.
+fn keeps(addr: u64, surer: bool, plain: &Plain) -> bool
+    ensures { result ≡ (not surer && is_plain plain.now addr) }
 {
-    if newer {
+    if surer {
         return false;
     }
     plain.has(addr)
 }
 
 // Flags the columns that are kept for a slice; it begins at an address.
-fn mark(flags: &mut [bool; 16], begin: u64, newer: bool, plain: &Plain)
+fn mark(flags: &mut [bool; 16], begin: u64, surer: bool, plain: &Plain)
     requires { begin + 65536 < 2 ^ 64 }
     ensures { (column : ℕ) → column < 16
         → slice_index_or flags.new column false
-        ≡ (slice_index_or flags.old column false || (not newer && is_plain plain.now (begin + column * 4096))) }
+        ≡ (slice_index_or flags.old column false || (not surer && is_plain plain.now (begin + column * 4096))) }
 {
     for column in 0..16 {
         let addr = begin + column as u64 * 4096;
-        flags[column] = either(flags[column], keeps(addr, newer, plain));
+        flags[column] = either(flags[column], keeps(addr, surer, plain));
     }
 }
 
 /// By column of a row of the chunk of a number, which has parity, whether its parities are kept.
-pub(crate) fn kept_columns(number: usize, row: u64, plain: &Plain, store: &Store) -> [bool; 16]
+pub(crate) fn kept_columns(number: usize, row: u64, beside: &Beside, store: &Store) -> [bool; 16]
     requires { IsSomeAnd (slice_get store.now.layout.chunks number)
         (λ chunk. (mirrors chunk ≡ None) × (row * 65536 + 65536 ≤ stripe_length chunk)) }
     ensures { IsSomeAnd (slice_get store.now.layout.chunks number)
-        (λ chunk. (column : ℕ) → column < 16 → slice_index_or result column false ≡ is_kept store.now.layout plain.now chunk row column) }
+        (λ chunk. (column : ℕ) → column < 16 → slice_index_or result column false ≡ kept_beside store.now.layout beside.now chunk row column) }
 {
     let chunk = store.chunks().at(number);
     let slices = slice_count(chunk);
     let mut flags = [false; 16];
     for slice in 0..slices {
         let element = row * slices as u64 + slice as u64;
-        let newer = is_newer(chunk, row, slice, store);
-        mark(&mut flags, chunk.start + element * 65536, newer, plain);
+        let surer = is_surer(chunk, row, slice, &beside.failing, store);
+        mark(
+            &mut flags,
+            chunk.start + element * 65536,
+            surer,
+            &beside.plain,
+        );
     }
     flags
 }

@@ -8,9 +8,11 @@
 //! from what is left, whatever bytes stand in the ranges that are written.
 #![tactic(auto)]
 
+mod beside;
 mod chunks;
 mod collecting;
 mod copied;
+mod doubts;
 mod extent;
 mod gathered;
 mod judging;

@@ -137,7 +137,7 @@ fn search(runs: &Pages<PlainRun>, addr: u64) -> bool
 }
 
 impl Plain {
-    ghost use Rattle.std.specs.Prelude.{◌≡◌, [], ◌∷◌, ◌++◌, OnOk};
+    ghost use Rattle.std.specs.Prelude.{◌≡◌, [], ◌∷◌, ◌++◌, IsTrue, OnOk};
     ghost use Rattle.btr_scrub.specs.Plain.{is_plain};
 
     /// No sectors.
@@ -165,6 +165,13 @@ impl Plain {
         self.last = Some(PlainRun { addr, count: 1 });
         self.rising = rising;
         Ok(())
+    }
+
+    /// Whether there are none.
+    pub(crate) fn is_empty(&self) -> bool
+        ensures { IsTrue result → self.now ≡ [] }
+    {
+        self.last.is_none() && self.runs.len() == 0
     }
 
     /// Whether a plain sector begins at an address.

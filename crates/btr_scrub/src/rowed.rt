@@ -8,14 +8,14 @@ ghost use Rattle.btr_read.specs.Want.{addr_of};
 ghost use Rattle.btr_row.specs.Mending.{AreKept, IsRow, IsRowOf, mended_row};
 ghost use Rattle.btr_row.specs.Rows.{Row, row_writes};
 ghost use Rattle.btr_scrub.specs.Order.{targets};
-ghost use Rattle.btr_scrub.specs.Plain.{is_kept};
+ghost use Rattle.btr_scrub.specs.Judged.{kept_beside};
 ghost use Rattle.btr_scrub.specs.Repair.{rows_in};
 ghost use Rattle.btr_scrub.specs.Rowing.{Collects, CollectsRow, GivesInRow, row_in};
 ghost use Rattle.btr_scrub.specs.Scrubbing.{CanMend, HasRooms, PassesChunk, RowsComeNext, Scrubs, ScrubsChunk, counted_row, rows_count, rows_writes};
 
+use crate::beside::Beside;
 use crate::copied::next_below;
 use crate::kept::kept_columns;
-use crate::plain::Plain;
 use crate::reader::Reader;
 use crate::tally::Tally;
 use crate::task::ChunkTask;
@@ -160,7 +160,7 @@ fn mend_collected<R: Rack>(
 /// `Image`: a read or a write of an image failed, and nothing was tried behind it. `Memory`: a write wanted memory.
 pub(crate) fn mend_rows<R: Rack>(
     task: ChunkTask,
-    plain: &Plain,
+    beside: &Beside,
     blocks: &mut Reader<'_>,
     rack: &mut R,
     store: &mut Store,
@@ -177,8 +177,8 @@ pub(crate) fn mend_rows<R: Rack>(
     ensures rooms { HasRooms store.old.layout room.new.buffer }
     ensures past { OnOk result (PassesChunk store.old.layout task.number blocks.old blocks.new) }
     ensures scrubs { ScrubsChunk store.old.layout task.number task.write
-        (λ chunk. rows_writes store.old.layout (rows_in (is_kept store.old.layout plain.now) (targets store.old.layout blocks.old) chunk))
-        (λ chunk. rows_count store.old.layout task.write (rows_in (is_kept store.old.layout plain.now) (targets store.old.layout blocks.old) chunk))
+        (λ chunk. rows_writes store.old.layout (rows_in (kept_beside store.old.layout beside.now) (targets store.old.layout blocks.old) chunk))
+        (λ chunk. rows_count store.old.layout task.write (rows_in (kept_beside store.old.layout beside.now) (targets store.old.layout blocks.old) chunk))
         marks.old marks.new (R.seen rack.old) (R.seen rack.new) tally.old tally.new result }
 {
     let chunk = store.chunks().at(task.number);
@@ -189,7 +189,7 @@ pub(crate) fn mend_rows<R: Rack>(
             Ok(row) => row,
             Err(_) => return Err(MendFault::Memory),
         };
-        let kept = kept_columns(task.number, row, plain, store);
+        let kept = kept_columns(task.number, row, beside, store);
         let at = RowAt {
             chunk: start,
             number: row,

@@ -1,5 +1,5 @@
 // Scrub as a whole.
-ghost use Rattle.std.specs.Prelude.{◌≡◌, ◌≤◌, None, IfSome, IfOk, IsTrue};
+ghost use Rattle.std.specs.Prelude.{◌≡◌, ◌≤◌, None, Err, IfSome, IfOk, IsTrue};
 ghost use Rattle.btr_chunk.specs.Table.{IsTable};
 ghost use Rattle.btr_read.specs.Serves.{Serves};
 ghost use Rattle.btr_read.specs.Store.{free_count};
@@ -7,12 +7,14 @@ ghost use Rattle.btr_mend.specs.Writes.{AreWritable};
 ghost use Rattle.btr_volume.specs.Looking.{SameVolume};
 ghost use Rattle.btr_scrub.specs.Listed.{IsList, kept_wants};
 ghost use Rattle.btr_scrub.specs.Order.{AreApart};
-ghost use Rattle.btr_scrub.specs.Plain.{is_kept};
 ghost use Rattle.btr_scrub.specs.Repair.{first_missing};
 ghost use Rattle.btr_scrub.specs.Scrubbed.{IsSafe, IsScrubbed, called};
 ghost use Rattle.btr_scrub.specs.Scrubbing.{HasRooms, NoneIsWider};
-ghost use Rattle.btr_scrub.specs.Whole.{Refuses, ScrubsAll, WorksOn, first_tally};
+ghost use Rattle.btr_scrub.specs.Whole.{Refuses, ScrubsAll, WorksOn, answer_of, first_tally};
+ghost use Rattle.btr_scrub.specs.declared.tally.Tally.{Tally};
 
+use crate::beside::Beside;
+use crate::doubts::failing_images;
 use crate::gathered::Gathered;
 use crate::judging::judge_blocks;
 use crate::mending::mend_all;
@@ -74,24 +76,35 @@ fn first_tally(unchecked: u64) -> Tally
     }
 }
 
+// What a fault of the mending is answered as.
+fn stop_of(fault: MendFault) -> Stop
+    ensures { (tally : Tally) → Err result ≡ answer_of (Err fault) tally }
+{
+    match fault {
+        MendFault::Image(slot) => Stop::Image(slot),
+        MendFault::Memory => Stop::Memory,
+    }
+}
+
 // Mends the blocks of a list, in which they have a position and are apart.
 fn mend_listed<R: Rack>(
     alloc: Global,
     write: bool,
-    gathered: &Gathered,
+    gathered: Gathered,
     rack: &mut R,
     vol: &mut Volume,
 ) -> Result<Tally, Stop>
     requires serves { Serves (R.seen rack.old) vol.old.store }
     requires room { 2 ≤ free_count vol.old.store }
+    requires large { 4096 ≤ vol.old.sup.nodesize }
     requires writable { IsTrue write → AreWritable (R.seen rack.old).slots }
     requires nodesize { vol.old.sup.nodesize ≡ vol.old.store.layout.setting.nodesize }
     requires given { first_missing vol.old.store.layout ≡ None }
-    requires is_list { IsList gathered.now.list }
-    requires apart { AreApart vol.old.store.layout 0 (kept_wants gathered.now.list) }
+    requires is_list { IsList gathered.list }
+    requires apart { AreApart vol.old.store.layout 0 (kept_wants gathered.list) }
     ensures serves { Serves (R.seen rack.new) vol.new.store }
     ensures volume { SameVolume vol.old vol.new }
-    ensures works { WorksOn (is_kept vol.old.store.layout gathered.now.plain) vol.old.store.layout write (kept_wants gathered.now.list) gathered.now.unchecked
+    ensures works { WorksOn vol.old.store.layout write (kept_wants gathered.list) gathered.plain gathered.unchecked
         (R.seen rack.old) (R.seen rack.new) result }
 {
     let Ok(mut room) = make_room(alloc, &vol.store) else {
@@ -100,12 +113,22 @@ fn mend_listed<R: Rack>(
     let Ok(mut marks) = vec![in alloc; false; rack.count()] else {
         return Err(Stop::Memory);
     };
-    let mut tally = first_tally(gathered.unchecked);
-    let mut blocks = read_all(&gathered.list);
+    let failing = match failing_images(alloc, &gathered, vol.sup.nodesize, rack, &vol.store) {
+        Ok(failing) => failing,
+        Err(fault) => return Err(stop_of(fault)),
+    };
+    let Gathered {
+        list,
+        unchecked,
+        plain,
+    } = gathered;
+    let beside = Beside { plain, failing };
+    let mut tally = first_tally(unchecked);
+    let mut blocks = read_all(&list);
     match mend_all(
         vol.sup.nodesize,
         write,
-        &gathered.plain,
+        &beside,
         &mut blocks,
         rack,
         &mut vol.store,
@@ -114,8 +137,7 @@ fn mend_listed<R: Rack>(
         &mut tally,
     ) {
         Ok(()) => Ok(tally),
-        Err(MendFault::Image(slot)) => Err(Stop::Image(slot)),
-        Err(MendFault::Memory) => Err(Stop::Memory),
+        Err(fault) => Err(stop_of(fault)),
     }
 }
 
@@ -143,7 +165,7 @@ fn scrub_given<R: Rack>(
     };
     let mut blocks = read_all(&gathered.list);
     match judge_blocks(&mut blocks, vol.sup.nodesize, &vol.store) {
-        Ok(()) => mend_listed(alloc, write, &gathered, rack, vol),
+        Ok(()) => mend_listed(alloc, write, gathered, rack, vol),
         Err(fault) => Err(Stop::Tree(fault)),
     }
 }

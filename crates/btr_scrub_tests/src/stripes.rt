@@ -88,7 +88,7 @@ const UNSUMMED: Tally = Tally {
 };
 
 // Parity beside sectors without a checksum.
-const BESIDE: [Damage; 6] = [
+const BESIDE: [Damage; 10] = [
     // P is left there, and made right in the next column, where there is none.
     Damage {
         volume: Made::Unsummed5(""),
@@ -147,6 +147,58 @@ const BESIDE: [Damage; 6] = [
         mended: &[("c", 10489856), ("d", 10489856)],
         left: &[("c", 10485760), ("d", 10485760)],
         tally: Tally {
+            parity: 2,
+            ..UNSUMMED
+        },
+    },
+    // P is made right where a copy of the leaf of the checksum tree is damaged on an image, but not on the sector's own.
+    Damage {
+        volume: Made::Unsummed5(""),
+        mended: &[("a", 2162788), ("c", 10485760), ("c", 10489856)],
+        left: &[],
+        tally: Tally {
+            bad: 1,
+            repaired: 1,
+            parity: 2,
+            ..UNSUMMED
+        },
+    },
+    Damage {
+        volume: Made::Unsummed5(""),
+        mended: &[("b", 2162788), ("c", 10489856)],
+        left: &[("c", 10485760)],
+        tally: Tally {
+            bad: 1,
+            repaired: 1,
+            parity: 1,
+            ..UNSUMMED
+        },
+    },
+    // The same with Q.
+    Damage {
+        volume: Made::Unsummed6(""),
+        mended: &[
+            ("a", 2162788),
+            ("c", 10485760),
+            ("d", 10485760),
+            ("c", 10489856),
+            ("d", 10489856),
+        ],
+        left: &[],
+        tally: Tally {
+            bad: 1,
+            repaired: 1,
+            parity: 4,
+            ..UNSUMMED
+        },
+    },
+    Damage {
+        volume: Made::Unsummed6(""),
+        mended: &[("b", 2162788), ("c", 10489856), ("d", 10489856)],
+        left: &[("c", 10485760), ("d", 10485760)],
+        tally: Tally {
+            bad: 1,
+            repaired: 1,
             parity: 2,
             ..UNSUMMED
         },

@@ -6,7 +6,7 @@ use Rattle.btr_read.specs.Layout.{HaveOwnSlots}
 use Rattle.btr_read.specs.Store.{SameLoans}
 use Rattle.btr_scrub.specs.Repair.{first_missing}
 use Rattle.btr_scrub.specs.Scrubbing.{CanMend, HasRooms}
-use Rattle.btr_scrub.specs.Plain.{is_kept}
+use Rattle.btr_scrub.specs.Judged.{kept_beside}
 use Rattle.btr_scrub.proofs.Rowwise.{RowsUnderway}
 use Rattle.btr_scrub.proofs.rowed.mend_rows.Given as goal
 
@@ -16,7 +16,7 @@ invariant-loop-first g l = record {
   loans : SameLoans l.fn.store l.store;
   rooms : HasRooms l.fn.store.layout l.room.buffer;
   underway : (table : IsTable l.fn.store.layout.chunks) (own : HaveOwnSlots l.fn.store.layout.devices) (given : first_missing l.fn.store.layout ≡ None) (chunk : Chunk) (there : slice_get l.fn.store.layout.chunks l.task.number ≡ Some chunk) (parity : mirrors chunk ≡ None)
-      → RowsUnderway (is_kept l.fn.store.layout l.plain) l.fn.store.layout table own given l.task.number chunk there parity l.fn.blocks l.task.write l.blocks l.fn.marks l.marks (g.R.Rack.seen l.fn.rack) (g.R.Rack.seen l.rack) l.fn.tally l.tally;
+      → RowsUnderway (kept_beside l.fn.store.layout l.beside) l.fn.store.layout table own given l.task.number chunk there parity l.fn.blocks l.task.write l.blocks l.fn.marks l.marks (g.R.Rack.seen l.fn.rack) (g.R.Rack.seen l.rack) l.fn.tally l.tally;
 }
 
 abbrev pub decreases-loop-first : goal.decreases-loop-first

@@ -21,8 +21,8 @@ returns-in-Err-clause-scrubs g c = record {
   goes = (refl, refl, c.in-Err.ensures.lists.content, c.in-Err.ensures.lists.cause);
 }
 
-pub returns-clause-scrubs : goal.returns-clause-scrubs
-returns-clause-scrubs g c =
+pub returns-in-Err-judge_blocks-clause-scrubs : goal.returns-in-Err-judge_blocks-clause-scrubs
+returns-in-Err-judge_blocks-clause-scrubs g c =
     let s = c.args.vol.now.sup in
     let layout = c.args.vol.now.store.layout in
     let old = g.R.Rack.seen c.args.rack.now in

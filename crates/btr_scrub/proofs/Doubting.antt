@@ -1,0 +1,275 @@
+-- Flagging the images on which a block doesn't pass.
+use Rattle.std.proofs.Common.{◌≡◌, ℕ, ◌+◌, ◌<◌, ◌≤◌, Bool, true, false, cond, ◌&&◌, ◌||◌, not, eqb, leb, List, [], ◌∷◌, ◌++◌, length, map, set, get_or, Option, Some, None, IfSome, IsNone, IsOk, IsOkAnd, Result, Ok, Err, refl, sym, ap, ◌∙◌, subst, arith}
+use Rattle.std.proofs.Math.Bool.{or-false}
+use Rattle.std.proofs.lemmas.Bool.{eq-eqb, eqb-true, false≢true}
+use Rattle.std.proofs.lemmas.List.{append_assoc, append-nil}
+use Rattle.std.proofs.lemmas.List.{get_or-set_other, get_or-set_same}
+use Rattle.std.proofs.lemmas.List.Folds.{list_any-append}
+use Rattle.std.proofs.lemmas.Option.{same_Some}
+use Rattle.std.specs.List.{list_any, range_with_len}
+use Rattle.std.specs.Option.{option_map_or}
+use Rattle.btr_chunk.specs.Chunk.{data_count, mirrors}
+use Rattle.btr_chunk.specs.Mapping.{HasPart, place_at}
+use Rattle.btr_chunk.specs.Table.{IsTable}
+use Rattle.btr_chunk.specs.declared.place.Part.{Part}
+use Rattle.btr_chunk.specs.declared.place.Part.TheVariants.{Mirror, Slice}
+use Rattle.btr_rack.specs.Rack.{Seen, Slot, bytes_of, range_in}
+use Rattle.btr_rack.specs.declared.place.Place.{Place as Range}
+use Rattle.btr_read.specs.Candidates.{Target, element, range_of, range_on, size_of}
+use Rattle.btr_read.specs.Fate.{Fault, sought}
+use Rattle.btr_read.specs.Layout.{AreOpen, Layout, device_in}
+use Rattle.btr_read.specs.Want.{addr_of, len_of, passes}
+use Rattle.btr_read.specs.declared.device.Device.{Device}
+use Rattle.btr_read.specs.declared.setting.Setting.{Setting}
+use Rattle.btr_read.specs.declared.want.Want.{Want}
+use Rattle.btr_read.specs.declared.want.Want.TheVariants.{Block, Plain, Sector, Tree}
+use Rattle.btr_read.proofs.Slots.{IsReadable, readable}
+use Rattle.btr_mend.proofs.Copied.{has_mirror}
+use Rattle.btr_row.proofs.Accepted.{the_target}
+use Rattle.btr_read.proofs.Fates.{sought_of}
+use Rattle.btr_mend.specs.Blocks.{is_good}
+use Rattle.btr_mend.specs.Writes.{AccountsMend, Images}
+use Rattle.btr_mend.specs.declared.mended.MendFault.{MendFault}
+use Rattle.btr_mend.specs.declared.mended.MendFault.TheVariants.{Image, Memory}
+use Rattle.btr_scrub.specs.Doubts.{fails_at, fails_on, failing, is_on}
+use Rattle.btr_scrub.specs.Judged.{Flags, FlagsBlock, HasOwn, IsOfPart}
+use Rattle.btr_scrub.specs.Leaves.{LiesInStripe}
+use Rattle.btr_scrub.specs.Order.{AreApart, IsSought, targets}
+use Rattle.btr_scrub.specs.Plain.{flagged}
+use Rattle.btr_scrub.proofs.Blockwise.{one_target}
+use Rattle.btr_scrub.proofs.Positions.{in_stripe}
+
+-- ---- one part
+
+-- a range that stands is as long as the block
+length_on : (off len : ℕ) (o : Option Device) (range : Range) → range_on off len o ≡ Some range → range.len ≡ len
+length_on off len None range e = cc
+length_on off len (Some device) range e = by (leb (off + len) device.len) e
+  where
+    by : (b : Bool) → cond b (Some (range_in device.slot off len)) None ≡ Some range → range.len ≡ len
+    by true e = ap (λ (r : Range). r.len) (sym (same_Some (range_in device.slot off len) range e))
+    by false e = cc
+
+pub range_long : (layout : Layout) (want : Want) (t : Target) (part : Part) (range : Range) → sought layout want ≡ Ok t → range_of t part ≡ Some range
+    → range.len ≡ len_of layout.setting want
+range_long layout want t part range e is =
+    let place = place_at t.chunk part t.at in
+    let of = sought_of layout want t e in
+    length_on place.offset (size_of t) (device_in t.devices place.devid) range is ∙ ap (λ s. len_of s t.want) of.setting_is
+    ∙ ap (len_of layout.setting) of.want_is
+
+-- whether the block passes there
+pub good_there : (layout : Layout) (want : Want) (t : Target) (part : Part) (range : Range) (images : Images) → sought layout want ≡ Ok t
+    → range_of t part ≡ Some range
+    → passes layout.setting want (bytes_of images range.slot range.off range.len) ≡ is_good images t part
+good_there layout want t part range images e is =
+    let of = sought_of layout want t e in
+    let bytes : element images t part ≡ bytes_of images range.slot range.off range.len =
+    ap (λ o. option_map_or (λ (r : Range). bytes_of images r.slot r.off r.len) o []) is in
+    sym (ap (passes t.setting t.want) bytes
+    ∙ ap (λ s. passes s t.want (bytes_of images range.slot range.off range.len)) of.setting_is
+    ∙ ap (λ w. passes layout.setting w (bytes_of images range.slot range.off range.len)) of.want_is)
+
+module _ (images : Images) (t : Target) (part : Part) (flags : List Bool) where
+  -- no flag is needed
+  flags_still : ((slot : ℕ) → fails_at images t slot part ≡ false) → Flags flags (λ slot. fails_at images t slot part) flags
+  flags_still none slot = sym (ap (λ b. get_or flags slot false || b) (none slot) ∙ or-false (get_or flags slot false))
+
+  -- the part doesn't stand
+  pub part_absent : range_of t part ≡ None → Flags flags (λ slot. fails_at images t slot part) flags
+  part_absent e = flags_still (λ slot. ap (λ o. option_map_or (λ (range : Range). eqb range.slot slot) o false && not (is_good images t part)) e)
+
+  -- the block passes there
+  pub part_good : is_good images t part ≡ true → Flags flags (λ slot. fails_at images t slot part) flags
+  part_good e = flags_still (λ slot. ap (λ b. is_on t slot part && not b) e ∙ none (is_on t slot part))
+    where
+      none : (b : Bool) → (b && false) ≡ false
+      none true = refl
+      none false = refl
+
+  -- it doesn't
+  pub part_bad : (range : Range) → range_of t part ≡ Some range → range.slot < length flags → is_good images t part ≡ false
+      → Flags flags (λ slot. fails_at images t slot part) (set flags range.slot true)
+  part_bad range is lt bad slot =
+      let test : fails_at images t slot part ≡ (eqb range.slot slot && true) =
+      ap (λ o. option_map_or (λ (range : Range). eqb range.slot slot) o false && not (is_good images t part)) is ∙ ap (λ b. eqb range.slot slot && not b) bad in
+      by (eqb range.slot slot) refl ∙ ap (λ b. get_or flags slot false || b) (sym test)
+    where
+      any : (b : Bool) → (b || true) ≡ true
+      any true = refl
+      any false = refl
+
+      by : (b : Bool) → eqb range.slot slot ≡ b → get_or (set flags range.slot true) slot false ≡ (get_or flags slot false || (b && true))
+      by true e =
+          let same : range.slot ≡ slot = eqb-true range.slot slot e in
+          ap (λ s. get_or (set flags range.slot true) s false) (sym same) ∙ get_or-set_same flags range.slot true false lt ∙ sym (any (get_or flags slot false))
+      by false e =
+          get_or-set_other flags range.slot slot true false (λ same. absurd (other (sym e ∙ eq-eqb range.slot slot (sym same))))
+          ∙ sym (or-false (get_or flags slot false))
+        where
+          other : false ≡ true → ⊥
+          other e = cc
+
+-- ---- a part of a want
+
+pub the_sought : (r : Result Target Fault) → IsOk r → (t : Target) × (r ≡ Ok t)
+the_sought (Ok t) h = (t, refl)
+the_sought (Err f) h = absurd (false≢true h)
+
+-- its range can be read, and is as long as the block
+pub read_part : (layout : Layout) (want : Want) (slots : List Slot) (part : Part) (range : Range) → AreOpen slots layout.devices → HasOwn layout part want
+    → ((t : Target) → sought layout want ≡ Ok t → Some range ≡ range_of t part) → IsReadable slots range × (range.len ≡ len_of layout.setting want)
+read_part layout want slots part range open' own at =
+    let f = the_target (sought layout want) (λ t. HasPart t.chunk.profile (length t.chunk.stripes) part) own in
+    let of = sought_of layout want f.0 f.1 in
+    let is = sym (at f.0 f.1) in
+    (readable slots f.0 part range (subst (AreOpen slots) (sym of.devices_is) open') is, range_long layout want f.0 part range f.1 is)
+
+pub want_fits : (setting : Setting) (want : Want) (n : ℕ) → setting.nodesize ≤ n → 4096 ≤ n → len_of setting want ≤ n
+want_fits setting (Tree addr generation level) n node sector = node
+want_fits setting (Block addr) n node sector = node
+want_fits setting (Sector addr sum) n node sector = sector
+want_fits setting (Plain addr) n node sector = sector
+
+pub some_of : (held : Option Images) (P Q : Images → Type 0) → ((images : Images) → P images → Q images) → IfSome held P → IfSome held Q
+some_of None P Q h p = tt
+some_of (Some images) P Q h p = h images p
+
+module _ (layout : Layout) (want : Want) (t : Target) (part : Part) (range : Range) (held : Option Images) (flags : List Bool) (good : Bool)
+    (e : sought layout want ≡ Ok t) (is : Some range ≡ range_of t part)
+    (passing : IfSome held (λ images. good ≡ passes layout.setting want (bytes_of images range.slot range.off range.len))) where
+  -- it passes there
+  pub flags_good : good ≡ true → IfSome held (λ images. Flags flags (λ slot. fails_at images t slot part) flags)
+  flags_good is_good' = some_of held (λ images. good ≡ passes layout.setting want (bytes_of images range.slot range.off range.len))
+      (λ images. Flags flags (λ slot. fails_at images t slot part) flags)
+      (λ images h. part_good images t part flags (sym (good_there layout want t part range images e (sym is)) ∙ sym h ∙ is_good')) passing
+
+  -- or not
+  pub flags_bad : range.slot < length flags → good ≡ false
+      → IfSome held (λ images. Flags flags (λ slot. fails_at images t slot part) (set flags range.slot true))
+  flags_bad lt is_bad = some_of held (λ images. good ≡ passes layout.setting want (bytes_of images range.slot range.off range.len))
+      (λ images. Flags flags (λ slot. fails_at images t slot part) (set flags range.slot true))
+      (λ images h. part_bad images t part flags range (sym is) lt (sym (good_there layout want t part range images e (sym is)) ∙ sym h ∙ is_bad)) passing
+
+-- a copy is a part of its own
+pub own_copy : (layout : Layout) (want : Want) (n m : ℕ) → IsOk (sought layout want)
+    → ((t : Target) → sought layout want ≡ Ok t → mirrors t.chunk ≡ Some n) → m < n → HasOwn layout (Mirror m) want
+own_copy layout want n m ok copies lt =
+    let f = the_sought (sought layout want) ok in
+    subst (λ r. IsOkAnd r (λ t. HasPart t.chunk.profile (length t.chunk.stripes) (Mirror m))) (sym f.1) (has_mirror f.0 n m (copies f.0 f.1) lt)
+
+-- a read that failed in a part failed in a stripe
+pub parts_in_stripe : {A : Type 0} (layout : Layout) (t : Target) (old new : Seen) (r : Result A MendFault) → IsTable layout.chunks → IsSought layout t
+    → AccountsMend (IsOfPart t) old new r → AccountsMend (LiesInStripe layout) old new r
+parts_in_stripe layout t old new (Ok x) table is h = h
+parts_in_stripe layout t old new (Err Memory) table is h = h
+parts_in_stripe layout t old new (Err (Image slot)) table is h = record {
+  place = h.place;
+  failed = h.failed;
+  on_slot = h.on_slot;
+  lies = in_stripe layout t h.lies.part h.place h.place table is h.lies.has h.lies.at (record { slot = refl; from = omega arith; to = omega arith });
+}
+
+-- ---- one after another
+
+or_or : (a b c : Bool) → ((a || b) || c) ≡ (a || (b || c))
+or_or true b c = refl
+or_or false b c = refl
+
+pub flags_then : (old mid new : List Bool) (a b c : ℕ → Bool) → Flags old a mid → Flags mid b new → ((slot : ℕ) → (a slot || b slot) ≡ c slot) → Flags old c new
+flags_then old mid new a b c one two is slot =
+    two slot ∙ ap (λ x. x || b slot) (one slot) ∙ or_or (get_or old slot false) (a slot) (b slot) ∙ ap (λ x. get_or old slot false || x) (is slot)
+
+pub flags_none : (flags : List Bool) (none : ℕ → Bool) → ((slot : ℕ) → none slot ≡ false) → Flags flags none flags
+flags_none flags none is slot = sym (ap (λ b. get_or flags slot false || b) (is slot) ∙ or-false (get_or flags slot false))
+
+any_map : {X Y : Type 0} (p : Y → Bool) (f : X → Y) (xs : List X) → list_any p (map f xs) ≡ list_any (λ x. p (f x)) xs
+any_map p f [] = refl
+any_map p f (x ∷ xs) = ap (λ b. p (f x) || b) (any_map p f xs)
+
+-- the places of a block with copies, and of one in a slice
+pub fails_copies : (images : Images) (t : Target) (n slot : ℕ) → mirrors t.chunk ≡ Some n
+    → list_any (λ k. fails_at images t slot (Mirror k)) (range_with_len 0 n) ≡ fails_on images slot t
+fails_copies images t n slot e =
+    sym (ap (λ o. list_any (fails_at images t slot) (option_map_or (λ copies. map Mirror (range_with_len 0 copies)) o (Slice t.at.index ∷ []))) e
+    ∙ any_map (fails_at images t slot) Mirror (range_with_len 0 n))
+
+pub fails_slice : (images : Images) (t : Target) (slot : ℕ) → mirrors t.chunk ≡ None → fails_at images t slot (Slice t.at.index) ≡ fails_on images slot t
+fails_slice images t slot e =
+    sym (ap (λ o. list_any (fails_at images t slot) (option_map_or (λ copies. map Mirror (range_with_len 0 copies)) o (Slice t.at.index ∷ []))) e
+    ∙ or-false (fails_at images t slot (Slice t.at.index)))
+
+-- ---- the blocks of a list
+
+-- some blocks of a list are past, and the images were flagged on which one of them doesn't pass
+pub record LookedAt (layout : Layout) (held : Option Images) (wants left : List Want) (old new : List Bool) : Type 0 where
+  pub past : List Want
+  pub split : wants ≡ past ++ left
+  pub end : ℕ
+  pub apart : AreApart layout end left
+  pub flags : IfSome held (λ images. Flags old (failing images (targets layout past)) new)
+
+pub both_of : (held : Option Images) (P Q S : Images → Type 0) → ((images : Images) → P images → Q images → S images) → IfSome held P → IfSome held Q
+    → IfSome held S
+both_of None P Q S h p q = tt
+both_of (Some images) P Q S h p q = h images p q
+
+pub all_of : (held : Option Images) (P : Images → Type 0) → ((images : Images) → P images) → IfSome held P
+all_of None P h = tt
+all_of (Some images) P h = h images
+
+pub looked_first : (layout : Layout) (held : Option Images) (wants : List Want) (flags : List Bool) → AreApart layout 0 wants
+    → LookedAt layout held wants wants flags flags
+looked_first layout held wants flags apart = record {
+  past = [];
+  split = refl;
+  end = 0;
+  apart = apart;
+  flags = all_of held (λ images. Flags flags (failing images (targets layout [])) flags)
+      (λ images. flags_none flags (failing images (targets layout [])) (λ slot. refl));
+}
+
+pub looked_more : (layout : Layout) (held : Option Images) (wants left : List Want) (old mid new : List Bool) (want : Want) (rest : List Want) (t : Target)
+    → left ≡ want ∷ rest → sought layout want ≡ Ok t → LookedAt layout held wants left old mid
+    → IfSome held (λ images. Flags mid (λ slot. fails_on images slot t) new)
+    → LookedAt layout held wants rest old new
+looked_more layout held wants left old mid new want rest t is e h flags = record {
+  past = h.past ++ want ∷ [];
+  split = h.split ∙ ap (λ xs. h.past ++ xs) is ∙ sym (append_assoc h.past (want ∷ []) rest);
+  end = addr_of want + len_of layout.setting want;
+  apart = (subst (AreApart layout h.end) is h.apart).2;
+  flags = both_of held (λ images. Flags old (failing images (targets layout h.past)) mid) (λ images. Flags mid (λ slot. fails_on images slot t) new)
+      (λ images. Flags old (failing images (targets layout (h.past ++ want ∷ []))) new)
+      (λ images one two. flags_then old mid new (failing images (targets layout h.past)) (λ slot. fails_on images slot t)
+      (failing images (targets layout (h.past ++ want ∷ []))) one two (λ slot.
+      sym (ap (list_any (fails_on images slot)) (one_target layout h.past want t [] e) ∙ list_any-append (fails_on images slot) (targets layout h.past) (t ∷ [])
+      ∙ ap (λ b. list_any (fails_on images slot) (targets layout h.past) || b) (or-false (fails_on images slot t)))))
+      h.flags flags;
+}
+
+pub looked_done : (layout : Layout) (held : Option Images) (wants left : List Want) (old new : List Bool) → left ≡ [] → LookedAt layout held wants left old new
+    → IfSome held (λ images. Flags old (failing images (targets layout wants)) new)
+looked_done layout held wants left old new none h =
+    subst (λ ws. IfSome held (λ images. Flags old (failing images (targets layout ws)) new))
+    (sym (h.split ∙ ap (λ xs. h.past ++ xs) none ∙ append-nil h.past)) h.flags
+
+-- the next one has a position
+pub looks_next : (layout : Layout) (held : Option Images) (wants left : List Want) (old new : List Bool) (want : Want) (rest : List Want) → left ≡ want ∷ rest
+    → LookedAt layout held wants left old new → IsOk (sought layout want)
+looks_next layout held wants left old new want rest is h = (subst (AreApart layout h.end) is h.apart).1
+
+-- a block's slice is a part of its own, where there is parity
+pub own_slice : (layout : Layout) (want : Want) (i : ℕ) → IsOk (sought layout want) → ((t : Target) → sought layout want ≡ Ok t → mirrors t.chunk ≡ None)
+    → ((t : Target) → sought layout want ≡ Ok t → i < data_count t.chunk.profile (length t.chunk.stripes)) → HasOwn layout (Slice i) want
+own_slice layout want i ok none below =
+    let f = the_sought (sought layout want) ok in
+    subst (λ r. IsOkAnd r (λ t. HasPart t.chunk.profile (length t.chunk.stripes) (Slice i))) (sym f.1) (subst IsNone (sym (none f.0 f.1)) refl, below f.0 f.1)
+
+-- flags by a test that says the same
+pub flags_as : (layout : Layout) (want : Want) (rack : Seen) (f g : Images → Target → ℕ → Bool) (old new : List Bool) (r : Result (Unit {0}) MendFault)
+    → ((t : Target) (images : Images) (slot : ℕ) → sought layout want ≡ Ok t → f images t slot ≡ g images t slot)
+    → FlagsBlock layout want rack f old new r → FlagsBlock layout want rack g old new r
+flags_as layout want rack f g old new (Err x) same h t e = tt
+flags_as layout want rack f g old new (Ok u) same h t e =
+    some_of rack.held (λ images. Flags old (f images t) new) (λ images. Flags old (g images t) new)
+    (λ images flags slot. flags slot ∙ ap (λ b. get_or old slot false || b) (same t images slot e)) (h t e)

@@ -1,0 +1,17 @@
+use Rattle.std.proofs.Common.{ap, sym, ◌∙◌}
+use Rattle.btr_chunk.specs.declared.place.Part.TheVariants.{Slice}
+use Rattle.btr_scrub.specs.Doubts.{fails_at, fails_on}
+use Rattle.btr_scrub.proofs.Doubting.{fails_slice, flags_as, own_slice}
+use Rattle.btr_scrub.proofs.doubts.flag_block.Goals as goal
+
+pub flag_part-requires-clause-own : goal.flag_part-requires-clause-own
+flag_part-requires-clause-own g c =
+    own_slice c.args.store.now.layout c.args.want.now c.slice_of.result c.requires.sought (λ t e. sym (c.in-None.ensures t e)) c.slice_of.ensures.below
+
+pub returns-in-None-clause-flags : goal.returns-in-None-clause-flags
+returns-in-None-clause-flags g c =
+    flags_as c.args.store.now.layout c.args.want.now (g.R.Rack.seen c.args.rack.now)
+    (λ images t slot. fails_at images t slot (Slice c.slice_of.result)) (λ images t slot. fails_on images slot t)
+    c.args.probe.now.failing.items c.flag_part.new.probe.failing.items c.flag_part.result
+    (λ t images slot e. ap (λ i. fails_at images t slot (Slice i)) (c.slice_of.ensures.index t e) ∙ fails_slice images t slot (sym (c.in-None.ensures t e)))
+    c.flag_part.ensures.flags

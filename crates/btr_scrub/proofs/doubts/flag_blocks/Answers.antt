@@ -1,0 +1,73 @@
+use Rattle.std.proofs.Common.{IfSome, Err, refl, subst, arith}
+use Rattle.btr_rack.proofs.Reading.{reads_more}
+use Rattle.btr_read.specs.Fate.{sought}
+use Rattle.btr_read.proofs.Keeping.{none_more}
+use Rattle.btr_read.proofs.ReadsOn.{open_still, same_held, same_sure}
+use Rattle.btr_mend.proofs.Doing.{account_then}
+use Rattle.btr_scrub.specs.Doubts.{fails_on}
+use Rattle.btr_scrub.specs.Judged.{Flags}
+use Rattle.btr_scrub.specs.Leaves.{LiesInStripe}
+use Rattle.btr_scrub.proofs.Doubting.{looked_done, looked_first, looked_more, looks_next, parts_in_stripe, the_sought}
+use Rattle.btr_scrub.proofs.Positions.{is_sought}
+use Rattle.btr_scrub.proofs.doubts.flag_blocks.Goals as goal
+
+pub loop-want-init : goal.loop-want-init
+loop-want-init g c = record {
+  ready = c.requires.ready;
+  reads = record { same = refl; later = omega arith; same_shut = refl };
+  account = record { faults = refl; fresh = refl; missed = refl; last = refl; opening = refl; shut = refl };
+  looked = looked_first c.args.store.now.layout (g.R.Rack.seen c.args.rack.now).held c.args.blocks.now c.args.probe.now.failing.items c.requires.apart;
+}
+
+pub flag_block-requires-clause-open : goal.flag_block-requires-clause-open
+flag_block-requires-clause-open g c = open_still c.args.store.now.layout.devices c.loop-want.invariant.reads c.requires.open
+
+pub flag_block-requires-clause-sought : goal.flag_block-requires-clause-sought
+flag_block-requires-clause-sought g c =
+    looks_next c.args.store.now.layout
+    (g.R.Rack.seen c.args.rack.now).held c.args.blocks.now c.loop-want.blocks c.args.probe.now.failing.items c.loop-want.probe.failing.items
+    c.in-Some.want c.next.new.self c.in-Some.ensures c.loop-want.invariant.looked
+
+pub loop-want-preserved : goal.loop-want-preserved
+loop-want-preserved g c =
+    let a = g.R.Rack.seen c.args.rack.now in
+    let b = g.R.Rack.seen c.loop-want.rack in
+    let d = g.R.Rack.seen c.flag_block.new.rack in
+    let layout = c.args.store.now.layout in
+    let want = c.in-Some.want in
+    let mid = c.loop-want.probe.failing.items in
+    let new = c.flag_block.new.probe.failing.items in
+    let ok = looks_next layout a.held c.args.blocks.now c.loop-want.blocks c.args.probe.now.failing.items mid want c.next.new.self c.in-Some.ensures
+    c.loop-want.invariant.looked in
+    let t = the_sought (sought layout want) ok in
+    record {
+      ready = c.in-Ok.ensures.ready;
+      reads = reads_more c.loop-want.invariant.reads c.in-Ok.ensures.reads;
+      account = none_more a.account b.account d.account c.loop-want.invariant.account (c.in-Ok.ensures.account t.0 t.1);
+      looked = looked_more layout a.held c.args.blocks.now c.loop-want.blocks c.args.probe.now.failing.items mid new want c.next.new.self t.0
+          c.in-Some.ensures t.1 c.loop-want.invariant.looked
+          (subst (λ held. IfSome held (λ images. Flags mid (λ slot. fails_on images slot t.0) new)) (same_held c.loop-want.invariant.reads)
+          (c.in-Ok.ensures.flags t.0 t.1));
+    }
+
+pub returns-in-Err-clause-reads : goal.returns-in-Err-clause-reads
+returns-in-Err-clause-reads g c = reads_more c.loop-want.invariant.reads c.in-Err.ensures.reads
+
+pub returns-in-Err-clause-account : goal.returns-in-Err-clause-account
+returns-in-Err-clause-account g c =
+    let a = g.R.Rack.seen c.args.rack.now in
+    let b = g.R.Rack.seen c.loop-want.rack in
+    let d = g.R.Rack.seen c.flag_block.new.rack in
+    let layout = c.args.store.now.layout in
+    let want = c.in-Some.want in
+    let ok = looks_next layout a.held c.args.blocks.now c.loop-want.blocks c.args.probe.now.failing.items c.loop-want.probe.failing.items want
+    c.next.new.self c.in-Some.ensures c.loop-want.invariant.looked in
+    let t = the_sought (sought layout want) ok in
+    account_then {A = Unit {0}} (LiesInStripe layout) a b d (Err c.in-Err.fault) (same_sure c.loop-want.invariant.reads) c.loop-want.invariant.account
+    (parts_in_stripe {A = Unit {0}} layout t.0 b d (Err c.in-Err.fault) c.requires.table (is_sought layout want t.0 t.1) (c.in-Err.ensures.account t.0 t.1))
+
+pub returns-clause-flags : goal.returns-clause-flags
+returns-clause-flags g c =
+    looked_done c.args.store.now.layout
+    (g.R.Rack.seen c.args.rack.now).held c.args.blocks.now c.loop-want.blocks c.args.probe.now.failing.items c.loop-want.probe.failing.items
+    c.in_default.ensures.0 c.loop-want.invariant.looked

@@ -1,0 +1,85 @@
+use Rattle.std.proofs.Common.{◌+◌, ◌||◌, false, get_or, IfSome, Err, take, refl, sym, ap, ◌∙◌, subst, arith}
+use Rattle.std.proofs.lemmas.List.{take_all}
+use Rattle.std.proofs.lemmas.List.FromFn.{length-range_with_len}
+use Rattle.std.specs.List.{list_any, range_with_len}
+use Rattle.btr_chunk.specs.declared.place.Part.TheVariants.{Mirror}
+use Rattle.btr_rack.proofs.Reading.{reads_more}
+use Rattle.btr_read.specs.Fate.{sought}
+use Rattle.btr_read.proofs.Keeping.{none_more}
+use Rattle.btr_read.proofs.ReadsOn.{open_still, same_held, same_sure}
+use Rattle.btr_mend.proofs.Doing.{account_then}
+use Rattle.btr_scrub.specs.Doubts.{fails_at, fails_on}
+use Rattle.btr_scrub.specs.Judged.{Flags, IsOfPart}
+use Rattle.btr_scrub.proofs.Doubting.{all_of, both_of, fails_copies, flags_none, flags_then, own_copy, some_of, the_sought}
+use Rattle.btr_scrub.proofs.Keepings.{slice_more}
+use Rattle.btr_scrub.proofs.doubts.flag_copies.Goals as goal
+
+pub loop-mirror-init : goal.loop-mirror-init
+loop-mirror-init g c = record {
+  ready = c.requires.ready;
+  reads = record { same = refl; later = omega arith; same_shut = refl };
+  account = record { faults = refl; fresh = refl; missed = refl; last = refl; opening = refl; shut = refl };
+  flags = λ t e. all_of (g.R.Rack.seen c.args.rack.now).held
+      (λ images. Flags c.args.probe.now.failing.items
+      (λ slot. list_any (λ k. fails_at images t slot (Mirror k)) (take 0 (range_with_len 0 c.args.copies))) c.args.probe.now.failing.items)
+      (λ images. flags_none c.args.probe.now.failing.items
+      (λ slot. list_any (λ k. fails_at images t slot (Mirror k)) (take 0 (range_with_len 0 c.args.copies))) (λ slot. refl));
+}
+
+pub flag_part-requires-clause-open : goal.flag_part-requires-clause-open
+flag_part-requires-clause-open g c = open_still c.args.store.now.layout.devices c.loop-mirror.invariant.reads c.requires.open
+
+pub flag_part-requires-clause-own : goal.flag_part-requires-clause-own
+flag_part-requires-clause-own g c = own_copy c.args.store.now.layout c.args.want.now c.args.copies c.loop-mirror.mirror c.requires.sought
+    c.requires.copies c.loop-mirror-test.true
+
+pub loop-mirror-preserved : goal.loop-mirror-preserved
+loop-mirror-preserved g c =
+    let a = g.R.Rack.seen c.args.rack.now in
+    let b = g.R.Rack.seen c.loop-mirror.rack in
+    let d = g.R.Rack.seen c.flag_part.new.rack in
+    let m = c.loop-mirror.mirror in
+    let old = c.args.probe.now.failing.items in
+    let mid = c.loop-mirror.probe.failing.items in
+    let new = c.flag_part.new.probe.failing.items in
+    let target = the_sought (sought c.args.store.now.layout c.args.want.now) c.requires.sought in
+    record {
+      ready = c.in-Ok.ensures.ready;
+      reads = reads_more c.loop-mirror.invariant.reads c.in-Ok.ensures.reads;
+      account = none_more a.account b.account d.account c.loop-mirror.invariant.account (c.in-Ok.ensures.account target.0 target.1);
+      flags = λ t e.
+          both_of a.held (λ images. Flags old (λ slot. list_any (λ k. fails_at images t slot (Mirror k)) (take m (range_with_len 0 c.args.copies))) mid)
+          (λ images. Flags mid (λ slot. fails_at images t slot (Mirror m)) new)
+          (λ images. Flags old (λ slot. list_any (λ k. fails_at images t slot (Mirror k)) (take (m + 1) (range_with_len 0 c.args.copies))) new)
+          (λ images one two. flags_then old mid new
+          (λ slot. list_any (λ k. fails_at images t slot (Mirror k)) (take m (range_with_len 0 c.args.copies)))
+          (λ slot. fails_at images t slot (Mirror m))
+          (λ slot. list_any (λ k. fails_at images t slot (Mirror k)) (take (m + 1) (range_with_len 0 c.args.copies))) one two
+          (λ slot. sym (slice_more (λ k. fails_at images t slot (Mirror k)) c.args.copies m c.loop-mirror-test.true)))
+          (c.loop-mirror.invariant.flags t e)
+          (subst (λ held. IfSome held (λ images. Flags mid (λ slot. fails_at images t slot (Mirror m)) new))
+          (same_held c.loop-mirror.invariant.reads) (c.in-Ok.ensures.flags t e));
+    }
+
+pub returns-in-Err-clause-reads : goal.returns-in-Err-clause-reads
+returns-in-Err-clause-reads g c = reads_more c.loop-mirror.invariant.reads c.in-Err.ensures.reads
+
+pub returns-in-Err-clause-account : goal.returns-in-Err-clause-account
+returns-in-Err-clause-account g c t e =
+    account_then {A = Unit {0}} (IsOfPart t) (g.R.Rack.seen c.args.rack.now) (g.R.Rack.seen c.loop-mirror.rack) (g.R.Rack.seen c.flag_part.new.rack)
+    (Err c.in-Err.fault)
+    (same_sure c.loop-mirror.invariant.reads) c.loop-mirror.invariant.account (c.in-Err.ensures.account t e)
+
+pub returns-clause-flags : goal.returns-clause-flags
+returns-clause-flags g c t e =
+    let old = c.args.probe.now.failing.items in
+    let new = c.loop-mirror.probe.failing.items in
+    let n = c.args.copies in
+    some_of (g.R.Rack.seen c.args.rack.now).held
+    (λ images. Flags old (λ slot. list_any (λ k. fails_at images t slot (Mirror k)) (take c.loop-mirror.mirror (range_with_len 0 n))) new)
+    (λ images. Flags old (λ slot. fails_on images slot t) new)
+    (λ images h slot. h slot ∙ ap (λ b. get_or old slot false || b)
+    (ap (list_any (λ k. fails_at images t slot (Mirror k)))
+    (take_all c.loop-mirror.mirror (range_with_len 0 n) (omega (arith, length-range_with_len 0 n, c.loop-mirror-test.false)))
+    ∙ fails_copies images t n slot (c.requires.copies t e)))
+    (c.loop-mirror.invariant.flags t e)
