@@ -11,7 +11,8 @@ use Rattle.btr_check.specs.Trees.{is_among, place_of, place_cmp, first_met}
 use Rattle.btr_check.specs.Walking.{Places, no_places, with_place}
 use Rattle.btr_check.specs.declared.places.Place.{Place}
 
-place_total : IsTotalOrder place_cmp
+-- places are in a total order
+pub place_total : IsTotalOrder place_cmp
 place_total = then_total (on_total (λ (p : Place). p.addr) nat_cmp_total)
     (then_total (on_total (λ (p : Place). p.generation) nat_cmp_total) (on_total (λ (p : Place). p.level) nat_cmp_total))
 

@@ -39,7 +39,7 @@ root_walked (mark ∷ marks) seen =
     }
 
 -- ranges that aren't apart, behind a last one if there is one
-pub apart_from : Option FileRange → List FileRange → List Finding
+unfoldable pub apart_from : Option FileRange → List FileRange → List Finding
 apart_from None ranges = filter_map not_apart (neighbours ranges)
 apart_from (Some last) ranges = filter_map not_apart (neighbours (last ∷ ranges))
 

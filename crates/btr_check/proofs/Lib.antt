@@ -10,6 +10,8 @@ mod Formed
 mod Lists
 pub mod Misuses
 pub mod Passes
+pub mod Openings
+pub mod Passing
 mod Ranges
 pub mod Referring
 mod Roots

@@ -1,5 +1,6 @@
 -- Trees that are walked, one after another.
-use Rattle.std.proofs.Common.{◌≡◌, ℕ, ◌+◌, ◌<◌, List, [], ◌∷◌, ◌++◌, length, take, get_or, map, fold, filter_map, flat_map, None, Result, Ok, Err, OnOk, sym}
+use Rattle.std.proofs.Common.{◌≡◌, ℕ, ◌+◌, ◌<◌, List, [], ◌∷◌, ◌++◌, length, take, get_or, map, fold, filter_map, flat_map, Option, None, Result, Ok, Err, OnOk}
+use Rattle.std.proofs.Common.{sym}
 use Rattle.std.proofs.Common.{ap, ◌∙◌, subst}
 use Rattle.std.proofs.lemmas.List.{map-append, take_more}
 use Rattle.std.proofs.lemmas.List.Sums.{fold-append}
@@ -7,10 +8,14 @@ use Rattle.btr_tour.specs.Tour.{Reached, whole, blocks_met}
 use Rattle.btr_volume.specs.declared.root.TreeRoot.{TreeRoot}
 use Rattle.btr_volume.specs.declared.stop.Stop.{Stop}
 use Rattle.btr_walk.specs.declared.place.RootPlace.{RootPlace}
+use Rattle.btr_walk.specs.Le.{root_spot}
 use Rattle.btr_check.proofs.Firsts.{met_once}
 use Rattle.btr_check.proofs.Folding.{walked, apart_from, apart_all}
 use Rattle.btr_check.proofs.Lists.{flat_more}
+use Rattle.btr_check.proofs.Passing.{knows_begun}
+use Rattle.btr_check.specs.declared.subtrees.Edges.{Edges}
 use Rattle.btr_check.specs.Filesystem.{Filesystem, kind_of_sums}
+use Rattle.btr_check.specs.Passing.{Known, Knows, Walks, subtree_marks}
 use Rattle.btr_check.specs.Walks.{broken, tree_broken, tree_overlapping, ranges_met}
 use Rattle.btr_check.specs.Walking.{Places, WalkSeen, HasWalked, IsWalkOf, begun, walk_step, with_place, no_places, nothing_walked}
 
@@ -65,3 +70,13 @@ module _ (fs : Filesystem) where
     places = ap (λ (p : Places). p.list) h.places
         ∙ met_once (flat_map blocks trees);
   }
+
+  -- one tree more, whose blocks were walked
+  pub tree_walked : (before : List TreeRoot) (tree : TreeRoot) (old begun' new : WalkSeen) (first known after : Known) (edges : Option Edges)
+      → begun' ≡ begun old → known ≡ first → HasWalked fs before old → Knows fs old first
+      → Walks fs (subtree_marks fs tree.place.level (root_spot tree.place)) begun' new known after (Ok edges)
+      → HasWalked fs (before ++ tree ∷ []) new × Knows fs new after
+  tree_walked before tree old begun' new first known after edges is same had knows walks =
+      let begins = subst (λ s. Knows fs s known) (sym is) (subst (Knows fs (begun old)) (sym same) (knows_begun fs old first knows)) in
+      let one = walks begins in
+      (walked_more before tree old new had (one.seen ∙ ap (λ s. fold walk_step s (whole fs.blocks tree.place)) is), one.knows)

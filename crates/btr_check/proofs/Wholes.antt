@@ -14,7 +14,7 @@ use Rattle.btr_check.specs.Trees.{chunk_tree, root_tree, trees}
 use Rattle.btr_check.specs.Walking.{WalkSeen, IsWalkOf, is_nothing}
 use Rattle.btr_check.specs.Walks.{tree_broken, tree_overlapping, walk_findings}
 
-none_found : (found : List Finding) → is_nothing found ≡ true → found ≡ []
+pub none_found : (found : List Finding) → is_nothing found ≡ true → found ≡ []
 none_found [] is = refl
 none_found (finding ∷ found) is = cc
 

@@ -5,6 +5,7 @@ pub mod Walks
 pub mod Uses
 pub mod Running
 pub mod Walking
+pub mod Passing
 pub mod Counting
 pub mod Text
 pub mod ExtentTree

@@ -7,11 +7,11 @@ ghost use Rattle.btr_check.specs.Walks.{fault_finding, not_apart, range_in};
 use crate::block_fault::BlockFault;
 use crate::form::broken_in;
 use crate::places::PlaceList;
+use crate::subtrees::Edges;
 use btr_base::{Key, Memory, SumKind};
 use btr_items::{FileExtent, ItemFault, item};
 use btr_refs::Finding;
-use btr_tour::{Met, Visitor};
-use btr_walk::RootPlace;
+use btr_walk::{Found, RootPlace};
 use std::alloc::Global;
 use std::marker::Model;
 
@@ -45,8 +45,14 @@ impl Model for Walk {
 }
 
 impl Walk {
-    ghost use Rattle.std.specs.Prelude.{◌≡◌, ◌++◌};
-    ghost use Rattle.btr_check.specs.Walking.{nothing_walked, begun, is_nothing};
+    ghost use Rattle.std.specs.Prelude.{◌≡◌, ◌++◌, List, Some, OnOk, IfOk};
+    ghost use Rattle.btr_read.specs.Fate.{Fault};
+    ghost use Rattle.btr_tour.specs.Tour.{Block, Item, Left};
+    ghost use Rattle.btr_walk.specs.Showing.{item_of};
+    ghost use Rattle.btr_check.specs.Before.{left_by};
+    ghost use Rattle.btr_check.specs.Passing.{passed};
+    ghost use Rattle.btr_check.specs.Walking.{nothing_walked, begun, is_nothing, walk_step};
+    ghost use Rattle.btr_check.specs.Walks.{range_of};
 
     /// Nothing was met yet. Checksums are of this kind.
     pub(crate) fn new(alloc: Global, kind: SumKind) -> Walk
@@ -67,6 +73,54 @@ impl Walk {
         ensures { self.new ≡ begun self.old }
     {
         self.last = None;
+    }
+
+    /// Where memory is taken from.
+    pub(crate) fn alloc(&self) -> Global {
+        self.alloc
+    }
+
+    /// A good block was met.
+    pub(crate) fn meet_block(&mut self, place: &RootPlace) -> Result<(), Memory>
+        ensures { OnOk result
+            ((block : List _) → self.new ≡ walk_step self.old (Block place.now block)) }
+    {
+        self.places.put(place)
+    }
+
+    /// A block was left out.
+    pub(crate) fn meet_fault(&mut self, fault: BlockFault) -> Result<(), Memory>
+        ensures { OnOk result
+            ((f : Fault) → left_by f ≡ Some fault → self.new ≡ walk_step self.old (Left f)) }
+    {
+        push(&mut self.broken, Some(fault.finding()))
+    }
+
+    /// An item was met; the answer is the range of a file that it has.
+    pub(crate) fn meet_item(&mut self, found: &Found<'_>) -> Result<Option<FileRange>, Memory>
+        ensures seen { OnOk result (self.new ≡ walk_step self.old (Item (item_of found.now))) }
+        ensures range { IfOk result (λ range. range ≡ range_of (item_of found.now)) }
+    {
+        let fault = broken_in(self.alloc, self.kind, found)?;
+        push(&mut self.broken, finding_of(fault))?;
+        let range = range_in(found.key, found.block, found.body);
+        keep_range(&mut self.overlapping, &mut self.last, range)?;
+        Ok(range)
+    }
+
+    /// A subtree was met again that has nothing wrong: of its ranges of files only those at its
+    /// edges can be wrong here.
+    pub(crate) fn pass(&mut self, edges: Option<Edges>) -> Result<(), Memory>
+        ensures { OnOk result (self.new ≡ passed self.old edges) }
+    {
+        let Some(edges) = edges else {
+            return Ok(());
+        };
+        let first = Some(edges.first);
+        let mut last = self.last;
+        keep_range(&mut self.overlapping, &mut last, first)?;
+        self.last = Some(edges.last);
+        Ok(())
     }
 
     /// What is broken in the trees, kinds 1 to 4: a block that is left out, or the leaf of an item that hasn't its form.
@@ -181,24 +235,4 @@ fn keep_range(
     }
     *last = Some(range);
     Ok(())
-}
-
-impl Visitor<Memory> for Walk {
-    ghost use Rattle.btr_check.specs.Walking.{walk_step};
-
-    ghost step = { walk_step };
-
-    fn meet(&mut self, met: &Met<'_>) -> Result<(), Memory> {
-        match met {
-            Met::Child { .. } => Ok(()),
-            Met::Block { place, .. } => self.places.put(place),
-            Met::Fault(fault) => push(&mut self.broken, finding_of(BlockFault::of(*fault))),
-            Met::Item(found) => {
-                let fault = broken_in(self.alloc, self.kind, found)?;
-                push(&mut self.broken, finding_of(fault))?;
-                let range = range_in(found.key, found.block, found.body);
-                keep_range(&mut self.overlapping, &mut self.last, range)
-            }
-        }
-    }
 }

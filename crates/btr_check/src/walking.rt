@@ -1,47 +1,173 @@
 // The walk of all trees.
-ghost use Rattle.std.specs.Prelude.{◌∷◌, ◌++◌, [], List, OnOk, IfOk};
+ghost use Rattle.std.specs.Prelude.{◌∷◌, ◌++◌, [], ℕ, List, OnOk, IfOk};
 ghost use Rattle.btr_volume.specs.declared.root.TreeRoot.{TreeRoot};
+ghost use Rattle.btr_check.specs.Passing.{Keeps, Knows, Passes, Walks, children_marks};
+ghost use Rattle.btr_check.specs.Passing.{subtree_marks};
 ghost use Rattle.btr_check.specs.Running.{world, IsReady, Ran, StopsOutside};
 ghost use Rattle.btr_check.specs.Walking.{HasWalked, IsWalkOf};
 
 use crate::form::kind_of;
-use crate::visiting::visit_tree;
+use crate::opening::{Opened, open_block};
+use crate::refusing::is_file_tree;
+use crate::subtrees::{Edges, Subtrees, join};
 use crate::walk::Walk;
+use btr_base::Memory;
 use btr_rack::Rack;
 use btr_volume::{Stop, TreeRoot, Volume};
+use btr_walk::Spot;
 use std::alloc::Global;
+
+// Passes a subtree that was walked before.
+fn pass(walk: &mut Walk, edges: Option<Edges>) -> Result<Option<Edges>, Stop>
+    ensures { Passes walk.old edges walk.new result }
+{
+    match walk.pass(edges) {
+        Ok(()) => Ok(edges),
+        Err(Memory) => Err(Stop::Memory),
+    }
+}
+
+// Keeps a subtree that was walked, where nothing was found so far.
+fn keep(
+    level: u8,
+    spot: &Spot,
+    edges: Option<Edges>,
+    walk: &Walk,
+    subtrees: &mut Subtrees,
+) -> Result<Option<Edges>, Stop>
+    ensures { Keeps subtrees.old.keeps level spot.now edges walk.now
+        subtrees.old.known.entries subtrees.new.known.entries result }
+{
+    match subtrees.keep(level, spot, edges, walk.is_sound()) {
+        Ok(()) => Ok(edges),
+        Err(Memory) => Err(Stop::Memory),
+    }
+}
+
+// Walks what is below the block of a level at a spot: passes it where it was walked before with the
+// same bounds.
+#[cycle(walking)]
+fn walk_block<R: Rack>(
+    level: u8,
+    spot: &Spot,
+    walk: &mut Walk,
+    subtrees: &mut Subtrees,
+    rack: &mut R,
+    vol: &mut Volume,
+) -> Result<Option<Edges>, Stop>
+    requires ready { IsReady (world (R.seen rack.old) vol.old) }
+    ensures outside { StopsOutside result }
+    ensures ran { Ran (λ fs. Walks fs (subtree_marks fs level spot.now) walk.old walk.new
+        subtrees.old.known.entries subtrees.new.known.entries result)
+        (world (R.seen rack.old) vol.old) (world (R.seen rack.new) vol.new) result }
+{
+    if let Some(edges) = subtrees.find(level, spot) {
+        return pass(walk, edges);
+    }
+    match walk_below(level, spot, walk, subtrees, rack, vol) {
+        Ok(edges) => keep(level, spot, edges, walk, subtrees),
+        Err(stop) => Err(stop),
+    }
+}
+
+// The same of one that wasn't walked before.
+#[cycle(walking)]
+fn walk_below<R: Rack>(
+    level: u8,
+    spot: &Spot,
+    walk: &mut Walk,
+    subtrees: &mut Subtrees,
+    rack: &mut R,
+    vol: &mut Volume,
+) -> Result<Option<Edges>, Stop>
+    requires ready { IsReady (world (R.seen rack.old) vol.old) }
+    ensures outside { StopsOutside result }
+    ensures ran { Ran (λ fs. Walks fs (subtree_marks fs level spot.now) walk.old walk.new
+        subtrees.old.known.entries subtrees.new.known.entries result)
+        (world (R.seen rack.old) vol.old) (world (R.seen rack.new) vol.new) result }
+{
+    match open_block(level, spot, walk, rack, vol) {
+        Err(stop) => Err(stop),
+        Ok(Opened::Whole(edges)) => Ok(edges),
+        Ok(Opened::Children(spots)) => {
+            walk_children(level - 1, spots.as_slice(), walk, subtrees, rack, vol)
+        }
+    }
+}
+
+// Walks what is below the children of a node, which are blocks of this level.
+#[cycle(walking)]
+fn walk_children<R: Rack>(
+    level: u8,
+    spots: &[Spot],
+    walk: &mut Walk,
+    subtrees: &mut Subtrees,
+    rack: &mut R,
+    vol: &mut Volume,
+) -> Result<Option<Edges>, Stop>
+    requires ready { IsReady (world (R.seen rack.old) vol.old) }
+    ensures outside { StopsOutside result }
+    ensures ran { Ran (λ fs. (addr : ℕ) → Walks fs (children_marks fs addr level spots.now)
+        walk.old walk.new subtrees.old.known.entries subtrees.new.known.entries result)
+        (world (R.seen rack.old) vol.old) (world (R.seen rack.new) vol.new) result }
+{
+    let mut edges = None;
+    for spot in spots {
+        match walk_block(level, spot, walk, subtrees, rack, vol) {
+            Ok(more) => edges = join(edges, more),
+            Err(stop) => return Err(stop),
+        }
+    }
+    Ok(edges)
+}
 
 // Walks one tree more.
 fn walk_tree<R: Rack>(
     tree: &TreeRoot,
     walk: &mut Walk,
+    subtrees: &mut Subtrees,
     rack: &mut R,
     vol: &mut Volume,
 ) -> Result<(), Stop>
     requires ready { IsReady (world (R.seen rack.old) vol.old) }
     ensures outside { StopsOutside result }
-    ensures ran { Ran (λ fs. (before : List TreeRoot) → HasWalked fs before walk.old → OnOk result (HasWalked fs
-        (before ++ tree.now ∷ []) walk.new))
+    ensures ran { Ran (λ fs. (before : List TreeRoot) → HasWalked fs before walk.old
+        → Knows fs walk.old subtrees.old.known.entries
+        → OnOk result (HasWalked fs (before ++ tree.now ∷ []) walk.new
+        × Knows fs walk.new subtrees.new.known.entries))
         (world (R.seen rack.old) vol.old) (world (R.seen rack.new) vol.new) result }
 {
     walk.begin();
-    visit_tree(&tree.place, walk, rack, vol)
+    subtrees.begin(tree.id);
+    let spot = Spot {
+        addr: tree.place.addr,
+        generation: tree.place.generation,
+        first: None,
+        up: None,
+    };
+    match walk_block(tree.place.level, &spot, walk, subtrees, rack, vol) {
+        Ok(_) => Ok(()),
+        Err(stop) => Err(stop),
+    }
 }
 
 // Walks trees, one after another.
 fn walk_more<R: Rack>(
     trees: &[TreeRoot],
     walk: &mut Walk,
+    subtrees: &mut Subtrees,
     rack: &mut R,
     vol: &mut Volume,
 ) -> Result<(), Stop>
     requires ready { IsReady (world (R.seen rack.old) vol.old) }
     ensures outside { StopsOutside result }
-    ensures ran { Ran (λ fs. HasWalked fs [] walk.old → OnOk result (HasWalked fs trees.now walk.new))
+    ensures ran { Ran (λ fs. HasWalked fs [] walk.old → Knows fs walk.old subtrees.old.known.entries
+        → OnOk result (HasWalked fs trees.now walk.new
+        × Knows fs walk.new subtrees.new.known.entries))
         (world (R.seen rack.old) vol.old) (world (R.seen rack.new) vol.new) result }
 {
     for tree in trees {
-        match walk_tree(tree, walk, rack, vol) {
+        match walk_tree(tree, walk, subtrees, rack, vol) {
             Ok(()) => {}
             Err(stop) => return Err(stop),
         }
@@ -49,9 +175,12 @@ fn walk_more<R: Rack>(
     Ok(())
 }
 
-/// Walks all these trees, and goes on behind faults. Four slots are free.
+/// Walks all these trees, and goes on behind faults. Four slots are free. Where nothing is wrong
+/// with what is below a block, that is walked once, and passed where another tree reaches it with
+/// the same bounds.
 ///
-/// `Tree`: a block could not be read, which is `Unread`. `Memory`: there is no memory for what is kept.
+/// `Tree`: a block could not be read, which is `Unread`. `Memory`: there is no memory for what is
+/// kept.
 pub fn walk_trees<R: Rack>(
     alloc: Global,
     trees: &[TreeRoot],
@@ -64,7 +193,8 @@ pub fn walk_trees<R: Rack>(
         (world (R.seen rack.old) vol.old) (world (R.seen rack.new) vol.new) result }
 {
     let mut walk = Walk::new(alloc, kind_of(&vol.sup));
-    match walk_more(trees, &mut walk, rack, vol) {
+    let mut subtrees = Subtrees::new(alloc, trees);
+    match walk_more(trees, &mut walk, &mut subtrees, rack, vol) {
         Ok(()) => Ok(walk),
         Err(stop) => Err(stop),
     }

@@ -1,19 +1,40 @@
-use Rattle.std.proofs.Common.{◌≡◌, [], ◌∷◌, ◌++◌, List, OnOk, fold, ap, ◌∙◌}
-use Rattle.btr_tour.specs.Tour.{whole}
+use Rattle.std.proofs.Common.{[], ◌∷◌, ◌++◌, List, Ok, Option, ap}
+use Rattle.std.specs.Bool.{⊤}
 use Rattle.btr_volume.specs.declared.root.TreeRoot.{TreeRoot}
+use Rattle.btr_walk.specs.Le.{root_spot}
+use Rattle.btr_check.specs.declared.subtrees.Edges.{Edges}
+use Rattle.btr_check.specs.Passing.{Knows, Walks, subtree_marks}
 use Rattle.btr_check.specs.Running.{world, filesystem}
-use Rattle.btr_check.specs.Walking.{HasWalked, walk_step}
-use Rattle.btr_check.proofs.Runs.{ran_more}
-use Rattle.btr_check.proofs.Treading.{on_ok, walked_more}
+use Rattle.btr_check.specs.Walking.{HasWalked}
+use Rattle.btr_check.proofs.Runs.{ran_stop, ran_value}
+use Rattle.btr_check.proofs.Treading.{tree_walked}
 use Rattle.btr_check.proofs.walking.walk_tree.Goals as goal
 
-pub returns-clause-ran : goal.returns-clause-ran
-returns-clause-ran g c =
+pub returns-in-Ok : goal.returns-in-Ok
+returns-in-Ok g c =
     let x = world (g.R.Rack.seen c.args.rack.now) c.args.vol.now in
-    let y = world (g.R.Rack.seen c.visit_tree.new.rack) c.visit_tree.new.vol in
-    ran_more (λ fs. OnOk c.visit_tree.result (c.visit_tree.new.visitor ≡ fold walk_step c.begin.new.self (whole fs.blocks c.args.tree.now.place)))
-    (λ fs. (before : List TreeRoot) → HasWalked fs before c.args.walk.now → OnOk c.visit_tree.result
-    (HasWalked fs (before ++ c.args.tree.now ∷ []) c.visit_tree.new.visitor)) x y c.visit_tree.result c.visit_tree.ensures.ran
-    (λ B h before had. on_ok c.visit_tree.result _ _
-    (λ e. walked_more (filesystem c.args.vol.now B) before c.args.tree.now c.args.walk.now c.visit_tree.new.visitor had
-    (e ∙ ap (λ s. fold walk_step s (whole B c.args.tree.now.place)) c.begin.ensures)) h)
+    let y = world (g.R.Rack.seen c.walk_block.new.rack) c.walk_block.new.vol in
+    let tree = c.args.tree.now in
+    let first = c.args.subtrees.now.known.entries in
+    let known = c.begin-2.new.self.known.entries in
+    let after = c.walk_block.new.subtrees.known.entries in
+    record {
+      outside = tt;
+      ran = ran_value {C = Unit {0}}
+          (λ fs. Walks fs (subtree_marks fs tree.place.level (root_spot tree.place)) c.begin.new.self c.walk_block.new.walk known after (Ok c.in-Ok.field-0))
+          (λ fs. (before : List TreeRoot) → HasWalked fs before c.args.walk.now → Knows fs c.args.walk.now first
+          → HasWalked fs (before ++ tree ∷ []) c.walk_block.new.walk × Knows fs c.walk_block.new.walk after) x y c.in-Ok.field-0 tt c.in-Ok.ensures.ran
+          (λ B walks before had knows. tree_walked (filesystem c.args.vol.now B) before tree c.args.walk.now c.begin.new.self c.walk_block.new.walk
+          first known after c.in-Ok.field-0 c.begin.ensures (ap (λ m. m.entries) c.begin-2.ensures.known) had knows walks);
+    }
+
+pub returns-in-Err : goal.returns-in-Err
+returns-in-Err g c =
+    let x = world (g.R.Rack.seen c.args.rack.now) c.args.vol.now in
+    let y = world (g.R.Rack.seen c.walk_block.new.rack) c.walk_block.new.vol in
+    record {
+      outside = c.in-Err.ensures.outside;
+      ran = ran_stop {A = Option Edges} {C = Unit {0}} (λ fs. ⊤)
+          (λ fs. (before : List TreeRoot) → HasWalked fs before c.args.walk.now → Knows fs c.args.walk.now c.args.subtrees.now.known.entries → ⊤) x y c.in-Err.stop
+          c.in-Err.ensures.ran (λ B h before had knows. tt);
+    }

@@ -1,0 +1,129 @@
+use Rattle.std.proofs.Common.{◌-◌, ◌+◌, ℕ, [], Result, Ok, Err, Option, None, take, get_or, sym, subst}
+use Rattle.std.specs.Bool.{⊤}
+use Rattle.btr_volume.specs.declared.stop.Stop.{Stop}
+use Rattle.btr_walk.specs.declared.spot.Spot.{Spot}
+use Rattle.btr_check.specs.declared.opening.Opened.{Opened}
+use Rattle.btr_check.specs.declared.subtrees.Edges.{Edges}
+use Rattle.btr_check.specs.Passing.{Opens, Walks, children_marks, subtree_marks}
+use Rattle.btr_check.specs.Running.{world, filesystem}
+use Rattle.btr_check.proofs.Openings.{AreChildren, kept_outside, passed_outside, ran_kept, ran_passed, walks_child, walks_end, walks_node, walks_whole}
+use Rattle.btr_check.proofs.Passing.{walked_nothing}
+use Rattle.btr_check.proofs.Runs.{ran_more, ran_none, ran_stop, ran_then, ran_value}
+use Rattle.btr_check.proofs.walking.+walking.Goals as goal
+
+pub walk_block-returns-in-Some-clause-outside : goal.walk_block-returns-in-Some-clause-outside
+walk_block-returns-in-Some-clause-outside g t c =
+    passed_outside c.args.walk.now c.pass.new.walk c.in-Some.edges c.pass.result c.pass.ensures
+
+pub walk_block-returns-in-Some-clause-ran : goal.walk_block-returns-in-Some-clause-ran
+walk_block-returns-in-Some-clause-ran g t c =
+    ran_passed (world (g.R.Rack.seen c.args.rack.now) c.args.vol.now) c.args.level c.args.spot.now c.args.walk.now c.pass.new.walk
+    c.args.subtrees.now.known.entries c.in-Some.edges c.pass.result c.requires.ready c.in-Some.ensures c.pass.ensures
+
+pub walk_block-returns-in-Ok-clause-outside : goal.walk_block-returns-in-Ok-clause-outside
+walk_block-returns-in-Ok-clause-outside g t c =
+    kept_outside c.walk_below.new.subtrees.keeps c.args.level c.args.spot.now c.in-Ok.edges c.walk_below.new.walk
+    c.walk_below.new.subtrees.known.entries c.keep.new.subtrees.known.entries c.keep.result c.keep.ensures
+
+pub walk_block-returns-in-Ok-clause-ran : goal.walk_block-returns-in-Ok-clause-ran
+walk_block-returns-in-Ok-clause-ran g t c =
+    ran_kept c.walk_below.new.subtrees.keeps c.args.level c.args.spot.now c.args.walk.now c.walk_below.new.walk c.args.subtrees.now.known.entries
+    c.walk_below.new.subtrees.known.entries c.keep.new.subtrees.known.entries c.in-Ok.edges
+    (world (g.R.Rack.seen c.args.rack.now) c.args.vol.now) (world (g.R.Rack.seen c.walk_below.new.rack) c.walk_below.new.vol) c.keep.result
+    c.in-Ok.ensures.ran c.keep.ensures
+
+pub walk_below-returns-in-Err-clause-ran : goal.walk_below-returns-in-Err-clause-ran
+walk_below-returns-in-Err-clause-ran g t c =
+    ran_stop {A = Opened} {C = Option Edges} (λ fs. ⊤) (λ fs. ⊤) (world (g.R.Rack.seen c.args.rack.now) c.args.vol.now)
+    (world (g.R.Rack.seen c.open_block.new.rack) c.open_block.new.vol) c.in-Err.stop c.in-Err.ensures.ran (λ B h. tt)
+
+pub walk_below-returns-in-Ok-Whole-clause-ran : goal.walk_below-returns-in-Ok-Whole-clause-ran
+walk_below-returns-in-Ok-Whole-clause-ran g t c =
+    let opened = c.in-Ok-Whole.field-0 in
+    let level = c.args.level in
+    let spot = c.args.spot.now in
+    let old = c.args.walk.now in
+    let new = c.open_block.new.walk in
+    let known = c.args.subtrees.now.known.entries in
+    ran_value (λ fs. Opens fs level spot old new opened)
+    (λ fs. Walks fs (subtree_marks fs level spot) old new known known (Ok c.in-Ok-Whole.edges))
+    (world (g.R.Rack.seen c.args.rack.now) c.args.vol.now) (world (g.R.Rack.seen c.open_block.new.rack) c.open_block.new.vol) opened c.in-Ok-Whole.edges
+    c.in-Ok-Whole.ensures.ran
+    (λ B h. walks_whole (filesystem c.args.vol.now B) level spot old new known c.in-Ok-Whole.edges
+    (subst (Opens (filesystem c.args.vol.now B) level spot old new) c.in-Ok-Whole.field-0-is h))
+
+pub walk_below-returns-in-Ok-Children-clause-ran : goal.walk_below-returns-in-Ok-Children-clause-ran
+walk_below-returns-in-Ok-Children-clause-ran g t c =
+    let opened = c.in-Ok-Children.field-0 in
+    let level = c.args.level in
+    let spot = c.args.spot.now in
+    let old = c.args.walk.now in
+    let mid = c.open_block.new.walk in
+    let new = c.walk_children.new.walk in
+    let known = c.args.subtrees.now.known.entries in
+    let after = c.walk_children.new.subtrees.known.entries in
+    let spots = c.as_slice.result.now in
+    let r = c.walk_children.result in
+    let are : AreChildren opened spots = subst (λ o. AreChildren o spots) (sym c.in-Ok-Children.field-0-is) c.as_slice.ensures.value in
+    ran_then (λ fs. Opens fs level spot old mid opened)
+    (λ fs. (addr : ℕ) → Walks fs (children_marks fs addr (level - 1) spots) mid new known after r)
+    (λ fs. Walks fs (subtree_marks fs level spot) old new known after r)
+    (world (g.R.Rack.seen c.args.rack.now) c.args.vol.now) (world (g.R.Rack.seen c.open_block.new.rack) c.open_block.new.vol)
+    (world (g.R.Rack.seen c.walk_children.new.rack) c.walk_children.new.vol) opened r c.in-Ok-Children.ensures.ran c.walk_children.ensures.ran
+    (λ B h walks. walks_node (filesystem c.args.vol.now B) level spot old new mid known after opened spots r h are walks)
+
+pub walk_children-loop-spot-init : goal.walk_children-loop-spot-init
+walk_children-loop-spot-init g t c =
+    let known = c.args.subtrees.now.known.entries in
+    let walk = c.args.walk.now in
+    record {
+      ran = ran_none (λ fs. (addr : ℕ) → Walks fs [] walk walk known known (Ok None)) (world (g.R.Rack.seen c.args.rack.now) c.args.vol.now) None
+          c.requires.ready (λ B addr knows. walked_nothing (filesystem c.args.vol.now B) walk known knows);
+    }
+
+pub walk_children-loop-spot-preserved : goal.walk_children-loop-spot-preserved
+walk_children-loop-spot-preserved g t c =
+    let l = c.loop-spot in
+    let level = c.args.level in
+    let spots = c.args.spots.now in
+    let none : Spot = record { addr = 0; generation = 0; first = None; up = None } in
+    let old = c.args.walk.now in
+    let mid = l.walk in
+    let new = c.walk_block.new.walk in
+    let first = c.args.subtrees.now.known.entries in
+    let known = l.subtrees.known.entries in
+    let after = c.walk_block.new.subtrees.known.entries in
+    record {
+      ran = ran_then (λ fs. (addr : ℕ) → Walks fs (children_marks fs addr level (take l.spot-index spots)) old mid first known (Ok l.edges))
+          (λ fs. Walks fs (subtree_marks fs level (get_or spots l.spot-index none)) mid new known after (Ok c.in-Ok.more))
+          (λ fs. (addr : ℕ) → Walks fs (children_marks fs addr level (take (l.spot-index + 1) spots)) old new first after (Ok c.join-edges.result))
+          (world (g.R.Rack.seen c.args.rack.now) c.args.vol.now) (world (g.R.Rack.seen l.rack) l.vol)
+          (world (g.R.Rack.seen c.walk_block.new.rack) c.walk_block.new.vol) l.edges (Ok c.join-edges.result) l.invariant.ran
+          (ran_value (λ fs. Walks fs (subtree_marks fs level (get_or spots l.spot-index none)) mid new known after (Ok c.in-Ok.more))
+          (λ fs. Walks fs (subtree_marks fs level (get_or spots l.spot-index none)) mid new known after (Ok c.in-Ok.more))
+          (world (g.R.Rack.seen l.rack) l.vol) (world (g.R.Rack.seen c.walk_block.new.rack) c.walk_block.new.vol) c.in-Ok.more c.join-edges.result c.in-Ok.ensures.ran
+          (λ B h. h))
+          (λ B p q addr. walks_child (filesystem c.args.vol.now B) addr level spots l.spot-index none old mid new first known after l.edges c.in-Ok.more
+          c.join-edges.result c.loop-spot-test.true c.join-edges.ensures (p addr) q);
+    }
+
+pub walk_children-returns-in-Err-clause-ran : goal.walk_children-returns-in-Err-clause-ran
+walk_children-returns-in-Err-clause-ran g t c =
+    let l = c.loop-spot in
+    let stopped : Result (Option Edges) Stop = Err c.in-Err.stop in
+    ran_then (λ fs. (addr : ℕ) → Walks fs (children_marks fs addr c.args.level (take l.spot-index c.args.spots.now)) c.args.walk.now l.walk
+    c.args.subtrees.now.known.entries l.subtrees.known.entries (Ok l.edges))
+    (λ fs. ⊤) (λ fs. (addr : ℕ) → ⊤) (world (g.R.Rack.seen c.args.rack.now) c.args.vol.now) (world (g.R.Rack.seen l.rack) l.vol)
+    (world (g.R.Rack.seen c.walk_block.new.rack) c.walk_block.new.vol) l.edges stopped l.invariant.ran c.in-Err.ensures.ran (λ B p q addr. tt)
+
+pub walk_children-returns-clause-ran : goal.walk_children-returns-clause-ran
+walk_children-returns-clause-ran g t c =
+    let l = c.loop-spot in
+    let old = c.args.walk.now in
+    let first = c.args.subtrees.now.known.entries in
+    ran_more {A = Option Edges}
+    (λ fs. (addr : ℕ) → Walks fs (children_marks fs addr c.args.level (take l.spot-index c.args.spots.now)) old l.walk first l.subtrees.known.entries (Ok l.edges))
+    (λ fs. (addr : ℕ) → Walks fs (children_marks fs addr c.args.level c.args.spots.now) old l.walk first l.subtrees.known.entries (Ok l.edges))
+    (world (g.R.Rack.seen c.args.rack.now) c.args.vol.now) (world (g.R.Rack.seen l.rack) l.vol) (Ok l.edges) l.invariant.ran
+    (λ B p addr. walks_end (filesystem c.args.vol.now B) addr c.args.level c.args.spots.now l.spot-index old l.walk first l.subtrees.known.entries l.edges
+    c.loop-spot-test.false (p addr))
