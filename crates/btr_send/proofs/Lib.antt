@@ -8,3 +8,7 @@ mod ReadBack
 mod Beside
 mod Shorts
 mod Sent
+mod Long
+mod Tables
+mod Starts
+mod Committed

@@ -30,9 +30,7 @@ use Rattle.btr_listing.specs.Lines.{counts_line, line, no_counts, path_in, with_
 use Rattle.btr_listing.specs.Step.{Step, Dir, Up, Zeros, Done, Line}
 use Rattle.btr_listing.specs.Step as step
 use Rattle.btr_listing.proofs.Decidings.{Gives}
-use Rattle.btr_prog.specs.Maps.{Loses}
 use Rattle.btr_prog.specs.Prog.{Prog, Return, Stop, Need, Emit, Run, bind, exec, steps, steps_of}
-use Rattle.btr_prog.proofs.Lost.{lost_law}
 use Rattle.btr_prog.specs.Quiet.{quiet}
 use Rattle.btr_rack.specs.Sink.{Tree, with_finished, longer}
 use Rattle.btr_rack.specs.declared.row.Row.TheVariants as row
@@ -56,7 +54,7 @@ use Rattle.btr_send.specs.Command.{attribute, below, command, header, subvol}
 use Rattle.btr_send.specs.Replay.{Command, Subvol, MkFile, MkDir, Write, Truncate, End, Made, Member, member, File, Directory, IsInner, IsSound}
 use Rattle.btr_send.specs.Replay.{AreInner}
 use Rattle.btr_send.specs.Replay.{all_made, bytes_of, grow, made_with, members_of, nothing_made, play, play_all, play_on, replay}
-use Rattle.btr_send.specs.Restored.{GivesSectors, OwnRules, SentCommitted, SentLaw, at_top, behind_row, plain}
+use Rattle.btr_send.specs.Restored.{GivesSectors, OwnRules, SentLaw, at_top, behind_row, plain}
 use Rattle.btr_send.specs.Restored as restored
 use Rattle.btr_send.specs.Sending as sending
 use Rattle.btr_send.specs.Sending.{behind, cuts, rules, tells, writes}
@@ -652,27 +650,6 @@ pub sent_law : SentLaw
 sent_law B s id dest name counts sectors good ok =
     let h = sends_restored B s id dest name good.1 sectors counts ok in
     record { restored = h.1 ∙ ap Ok (sym h.2.1); stream = h.2.0 }
-
-no_loss : (x : Result Counts Fault) (counts : Counts) (f : Fault) → x ≡ Ok counts → x ≡ Err f → ⊥
-no_loss x counts f e h = cc (e, h)
-
-pub sent_committed : SentCommitted
-sent_committed B C s id dest name counts sectors good within ok = by_fate (lost_law B C (restored.sends s id dest name) within)
-  where
-    p : Program Step Counts
-    p = restored.sends s id dest name
-
-    by_fate : (exec B p ≡ exec C p) ⊎ Loses B (exec C p) (exec B p) → restored.IsSent s id dest name B C counts
-    by_fate (inl same) =
-        let ends : (exec C p).ending ≡ Ok counts = sym (ap (λ (r : Run Want Fault Step Counts). r.ending) same) ∙ ok in
-        let h = sent_law C s id dest name counts sectors good ends in
-        let made = restored.members_of_rows (tree_after (steps C (restored.restores s id dest name))).rows in
-        record {
-          restored = h.restored;
-          stream =
-              subst (λ (r : Run Want Fault Step Counts). restored.IsStreamOf dest name (tree_after (steps_of r.marks)).rows made) (sym same) h.stream;
-        }
-    by_fate (inr loses) = absurd (no_loss (exec B p).ending counts loses.fault ok loses.ending)
 
 -- each directory by the same rules, whatever the checksum tree is
 abbrev by_rules : ℕ → Super → ℕ → Option TreeRoot → Listing

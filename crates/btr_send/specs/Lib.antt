@@ -8,3 +8,4 @@ pub mod Writing
 pub mod Listing
 pub mod Replay
 pub mod Restored
+pub mod Sectors

@@ -126,7 +126,7 @@ SentLaw =
 abbrev pub SentCommitted : Type 0
 SentCommitted =
     (B C : BlockMap Want Fault) (s : Super) (id : ℕ) (dest name : List ℕ) (counts : Counts)
-    → GivesSectors C
+    → GivesSectors B
     → IsStreamName name
     → Each (λ want. IsWithin (B want) (C want)) (needs C (sends s id dest name))
     → (exec B (sends s id dest name)).ending ≡ Ok counts

@@ -1,6 +1,7 @@
 //! What the definitions of send come to. Each function here is a law: its contract is the law, and its body is empty.
 ghost use Rattle.btr_send.specs.Replay.{CommandsLaw, ReplayLaw};
 ghost use Rattle.btr_send.specs.Restored.{OwnRules, SentCommitted, SentLaw};
+ghost use Rattle.btr_send.specs.Sectors.{ImagesGiveSectors};
 
 /// The bytes of each command of a stream are those of a command that is read back.
 pub fn is_of_commands()
@@ -18,4 +19,9 @@ pub fn sends_restored()
     ensures own { OwnRules }
     ensures sent { SentLaw }
     ensures committed { SentCommitted }
+{}
+
+/// Images of bytes give data by whole sectors, as `sends_restored` asks of them.
+pub fn images_give_sectors()
+    ensures { ImagesGiveSectors }
 {}

@@ -18,6 +18,6 @@ mod source;
 mod treating;
 mod writing;
 
-pub use laws::{is_of_commands, replays, sends_restored};
+pub use laws::{images_give_sectors, is_of_commands, replays, sends_restored};
 pub use plan::SendPlan;
 pub use sending::send;

@@ -1,4 +1,5 @@
-use Rattle.btr_send.proofs.Sent.{own_rules, sent_committed, sent_law}
+use Rattle.btr_send.proofs.Committed.{sent_committed}
+use Rattle.btr_send.proofs.Sent.{own_rules, sent_law}
 use Rattle.btr_send.proofs.laws.sends_restored.Goals as goal
 
 pub returns-clause-own : goal.returns-clause-own
