@@ -1,5 +1,5 @@
 -- What is left of a committed listing: entries, directories, and the whole.
-use Rattle.std.proofs.Common.{◌≡◌, ◌⊎◌, inl, inr, ℕ, zero, suc, Bool, true, false, cond, ◌||◌, List, [], ◌∷◌, ◌++◌, codes, Option, Some, None, IsOk, Result, Ok}
+use Rattle.std.proofs.Common.{◌≡◌, ◌⊎◌, inl, inr, ℕ, zero, suc, Bool, true, false, cond, List, [], ◌∷◌, ◌++◌, codes, Option, Some, None, IsOk, Result, Ok}
 use Rattle.std.proofs.Common.{Err, refl, sym, ap, ◌∙◌, subst, append-nil}
 use Rattle.btr_items.specs.declared.inode.Inode.{Inode}
 use Rattle.btr_prog.specs.Maps.{Loses}
@@ -23,7 +23,7 @@ use Rattle.btr_listing.specs.declared.decision.Decision.{Decision}
 use Rattle.btr_listing.specs.declared.decision.Decision.TheVariants.{Skip, File, Empty, Folder}
 use Rattle.btr_listing.specs.Causes.{cause_text}
 use Rattle.btr_listing.specs.Deciding.{Met, decided, met_in, target}
-use Rattle.btr_listing.specs.Lines.{counts_line, line, no_counts, skip_line, with_dir, with_file, with_skip}
+use Rattle.btr_listing.specs.Lines.{counts_line, no_counts, skip_line, with_dir, with_file, with_skip}
 use Rattle.btr_listing.specs.Step as step
 use Rattle.btr_listing.specs.Step.{Step, Line}
 use Rattle.btr_restore.specs.Committed.{committed}
@@ -38,7 +38,8 @@ use Rattle.btr_salvage.specs.Lines.{missing_line, nothing_yet, salvaged, salvage
 use Rattle.btr_salvage.specs.Salvaging.{Attempt, Listing, Treated, Over, Within, begun, beside, broken, by_lookup, by_reading, carried_out, directory}
 use Rattle.btr_salvage.specs.Salvaging.{from_root, from_tree, listed, listed_in, on_decision, reading, salvage_run, salvaging, summed_up, treat, treated, tries}
 use Rattle.btr_salvage.specs.Salvaging as salvaging
-use Rattle.btr_salvage.proofs.Endings.{Came, Did, bind_value, came_attempt, came_ending, came_then, came_value, did_quiet, did_then, did_unless, did_where}
+use Rattle.btr_salvage.proofs.Countless.{EachCountless, closing, directory_free, empty_did, entered_did, nothing_free, pieces_value, treat_free, unless_dry, up_did, written_did}
+use Rattle.btr_salvage.proofs.Endings.{Came, Did, bind_value, came_attempt, came_ending, came_then, came_value, did_quiet, did_then, did_unless}
 use Rattle.btr_salvage.proofs.Endings.{each_value, ok_same, unless_ends}
 use Rattle.btr_salvage.proofs.Keeping.{Keeps, keeps_honest, same_or_lost, stops_lost}
 use Rattle.btr_salvage.proofs.Parts.{EachEntry, FolderLeft, folder_left}
@@ -47,74 +48,11 @@ use Rattle.btr_salvage.proofs.Twice.{read_twice}
 not_ok : {A : Type 0} (x : Result A Fault) (fault : Fault) → x ≡ Err fault → IsOk x → ⊥
 not_ok x fault i g = cc
 
--- ---- what restore does about an entry, by any blocks and counts
-
-module _ (plan : RestorePlan) (X : Map) where
-  abbrev telling : List ℕ → List ℕ → List Step
-  telling word path = cond (plan.verbose || plan.dry) (Line (line word path) ∷ []) []
-
-  abbrev unless_dry : Step → List Step
-  unless_dry st = cond plan.dry [] (st ∷ [])
-
-  pub up_did : {A : Type 0} (a : A) → Did X (row plan step.Up (Return a)) (way_up plan) (Ok a)
-  up_did a = subst (λ l. Did X (row plan step.Up (Return a)) l (Ok a)) (append-nil (way_up plan))
-      (did_unless X plan.dry step.Up (Return a) [] (Ok a) (refl, refl))
-
-  entered_did : (name path : List ℕ) (tree : TreeRoot) (dirid : ℕ) (counts : Counts)
-      → Did X (entered plan name path tree dirid counts) (unless_dry (step.Dir name) ++ (telling (codes "dir") path ++ []))
-      (Ok (journey.Within tree dirid (with_dir counts)))
-  entered_did name path tree dirid counts =
-      let inside : Program Step journey.Treated = Return (journey.Within tree dirid (with_dir counts)) in
-      let w : Result journey.Treated Fault = Ok (journey.Within tree dirid (with_dir counts)) in
-      did_unless X plan.dry (step.Dir name) (told plan (codes "dir") path inside) (telling (codes "dir") path ++ []) w
-      (did_where X (plan.verbose || plan.dry) (Line (line (codes "dir") path)) inside [] w (refl, refl))
-
-  empty_did : (name path : List ℕ) (counts : Counts)
-      → Did X (empty plan name path counts) (unless_dry (step.Dir name) ++ (telling (codes "dir") path ++ (unless_dry step.Up ++ [])))
-      (Ok (journey.Over (with_dir counts)))
-  empty_did name path counts =
-      let over : Program Step journey.Treated = Return (journey.Over (with_dir counts)) in
-      let w : Result journey.Treated Fault = Ok (journey.Over (with_dir counts)) in
-      did_unless X plan.dry (step.Dir name) (told plan (codes "dir") path (row plan step.Up over)) (telling (codes "dir") path ++ (unless_dry step.Up ++ [])) w
-      (did_where X (plan.verbose || plan.dry) (Line (line (codes "dir") path)) (row plan step.Up over) (unless_dry step.Up ++ []) w
-      (did_unless X plan.dry step.Up over [] w (refl, refl)))
-
-  abbrev closing : List ℕ → Bool → List Step
-  closing path plain = unless_dry step.Done ++ (telling (codes "file") path ++ (cond plain (Line (line (codes "unverified") path) ∷ []) [] ++ []))
-
-  closed_did : (path : List ℕ) (counts : Counts) (plain : Bool) → Did X (closed plan path counts plain) (closing path plain)
-      (Ok (journey.Over (with_file counts)))
-  closed_did path counts plain =
-      let over : Program Step journey.Treated = Return (journey.Over (with_file counts)) in
-      let w : Result journey.Treated Fault = Ok (journey.Over (with_file counts)) in
-      did_unless X plan.dry step.Done (told plan (codes "file") path (unverified plain path over))
-      (telling (codes "file") path ++ (cond plain (Line (line (codes "unverified") path) ∷ []) [] ++ [])) w
-      (did_where X (plan.verbose || plan.dry) (Line (line (codes "file") path)) (unverified plain path over)
-      (cond plain (Line (line (codes "unverified") path) ∷ []) [] ++ []) w
-      (did_where X plain (Line (line (codes "unverified") path)) over [] w (refl, refl)))
-
-  module _ (s : Super) (sums : Option TreeRoot) (tree : TreeRoot) (ino : ℕ) (inode : Inode) where
-    written_did : (name path : List ℕ) (counts : Counts) (plain : Bool) → (exec X (pieces plan s sums tree ino inode)).ending ≡ Ok plain
-        → Did X (written plan s sums tree ino name path inode counts) (unless_dry (step.File name)
-        ++ (steps_of (exec X (pieces plan s sums tree ino inode)).marks ++ closing path plain)) (Ok (journey.Over (with_file counts)))
-    written_did name path counts plain e =
-        let p = pieces plan s sums tree ino inode in
-        did_unless X plan.dry (step.File name) (bind p (closed plan path counts)) (steps_of (exec X p).marks ++ closing path plain)
-        (Ok (journey.Over (with_file counts)))
-        (did_then X p (closed plan path counts) plain (steps_of (exec X p).marks) (closing path plain) (Ok (journey.Over (with_file counts))) (refl, e)
-        (closed_did path counts plain))
-
-    pieces_value : (name path : List ℕ) (counts : Counts) (t : journey.Treated) → (exec X (written plan s sums tree ino name path inode counts)).ending ≡ Ok t
-        → (plain : Bool) × ((exec X (pieces plan s sums tree ino inode)).ending ≡ Ok plain)
-    pieces_value name path counts t h =
-        let v = bind_value X (pieces plan s sums tree ino inode) (closed plan path counts) t
-        (unless_ends X plan.dry (step.File name) (bind (pieces plan s sums tree ino inode) (closed plan path counts)) (Ok t) h) in
-        (v.0, v.1)
-
 -- ---- an entry
 
 module _ (plan : RestorePlan) (wet : plan.dry ≡ false) (s : Super) (sums : Option TreeRoot) (B C : Map) (keeps : Keeps B C)
-    (deep : Bool) (below : journey.Listing) (here : Listing) (Inside : TreeRoot → ℕ → List ℕ → List Step → List Step → Type 0) where
+    (deep : Bool) (below : journey.Listing) (free : EachCountless C below) (here : Listing)
+    (Inside : TreeRoot → ℕ → List ℕ → List Step → List Step → Type 0) where
   -- what is left of a directory that is entered
   pub record BelowLeft (tree : TreeRoot) (dirid : ℕ) (path : List ℕ) (so_far : Salvaged) (whole : List Step) : Type 0 where
     pub after : Salvaged
@@ -184,13 +122,13 @@ module _ (plan : RestorePlan) (wet : plan.dry ≡ false) (s : Super) (sums : Opt
       inside_there x = steps_of (exec C (journey.listed_in plan s sums below met.path x)).marks
 
       -- it is treated to its end
-      kept : (ss : List Step) (c c' : Counts) → ((w l : List Step) → IsKept plan s sums B C met decision w l
+      kept : (ss : List Step) (c : Counts → Counts) (c' : Counts) → ((w l : List Step) → IsKept plan s sums B C met decision w l
           → ByDecision plan s sums B C Inside met decision w l)
-          → Did C (done_about plan s sums met counts decision) ss (Ok (journey.Over c))
+          → ((n : Counts) → Did C (done_about plan s sums met n decision) ss (Ok (journey.Over (c n))))
           → Did B (done_about plan s sums met so_far.counts decision) ss (Ok (journey.Over c'))
           → Outcome (carried_out plan s sums met so_far decision) decision whole
       kept ss c c' how there done =
-          let over = ok_same (exec C (done_about plan s sums met counts decision)).ending t (journey.Over c) ends there.1 in
+          let over = ok_same (exec C (done_about plan s sums met counts decision)).ending t (journey.Over (c counts)) ends (there counts).1 in
           let is : whole ≡ done_there = all ∙ ap (λ x. done_there ++ inside_there x) over ∙ append-nil done_there in
           let handed : journey.Treated → Attempt Treated = λ to. Done (Ok (beside so_far.broken to)) in
           record {
@@ -202,18 +140,22 @@ module _ (plan : RestorePlan) (wet : plan.dry ≡ false) (s : Super) (sums : Opt
             after = salvaged c' so_far.broken;
             rest = [];
             then_came = (refl, refl);
-            is = inl (how whole ((ss ++ []) ++ []) (record { counts = counts; is = is; same = append-nil (ss ++ []) ∙ append-nil ss ∙ sym there.0 ∙ sym is }));
+            is = inl (how whole ((ss ++ []) ++ []) (record {
+              is = λ n. is ∙ (there counts).0 ∙ sym (there n).0;
+              same = append-nil (ss ++ []) ∙ append-nil ss ∙ sym (there counts).0 ∙ sym is;
+            }));
           }
 
       -- a directory that is entered
       entered_into : (tree : TreeRoot) (dirid : ℕ) (es : List Step) → ((w l : List Step)
           → IsEntered plan s sums B C (Inside tree dirid met.path) met decision w l → ByDecision plan s sums B C Inside met decision w l)
-          → Did C (done_about plan s sums met counts decision) es (Ok (journey.Within tree dirid (with_dir counts)))
+          → ((n : Counts) → Did C (done_about plan s sums met n decision) es (Ok (journey.Within tree dirid (with_dir n))))
           → Did B (done_about plan s sums met so_far.counts decision) es (Ok (journey.Within tree dirid (with_dir so_far.counts)))
           → Outcome (carried_out plan s sums met so_far decision) decision whole
       entered_into tree dirid es how there done =
           let up : Counts → Program Step Counts = λ after. row plan step.Up (Return after) in
-          let went = ok_same (exec C (done_about plan s sums met counts decision)).ending t (journey.Within tree dirid (with_dir counts)) ends there.1 in
+          let went = ok_same (exec C (done_about plan s sums met counts decision)).ending t (journey.Within tree dirid (with_dir counts)) ends
+          (there counts).1 in
           let v = bind_value C (below tree dirid met.path (with_dir counts)) up end
           (sym (ap (λ x. (exec C (journey.listed_in plan s sums below met.path x)).ending) went) ∙ goes) in
           let inside = steps_of (exec C (below tree dirid met.path (with_dir counts))).marks in
@@ -234,11 +176,11 @@ module _ (plan : RestorePlan) (wet : plan.dry ≡ false) (s : Super) (sums : Opt
                 (Ok b.after) b.came
                 (came_attempt B (row plan step.Up (Return b.after)) (way_up plan) (Ok b.after) (up_did plan B b.after));
             is = inl (how whole ((es ++ []) ++ (b.left ++ way_up plan)) (record {
-              counts = counts;
               inside = inside;
               kept = b.left;
-              is = all ∙ ap (λ x. done_there ++ inside_there x) went ∙ ap (λ l. done_there ++ l) both.0;
-              rest = ap (λ l. l ++ (b.left ++ way_up plan)) (append-nil es ∙ sym there.0);
+              is = λ n. all ∙ ap (λ x. done_there ++ inside_there x) went ∙ ap (λ l. done_there ++ l) both.0
+                  ∙ ap (λ l. l ++ (inside ++ way_up plan)) ((there counts).0 ∙ sym (there n).0);
+              rest = λ n. ap (λ l. l ++ (b.left ++ way_up plan)) (append-nil es ∙ sym (there n).0);
               below = b.is;
             }));
           }
@@ -272,14 +214,14 @@ module _ (plan : RestorePlan) (wet : plan.dry ≡ false) (s : Super) (sums : Opt
       file_put plain e h (inr m) = absurd (not_ok (exec B puts).ending m.fault m.ending
           (read_twice plan s sums B met.tree (target met) inode (came_ending B bytes (Ok tt) h).1))
       file_put plain e h (inl same) =
-          let there = written_did plan C s sums met.tree (target met) inode met.entry.name met.path counts plain e in
           let done = written_did plan B s sums met.tree (target met) inode met.entry.name met.path so_far.counts plain
           (ap (λ (r : Run Want Fault Step Bool). r.ending) same ∙ e) in
           let ss = unless_dry plan C (step.File met.entry.name) ++ (steps_of (exec C puts).marks ++ closing plan C met.path plain) in
           let done_same = done.0 ∙ ap (λ (r : Run Want Fault Step Bool). unless_dry plan C (step.File met.entry.name)
           ++ (steps_of r.marks ++ closing plan C met.path plain)) same in
           outcome_as (carried_out plan s sums met so_far (File inode)) the_file (File inode) whole (λ ls to came. on_bytes (Ok tt) ls to h came)
-          (kept (File inode) t whole ends goes all ss (with_file counts) (with_file so_far.counts) (λ w l i. i) there (done_same, done.1))
+          (kept (File inode) t whole ends goes all ss with_file (with_file so_far.counts) (λ w l i. i)
+          (λ n. written_did plan C s sums met.tree (target met) inode met.entry.name met.path n plain e) (done_same, done.1))
 
       file_by : (plain : Bool) → (exec C puts).ending ≡ Ok plain → (exec B bytes ≡ exec C bytes) ⊎ Loses B (exec C bytes) (exec B bytes)
           → Outcome the_file (File inode) whole
@@ -303,15 +245,14 @@ module _ (plan : RestorePlan) (wet : plan.dry ≡ false) (s : Super) (sums : Opt
         ++ steps_of (exec C (journey.listed_in plan s sums below met.path t)).marks
         → Outcome (on_decision plan s sums met so_far decision) decision whole
     by_decision (Skip cause) comes t whole ends goes all =
-        kept (Skip cause) t whole ends goes all (Line (skip_line (cause_text cause) met.path) ∷ []) (with_skip counts) (with_skip so_far.counts) (λ w l i. i)
-        (refl, refl) (refl, refl)
+        kept (Skip cause) t whole ends goes all (Line (skip_line (cause_text cause) met.path) ∷ []) with_skip (with_skip so_far.counts) (λ w l i. i)
+        (λ n. (refl, refl)) (refl, refl)
     by_decision (File inode) comes t whole ends goes all = file_did inode comes t whole ends goes all
     by_decision Empty comes t whole ends goes all =
-        let there = empty_did plan C met.entry.name met.path counts in
-        kept Empty t whole ends goes all _ (with_dir counts) (with_dir so_far.counts) (λ w l i. i) there
+        kept Empty t whole ends goes all _ with_dir (with_dir so_far.counts) (λ w l i. i) (empty_did plan C met.entry.name met.path)
         (empty_did plan B met.entry.name met.path so_far.counts)
     by_decision (Folder tree dirid) comes t whole ends goes all =
-        entered_into (Folder tree dirid) t whole ends goes all tree dirid _ (λ w l i. i) (entered_did plan C met.entry.name met.path tree dirid counts)
+        entered_into (Folder tree dirid) t whole ends goes all tree dirid _ (λ w l i. i) (entered_did plan C met.entry.name met.path tree dirid)
         (entered_did plan B met.entry.name met.path tree dirid so_far.counts)
 
     -- an entry, by its lookups
@@ -376,12 +317,17 @@ module _ (plan : RestorePlan) (wet : plan.dry ≡ false) (s : Super) (sums : Opt
             → IsTreated plan s sums B C Inside (met_in deep tree dirid path entry) whole_entry left
             ⊎ IsMissing plan s sums B C deep below Inside tree dirid path entry whole_entry left
         by_is left decision comes (inl does) = inl record { decision = decision; comes = comes; does = does }
-        by_is left decision comes (inr m) = inr record { want = m.0; lost = m.1; counts = counts; is = refl; named = m.2 }
+        by_is left decision comes (inr m) = inr record {
+          want = m.0;
+          lost = m.1;
+          is = λ n. sym (treat_free plan s sums C deep below free tree dirid path entry counts n end h).1.0;
+          named = m.2;
+        }
 
     pub folder_did : (counts end : Counts) (so_far : Salvaged) → (exec C (journey.listed plan s sums deep below tree dirid path counts)).ending ≡ Ok end
-        → FolderLeft plan s sums B C keeps deep below here Inside tree dirid path each_entry so_far
+        → FolderLeft plan s sums B C keeps deep below here Inside tree dirid path (treat_free plan s sums C deep below free tree dirid path) each_entry so_far
         (steps_of (exec C (journey.listed plan s sums deep below tree dirid path counts)).marks)
-    folder_did = folder_left plan s sums B C keeps deep below here Inside tree dirid path each_entry
+    folder_did = folder_left plan s sums B C keeps deep below here Inside tree dirid path (treat_free plan s sums C deep below free tree dirid path) each_entry
 
 -- ---- directories, and the whole
 
@@ -396,14 +342,16 @@ module _ (plan : RestorePlan) (wet : plan.dry ≡ false) (s : Super) (B C : Map)
     abbrev Nothing : TreeRoot → ℕ → List ℕ → List Step → List Step → Type 0
     Nothing tree dirid path whole left = (whole ≡ []) × (left ≡ [])
 
-    directory_did : (n : ℕ) → EachBelow plan wet s sums B C keeps false (journey.directory plan s sums n) (directory plan s sums n)
-        (OfDirectory plan s sums B C n)
+    directory_did : (n : ℕ) → EachBelow plan wet s sums B C keeps false (journey.directory plan s sums n) (directory_free plan s sums C n)
+        (directory plan s sums n) (OfDirectory plan s sums B C n)
     directory_did zero tree dirid path counts end so_far h =
-        let f = folder_did plan wet s sums B C keeps true (λ tree dirid path counts. Return counts) (λ tree dirid path so_far. Done (Ok so_far)) Nothing
+        let f = folder_did plan wet s sums B C keeps true (λ tree dirid path counts. Return counts) (nothing_free C)
+        (λ tree dirid path so_far. Done (Ok so_far)) Nothing
         (λ t d p c e st g. record { after = st; left = []; came = (refl, refl); is = (refl, refl) }) tree dirid path counts end so_far h in
         record { after = f.after; left = f.left; came = f.came; is = f.is }
     directory_did (suc n) tree dirid path counts end so_far h =
-        let f = folder_did plan wet s sums B C keeps false (journey.directory plan s sums n) (directory plan s sums n) (OfDirectory plan s sums B C n)
+        let f = folder_did plan wet s sums B C keeps false (journey.directory plan s sums n) (directory_free plan s sums C n) (directory plan s sums n)
+        (OfDirectory plan s sums B C n)
         (directory_did n) tree dirid path counts end so_far h in
         record { after = f.after; left = f.left; came = f.came; is = f.is }
 
@@ -450,7 +398,8 @@ module _ (plan : RestorePlan) (wet : plan.dry ≡ false) (s : Super) (B C : Map)
         top_counts : top_value.0 ≡ counts
         top_counts = sym (ok_same (exec C (tell top_value.0)).ending counts top_value.0 top_value.2 refl)
 
-        top_did : BelowLeft plan wet s sums B C keeps false (journey.directory plan s sums most_depth) (directory plan s sums most_depth)
+        top_did : BelowLeft plan wet s sums B C keeps false (journey.directory plan s sums most_depth) (directory_free plan s sums C most_depth)
+            (directory plan s sums most_depth)
             (OfDirectory plan s sums B C most_depth) tree tree.dirid [] nothing_yet (steps_of (exec C top).marks)
         top_did = directory_did sums most_depth tree tree.dirid [] no_counts top_value.0 nothing_yet top_value.1
 

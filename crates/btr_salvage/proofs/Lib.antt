@@ -1,5 +1,6 @@
 pub mod Attempts
 mod Cycles
+mod Countless
 mod Endings
 mod Keeping
 mod Lefts

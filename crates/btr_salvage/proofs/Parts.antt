@@ -39,6 +39,7 @@ use Rattle.btr_salvage.specs.Left.{InTurn, Joined, IsMissing, IsPart, IsThere, I
 use Rattle.btr_salvage.specs.Lines.{folder_path, missing_line, with_broken}
 use Rattle.btr_salvage.specs.Marks.{folder_tour, item_in, mark_in}
 use Rattle.btr_salvage.specs.Salvaging.{Attempt, Listing, listed, meet, treat}
+use Rattle.btr_salvage.proofs.Countless.{Countless, EntryCountless, each_free}
 use Rattle.btr_salvage.proofs.Endings.{Came, Did, came_value, did_first, each_same, each_value, first_value}
 use Rattle.btr_salvage.proofs.Keeping.{Keeps}
 
@@ -194,7 +195,7 @@ module _ (plan : RestorePlan) (s : Super) (sums : Option TreeRoot) (B C : Map) (
       → (exec C (journey.treat plan s sums deep below tree dirid path counts entry)).ending ≡ Ok end
       → EntryLeft entry so_far (steps_of (exec C (journey.treat plan s sums deep below tree dirid path counts entry)).marks)
 
-  module _ (each_entry : EachEntry) where
+  module _ (free : EntryCountless C (journey.treat plan s sums deep below tree dirid path)) (each_entry : EachEntry) where
     abbrev left_to : Salvaged → TourProg → Attempt Salvaged
     left_to so_far p = treat_each (λ before mark. meet plan s sums deep here tree dirid path before (mark_in mark)) so_far p
 
@@ -204,6 +205,10 @@ module _ (plan : RestorePlan) (s : Super) (sums : Option TreeRoot) (B C : Map) (
       pub left : List Step
       pub of : Of left
       pub on : (ts : List Step) (x : Result Salvaged Fault) → Came B (left_to after rest) ts x → Came B now (left ++ ts) x
+
+    items_free : (items : List TreeItem) → Countless C (λ counts. by_restore counts items)
+    items_free items =
+        each_free C (treat_entry plan s sums B C deep below Inside tree dirid path) free (entries_in (emit_all items (Return tt)))
 
     abbrev Passes : TourProg → TourProg → List TreeItem → (List Step → List Step → Type 0) → Type 0
     Passes p rest items Of =
@@ -311,12 +316,19 @@ module _ (plan : RestorePlan) (s : Super) (sums : Option TreeRoot) (B C : Map) (
           abbrev part_line : Step
           part_line = Line (missing_line (codes "part") (Lost spot.addr) (folder_path path))
 
-          pass_lost : (counts : Counts) (so_far : Salvaged) → B (want_of level spot) ≡ Err (Lost spot.addr)
+          pass_lost : (counts end : Counts) (so_far : Salvaged)
+              → (exec C (by_restore counts (items_met (here_marks (C (want_of level spot)))))).ending ≡ Ok end
+              → B (want_of level spot) ≡ Err (Lost spot.addr)
               → Past (wanted so_far) rest (IsBlock (whole_of counts (items_met (here_marks (C (want_of level spot))))))
-          pass_lost counts so_far lost = record {
+          pass_lost counts end so_far h lost = record {
             after = with_broken so_far;
             left = part_line ∷ [];
-            of = inr record { lost = lost; counts = counts; is = ap (λ ms. whole_of counts (items_met ms)) (sym same); named = refl };
+            of = inr record {
+              lost = lost;
+              is = λ n. sym (items_free (items_met (here_marks (C (want_of level spot)))) counts n end h).1.0
+                  ∙ ap (λ ms. whole_of n (items_met ms)) (sym same);
+              named = refl;
+            };
             on = λ ts x g. subst (λ fate. Came B (goes_on so_far fate) (part_line ∷ ts) x) (sym lost) (ap (λ l. part_line ∷ l) g.0, g.1);
           }
 
@@ -353,7 +365,7 @@ module _ (plan : RestorePlan) (s : Super) (sums : Option TreeRoot) (B C : Map) (
                   → (B (want_of level spot) ≡ Ok block) ⊎ (B (want_of level spot) ≡ Err (Lost spot.addr))
                   → Past (wanted so_far) rest (IsBlock (whole_of counts (items_met (here_marks (C (want_of level spot))))))
               by_fate counts end so_far h (inl came) = pass_good block is came none counts end so_far h
-              by_fate counts end so_far h (inr lost) = pass_lost counts so_far lost
+              by_fate counts end so_far h (inr lost) = pass_lost counts end so_far h lost
 
     pass_at : (level : ℕ) (spot : Spot) (rest : TourProg) → faults_met (tour_at lo hi C level spot) ≡ []
         → Passes (tour_from lo hi level spot rest) rest (items_met (tour_at lo hi C level spot))
