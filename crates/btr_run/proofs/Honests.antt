@@ -1,5 +1,6 @@
 -- What a command comes to that lists is its run, whole where the answer is that all was done.
-use Rattle.std.proofs.Common.{◌≡◌, ℕ, List, Result, Ok, Err, refl, sym, ap, ◌∙◌, subst}
+use Rattle.std.proofs.Common.{◌≡◌, ℕ, List, Option, Some, None, Result, Ok, Err, refl, sym, ap, ◌∙◌, subst}
+use Rattle.btr_chunk.specs.declared.chunk.Chunk.{Chunk}
 use Rattle.btr_files.specs.declared.plan.RestorePlan.{RestorePlan}
 use Rattle.btr_listing.specs.Step.{Step}
 use Rattle.btr_prog.specs.Prog.{Run, exec, steps_of}
@@ -12,10 +13,14 @@ use Rattle.btr_restore.specs.Outcome.{tree_after}
 use Rattle.btr_salvage.specs.Laws.{HonestSalvage}
 use Rattle.btr_salvage.specs.Left.{IsLeft}
 use Rattle.btr_salvage.specs.Salvaging.{salvage_run}
-use Rattle.btr_send.specs.Restored.{IsStreamOf, SentLaw, members_of_rows, restores, sends}
+use Rattle.btr_send.specs.Restored.{GivesSectors, IsStreamOf, SentLaw, members_of_rows, restores, sends}
+use Rattle.btr_send.specs.Sectors.{ImagesGiveSectors}
 use Rattle.btr_send.specs.declared.plan.SendPlan.{SendPlan}
-use Rattle.btr_volume.specs.Start.{Images}
-use Rattle.btr_run.specs.Filesystem.{filesystem_of}
+use Rattle.btr_volume.specs.Maps.{array_layout, roots_differ}
+use Rattle.btr_volume.specs.Start.{Images, Start, layout_by, start_of}
+use Rattle.btr_volume.specs.Table.{TableResult, table_scan}
+use Rattle.btr_volume.specs.declared.fault.OpenFault.{OpenFault}
+use Rattle.btr_run.specs.Filesystem.{Filesystem, filesystem_of, with_roots, with_start, with_table}
 use Rattle.btr_run.specs.Honest.{SalvageIsCommitted, SendIsStream}
 use Rattle.btr_run.specs.Listed.{listed_answer, listed_by}
 use Rattle.btr_run.specs.Outcomes.{Outcome}
@@ -65,9 +70,45 @@ salvage_is_committed law plan dest images fs C counts missed dry opened honest e
           (law plan dest fs.sup images fs.layout C counts end.value dry honest ends end.ends);
     }
 
-pub send_is_stream : SentLaw → SendIsStream
-send_is_stream law plan dest name images fs skipped opened sectors named answer =
+-- a filesystem is that of a start and a table
+record IsFound (images : Images) (fs : Filesystem) : Type 0 where
+  start : Start
+  table : List Chunk
+  starts : start_of images ≡ Ok start
+  scanned : (exec (fate images (array_layout start)) (table_scan start)).ending ≡ Ok (Ok table)
+  layout : layout_by start table ≡ fs.layout
+
+module _ (images : Images) (fs : Filesystem) where
+  found_by : (start : Start) (table : List Chunk) (o : Option ℕ) → start_of images ≡ Ok start
+      → (exec (fate images (array_layout start)) (table_scan start)).ending ≡ Ok (Ok table) → with_roots start table o ≡ Ok fs → IsFound images fs
+  found_by start table None starts scanned e = record {
+    start = start;
+    table = table;
+    starts = starts;
+    scanned = scanned;
+    layout = let same : record { sup = start.sup; layout = layout_by start table } ≡ fs = cc e in ap (λ (f : Filesystem). f.layout) same;
+  }
+  found_by start table (Some slot) starts scanned e = absurd (cc e)
+
+  found_in : (start : Start) (r : Result TableResult Fault) → start_of images ≡ Ok start
+      → (exec (fate images (array_layout start)) (table_scan start)).ending ≡ r → with_table images start r ≡ Ok fs → IsFound images fs
+  found_in start (Ok (Ok table)) starts scanned e = found_by start table (roots_differ images start (Ok (Ok table))) starts scanned e
+  found_in start (Ok (Err refusal)) starts scanned e = absurd (cc e)
+  found_in start (Err f) starts scanned e = absurd (cc e)
+
+  found_from : (r : Result Start OpenFault) → start_of images ≡ r → with_start images r ≡ Ok fs → IsFound images fs
+  found_from (Err refusal) starts e = absurd (cc e)
+  found_from (Ok start) starts e = found_in start (exec (fate images (array_layout start)) (table_scan start)).ending starts refl e
+
+  found : filesystem_of images ≡ Ok fs → IsFound images fs
+  found e = found_from (start_of images) refl e
+
+pub send_is_stream : SentLaw → ImagesGiveSectors → SendIsStream
+send_is_stream law give plan dest name images fs skipped opened bytes named answer =
     let B = fate images fs.layout in
+    let is_found = found images fs opened in
+    let sectors = subst (λ layout. GivesSectors (fate images layout)) is_found.layout
+    (give images is_found.start is_found.table bytes is_found.starts is_found.scanned) in
     let r = exec B (sends fs.sup plan.root dest name) in
     let is : send_outcome plan dest name images ≡ listed_by skipped_in r = send_by plan dest name images ∙ ap (sent_in plan dest name images) opened in
     let end = ended skipped_in r skipped (sym (ap (λ (o : Outcome). o.answer) is) ∙ answer) in

@@ -10,7 +10,8 @@ use Rattle.btr_restore.specs.Outcome.{tree_after}
 use Rattle.btr_salvage.specs.Left.{IsLeft}
 use Rattle.btr_salvage.specs.declared.salvaged.Salvaged.{Salvaged}
 use Rattle.btr_send.specs.Names.{IsStreamName}
-use Rattle.btr_send.specs.Restored.{GivesSectors, IsStreamOf, members_of_rows, restores}
+use Rattle.btr_send.specs.Restored.{IsStreamOf, members_of_rows, restores}
+use Rattle.btr_send.specs.Sectors.{AreBytes}
 use Rattle.btr_send.specs.declared.plan.SendPlan.{SendPlan}
 use Rattle.btr_volume.specs.Start.{Images}
 use Rattle.btr_run.specs.Filesystem.{Filesystem, filesystem_of}
@@ -47,12 +48,12 @@ pub record LeavesStream (plan : SendPlan) (dest name : List ℕ) (images : Image
   pub stream : IsStreamOf dest name (tree_after (send_outcome plan dest name images).steps).rows
       (members_of_rows (tree_after (steps_of (exec (fate images fs.layout) (restores fs.sup plan.root dest name)).marks)).rows)
 
--- Where a send comes to its end, that is what it leaves.
+-- Where a send of images of bytes comes to its end, that is what it leaves.
 abbrev pub SendIsStream : Type 0
 SendIsStream =
     (plan : SendPlan) (dest name : List ℕ) (images : Images) (fs : Filesystem) (skipped : ℕ)
     → filesystem_of images ≡ Ok fs
-    → GivesSectors (fate images fs.layout)
+    → AreBytes images
     → IsStreamName name
     → (send_outcome plan dest name images).answer ≡ Done skipped
     → LeavesStream plan dest name images fs skipped

@@ -4,7 +4,7 @@ ghost use Rattle.btr_run.specs.Linked.{OwnersCounted};
 ghost use Rattle.btr_run.specs.Rescued.{MendingKeepsRestores};
 
 use btr_salvage::honest_salvage;
-use btr_send::sends_restored;
+use btr_send::{images_give_sectors, sends_restored};
 
 /// Behind a scrub that was stopped anywhere, a restore whose checked needs are blocks that the scrub checks finds a candidate for each: where the
 /// images can be repaired, and `run` leaves them as its contract says.
@@ -24,6 +24,7 @@ pub fn send_is_stream()
     ensures { SendIsStream }
 {
     sends_restored();
+    images_give_sectors();
 }
 
 /// Each owner that `logical-resolve` tells has a link File or SharedFile among the references that `check` counts.
