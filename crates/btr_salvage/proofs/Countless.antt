@@ -1,5 +1,6 @@
 -- What restore does about an entry, and in a directory: the steps are the same whatever was counted before.
-use Rattle.std.proofs.Common.{◌≡◌, ℕ, zero, suc, Bool, true, false, cond, ◌||◌, List, [], ◌∷◌, ◌++◌, codes, Option, Result, Ok, Err, refl, sym, ap, ◌∙◌, subst, append-nil}
+use Rattle.std.proofs.Common.{◌≡◌, ℕ, zero, suc, Bool, true, false, cond, ◌||◌, List, [], ◌∷◌, ◌++◌, codes, Option, Result, Ok, Err, refl, sym, ap}
+use Rattle.std.proofs.Common.{◌∙◌, subst, append-nil}
 use Rattle.btr_items.specs.declared.inode.Inode.{Inode}
 use Rattle.btr_prog.specs.Prog.{Return, Stop, Need, Emit, exec, bind, given, steps_of}
 use Rattle.btr_prog.specs.Quiet.{quiet}
@@ -81,7 +82,8 @@ module _ (plan : RestorePlan) (X : Map) where
         (did_then X p (closed plan path counts) plain (steps_of (exec X p).marks) (closing path plain) (Ok (journey.Over (with_file counts))) (refl, e)
         (closed_did path counts plain))
 
-    pub pieces_value : (name path : List ℕ) (counts : Counts) (t : journey.Treated) → (exec X (written plan s sums tree ino name path inode counts)).ending ≡ Ok t
+    pub pieces_value : (name path : List ℕ) (counts : Counts) (t : journey.Treated)
+        → (exec X (written plan s sums tree ino name path inode counts)).ending ≡ Ok t
         → (plain : Bool) × ((exec X (pieces plan s sums tree ino inode)).ending ≡ Ok plain)
     pieces_value name path counts t h =
         let v = bind_value X (pieces plan s sums tree ino inode) (closed plan path counts) t

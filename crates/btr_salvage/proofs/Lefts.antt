@@ -38,7 +38,8 @@ use Rattle.btr_salvage.specs.Lines.{missing_line, nothing_yet, salvaged, salvage
 use Rattle.btr_salvage.specs.Salvaging.{Attempt, Listing, Treated, Over, Within, begun, beside, broken, by_lookup, by_reading, carried_out, directory}
 use Rattle.btr_salvage.specs.Salvaging.{from_root, from_tree, listed, listed_in, on_decision, reading, salvage_run, salvaging, summed_up, treat, treated, tries}
 use Rattle.btr_salvage.specs.Salvaging as salvaging
-use Rattle.btr_salvage.proofs.Countless.{EachCountless, closing, directory_free, empty_did, entered_did, nothing_free, pieces_value, treat_free, unless_dry, up_did, written_did}
+use Rattle.btr_salvage.proofs.Countless.{EachCountless, closing, directory_free, empty_did, entered_did, nothing_free, pieces_value, treat_free}
+use Rattle.btr_salvage.proofs.Countless.{unless_dry, up_did, written_did}
 use Rattle.btr_salvage.proofs.Endings.{Came, Did, bind_value, came_attempt, came_ending, came_then, came_value, did_quiet, did_then, did_unless}
 use Rattle.btr_salvage.proofs.Endings.{each_value, ok_same, unless_ends}
 use Rattle.btr_salvage.proofs.Keeping.{Keeps, keeps_honest, same_or_lost, stops_lost}

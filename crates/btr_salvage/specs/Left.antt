@@ -70,15 +70,20 @@ module _ (plan : RestorePlan) (s : Super) (sums : Option TreeRoot) (images commi
 
   -- an entry of which all is left, whatever was counted before it
   pub record IsKept (met : Met) (decision : Decision) (whole left : List Step) : Type 0 where
-    pub is : (counts : Counts) → whole ≡ steps_of (exec committed (done_about plan s sums met counts decision)).marks
+    pub is : (counts : Counts)
+        → whole ≡ steps_of (exec committed (done_about plan s sums met counts decision)).marks
     pub same : left ≡ whole
 
   -- a directory that is entered, and what is left of what is in it
   pub record IsEntered (Inside : List Step → List Step → Type 0) (met : Met) (decision : Decision) (whole left : List Step) : Type 0 where
     pub inside : List Step
     pub kept : List Step
-    pub is : (counts : Counts) → whole ≡ steps_of (exec committed (done_about plan s sums met counts decision)).marks ++ (inside ++ way_up plan)
-    pub rest : (counts : Counts) → left ≡ steps_of (exec committed (done_about plan s sums met counts decision)).marks ++ (kept ++ way_up plan)
+    pub is : (counts : Counts)
+        → whole ≡ steps_of (exec committed (done_about plan s sums met counts decision)).marks
+        ++ (inside ++ way_up plan)
+    pub rest : (counts : Counts)
+        → left ≡ steps_of (exec committed (done_about plan s sums met counts decision)).marks
+        ++ (kept ++ way_up plan)
     pub below : Inside inside kept
 
   -- an entry, by what it comes to
@@ -104,7 +109,8 @@ module _ (plan : RestorePlan) (s : Super) (sums : Option TreeRoot) (images commi
     abbrev pub treat_items : Counts → List TreeItem → Program Step Counts
     treat_items counts items = each treat_entry counts (entries_in (emit_all items (Return tt)))
 
-    -- an entry that is left out with all that is below it, whatever was counted before, and named with a lost block that it needs
+    -- an entry that is left out with all that is below it, whatever was counted before, and named
+    -- with a lost block that it needs
     pub record IsMissing (entry : DirEntry) (whole left : List Step) : Type 0 where
       pub want : Want
       pub lost : NeedsLost (met_in deep tree dirid path entry) want
@@ -132,8 +138,8 @@ module _ (plan : RestorePlan) (s : Super) (sums : Option TreeRoot) (images commi
       pub good : judged level spot block ≡ Some node
       pub of : OfNode child spot node whole left
 
-    -- a lost block: what restore does about the committed items in it and below it, whatever was counted before, is left out, and it is named once with the
-    -- directory
+    -- a lost block: what restore does about the committed items in it and below it, whatever was
+    -- counted before, is left out, and it is named once with the directory
     pub record IsPart (level : ℕ) (spot : Spot) (whole left : List Step) : Type 0 where
       pub lost : images (want_of level spot) ≡ Err (Lost spot.addr)
       pub is :

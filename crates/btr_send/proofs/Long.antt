@@ -1,5 +1,6 @@
 -- Each block that images of bytes give is as long as it was wanted.
-use Rattle.std.proofs.Common.{◌≡◌, ◌≢◌, ℕ, zero, suc, ◌+◌, ◌-◌, ◌<◌, ◌≤◌, Bool, true, false, cond, List, [], ◌∷◌, length, map, drop, get_or, slice_get, Option, Some, None, IsSome, Result, Ok, Err, refl, sym, ap, ◌∙◌, subst, inl, inr, nat_le, arith}
+use Rattle.std.proofs.Common.{◌≡◌, ◌≢◌, ℕ, zero, suc, ◌+◌, ◌-◌, ◌<◌, ◌≤◌, Bool, true, false, cond, List, [], ◌∷◌, length, map, drop, get_or}
+use Rattle.std.proofs.Common.{slice_get, Option, Some, None, IsSome, Result, Ok, Err, refl, sym, ap, ◌∙◌, subst, inl, inr, nat_le, arith}
 use Rattle.std.proofs.lemmas.Bool.{false≢true, leb-true}
 use Rattle.std.proofs.lemmas.List.Elements.{All-head, All-tail, All-nil, All-take, All-drop}
 use Rattle.std.proofs.lemmas.List.FromFn.{get_or-range_with_len, length-range_with_len}
@@ -27,7 +28,8 @@ use Rattle.btr_read.specs.declared.candidate.Candidate.TheVariants.{Read, ByP, B
 use Rattle.btr_read.specs.declared.device.Device.{Device}
 use Rattle.btr_read.specs.declared.device.Member.{Member}
 use Rattle.btr_read.specs.declared.want.Want.{Want}
-use Rattle.btr_read.specs.Candidates.{Target, candidates, copies, element, others, range_of, range_on, reading, readings, reads_slice, rebuilt, size_of, slice_count, stands, value_of, ways}
+use Rattle.btr_read.specs.Candidates.{Target, candidates, copies, element, others, range_of, range_on, reading, readings, reads_slice, rebuilt}
+use Rattle.btr_read.specs.Candidates.{size_of, slice_count, stands, value_of, ways}
 use Rattle.btr_read.specs.Fate.{Fault, fate, fate_of, or_lost, passing, sought, sought_at, sought_in}
 use Rattle.btr_read.specs.Gathering.{read_slices}
 use Rattle.btr_read.specs.Layout.{Layout, device_in}

@@ -1,5 +1,6 @@
 -- Images give data by whole sectors: each device is as long as its image, and each chunk of the table keeps the rule.
-use Rattle.std.proofs.Common.{◌≡◌, ℕ, suc, ◌+◌, Bool, true, false, cond, eqb, List, [], ◌∷◌, length, map, get_or, Option, Some, None, Result, Ok, Err, refl, sym, ap, ◌∙◌, subst, arith}
+use Rattle.std.proofs.Common.{◌≡◌, ℕ, suc, ◌+◌, Bool, true, false, cond, eqb, List, [], ◌∷◌, length, map, get_or, Option, Some, None, Result, Ok, Err}
+use Rattle.std.proofs.Common.{refl, sym, ap, ◌∙◌, subst, arith}
 use Rattle.std.proofs.lemmas.List.Elements.{All-nil}
 use Rattle.btr_base.specs.Sum.{kind_of_type}
 use Rattle.btr_base.specs.Key.{last_key}
@@ -27,8 +28,10 @@ use Rattle.btr_super.specs.declared.superblock.Super.{Super}
 use Rattle.btr_super.specs.Newest.{newest}
 use Rattle.btr_volume.specs.declared.fault.OpenFault.{OpenFault}
 use Rattle.btr_volume.specs.Maps.{array_layout}
-use Rattle.btr_volume.specs.Start.{Start, devices_from, first_refusal, layout_by, member, refusals, start_by, start_of, start_with, started, supers_from, with_array, with_kind, array_bytes}
-use Rattle.btr_volume.specs.Table.{TableResult, chunk_root, first_key, if_added, is_chunk, table_next, table_scan, table_step, whole_table, with_chunk, with_item}
+use Rattle.btr_volume.specs.Start.{Start, devices_from, first_refusal, layout_by, member, refusals, start_by, start_of, start_with, started}
+use Rattle.btr_volume.specs.Start.{supers_from, with_array, with_kind, array_bytes}
+use Rattle.btr_volume.specs.Table.{TableResult, chunk_root, first_key, if_added, is_chunk, table_next, table_scan, table_step, whole_table}
+use Rattle.btr_volume.specs.Table.{with_chunk, with_item}
 use Rattle.btr_walk.specs.Folds.{Next, Go, End, Broken, next_prog}
 use Rattle.btr_walk.specs.Le.{TreeItem}
 use Rattle.btr_walk.specs.Range.{RangeProg, range}

@@ -12,7 +12,8 @@ use Rattle.btr_send.specs.Restored.{GivesSectors}
 abbrev pub AreBytes : Images → Type 0
 AreBytes images = All (All (λ byte. byte < 256)) images
 
--- So do images of bytes that have a superblock and a table of chunks, whatever profile a chunk has and which of its devices are given.
+-- So do images of bytes that have a superblock and a table of chunks, whatever profile a chunk has
+-- and which of its devices are given.
 abbrev pub ImagesGiveSectors : Type 0
 ImagesGiveSectors =
     (images : Images) (start : Start) (table : List Chunk)
