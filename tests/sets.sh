@@ -1,16 +1,25 @@
 #!/bin/bash
-# Makes filesystems by mkfs.btrfs and the kernel, and holds the program's `check` and `restore` to them:
+# Makes filesystems by mkfs.btrfs and the kernel, and holds the program's `check`, `restore` and `scrub` to them:
 #
 #     tests/sets.sh PROGRAM [FOLDER]
 #
 # Each is filled through a mount on loop devices, unmounted, and checked by `btrfs check`; then `check --check-data-csum` has to say `no findings`, and
-# `restore -s` to write the same directories and files as a mount shows, but for what it names as left out. Of a set that bears it, one image is then
-# zeroed behind its superblocks: `scrub start` has to leave nothing bad, and `check` and `restore` to say and write the same again, but for the file
-# without checksums, of which no copy can be told to be the right one. ONLY="NAME.." makes these sets alone, SIZE=600M is how large an image is, COUNT=100000 how
-# many files one folder has, and KEEP=1 keeps them. Times and the most memory of `check` and `restore` are told. It needs root, loop devices, a kernel with
-# btrfs, btrfs-progs, attr, time and Python. The gate doesn't run it.
+# `restore -s` to write the same directories and files as a mount shows, but for what it names as left out. Some are cut instead: their images are copied,
+# CUTS times, while the kernel writes, balances, converts, or removes subvolumes or devices, as a power cut would leave them. There `check` may also say what
+# is under way, and while a log is pending each command has to refuse, before the kernel replays it.
+#
+# Then the first image is damaged. Where each block has another copy or parity it is zeroed behind its superblocks: `scrub start` has to leave nothing bad,
+# and `check` and `restore` to say and write the same again, but for files without checksums, of which no copy can be told to be the right one. Of all
+# others PAGES (60) pages are spoiled: `scrub start` may only put back what was there, a second one has nothing to repair, `check` may only name lost
+# blocks, and `restore -i -s` may write no file with other bytes, but for those without checksums.
+#
+# ONLY="NAME.." makes these sets alone, SIZE=600M is how large an image is, COUNT=100000 how many files one folder has, and KEEP=1 keeps them. Times and
+# the most memory of the three commands are told. It needs root, loop devices, a kernel with btrfs, btrfs-progs, attr, time and Python.
+# The gate doesn't run it.
 set -u
 program=$(readlink -f "${1:?tests/sets.sh PROGRAM [FOLDER]}")
+pages=$(dirname "$(readlink -f "$0")")/pages.py
+export LC_ALL=C.UTF-8
 room=${2:-$(mktemp -d)}
 mkdir -p "$room"
 failed=0
@@ -28,7 +37,7 @@ fill() {
     : >"$1/empty"
     echo inline >"$1/deep/a/b/c/d/e/inline"
     ln "$1/random" "$1/deep/hard"
-    for i in $(seq 1 300); do ln "$1/lines" "$1/deep/link-with-a-rather-long-name-of-its-own-$i"; done
+    for i in $(seq 1 300); do ln "$1/many/file20" "$1/deep/link-with-a-rather-long-name-of-its-own-$i"; done
     ln -s ../random "$1/deep/symbolic"
     mkfifo "$1/deep/fifo"
     touch "$1/$(printf 'n%.0s' $(seq 1 255))" "$1/Grüße"
@@ -130,8 +139,16 @@ END
 # Files until there is no room for another.
 full() {
     fill "$1"
-    for i in $(seq 1 100000); do head -c 100000 /dev/urandom >"$1/full$i" 2>/dev/null || break; done
-    for i in $(seq 1 100000); do head -c 1000 /dev/urandom >"$1/small$i" 2>/dev/null || break; done
+    python3 - "$1" <<'END'
+import itertools, os, sys
+for size in 100000, 1000:
+    try:
+        for n in itertools.count():
+            with open(f"{sys.argv[1]}/{size} {n}", "wb", buffering=0) as it:
+                it.write(os.urandom(size))
+    except OSError:
+        pass
+END
     rm -f "$1/many/file3"*
     sync "$1"
 }
@@ -158,24 +175,177 @@ moved() {
     fill "$1/again"
 }
 
+# Files and data, so many that what the kernel does with them takes its time.
+heavy() {
+    fill "$1"
+    COUNT=20000 crowded "$1"
+    for i in $(seq 1 60); do head -c 2000000 /dev/urandom >"$1/heavy$i"; done
+    sync "$1"
+}
+
+# A balance that is paused as the filesystem is unmounted.
+paused() {
+    heavy "$1"
+    btrfs -q balance start --background --full-balance "$1"
+    sleep 0.5
+    btrfs balance pause "$1"
+    holds 'paused' "$(btrfs balance status "$1" | grep -c 'is paused')" 1
+}
+
+# Subvolumes with files of their own.
+forest() {
+    btrfs -q subvolume create "$1/sub"
+    COUNT=20000 crowded "$1/sub"
+    sync "$1"
+}
+
+# What goes on until it is stopped. Writes, renames and removals:
+writing() {
+    local i=0
+    while :; do
+        i=$((i + 1))
+        head -c $((i * 1237 % 300000)) /dev/urandom >"$1/new$((i % 50))"
+        mv "$1/new$((i * 7 % 50))" "$1/moved$((i % 30))" 2>/dev/null
+        ln "$1/new$((i % 50))" "$1/deep/linked$i"
+        rm -f "$1/moved$((i * 3 % 30))" "$1/deep/linked$((i - 20))"
+    done
+}
+
+# .. each of which is synced by itself, so that a log is written:
+logging() {
+    local i=0
+    while :; do
+        i=$((i + 1))
+        head -c $((i * 1237 % 30000)) /dev/urandom >"$1/new$((i % 50))"
+        sync "$1/new$((i % 50))"
+        mv "$1/new$((i % 50))" "$1/moved$((i % 30))" && sync "$1/moved$((i % 30))"
+    done
+}
+
+balancing() {
+    while :; do btrfs -q balance start --full-balance "$1"; done
+}
+
+converting() {
+    while :; do
+        for profile in raid5 raid1c3 raid10 raid6 raid1; do btrfs -q balance start -f -dconvert="$profile" -mconvert="$profile" "$1"; done
+    done
+}
+
+deleting() {
+    local i=0
+    while :; do
+        i=$((i + 1))
+        btrfs -q subvolume snapshot "$1/sub" "$1/gone$i"
+        for n in $(seq 1 50 20000); do echo "$i" >"$1/gone$i/files/file $n"; done
+        sync -f "$1" && btrfs -q subvolume delete "$1/gone$i"
+    done
+}
+
+removing() {
+    local device
+    device=$(btrfs filesystem show "$1" | sed -n 's/.*devid *2 .*path //p')
+    while :; do
+        btrfs -q device remove "$device" "$1"
+        btrfs -q device add -f "$device" "$1"
+        btrfs -q balance start -dlimit=2 -mlimit=1 "$1"
+    done
+}
+
+# Whether a set is wanted. Its folder is empty then.
+begins() {
+    case " ${ONLY:-$1} " in *" $1 "*) ;; *) return 1 ;; esac
+    rm -rf "${room:?}/$1" && mkdir -p "$room/$1/mount"
+}
+
+# Attaches images to loop devices, and has the kernel know of these alone.
+attach() {
+    devices=()
+    for image in "$@"; do devices+=("$(losetup -f --show "$image")"); done
+    btrfs device scan "${devices[@]}" >/dev/null 2>&1
+}
+
+detach() {
+    for device in "${devices[@]}"; do btrfs device scan --forget "$device" >/dev/null 2>&1; losetup -d "$device"; done
+}
+
+# The folder, how many images, the options of mkfs.btrfs and of the mount: makes empty images there, and mounts them at the folder `mount` of the second.
+made() {
+    local folder=$1 at=$2 count=$3 make=$4 options=$5
+    images=()
+    for i in $(seq 1 "$count"); do truncate -s "${SIZE:-600M}" "$folder/$i" && images+=("$folder/$i"); done
+    attach "${images[@]}"
+    # shellcheck disable=SC2086
+    mkfs.btrfs -q -f $make "${devices[@]}" >"$at/log" 2>&1 && mount -o "$options" "${devices[0]}" "$at/mount" 2>>"$at/log"
+}
+
 # NAME, how many images, the options of mkfs.btrfs, those of the mount, and what fills it.
 one() {
-    local name=$1 count=$2 make=$3 options=$4 fills=$5 at="$room/$1" devices=() images=()
-    case " ${ONLY:-$name} " in *" $name "*) ;; *) return ;; esac
-    rm -rf "$at" && mkdir -p "$at/mount"
-    for i in $(seq 1 "$count"); do
-        truncate -s "${SIZE:-600M}" "$at/$i" && images+=("$at/$i") && devices+=("$(losetup -f --show "$at/$i")")
-    done
-    # shellcheck disable=SC2086
-    if mkfs.btrfs -q -f $make "${devices[@]}" >"$at/log" 2>&1 && mount -o "$options" "${devices[0]}" "$at/mount" 2>>"$at/log"; then
-        "$fills" "$at/mount" >>"$at/log" 2>&1
+    local at="$room/$1" devices images
+    begins "$1" || return
+    if made "$at" "$at" "$2" "$3" "$4"; then
+        "$5" "$at/mount" >>"$at/log" 2>&1
         umount "$at/mount"
-        judge "$name" "$at" "${devices[0]}" "${images[@]}"
+        judge "$1" "$at" "${devices[0]}" "${images[@]}"
     else
-        echo "$name: not made here"
+        echo "$1: not made here"
     fi
-    for device in "${devices[@]}"; do losetup -d "$device"; done
+    detach
     [ -n "${KEEP:-}" ] || rm -rf "$at"
+}
+
+# The same, and what goes on as the images are cut. They lie in a filesystem of their own, which is frozen while they are copied.
+cut() {
+    local at="$room/$1" devices images worker
+    begins "$1" || return
+    mkdir "$at/host" && truncate -s 8G "$at/around" && mkfs.btrfs -q "$at/around" >/dev/null && mount -o loop,noatime "$at/around" "$at/host"
+    made "$at/host" "$at" "$2" "$3" "$4" && "$5" "$at/mount" >>"$at/log" 2>&1 && sync -f "$at/mount"
+    "$6" "$at/mount" >>"$at/log" 2>&1 &
+    worker=$!
+    for turn in $(seq 1 "${CUTS:-4}"); do frozen "$at" "$turn"; done
+    kill "$worker"
+    btrfs balance cancel "$at/mount" >/dev/null 2>&1
+    wait "$worker" 2>/dev/null
+    until umount "$at/mount" 2>/dev/null; do sleep 0.2; done
+    detach
+    umount "$at/host"
+    rm "$at/around"
+    for turn in $(seq 1 "${CUTS:-4}"); do judge_cut "$1, cut $turn" "$at/$turn"; done
+    [ -n "${KEEP:-}" ] || rm -rf "$at"
+}
+
+# Copies the images, all as they are at one moment.
+frozen() {
+    sleep "0.$(($2 * 37 % 9 + 1))"
+    mkdir -p "$1/$2/mount"
+    fsfreeze -f "$1/host"
+    cp --sparse=always "$1"/host/[0-9]* "$1/$2"
+    fsfreeze -u "$1/host"
+}
+
+judge_cut() {
+    local name=$1 at=$2 devices
+    set -- "$at"/[0-9]*
+    attach "$@"
+    if ! "$program" super "$1" | grep -q '^log_root 0$'; then
+        refused "$name" "$at" "$@"
+        mount "${devices[0]}" "$at/mount" && umount "$at/mount"
+    fi
+    under_way='a balance is pending|tree [0-9]* is being deleted' judge "$name" "$at" "${devices[0]}" "$@"
+    detach
+}
+
+# Whether each command refuses images with a log, and leaves their bytes.
+refused() {
+    local name=$1 at=$2 before
+    shift 2
+    before=$(cat "$@" | sha256sum)
+    for words in "restore $at/restored" "restore -i $at/restored" 'restore -l' check 'scrub start' 'inspect-internal dump-tree' "send $at stream"; do
+        # shellcheck disable=SC2086
+        holds "$name: $words" "$("$program" $words "$@" 2>&1; echo $?)" $'error: a log tree is pending\n3'
+    done
+    holds "$name: left alone" "$(cat "$@" | sha256sum)" "$before"
+    echo "$name: a log is pending"
 }
 
 judge() {
@@ -184,27 +354,54 @@ judge() {
     btrfs check --check-data-csum "$device" >>"$at/log" 2>&1 || { echo "$name: btrfs check finds something"; tail -3 "$at/log"; }
     mount -o ro,subvolid=5 "$device" "$at/mount"
     same "$name" "$at" "$@"
-    umount "$at/mount"
-    echo "$name: $(tail -1 "$at/said"); check $(cat "$at/checked"), restore $(cat "$at/measured")"
+    listed "$at/mount" | sort -u >"$at/shown"
     case $name in
-    raid1 | raid1c3 | raid1c4 | raid10 | raid5 | raid6)
-        mount -o ro,subvolid=5 "$device" "$at/mount" && cp -a "$at/mount" "$at/shown" && umount "$at/mount"
-        dd if=/dev/zero of="$2" bs=1M seek=1 count=63 conv=notrunc status=none
-        dd if=/dev/zero of="$2" bs=1M seek=65 count=$(($(stat -c %s "$2") / 1048576 - 65)) conv=notrunc status=none
-        holds "$name: scrub" "$("$program" scrub start "$@" | sed -n 's/.* lost \([0-9]*\) .*/\1/p')" 0
-        holds "$name: scrub once more" "$("$program" scrub start -r "$@" | sed -n 's/.* bad \([0-9]*\) .* parity \([0-9]*\) .*/\1 \2/p')" '0 0'
-        rmdir "$at/mount" && mv "$at/shown" "$at/mount" && rm -rf "$at/restored"
-        find "$at/mount" -name plain -delete
-        same "$name, mended" "$at" "$@"
-        ;;
+    raid1 | raid1c3 | raid1c4 | raid10 | raid5 | raid6 | converted | through | moved) zeroed "$name" "$at" "$@" ;;
+    *) spoiled "$name" "$at" "$@" ;;
     esac
+    echo "$name: $(tail -1 "$at/said"), $(head -1 "$at/found"); check $(cat "$at/checked"), restore $(cat "$at/measured"), scrub $(cat "$at/scrubbed")"
+}
+
+# Zeroes the first image, scrubs it, and asks again.
+zeroed() {
+    local name=$1 at=$2
+    shift 2
+    cp -a "$at/mount" "$at/files" && umount "$at/mount"
+    fallocate -p -o 1M -l 63M "$1"
+    fallocate -p -o 65M -l $(($(stat -c %s "$1") - 65 * 1048576)) "$1"
+    holds "$name: scrub" "$(measured "$at/scrubbed" scrub start "$@" | sed -n 's/.* lost \([0-9]*\) .*/\1/p')" 0
+    holds "$name: scrub once more" "$("$program" scrub start -r "$@" | sed -n 's/.* bad \([0-9]*\) .* parity \([0-9]*\) .*/\1 \2/p')" '0 0'
+    rmdir "$at/mount" && mv "$at/files" "$at/mount" && rm -rf "$at/restored"
+    find "$at/mount" -name plain -delete
+    same "$name, mended" "$at" "$@"
+}
+
+# Spoils pages of the first image, and looks that nothing is made worse.
+spoiled() {
+    local name=$1 at=$2 lost
+    shift 2
+    umount "$at/mount"
+    cp --sparse=always "$1" "$at/kept"
+    "$pages" spoil "$1" "${PAGES:-60}" 1 >"$at/pages"
+    measured "$at/scrubbed" scrub start "$@" >"$at/first"
+    lost=$(sed -n 's/.* lost \([0-9]*\) parity.*/repaired 0 lost \1 parity 0/p' "$at/first")
+    "$program" scrub start "$@" | grep -o 'repaired.*parity [0-9]*\|error: lost block.*' >"$at/second"
+    holds "$name: second scrub of $(cat "$at/first")" "$(cat "$at/second")" "${lost:-$(cat "$at/first")}"
+    holds "$name: other bytes" "$("$pages" compare "$at/kept" "$1" "$at/pages" | sed 's/.*other //')" 0
+    "$program" check "$@" | head -1 | grep -vE "^(no findings|lost [0-9]+|error: (lost block .*|${under_way:-}))\$" >"$at/wrong"
+    holds "$name: check of what was spoiled" "$(cat "$at/wrong")" ''
+    rm -rf "$at/restored" "$at/kept" && mkdir "$at/restored"
+    "$program" restore -i -s "$at/restored" "$@" >"$at/said.i"
+    case $name in no-sums) return ;; esac
+    holds "$name: other files" "$(listed "$at/restored" | sort -u | comm -13 "$at/shown" - | grep -v ' \./plain$' | head -3)" ''
 }
 
 # Whether `check` finds nothing, and `restore` writes what stands below the folder mount.
 same() {
     local name=$1 at=$2
     shift 2
-    holds "$name: check" "$(measured "$at/checked" check --check-data-csum "$@" | head -3)" 'no findings'
+    measured "$at/checked" check --check-data-csum "$@" | head -3 >"$at/found"
+    holds "$name: check" "$(sed -E "s/^error: (${under_way:-})\$/no findings/" "$at/found")" 'no findings'
     mkdir "$at/restored"
     measured "$at/measured" restore -s "$at/restored" "$@" >"$at/said"
     (cd "$at/mount" && left_out "$at/said" "$at/restored")
@@ -267,5 +464,12 @@ SIZE=${SIZE:-300M} one mixed-full 1 -M defaults full
 SIZE=${SIZE:-1200M} one through 4 '' defaults through
 one moved 3 '-d raid1 -m raid1' defaults moved
 SIZE=${SIZE:-1T} one sparse 1 '' defaults fill
+one paused 1 '' defaults paused
+cut writing 1 '' commit=1 fill writing
+cut logging 1 '' defaults fill logging
+cut balancing 1 '' defaults heavy balancing
+cut converting 4 '-d raid1 -m raid1' defaults heavy converting
+cut deleting 1 '' commit=1 forest deleting
+cut removing 3 '-d raid1 -m raid1' defaults heavy removing
 echo "$passed passed, $failed failed"
 [ "$failed" = 0 ]
