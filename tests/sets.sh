@@ -178,7 +178,7 @@ moved() {
 # Files and data, so many that what the kernel does with them takes its time.
 heavy() {
     fill "$1"
-    COUNT=20000 crowded "$1"
+    COUNT=$((${COUNT:-100000} / 5)) crowded "$1"
     for i in $(seq 1 60); do head -c 2000000 /dev/urandom >"$1/heavy$i"; done
     sync "$1"
 }
@@ -195,7 +195,7 @@ paused() {
 # Subvolumes with files of their own.
 forest() {
     btrfs -q subvolume create "$1/sub"
-    COUNT=20000 crowded "$1/sub"
+    COUNT=$((${COUNT:-100000} / 5)) crowded "$1/sub"
     sync "$1"
 }
 
@@ -237,7 +237,7 @@ deleting() {
     while :; do
         i=$((i + 1))
         btrfs -q subvolume snapshot "$1/sub" "$1/gone$i"
-        for n in $(seq 1 50 20000); do echo "$i" >"$1/gone$i/files/file $n"; done
+        for n in $(seq 1 50 $((${COUNT:-100000} / 5))); do echo "$i" >"$1/gone$i/files/file $n"; done
         sync -f "$1" && btrfs -q subvolume delete "$1/gone$i"
     done
 }
