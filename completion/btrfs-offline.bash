@@ -53,7 +53,7 @@ _btrfs_offline() {
         first=$((first + 1))
     done
     if ((COMP_CWORD <= first)); then
-        _btrfs_offline_words "$current" super inspect-internal check scrub restore send help --help -h --version --build
+        _btrfs_offline_words "$current" super inspect-internal check scrub restore send self-test help --help -h --version --build
         return
     fi
     command=${COMP_WORDS[first]}
@@ -107,6 +107,12 @@ _btrfs_offline() {
             _btrfs_offline_words "$current" -r --help -h
         elif [[ $current != -* ]]; then
             _btrfs_offline_images "$current"
+        fi
+        ;;
+    self-test)
+        # the number of directories; no image follows it
+        if ((COMP_CWORD == first + 1)) && [[ $current == -* ]]; then
+            _btrfs_offline_words "$current" --help -h
         fi
         ;;
     esac

@@ -27,6 +27,7 @@ Reads the raw images of the devices of one unmounted Btrfs filesystem. Only scru
   send DEST NAME IMAGES                writes a subvolume as one stream, into the file NAME in the folder DEST
       -r N                             the subvolume of an id; without it the top one, 5
   restore -l IMAGES                    prints the same lines as dump-tree -r
+  self-test N                          tries check, restore and scrub on a volume that it makes in memory
 
   COMMAND --help    says more of a command
   --help, -h, help  prints this text
@@ -181,6 +182,24 @@ above 4095 bytes. Owners, modes, times, links and extended attributes aren't sen
 front, and isn't "." or "..". The last line is "directories D files F skipped S"; the status is 1 where S isn't 0.
 
 Where no copy of a block is left the stream ends before it, without its end, and the line of the error comes last.
+TEXT
+}
+
+help_self_test() {
+    cat <<'TEXT'
+usage: btrfs-offline self-test N
+
+Makes a filesystem of N directories with four files each in memory, on three devices, and tries on it what the program does on
+images: it is checked, one device is spoiled, all files are restored, it is scrubbed, another device is spoiled, and all files
+are restored again. No image is opened and no folder is made. N is 1 to 1000, decimal, without leading zeros.
+
+The first two lines say what is made. Then there is a line for each of four steps: "check: no findings", "first restore: same",
+"scrub: lost 0" and "second restore: same". In their place may stand "N findings", "differs", how many blocks are lost, and
+"failed" where the step was refused. The status is 1 where one of the four lines is another one: then the program doesn't do
+on this machine what it promises, and should be trusted with no disk.
+
+It shows that this program and this processor and memory do what they should on the volume that was made: metadata on two
+devices, data with parity on three, CRC-32C. It shows nothing of disks, of real images, or of other profiles.
 TEXT
 }
 

@@ -259,6 +259,7 @@ is_text() {
 usage_for() {
     case ${1-} in
     super | check | scrub | restore | send) "help_$1" | sed -n '1,/^$/p' ;;
+    self-test) help_self_test | sed -n '1,/^$/p' ;;
     inspect-internal)
         [ "${2-}" = logical-resolve ] || help_dump_tree | sed -n '1,/^$/p'
         [ "${2-}" = dump-tree ] || help_logical_resolve | sed -n '1,/^$/p'

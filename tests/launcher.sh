@@ -88,7 +88,7 @@ test_untouched() {
 }
 
 test_help() {
-    for words in --help -h help 'super -h' 'check --help' 'restore -h' 'send -h' 'scrub -h' 'scrub start --help' 'inspect-internal -h' 'inspect-internal dump-tree -h' \
+    for words in --help -h help 'super -h' 'check --help' 'restore -h' 'send -h' 'self-test -h' 'scrub -h' 'scrub start --help' 'inspect-internal -h' 'inspect-internal dump-tree -h' \
         'inspect-internal logical-resolve -h'; do
         # shellcheck disable=SC2086
         call $words

@@ -7,11 +7,12 @@ use crate::fault::CallFault;
 use crate::rows::shown;
 use crate::told::Told;
 use crate::wording::words;
+use btr_make::{Builder, Maker};
 use btr_rack::{MemOut, MemRack, MemTree, Out, Rack, TreeSink};
 use btr_run::{Answer, run};
 use std::alloc::{AllocError, Global};
 
-/// Calls `run` without any of its clauses.
+/// Calls `run` without any of its clauses. The volume of a self-test is that of `Builder`.
 pub fn called<R: Rack, T: TreeSink, O: Out>(
     alloc: Global,
     words: &[String],
@@ -22,7 +23,7 @@ pub fn called<R: Rack, T: TreeSink, O: Out>(
     requires closed { (R.seen rack.old).slots ≡ [] }
     requires fresh { (T.sink tree.old).stage ≡ NotStarted }
 {
-    run(alloc, words, rack, tree, out)
+    run(alloc, words, rack, tree, out, Builder)
 }
 
 /// Calls `run` by these words, with a destination and an output in which nothing is to fail. No image may be
@@ -47,6 +48,21 @@ pub fn call_where(
         return Err(CallFault::Open);
     }
     let answer = called(alloc, &words, rack, &mut tree, &mut out);
+    Ok(came_of(alloc, answer, &tree, &out)?)
+}
+
+/// Calls `run` as [`call_where`] does, over no image, with a maker of the volume of a self-test.
+pub fn call_making<M: Maker + Drop>(
+    alloc: Global,
+    maker: M,
+    all: &[&str],
+    failing: Failing,
+) -> Result<Told, CallFault> {
+    let words = words(alloc, all)?;
+    let mut tree = destination(alloc, failing)?;
+    let mut out = output(alloc, failing)?;
+    let mut rack = MemRack::new(alloc);
+    let answer = run(alloc, &words, &mut rack, &mut tree, &mut out, maker);
     Ok(came_of(alloc, answer, &tree, &out)?)
 }
 

@@ -7,8 +7,8 @@ use Rattle.std.specs.Str.{bytes_eq}
 use Rattle.std.proofs.Math.Nat.{eq-or-lt_of_le}
 use Rattle.std.proofs.lemmas.Slice.Eq.{bytes_eq-Decides}
 use Rattle.btr_run.specs.Restores.{OneOption, Root, Snapshots, Verbose, Dry, Salvage, options_words}
-use Rattle.btr_run.specs.Words.{Destination, File, IsRead, IsSentence, Number, Part, Reads, TakesDestination, Word, Words, is_name, nothing_of, parts_of}
-use Rattle.btr_run.specs.Words.{plan_for}
+use Rattle.btr_run.specs.Words.{Destination, File, IsRead, IsSentence, Number, Part, Reads, TakesDestination, Volume, Word, Words, is_name, nothing_of}
+use Rattle.btr_run.specs.Words.{parts_of, plan_for}
 use Rattle.btr_run.specs.declared.place.Read.{Read}
 use Rattle.btr_run.specs.declared.plan.Plan.{Plan}
 use Rattle.btr_run.specs.declared.sentence.Sentence.{Sentence}
@@ -26,6 +26,7 @@ may_begin [] word = is_name word
 may_begin (Word this ∷ left) word = bytes_eq word this
 may_begin (Number ∷ left) word = true
 may_begin (File ∷ left) word = true
+may_begin (Volume ∷ left) word = true
 may_begin (Destination ∷ left) word = is_name word || is_option word
 
 -- no words are of both
@@ -35,16 +36,18 @@ apart (Word a ∷ p) [] = not (may_begin [] a)
 apart (Word a ∷ p) (Word b ∷ q) = cond (bytes_eq a b) (apart p q) true
 apart (Word a ∷ p) (Number ∷ q) = false
 apart (Word a ∷ p) (File ∷ q) = false
+apart (Word a ∷ p) (Volume ∷ q) = false
 apart (Word a ∷ p) (Destination ∷ q) = not (may_begin (Destination ∷ q) a)
 apart (Number ∷ p) q = false
 apart (File ∷ p) q = false
+apart (Volume ∷ p) q = false
 apart (Destination ∷ p) q = false
 
 -- the first word is one that may begin them
-record BeginsSo (parts : List Part) (words : Words) : Type 0 where
-  word : List ℕ
-  more : Words
-  are : words ≡ word ∷ more
+pub record BeginsSo (parts : List Part) (words : Words) : Type 0 where
+  pub word : List ℕ
+  pub more : Words
+  pub are : words ≡ word ∷ more
   may : may_begin parts word ≡ true
 
 -- the first word of options, and of a destination
@@ -57,13 +60,14 @@ destination_begins left (Verbose ∷ options) name rest is = record { word = cod
 destination_begins left (Dry ∷ options) name rest is = record { word = codes "-D"; more = _; are = refl; may = refl }
 destination_begins left (Salvage ∷ options) name rest is = record { word = codes "-i"; more = _; are = refl; may = refl }
 
-begins_so : (parts : List Part) (at : ℕ) (words : Words) (old new : Read) → Reads parts at words old new → BeginsSo parts words
+pub begins_so : (parts : List Part) (at : ℕ) (words : Words) (old new : Read) → Reads parts at words old new → BeginsSo parts words
 begins_so [] at [] old new reads = absurd reads.0
 begins_so [] at (first ∷ more) old new reads = record { word = first; more = more; are = refl; may = reads.0 0 first (omega arith) }
 begins_so (Word this ∷ left) at words old new reads =
     record { word = this; more = reads.1; are = reads.3 ∙ ap (λ t. t ++ reads.1) reads.4.0; may = same_word this }
 begins_so (File ∷ left) at words old new reads =
     record { word = reads.4.0; more = reads.1; are = reads.3 ∙ ap (λ t. t ++ reads.1) reads.4.2; may = refl }
+begins_so (Volume ∷ left) at words old new reads = record { word = reads.1; more = []; are = reads.4; may = refl }
 begins_so (Number ∷ left) at words old new reads =
     record { word = reads.4.1; more = reads.1; are = reads.3 ∙ ap (λ t. t ++ reads.1) reads.4.3; may = refl }
 begins_so (Destination ∷ left) at words old new reads =
@@ -89,10 +93,12 @@ never_both [] q is at other words old new old' new' a b = absurd (cc is)
 never_both (Number ∷ p) q is at other words old new old' new' a b = absurd (cc is)
 never_both (File ∷ p) q is at other words old new old' new' a b = absurd (cc is)
 never_both (Destination ∷ p) q is at other words old new old' new' a b = absurd (cc is)
+never_both (Volume ∷ p) q is at other words old new old' new' a b = absurd (cc is)
 never_both (Word this ∷ p) [] is at other words old new old' new' a b =
     first_apart this a.1 [] words (a.3 ∙ ap (λ t. t ++ a.1) a.4.0) (begins_so [] other words old' new' b) is
 never_both (Word this ∷ p) (Number ∷ q) is at other words old new old' new' a b = absurd (cc is)
 never_both (Word this ∷ p) (File ∷ q) is at other words old new old' new' a b = absurd (cc is)
+never_both (Word this ∷ p) (Volume ∷ q) is at other words old new old' new' a b = absurd (cc is)
 never_both (Word this ∷ p) (Destination ∷ q) is at other words old new old' new' a b =
     first_apart this a.1 (Destination ∷ q) words (a.3 ∙ ap (λ t. t ++ a.1) a.4.0) (begins_so (Destination ∷ q) other words old' new' b) is
 never_both (Word this ∷ p) (Word that ∷ q) is at other words old new old' new' a b =

@@ -23,7 +23,7 @@ use Rattle.btr_run.specs.Repaired.{AsksToWrite, KeepsRepair, LeavesImages}
 use Rattle.btr_run.specs.Scrubbed.{mending_writes}
 use Rattle.btr_run.specs.Words.{Words, IsUsageAt}
 use Rattle.btr_run.specs.declared.plan.Command.{Command}
-use Rattle.btr_run.specs.declared.plan.Command.TheVariants.{Super, Dump, Resolve, Check, Restore, Salvage, Scrub, Send}
+use Rattle.btr_run.specs.declared.plan.Command.TheVariants.{Super, Dump, Resolve, Check, Restore, Salvage, Scrub, Send, SelfTest}
 use Rattle.btr_run.specs.declared.opening.OpeningFault.{OpeningFault}
 use Rattle.btr_run.specs.declared.opening.OpeningFault.TheVariants.{TooMany, Failed, Memory as memory_fault}
 use Rattle.btr_volume.specs.declared.which.Which.TheVariants.{Images as images_limit}
@@ -84,6 +84,7 @@ agreed_before (Scrub write) words images answer line unread = inl (inr unread)
 agreed_before (Restore dest plan) words images answer line unread = (inr (refl, line), λ refusal begun. inr unread)
 agreed_before (Salvage dest plan) words images answer line unread = inr (inr unread)
 agreed_before (Send dest file plan) words images answer line unread = inr (inr unread)
+agreed_before (SelfTest number) words images answer line unread = inr (refl, line)
 
 -- words that are no sentence
 module _ (words : Words) (at : ℕ) (usage : IsUsageAt words at) where

@@ -1,22 +1,50 @@
 -- The words that the plan of a sentence cites are there.
-use Rattle.std.proofs.Common.{ℕ, Bool, true, false, ◌+◌, ◌<◌, ◌≤◌, List, [], ◌∷◌, length, sym, ap, subst, arith}
+use Rattle.std.proofs.Common.{ℕ, Bool, true, false, ◌+◌, ◌<◌, ◌≤◌, List, [], ◌∷◌, length, refl, sym, ap, subst, arith}
 use Rattle.std.proofs.lemmas.List.{length-append, length-drop}
 use Rattle.btr_run.specs.Commands.{HasWords}
 use Rattle.btr_run.specs.Restores.{options_words, plan_by}
-use Rattle.btr_run.specs.Words.{Destination, File, IsSentence, Number, Part, Reads, TakesDestination, Word, Words, command_of, images_of, nothing_of, parts_of}
-use Rattle.btr_run.specs.Words.{restore_of}
+use Rattle.btr_run.specs.Words.{Destination, File, IsSentence, Number, Part, Reads, TakesDestination, Volume, Word, Words, command_of, images_of, nothing_of}
+use Rattle.btr_run.specs.SelfTested.{TakesImages}
+use Rattle.btr_run.specs.Words.{parts_of, restore_of}
 use Rattle.btr_run.specs.declared.place.Read.{Read}
 use Rattle.btr_run.specs.declared.plan.Plan.{Plan}
 use Rattle.btr_run.specs.declared.sentence.Sentence.{Sentence}
 use Rattle.btr_run.specs.declared.sentence.Sentence.TheVariants.{Super, DumpAll, DumpBlock, DumpTree, DumpRoots, Resolve, Check, CheckData, Scrub, ScrubRead}
-use Rattle.btr_run.specs.declared.sentence.Sentence.TheVariants.{Roots, Restore, Send}
+use Rattle.btr_run.specs.declared.sentence.Sentence.TheVariants.{Roots, Restore, Send, SelfTest}
+use Rattle.btr_run.proofs.Apart.{begins_so}
+
+-- images are named behind some parts
+abbrev NamesImages : List Part → Type 0
+NamesImages [] = Unit {0}
+NamesImages (Volume ∷ left) = ⊥
+NamesImages (part ∷ left) = NamesImages left
 
 -- the word of the first image
-images_there : (left : List Part) (at : ℕ) (words : Words) (old new : Read) → Reads left at words old new → new.images < at + length words
-images_there [] at [] old new reads = absurd reads.0
-images_there [] at (first ∷ more) old new reads = subst (λ n. n < at + length (first ∷ more)) (sym (ap (λ (r : Read). r.images) reads.1)) (omega arith)
-images_there (part ∷ left) at words old new reads =
-    omega (arith, images_there left (at + length reads.0) reads.1 reads.2 new reads.5, ap (λ (l : Words). length l) reads.3, length-append reads.0 reads.1)
+images_there : (left : List Part) (at : ℕ) (words : Words) (old new : Read) → NamesImages left → Reads left at words old new → new.images < at + length words
+images_there [] at [] old new named reads = absurd reads.0
+images_there [] at (first ∷ more) old new named reads = omega (arith, ap (λ (r : Read). r.images) reads.1)
+images_there (Volume ∷ left) at words old new named reads = absurd named
+images_there (Word this ∷ left) at words old new named reads =
+    omega (arith, images_there left (at + length reads.0) reads.1 reads.2 new named reads.5, ap (λ (l : Words). length l) reads.3, length-append reads.0 reads.1)
+images_there (Number ∷ left) at words old new named reads =
+    omega (arith, images_there left (at + length reads.0) reads.1 reads.2 new named reads.5, ap (λ (l : Words). length l) reads.3, length-append reads.0 reads.1)
+images_there (Destination ∷ left) at words old new named reads =
+    omega (arith, images_there left (at + length reads.0) reads.1 reads.2 new named reads.5, ap (λ (l : Words). length l) reads.3, length-append reads.0 reads.1)
+images_there (File ∷ left) at words old new named reads =
+    omega (arith, images_there left (at + length reads.0) reads.1 reads.2 new named reads.5, ap (λ (l : Words). length l) reads.3, length-append reads.0 reads.1)
+
+-- or the end of the words
+images_within : (left : List Part) (at : ℕ) (words : Words) (old new : Read) → Reads left at words old new → new.images ≤ at + length words
+images_within [] at words old new reads = omega (arith, ap (λ (r : Read). r.images) reads.1)
+images_within (Volume ∷ left) at words old new reads = omega (arith, ap (λ (r : Read). r.images) reads.5, ap (λ (l : Words). length l) reads.4)
+images_within (Word this ∷ left) at words old new reads =
+    omega (arith, images_within left (at + length reads.0) reads.1 reads.2 new reads.5, ap (λ (l : Words). length l) reads.3, length-append reads.0 reads.1)
+images_within (Number ∷ left) at words old new reads =
+    omega (arith, images_within left (at + length reads.0) reads.1 reads.2 new reads.5, ap (λ (l : Words). length l) reads.3, length-append reads.0 reads.1)
+images_within (Destination ∷ left) at words old new reads =
+    omega (arith, images_within left (at + length reads.0) reads.1 reads.2 new reads.5, ap (λ (l : Words). length l) reads.3, length-append reads.0 reads.1)
+images_within (File ∷ left) at words old new reads =
+    omega (arith, images_within left (at + length reads.0) reads.1 reads.2 new reads.5, ap (λ (l : Words). length l) reads.3, length-append reads.0 reads.1)
 
 -- the word of the destination, and of the file in it
 abbrev pub AreThere : Read → ℕ → Type 0
@@ -26,6 +54,7 @@ names_there : (left : List Part) (at : ℕ) (words : Words) (old new : Read) (bo
     → at + length words ≤ bound
     → AreThere new bound
 names_there [] at words old new bound reads before within = subst (λ r. AreThere r bound) (sym reads.1) before
+names_there (Volume ∷ left) at words old new bound reads before within = subst (λ r. AreThere r bound) (sym reads.5) before
 names_there (Word this ∷ left) at words old new bound reads before within =
     names_there left (at + length reads.0) reads.1 reads.2 new bound reads.5 (subst (λ r. AreThere r bound) (sym reads.4.1) before)
     (omega (arith, within, ap (λ (l : Words). length l) reads.3, length-append reads.0 reads.1))
@@ -73,18 +102,45 @@ cited Restore read n lt = of read.options.salvage
     of true = lt.0
     of false = lt.0
 cited Send read n lt = lt
+cited SelfTest read n lt = tt
+
+-- all other forms than the self-test's name images
+names_images : (sentence : Sentence) (read : Read) → TakesImages (command_of sentence read) → NamesImages (parts_of sentence)
+names_images Super read takes = tt
+names_images DumpAll read takes = tt
+names_images DumpBlock read takes = tt
+names_images DumpTree read takes = tt
+names_images DumpRoots read takes = tt
+names_images Resolve read takes = tt
+names_images Check read takes = tt
+names_images CheckData read takes = tt
+names_images Scrub read takes = tt
+names_images ScrubRead read takes = tt
+names_images Roots read takes = tt
+names_images Restore read takes = tt
+names_images Send read takes = tt
+names_images SelfTest read takes = absurd (takes read.number refl)
 
 module _ (plan : Plan) (words : Words) (s : IsSentence plan words) where
-  there : s.read.images < 0 + length words
-  there = images_there (parts_of s.sentence) 0 words (nothing_of s.sentence) s.read s.is_read
+  pub first_image : plan.images ≤ length words
+  first_image = subst (λ (p : Plan). p.images ≤ length words) (sym s.plan_is)
+      (omega (arith, images_within (parts_of s.sentence) 0 words (nothing_of s.sentence) s.read s.is_read))
 
-  pub first_image : plan.images < length words
-  first_image = subst (λ (p : Plan). p.images < length words) (sym s.plan_is) (omega (arith, there))
+  pub some_image : TakesImages plan.command → 0 < length (images_of plan words)
+  some_image takes = omega (
+    arith,
+    length-drop plan.images words,
+    ap (λ (p : Plan). p.images) s.plan_is,
+    images_there (parts_of s.sentence) 0 words (nothing_of s.sentence) s.read
+        (names_images s.sentence s.read (subst (λ (p : Plan). TakesImages p.command) s.plan_is takes)) s.is_read,
+  )
 
-  pub some_image : 0 < length (images_of plan words)
-  some_image = omega (arith, first_image, length-drop plan.images words)
+  -- there is some word
+  some_word : 0 < length words
+  some_word = let first = begins_so (parts_of s.sentence) 0 words (nothing_of s.sentence) s.read s.is_read in
+      omega (arith, ap (λ (l : Words). length l) first.are)
 
   pub has_words : HasWords plan.command (length words)
   has_words = subst (λ (p : Plan). HasWords p.command (length words)) (sym s.plan_is)
       (cited s.sentence s.read (length words) (names_there (parts_of s.sentence) 0 words (nothing_of s.sentence) s.read (length words) s.is_read
-      (omega (arith, there), omega (arith, there)) (omega arith)))
+      (some_word, some_word) (omega arith)))

@@ -17,7 +17,7 @@ use Rattle.btr_restore.specs.Running.{Outside}
 use Rattle.btr_listing.specs.Step.{Step, Line}
 use Rattle.btr_text.proofs.Writing.{adds_nothing, adds_twice}
 use Rattle.btr_run.specs.Answers.{error_line, answer_of}
-use Rattle.btr_run.specs.Outcomes.{Outcome, refused, showing, text_steps, due_after, IsPut, IsNoFault, Shows, IsFirstPart, Stands, StandsPartly, CallFailed}
+use Rattle.btr_run.specs.Outcomes.{Outcome, Shown, refused, showing, text_steps, due_after, IsPut, IsNoFault, Shows, IsFirstPart, Stands, StandsPartly, CallFailed}
 use Rattle.btr_run.specs.Outcomes.{OneFailed, How, Whole, SinkFailed, OutFailed, Wanted, HasEnded, Comes, HasFirstPart, MayEnd, IsPrinted}
 use Rattle.btr_run.specs.declared.answer.Answer.{Answer}
 use Rattle.btr_run.specs.declared.answer.Answer.TheVariants.{SinkFault, OutFault, Memory}
@@ -107,6 +107,27 @@ text_cut (b ∷ text) (suc n) = record {
       (suc n, refl);
 }
 
+-- of a text that is shown some bytes stand, or a first part of it
+module _ (x y : Outside) (same : y.sink ≡ x.sink) where
+  pub text_stands : (bytes : List ℕ) → Adds x.text y.text bytes → Stands x y (text_steps bytes) []
+  text_stands bytes adds = record { sink = same ∙ sym (sink_same bytes x.sink); text = subst (Adds x.text y.text) (sym (text_is bytes)) adds }
+
+  pub text_partly : (shown : Shown) → (n : ℕ) × Adds x.text y.text (take n shown.text) → StandsPartly x y (showing shown) []
+  text_partly shown p =
+      record { done = text_steps (take p.0 shown.text); first = text_cut shown.text p.0; stands = text_stands (take p.0 shown.text) p.1 }
+
+-- memory was wanted behind a first part of a text, and no call of the sink was made
+pub comes_wanted : (May : Type 0) (IsOne : Outcome → Type 0) (x y : Outside) (shown : Shown) → IsOne (showing shown) → IsNoFault shown.answer → May
+    → y.sink ≡ x.sink → y.sink_calls ≡ x.sink_calls → y.out_calls ≡ x.out_calls → (n : ℕ) × Adds x.text y.text (take n shown.text)
+    → Comes May IsOne x y Memory
+comes_wanted May IsOne x y shown one no_fault may same same_calls same_out part = record {
+  outcome = showing shown;
+  is_one = one;
+  no_fault = no_fault;
+  how = Wanted;
+  ended = (refl, may, same_calls, same_out, text_partly x y same shown part);
+}
+
 -- what was shown came, and no call of the sink was made
 pub comes_shown : (May : Type 0) (IsOne : Outcome → Type 0) (x y : Outside) (result : Answer) → y.sink ≡ x.sink → y.sink_calls ≡ x.sink_calls
     → (x.out_calls.ample ≡ false → May)
@@ -115,12 +136,6 @@ comes_shown May IsOne x y result same same_calls scarce shows = of shows.put.put
   where
     text : List ℕ
     text = shows.shown.text
-
-    stands : (bytes : List ℕ) → Adds x.text y.text bytes → Stands x y (text_steps bytes) []
-    stands bytes adds = record { sink = same ∙ sym (sink_same bytes x.sink); text = subst (Adds x.text y.text) (sym (text_is bytes)) adds }
-
-    partly : (n : ℕ) × Adds x.text y.text (take n text) → StandsPartly x y (showing shows.shown) []
-    partly p = record { done = text_steps (take p.0 text); first = text_cut text p.0; stands = stands (take p.0 text) p.1 }
 
     of : (r : Result Unit SinkError) → Puts x.text y.text text r → Counts x.out_calls y.out_calls r → result ≡ due_after r shows.shown.answer
         → Comes May IsOne x y result
@@ -131,7 +146,7 @@ comes_shown May IsOne x y result same same_calls scarce shows = of shows.put.put
           no_fault = shows.no_fault;
           how = Whole;
           ended =
-              (due, same_calls, counts, stands text puts);
+              (due, same_calls, counts, text_stands x y same text puts);
         }
     of (Err Failed) puts counts due =
         record {
@@ -140,7 +155,7 @@ comes_shown May IsOne x y result same same_calls scarce shows = of shows.put.put
           no_fault = shows.no_fault;
           how = OutFailed;
           ended =
-              (due, ((counts.0, counts.1), counts.2), same_calls, partly puts);
+              (due, ((counts.0, counts.1), counts.2), same_calls, text_partly x y same shows.shown puts);
         }
     of (Err memory_fault) puts counts due =
         record {
@@ -149,7 +164,7 @@ comes_shown May IsOne x y result same same_calls scarce shows = of shows.put.put
           no_fault = shows.no_fault;
           how = Wanted;
           ended =
-              (due, scarce counts.0, same_calls, counts.1, partly puts);
+              (due, scarce counts.0, same_calls, counts.1, text_partly x y same shows.shown puts);
         }
 
 -- all steps are a first part

@@ -10,8 +10,9 @@ use Rattle.btr_restore.specs.Headline.{Headline}
 use Rattle.btr_restore.specs.InOrder.{CommittedOrder, OpenHaltedLaw, OpenRefusedLaw, OpenedThenLaw, SettledLaw}
 use Rattle.btr_restore.specs.Running.{Outside}
 use Rattle.btr_run.specs.Order.{FollowsOrder, KeepsOrder}
-use Rattle.btr_run.specs.Run.{AreImagesSteady, HasWholeEffect, IsAnswered, IsCalm, IsObeyed, KeepsFirstPart, LeavesItsImages, RestoresCommitted, Run, before}
-use Rattle.btr_run.specs.Run.{behind, outside_before, outside_behind}
+use Rattle.btr_run.specs.Run.{AreImagesSteady, HasWholeEffect, IsAnswered, IsCalm, IsObeyed, KeepsFirstPart, LeavesItsImages, RestoresCommitted, Run}
+use Rattle.btr_run.specs.Run.{HasTried, ShowsTrial, before, behind, outside_before, outside_behind}
+use Rattle.btr_run.specs.SelfTested.{IsTrialOf}
 use Rattle.btr_run.specs.Agreeing.{ComesAgreed, FollowsAgreed, KeepsAgreed}
 use Rattle.btr_run.specs.Answers.{error_line}
 use Rattle.btr_run.specs.Causes.{opened_with, HidesNone, ImageCause, IsBehindWords, IsMissingImage, IsShut, TreeCause}
@@ -94,8 +95,12 @@ module _ {R T O : Type 0} (run : Run R T O) (out : O) (result : Answer)
   ends = put_ends y.text new y.out_calls after (error_line answer) answer result line
 
   -- what was done and put in all
+  printed_by : (Might : Type 0) (IsOne : Outcome → Type 0) → (x.out_calls.ample ≡ false → Might) → (comes : Comes Might IsOne x y answer)
+      → IsPrinted Might x z comes.outcome result
+  printed_by Might IsOne scarce comes = comes_printed Might x y new after comes.outcome result scarce answer comes.how comes.ended line
+
   print : (IsOne : Outcome → Type 0) (comes : Comes May IsOne x y answer) → IsPrinted May x z comes.outcome result
-  print IsOne comes = comes_printed May x y new after comes.outcome result (λ scarce. inl scarce) answer comes.how comes.ended line
+  print IsOne comes = printed_by May IsOne (λ scarce. inl scarce) comes
 
   has_effect : (shelf : Shelf) → Comes May (OrMemory (IsOutcome words shelf)) x y answer → Steady x.sink_calls.faults y.sink_calls.faults
       → Steady x.out_calls.faults after.faults → result ≢ Memory → HasEffect words shelf x z result
@@ -289,6 +294,12 @@ module _ {R T O : Type 0} (run : Run R T O) (out : O) (result : Answer)
             → KeepsOrder words shelf (opened_with (before run).account (behind run)) (behind run) x z result
         in_order shelf follows =
             keeps_order x y new after answer result line words shelf (opened_with (before run).account (behind run)) (behind run) follows
+
+    pub shows_trial : (volume : Option Images) → HasTried run volume → ShowsTrial whole volume
+    shows_trial volume tried number asks =
+        let did = tried number asks in
+        let comes = did.2 in
+        (did.0, did.1, (comes.outcome, comes.is_one, printed_by (Unit {0}) (IsTrialOf volume number) (λ scarce. tt) comes))
 
     pub left_images : LeavesItsImages whole
     left_images = record {

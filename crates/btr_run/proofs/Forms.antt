@@ -2,11 +2,13 @@
 use Rattle.std.proofs.Common.{◌≡◌, ℕ, ◌<◌, true, ltb, ltb-true, List, [], ◌∷◌, length, get_or, refl}
 use Rattle.btr_run.specs.declared.sentence.Sentence.{Sentence}
 use Rattle.btr_run.specs.declared.sentence.Sentence.TheVariants.{Super, DumpAll, DumpBlock, DumpTree, DumpRoots, Resolve, Check, CheckData, Scrub, ScrubRead}
-use Rattle.btr_run.specs.declared.sentence.Sentence.TheVariants.{Roots, Restore, Send}
+use Rattle.btr_run.specs.declared.sentence.Sentence.TheVariants.{Roots, Restore, Send, SelfTest}
 
 -- all of them
 abbrev pub forms : List Sentence
-forms = Super ∷ DumpAll ∷ DumpBlock ∷ DumpTree ∷ DumpRoots ∷ Resolve ∷ Check ∷ CheckData ∷ Scrub ∷ ScrubRead ∷ Roots ∷ Restore ∷ Send ∷ []
+forms =
+    Super ∷ DumpAll ∷ DumpBlock ∷ DumpTree ∷ DumpRoots ∷ Resolve ∷ Check ∷ CheckData ∷ Scrub ∷ ScrubRead ∷ Roots ∷ Restore ∷ Send
+    ∷ SelfTest ∷ []
 
 -- the form of a number
 abbrev pub form_at : ℕ → Sentence
@@ -35,3 +37,4 @@ numbered ScrubRead = by_number 9 refl
 numbered Roots = by_number 10 refl
 numbered Restore = by_number 11 refl
 numbered Send = by_number 12 refl
+numbered SelfTest = by_number 13 refl

@@ -11,6 +11,7 @@ pub mod Openings
 pub mod Causing
 pub mod Showing
 pub mod Coming
+pub mod SelfTests
 pub mod Faulting
 pub mod Refusals
 pub mod Filesystems

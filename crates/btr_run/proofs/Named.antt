@@ -1,20 +1,23 @@
--- What a sentence asks for fits its command: the word that names a file is such a name.
-use Rattle.std.proofs.Common.{◌≡◌, ◌⊎◌, inl, inr, ⊎_elim, ℕ, ◌+◌, Bool, true, false, not, List, [], ◌∷◌, ◌++◌, length, get_or, refl, sym, ap, ◌∙◌, subst, arith}
+-- What a sentence asks for fits its command: the word that names a file is such a name, a volume can be made, and a self-test names no image.
+use Rattle.std.proofs.Common.{◌≡◌, ◌⊎◌, inl, inr, ⊎_elim, ℕ, ◌+◌, Bool, true, false, not, List, [], ◌∷◌, ◌++◌, length, get_or, refl, sym, ap, ◌∙◌}
+use Rattle.std.proofs.Common.{◌<◌, ◌≤◌, subst, arith}
 use Rattle.std.specs.Prelude.{◌&&◌, nat_le}
 use Rattle.std.proofs.lemmas.Bool.Decides.{nat_tests}
-use Rattle.std.proofs.lemmas.List.{append_assoc, length-append}
+use Rattle.std.proofs.lemmas.List.{append_assoc, length-append, length-drop}
 use Rattle.std.proofs.Math.Seq.{get_or-append_seam}
 use Rattle.btr_rack.specs.Name.{is_bad}
 use Rattle.btr_send.specs.Names.{IsStreamName}
 use Rattle.btr_run.specs.Commands.{IsFit}
 use Rattle.btr_run.specs.Restores.{plan_by}
 use Rattle.btr_run.specs.Words.{Destination, File, IsSentence, Number, Part, Reads, TakesDestination, Word, Words, command_of, is_file, is_name, nothing_of}
-use Rattle.btr_run.specs.Words.{parts_of, restore_of}
+use Rattle.btr_run.specs.Words.{Volume, images_of, is_volume, parts_of, restore_of}
+use Rattle.btr_run.specs.Images.{most_images}
+use Rattle.btr_run.specs.declared.plan.Command.TheVariants as command
 use Rattle.btr_run.specs.declared.place.Read.{Read}
 use Rattle.btr_run.specs.declared.plan.Plan.{Plan}
 use Rattle.btr_run.specs.declared.sentence.Sentence.{Sentence}
 use Rattle.btr_run.specs.declared.sentence.Sentence.TheVariants.{Super, DumpAll, DumpBlock, DumpTree, DumpRoots, Resolve, Check, CheckData, Scrub, ScrubRead}
-use Rattle.btr_run.specs.declared.sentence.Sentence.TheVariants.{Roots, Restore, Send}
+use Rattle.btr_run.specs.declared.sentence.Sentence.TheVariants.{Roots, Restore, Send, SelfTest}
 
 -- the word of this number names a file
 abbrev IsFileAt : Words → ℕ → Type 0
@@ -27,6 +30,7 @@ HasFile (Word this ∷ left) = HasFile left
 HasFile (Number ∷ left) = HasFile left
 HasFile (Destination ∷ left) = HasFile left
 HasFile (File ∷ left) = Unit {0}
+HasFile (Volume ∷ left) = ⊥
 
 -- a file is named among some parts, or was named before them
 abbrev IsNamed : Words → List Part → Read → Type 0
@@ -69,6 +73,8 @@ file_named whole before (File ∷ left) at words old new place is reads named =
     here =
         ap is_file (word_there whole before reads.4.0 reads.1 at place (is ∙ ap (λ l. before ++ l) (reads.3 ∙ ap (λ t. t ++ reads.1) reads.4.2)))
         ∙ reads.4.1
+file_named whole before (Volume ∷ left) at words old new place is reads named =
+    ⊎_elim (λ none. absurd none) (λ there. subst (IsFileAt whole) (sym (ap (λ (r : Read). r.file) reads.5)) there) named
 
 both : (a b : Bool) → (a && b) ≡ true → (a ≡ true) × (b ≡ true)
 both true b e = (refl, e)
@@ -83,6 +89,10 @@ stream_name : (word : List ℕ) → is_file word ≡ true → IsStreamName word
 stream_name word is =
     let tests = both (not (is_bad word)) (nat_le (length word) 255) (both (is_name word) (not (is_bad word) && nat_le (length word) 255) is).1 in
     (not_true (is_bad word) tests.0, grind (arith, nat_tests, tests.1))
+
+-- a volume can be made of so many directories
+volume_size : (n : ℕ) → is_volume n ≡ true → (1 ≤ n) × (n ≤ 1000)
+volume_size n is = let tests = both (nat_le 1 n) (nat_le n 1000) is in (grind (arith, nat_tests, tests.0), grind (arith, nat_tests, tests.1))
 
 named : (sentence : Sentence) (words : Words) (read : Read) → Reads (parts_of sentence) 0 words (nothing_of sentence) read
     → IsFit (command_of sentence read) words
@@ -104,6 +114,45 @@ named Restore words read is = of read.options.salvage
     of false = tt
 named Send words read is =
     stream_name (get_or words read.file []) (file_named words [] (parts_of Send) 0 words (nothing_of Send) read refl refl is (inl tt))
+named SelfTest words read is = subst (λ n. (1 ≤ n) × (n ≤ 1000)) (sym (ap (λ (r : Read). r.number) is.5.5)) (volume_size is.5.0 is.5.3)
 
 pub is_fit : (plan : Plan) (words : Words) → IsSentence plan words → IsFit plan.command words
 is_fit plan words s = subst (λ (p : Plan). IsFit p.command words) (sym s.plan_is) (named s.sentence words s.read s.is_read)
+
+-- only its own form asks for a self-test
+its_form : (sentence : Sentence) (read : Read) (number : ℕ) → command_of sentence read ≡ command.SelfTest number → sentence ≡ SelfTest
+its_form Super read number e = absurd (cc e)
+its_form DumpAll read number e = absurd (cc e)
+its_form DumpBlock read number e = absurd (cc e)
+its_form DumpTree read number e = absurd (cc e)
+its_form DumpRoots read number e = absurd (cc e)
+its_form Resolve read number e = absurd (cc e)
+its_form Check read number e = absurd (cc e)
+its_form CheckData read number e = absurd (cc e)
+its_form Scrub read number e = absurd (cc e)
+its_form ScrubRead read number e = absurd (cc e)
+its_form Roots read number e = absurd (cc e)
+its_form Restore read number e = absurd (of read.options.salvage e)
+  where
+    of : (salvage : Bool) → restore_of salvage read.name (plan_by read.options) ≡ command.SelfTest number → ⊥
+    of true e = cc e
+    of false e = cc e
+its_form Send read number e = absurd (cc e)
+its_form SelfTest read number e = refl
+
+-- no word of it names an image
+all_read : (words : Words) (read : Read) → Reads (parts_of SelfTest) 0 words (nothing_of SelfTest) read → length words ≤ read.images
+all_read words read is = omega (
+  arith,
+  ap (λ (r : Read). r.images) is.5.5,
+  ap (λ (l : Words). length l) is.3,
+  length-append is.0 is.1,
+  ap (λ (l : Words). length l) is.5.4,
+)
+
+pub none_named : (plan : Plan) (words : Words) (number : ℕ) → IsSentence plan words → plan.command ≡ command.SelfTest number
+    → most_images < length (images_of plan words) → ⊥
+none_named plan words number s is many =
+    let form = its_form s.sentence s.read number (sym (ap (λ (p : Plan). p.command) s.plan_is) ∙ is) in
+    let read = subst (λ t. Reads (parts_of t) 0 words (nothing_of t) s.read) form s.is_read in
+    omega (arith, many, all_read words s.read read, ap (λ (p : Plan). p.images) s.plan_is, length-drop plan.images words)

@@ -1,19 +1,30 @@
 -- The words are obeyed, by the step that ends it.
-use Rattle.std.proofs.Common.{◌≡◌, ◌∙◌, false, ℕ, ◌<◌, ◌≤◌, length, Ok, Err, refl, true}
+use Rattle.std.proofs.Common.{◌≡◌, ◌∙◌, ⊎_elim, inl, inr, false, ℕ, ◌<◌, ◌≤◌, length, Option, Ok, Err, refl, sym, ap, subst, true}
 use Rattle.btr_rack.specs.Rack.{NoneFailed}
-use Rattle.btr_run.specs.Commands.{opens_to_write}
+use Rattle.btr_run.specs.Agreeing.{ComesAgreed}
+use Rattle.btr_run.specs.Commands.{MayCome, TakesMemory, opens_to_write}
+use Rattle.btr_run.specs.Effects.{IsOutcome, MayFollow, MayWantBy}
 use Rattle.btr_run.specs.Images.{AreOpenedAs, AreUnchanged, IsMissing, most_images}
 use Rattle.btr_run.specs.Opening.{HasTooMany, OpeningCause, OpensAll, opening_answer}
 use Rattle.btr_restore.specs.Running.{Outside}
-use Rattle.btr_run.specs.Run.{Eyes, Given, IsObeyed, IsPerformed, Run, outside_in}
+use Rattle.btr_run.specs.Outcomes.{Comes, OrBare, OrMemory}
+use Rattle.btr_run.specs.Repaired.{AsksToWrite}
+use Rattle.btr_run.specs.Run.{Eyes, Given, HasTried, IsObeyed, IsPerformed, Run, outside_in}
+use Rattle.btr_run.specs.SelfTested.{AsksToTry, IsTrialOf, TakesImages}
 use Rattle.btr_run.specs.Words.{Words, IsSentence, IsUsageAt, images_of}
 use Rattle.btr_run.specs.declared.answer.Answer.{Answer}
 use Rattle.btr_run.specs.declared.answer.Answer.TheVariants.{Usage}
 use Rattle.btr_run.specs.declared.opening.OpeningFault.{OpeningFault}
 use Rattle.btr_run.specs.declared.opening.OpeningFault.TheVariants.{Failed}
+use Rattle.btr_run.specs.declared.plan.Command.TheVariants.{SelfTest}
 use Rattle.btr_run.specs.declared.plan.Plan.{Plan}
+use Rattle.btr_volume.specs.Start.{Images}
+use Rattle.btr_volume.specs.declared.which.Which.TheVariants.{Images as images_limit}
 use Rattle.btr_run.proofs.Carrying as carrying
+use Rattle.btr_run.proofs.Coming.{comes_also}
+use Rattle.btr_run.proofs.Named.{none_named}
 use Rattle.btr_run.proofs.Obeying as obeying
+use Rattle.btr_run.proofs.SelfTests.{IsPlain, is_plain, its_command, no_trial, plain_cause, some_trial}
 
 module _ {R T O : Type 0} (eyes : Eyes R T O) (words : Words) (old : Given R T O) (stored : eyes.waits old.tree ≡ false) where
   -- a run that ends with this answer, after these changes
@@ -39,6 +50,66 @@ module _ {R T O : Type 0} (eyes : Eyes R T O) (words : Words) (old : Given R T O
     left = λ asks. absurd (carrying.usage_left words at is asks);
     synced = λ asks. absurd (carrying.usage_left words at is asks);
   }
+
+  -- a self-test
+  module _ (plan : Plan) (sentence : IsSentence plan words) (number : ℕ) (is : plan.command ≡ SelfTest number) (volume : Option Images) (out : O)
+      (answer : Answer)
+      (comes : Comes (Unit {0}) (IsTrialOf volume number) (outside_in eyes old) (outside_in eyes (record old { out = out })) answer) where
+    abbrev x : Outside
+    x = outside_in eyes old
+
+    abbrev y : Outside
+    y = outside_in eyes (record old { out = out })
+
+    asks : AsksToTry words number
+    asks = record { plan = plan; sentence = sentence; command = is }
+
+    plain : IsPlain answer
+    plain = is_plain volume number x y answer comes
+
+    may : Unit {0} → MayWantBy words x.out_calls
+    may t = inr (plan, sentence, subst TakesMemory (sym is) tt)
+
+    other : (p : Plan) → IsSentence p words → TakesImages p.command → ⊥
+    other p s takes = no_trial words p number s asks takes
+
+    never_writes : AsksToWrite words → ⊥
+    never_writes write = cc (sym write.2 ∙ ap opens_to_write (its_command words write.0 number write.1 asks))
+
+    pub has_tried : HasTried (ends old.rack old.tree out answer) volume
+    has_tried n tries = (
+      refl,
+      refl,
+      subst (λ m. Comes (Unit {0}) (IsTrialOf volume m) x y answer) (same n (sym is ∙ its_command words plan n sentence tries)) comes,
+    )
+      where
+        same : (n : ℕ) → SelfTest number ≡ SelfTest n → number ≡ n
+        same n e = cc e
+
+    pub tried : AreUnchanged (eyes.seen old.rack).shelf (eyes.seen old.rack).slots (eyes.seen old.rack).held → IsObeyed (ends old.rack old.tree out answer)
+    tried unchanged = record {
+      effect = carrying.all_told (eyes.seen old.rack).shelf _ (λ s steady.
+          comes_also (Unit {0}) (MayWantBy words x.out_calls) (IsTrialOf volume number) (OrMemory (IsOutcome words s)) x y answer may
+          (λ outcome one. inl (inr (inr (number, asks, some_trial volume number outcome one)))) comes);
+      told = comes_also (Unit {0}) (MayWantBy words x.out_calls) (IsTrialOf volume number) (OrBare (MayFollow words)) x y answer may
+          (λ outcome one. inl (plan, sentence, subst (λ c. MayCome c outcome) (sym is) (some_trial volume number outcome one))) comes;
+      order = carrying.all_told (eyes.seen old.rack).shelf _ (λ s p dest images from. absurd (other _ from.sentence (λ n e. cc)));
+      agreed = carrying.all_told (eyes.seen old.rack).shelf _ (λ s p images from agreed.
+          comes_also (Unit {0}) (MayWantBy words x.out_calls) (IsTrialOf volume number) (ComesAgreed p.command words images) x y answer may
+          (λ outcome one. subst (λ c. ComesAgreed c words images outcome) (sym (its_command words p number from.sentence asks))
+          (inl (some_trial volume number outcome one))) comes);
+      decided = λ one decided.
+          absurd (⊎_elim (λ usage. usage.1.no_sentence plan sentence)
+          (λ many. none_named many.0 words number many.1 (its_command words many.0 number many.1 asks) many.2) decided);
+      stated = record { usage = λ at e. absurd (plain.usage at e); limit = λ n e. absurd (plain.limit images_limit n e) };
+      stored = λ undone no_sink. stored;
+      alone = λ never. refl;
+      cause = plain_cause words (eyes.seen old.rack) answer plain;
+      unchanged = λ never. unchanged;
+      repaired = carrying.all_told (eyes.seen old.rack).shelf _ (λ s calm enough images from. absurd (other _ from.sentence (λ n e. cc)));
+      left = λ asks. absurd (never_writes asks);
+      synced = λ asks. absurd (never_writes asks);
+    }
 
   -- the images aren't open
   module _ (names : Words) (plan : Plan) (sentence : IsSentence plan words) (named : images_of plan words ≡ names) where

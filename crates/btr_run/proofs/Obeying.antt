@@ -27,7 +27,7 @@ use Rattle.btr_run.specs.Repaired.{AreLeft, AsksToWrite, KeepsRepair, LeavesImag
 use Rattle.btr_run.specs.Scrubbed.{scrubbed_images}
 use Rattle.btr_run.specs.Words.{Words, IsSentence, images_of}
 use Rattle.btr_run.specs.declared.plan.Command.{Command}
-use Rattle.btr_run.specs.declared.plan.Command.TheVariants.{Super, Dump, Resolve, Check, Restore, Salvage, Scrub, Send}
+use Rattle.btr_run.specs.declared.plan.Command.TheVariants.{Super, Dump, Resolve, Check, Restore, Salvage, Scrub, Send, SelfTest}
 use Rattle.btr_run.specs.declared.plan.Plan.{Plan}
 use Rattle.btr_run.specs.declared.opening.OpeningFault.{OpeningFault}
 use Rattle.btr_run.specs.declared.opening.OpeningFault.TheVariants.{TooMany, Failed, Memory as memory_fault}
@@ -58,11 +58,12 @@ asks_scrub words plan sentence asks = writing plan.command (ap (λ (q : Plan). o
     writing (Restore dest p) is = absurd (cc is)
     writing (Salvage dest p) is = absurd (cc is)
     writing (Send dest file p) is = absurd (cc is)
+    writing (SelfTest number) is = absurd (cc is)
 
 -- words that are a sentence: their images
 module _ (words names : Words) (plan : Plan) (sentence : IsSentence plan words) (named : images_of plan words ≡ names) where
   outcome_is : (shelf : Shelf) (outcome : Outcome) → images_outcome plan.command words names shelf ≡ Some outcome → IsOutcome words shelf outcome
-  outcome_is shelf outcome is = inr (plan, sentence, ap (λ l. images_outcome plan.command words l shelf) named ∙ is)
+  outcome_is shelf outcome is = inr (inl (plan, sentence, ap (λ l. images_outcome plan.command words l shelf) named ∙ is))
 
   -- what the words alone decide is that there are too many images
   too_many_decided : (answer : Answer) → IsDecided words answer → (most_images < length names) × (answer ≡ Limit images_limit (length names))

@@ -28,6 +28,8 @@ use Rattle.btr_volume.specs.declared.fault.OpenFault.{OpenFault}
 use Rattle.btr_volume.specs.declared.fault.OpenFault.TheVariants as opening
 use Rattle.btr_run.specs.Answers.{error_line}
 use Rattle.btr_run.specs.Effects.{HasEffect, images_outcome}
+use Rattle.btr_run.specs.SelfTested.{AsksToTry, IsTrialOutcome}
+use Rattle.btr_run.proofs.SelfTests.{no_trial}
 use Rattle.btr_run.specs.Filesystem.{with_roots, with_start, with_table}
 use Rattle.btr_run.specs.Outcomes as tool
 use Rattle.btr_run.specs.Promise.{IsOutcomeOf, KeepsHeadline, KeepsOutcome, StandsAs, ended_answer}
@@ -181,10 +183,13 @@ module _ (seen : Seen) (settles : SettledLaw) (then : (plan : RestorePlan) (dest
       where
         one : restored plan dest images ≡ effect.outcome
         one = cc (⊎_elim (λ usage. absurd (usage.1.no_sentence _ from.sentence))
+            (λ rest. ⊎_elim
             (λ (same : (p : Plan) × IsSentence p words × (images_outcome p.command words (images_of p words) shelf ≡ Some effect.outcome)).
             sym (ap (λ d. Some (restored plan d images)) from.named) ∙ sym
             (taken_outcome (Restore from.number plan) words (drop from.first words) shelf images from.few from.from)
-            ∙ ap (λ p. images_outcome p.command words (images_of p words) shelf) (one_plan words _ same.0 from.sentence same.1) ∙ same.2) effect.is)
+            ∙ ap (λ p. images_outcome p.command words (images_of p words) shelf) (one_plan words _ same.0 from.sentence same.1) ∙ same.2)
+            (λ (trial : (n : ℕ) × AsksToTry words n × IsTrialOutcome n effect.outcome).
+            absurd (no_trial words _ trial.0 from.sentence trial.1 (λ n e. cc e))) rest) effect.is)
 
     pub keeps_headline : Headline → HasEffect words shelf x y result → KeepsHeadline words shelf x y result
     keeps_headline law effect plan dest images start C table from begun honest closed = (

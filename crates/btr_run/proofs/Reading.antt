@@ -15,8 +15,8 @@ use Rattle.std.proofs.lemmas.Slice.Eq.{bytes_eq-Decides}
 use Rattle.btr_run.specs.Numbers.{IsNumber, number_of}
 use Rattle.btr_run.specs.Restores.{AreFree, IsFree, OneOption, Root, Snapshots, Verbose, Dry, Salvage, is_subvolume, option_words, options_words, with_option}
 use Rattle.btr_run.specs.Restores.{with_options, with_root}
-use Rattle.btr_run.specs.Walk.{Stage, behind, behind_id, behind_option, behind_part, read_by, stage, with_given}
-use Rattle.btr_run.specs.Words.{Destination, File, IsName, Number, Part, Reads, TakesDestination, Word, Words, is_file, is_name}
+use Rattle.btr_run.specs.Walk.{Stage, behind, behind_id, behind_number, behind_option, behind_part, read_by, stage, with_given}
+use Rattle.btr_run.specs.Words.{Destination, File, IsName, Number, Part, Reads, TakesDestination, Volume, Word, Words, is_file, is_name, is_volume}
 use Rattle.btr_run.specs.declared.options.Options.{Options}
 use Rattle.btr_run.specs.declared.place.Next.{Next}
 use Rattle.btr_run.specs.declared.place.Next.TheVariants as next
@@ -35,6 +35,7 @@ Rest next.Id left old at words new =
     (id : ℕ) × (word : List ℕ) × (more : Words) × IsNumber id word × (is_subvolume id ≡ true) × (words ≡ word ∷ more)
     × Reads left (at + 1) more (record old { options = with_option old.options (Root id) }) new
 Rest next.Image left old at words new = All IsName words × (new ≡ old)
+Rest next.End left old at words new = (words ≡ []) × (new ≡ old)
 
 -- ---- what is accepted was read
 
@@ -204,6 +205,17 @@ part_led (File ∷ left) old at word words new t e rest =
       (word, one.0, refl, refl),
       subst (λ (s : Stage). Rest s.next s.left s.read (at + 1) words new) (sym one.1) rest,
     )
+part_led (Volume ∷ left) old at word words new t e rest = of (number_of word) refl e
+  where
+    from : Read
+    from = record old { images = at + 1 }
+
+    of : (o : Option ℕ) → number_of word ≡ o → option_and_then (behind_number left from) o ≡ Some t → Reads (Volume ∷ left) at (word ∷ words) old new
+    of None is e = absurd (cc e)
+    of (Some n) is e =
+        let one = taken (is_volume n) (stage left next.End (record from { number = n })) t e in
+        let end = subst (λ (s : Stage). Rest s.next s.left s.read (at + 1) words new) (sym one.1) rest in
+        (n, word, number_sound n word is, one.0, ap (λ l. word ∷ l) end.0, end.1)
 
 id_led : (left : List Part) (old : Read) (at : ℕ) (word : List ℕ) (words : Words) (new : Read) (t : Stage)
     → behind_id left old word ≡ Some t → Rest t.next t.left t.read (at + 1) words new → Rest next.Id left old at (word ∷ words) new
@@ -238,12 +250,14 @@ led next.Image left old at word words new t e rest =
     let one = taken (is_name word) (stage left next.Image old) t e in
     let names = subst (λ (s : Stage). Rest s.next s.left s.read (at + 1) words new) (sym one.1) rest in
     (All-cons IsName word words one.0 names.0, names.1)
+led next.End left old at word words new t e rest = absurd (cc e)
 
 pub sound : (n : Next) (left : List Part) (old : Read) (at : ℕ) (words : Words) (new : Read) → Accepts (stage left n old) at words new
     → Rest n left old at words new
 sound next.Part left old at [] new e = absurd (cc e)
 sound next.Id left old at [] new e = absurd (cc e)
 sound next.Image left old at [] new e = (All-nil IsName, cc e)
+sound next.End left old at [] new e = (refl, cc e)
 sound n left old at (word ∷ words) new e = of (behind n left old at word) refl e (λ t accepts. sound t.next t.left t.read (at + 1) words new accepts)
   where
     of : (o : Option Stage) → behind n left old at word ≡ o
@@ -377,6 +391,13 @@ accepted (File ∷ left) at words old new reads =
     ∙ ap (λ b. at_end (option_and_then (λ s. reached s (at + 1) reads.1) (cond b (Some (stage left next.Part (record old { file = at }))) None))) reads.4.1
     ∙ accepted left (at + 1) reads.1 (record old { file = at }) new
     (subst (λ m. Reads left (at + 1) reads.1 m new) reads.4.3 (subst (λ t. Reads left (at + length t) reads.1 reads.2 new) reads.4.2 reads.5))
+accepted (Volume ∷ left) at words old new reads =
+    ap (λ l. at_end (reached (stage (Volume ∷ left) next.Part old) at l)) reads.4
+    ∙ ap (λ o. at_end (option_and_then (λ s. reached s (at + 1) []) (option_and_then (behind_number left (record old { images = at + 1 })) o)))
+    (number_read reads.0 reads.1 reads.2)
+    ∙ ap (λ b. at_end (option_and_then (λ s. reached s (at + 1) [])
+    (cond b (Some (stage left next.End (record old { number = reads.0; images = at + 1 }))) None))) reads.3
+    ∙ ap (λ r. Some r) (sym reads.5)
 
 pub complete : (n : Next) (left : List Part) (old : Read) (at : ℕ) (words : Words) (new : Read) → Rest n left old at words new
     → Accepts (stage left n old) at words new
@@ -389,6 +410,7 @@ complete next.Id left old at words new r =
     (option_map (with_given left old) (cond b (Some (with_option old.options (Root r.0))) None)))) r.4
     ∙ accepted left (at + 1) r.2 (record old { options = with_option old.options (Root r.0) }) new r.6
 complete next.Image left old at words new names = names_accepted left old at words names.0 ∙ ap (λ r. Some r) (sym names.1)
+complete next.End left old at words new r = ap (λ l. at_end (reached (stage left next.End old) at l)) r.0 ∙ ap (λ r. Some r) (sym r.1)
 
 -- ---- from each place some words lead on to a sentence
 
@@ -404,6 +426,9 @@ zero_is = (omega arith, sym (decimal_digit 0 (omega arith)))
 
 five_is : IsNumber 5 (codes "5")
 five_is = (omega arith, sym (decimal_digit 5 (omega arith)))
+
+one_is : IsNumber 1 (codes "1")
+one_is = (omega arith, sym (decimal_digit 1 (omega arith)))
 
 some_words : (left : List Part) (at : ℕ) (old : Read) → (words : Words) × (new : Read) × Reads left at words old new
 some_words [] at old = (some_name ∷ [], record old { images = at }, (All-cons IsName some_name [] refl (All-nil IsName), refl))
@@ -428,6 +453,7 @@ some_words (Destination ∷ left) at old =
 some_words (File ∷ left) at old =
     let more = some_words left (at + 1) (record old { file = at }) in
     (some_name ∷ more.0, more.1, (some_name ∷ [], more.0, record old { file = at }, refl, (some_name, some_file, refl, refl), more.2))
+some_words (Volume ∷ left) at old = (codes "1" ∷ [], record old { number = 1; images = at + 1 }, (1, codes "1", one_is, refl, refl, refl))
 
 pub live : (n : Next) (left : List Part) (old : Read) (at : ℕ) → (words : Words) × (new : Read) × Accepts (stage left n old) at words new
 live next.Part left old at = let some = some_words left at old in (some.0, some.1, accepted left at some.0 old some.1 some.2)
@@ -435,3 +461,4 @@ live next.Id left old at =
     let some = some_words left (at + 1) (record old { options = with_option old.options (Root 5) }) in
     (codes "5" ∷ some.0, some.1, complete next.Id left old at (codes "5" ∷ some.0) some.1 (5, codes "5", some.0, five_is, refl, refl, some.2))
 live next.Image left old at = ([], old, refl)
+live next.End left old at = ([], old, refl)

@@ -36,7 +36,7 @@ use Rattle.btr_run.specs.Words.{Words, IsSentence, images_of}
 use Rattle.btr_run.specs.declared.answer.Answer.{Answer}
 use Rattle.btr_run.specs.declared.answer.Answer.TheVariants.{ImageFault, Memory, Unread}
 use Rattle.btr_run.specs.declared.plan.Command.{Command}
-use Rattle.btr_run.specs.declared.plan.Command.TheVariants.{Super, Dump, Resolve, Check, Scrub, Restore, Salvage, Send}
+use Rattle.btr_run.specs.declared.plan.Command.TheVariants.{Super, Dump, Resolve, Check, Scrub, Restore, Salvage, Send, SelfTest}
 use Rattle.btr_run.specs.declared.plan.DumpChoice.{DumpChoice}
 use Rattle.btr_run.specs.declared.plan.DumpChoice.TheVariants.{All, Block, Tree, RootLines}
 use Rattle.btr_run.specs.declared.plan.Plan.{Plan}
@@ -66,6 +66,7 @@ AreAgreedFor (Scrub write) images = AreAgreed images
 AreAgreedFor (Restore dest plan) images = AreAgreed images
 AreAgreedFor (Salvage dest plan) images = AreAgreed images
 AreAgreedFor (Send dest file plan) images = AreAgreed images
+AreAgreedFor (SelfTest number) images = AreAgreed images
 
 -- a block could not be read that the scan of the chunk tree wants, found by the chunks of the system array, and nothing is put but its line
 pub record LacksTable (images : Images) (outcome : Outcome) : Type 0 where
@@ -137,6 +138,7 @@ ComesAgreed (Scrub write) words images outcome = IsScrubbedOrUnread write images
 ComesAgreed (Restore dest plan) words images outcome = IsRestoredOrUnopened images outcome
 ComesAgreed (Salvage dest plan) words images outcome = IsSalvagedOrUnread plan (get_or words dest []) images outcome
 ComesAgreed (Send dest file plan) words images outcome = IsSentOrUnread plan (get_or words dest []) (get_or words file []) images outcome
+ComesAgreed (SelfTest number) words images outcome = OrBare (MayCome (SelfTest number)) outcome
 
 -- the words ask for a command over these images of a shelf
 pub record AsksOf (words : Words) (shelf : Shelf) (plan : Plan) (images : Images) : Type 0 where

@@ -20,15 +20,16 @@ use Rattle.btr_run.specs.Restored.{restored, IsRestored}
 use Rattle.btr_run.specs.Faults.{tree_answer}
 use Rattle.btr_run.specs.Scrubbed.{scrub_outcome, IsScrubOutcome}
 use Rattle.btr_run.specs.Salvaged.{salvage_outcome}
+use Rattle.btr_run.specs.SelfTested.{IsTrialOutcome}
 use Rattle.btr_run.specs.Sent.{send_outcome}
 use Rattle.btr_run.specs.Trees.{trees_outcome, IsTreesOutcome}
 use Rattle.btr_run.specs.Words.{Words}
 use Rattle.btr_run.specs.declared.answer.Answer.{Answer}
 use Rattle.btr_run.specs.declared.answer.Answer.TheVariants.{Usage, Limit, ImageFault}
 use Rattle.btr_run.specs.declared.plan.Command.{Command}
-use Rattle.btr_run.specs.declared.plan.Command.TheVariants.{Super, Dump, Resolve, Check, Scrub, Restore, Salvage, Send}
+use Rattle.btr_run.specs.declared.plan.Command.TheVariants.{Super, Dump, Resolve, Check, Scrub, Restore, Salvage, Send, SelfTest}
 
--- what a command of some words comes to over the bytes of its images
+-- what a command of some words comes to over the bytes of its images; a self-test has none
 abbrev pub command_outcome : Command → Words → List (List ℕ) → Option Outcome
 command_outcome Super words images = super_outcome images
 command_outcome (Dump choice) words images = Some (trees_outcome choice images)
@@ -38,6 +39,7 @@ command_outcome (Scrub write) words images = Some (scrub_outcome write images)
 command_outcome (Restore dest plan) words images = Some (restored plan (get_or words dest []) images)
 command_outcome (Salvage dest plan) words images = Some (salvage_outcome plan (get_or words dest []) images)
 command_outcome (Send dest file plan) words images = Some (send_outcome plan (get_or words dest []) (get_or words file []) images)
+command_outcome (SelfTest number) words images = None
 
 -- what a command may come to whatever its images hold, and whatever fails, beside refusals before anything else
 abbrev pub MayCome : Command → Outcome → Type 0
@@ -49,6 +51,7 @@ MayCome (Scrub write) outcome = IsScrubOutcome outcome
 MayCome (Restore dest plan) outcome = IsRestored outcome
 MayCome (Salvage dest plan) outcome = IsRestored outcome
 MayCome (Send dest file plan) outcome = IsRestored outcome
+MayCome (SelfTest number) outcome = IsTrialOutcome number outcome
 
 -- what a command may answer behind a failed call on an image, beside a fault
 abbrev pub MayFail : Command → Answer → Type 0
@@ -60,6 +63,7 @@ MayFail (Scrub write) answer = MayMend answer
 MayFail (Restore dest plan) answer = MayMend answer
 MayFail (Salvage dest plan) answer = MayMend answer
 MayFail (Send dest file plan) answer = MayMend answer
+MayFail (SelfTest number) answer = ⊥
 
 -- the faults of trees whose cause a command tells: a check goes on behind all but a block that could not be read, and keeps only where they were; a
 -- scrub also answers an extent that crosses
@@ -72,8 +76,9 @@ TellsCause (Scrub write) fault = IsNoCrossing fault
 TellsCause (Restore dest plan) fault = AnyFault fault
 TellsCause (Salvage dest plan) fault = AnyFault fault
 TellsCause (Send dest file plan) fault = AnyFault fault
+TellsCause (SelfTest number) fault = AnyFault fault
 
--- a command that takes memory on its way: for a file that is written, or for names and paths
+-- a command that takes memory on its way: for a file that is written, for names and paths, or for a volume
 abbrev pub TakesMemory : Command → Type 0
 TakesMemory Super = ⊥
 TakesMemory (Dump choice) = ⊥
@@ -83,6 +88,7 @@ TakesMemory (Scrub write) = ⊥
 TakesMemory (Restore dest plan) = Unit {0}
 TakesMemory (Salvage dest plan) = Unit {0}
 TakesMemory (Send dest file plan) = Unit {0}
+TakesMemory (SelfTest number) = Unit {0}
 
 -- a command may want memory on its way: where the output does, or the command
 abbrev pub MayWant : Command → CallAccount → Type 0
@@ -98,6 +104,7 @@ CallsSink (Scrub write) = ⊥
 CallsSink (Restore dest plan) = plan.dry ≡ false
 CallsSink (Salvage dest plan) = Unit {0}
 CallsSink (Send dest file plan) = Unit {0}
+CallsSink (SelfTest number) = ⊥
 
 -- the word that a command cites is there
 abbrev pub HasWords : Command → ℕ → Type 0
@@ -109,8 +116,9 @@ HasWords (Scrub write) words = Unit {0}
 HasWords (Restore dest plan) words = dest < words
 HasWords (Salvage dest plan) words = dest < words
 HasWords (Send dest file plan) words = (dest < words) × (file < words)
+HasWords (SelfTest number) words = Unit {0}
 
--- what a command asks for beside: a run that goes on after faults isn't dry, and the word that names a file is such a name
+-- what a command asks for beside: a run that goes on after faults isn't dry, the word that names a file is such a name, and a volume can be made
 abbrev pub IsFit : Command → Words → Type 0
 IsFit Super words = Unit {0}
 IsFit (Dump choice) words = Unit {0}
@@ -120,6 +128,7 @@ IsFit (Scrub write) words = Unit {0}
 IsFit (Restore dest plan) words = Unit {0}
 IsFit (Salvage dest plan) words = plan.dry ≡ false
 IsFit (Send dest file plan) words = IsStreamName (get_or words file [])
+IsFit (SelfTest number) words = (1 ≤ number) × (number ≤ 1000)
 
 -- whether a command writes into the images, which are opened for it then
 abbrev pub opens_to_write : Command → Bool
@@ -131,6 +140,7 @@ opens_to_write (Scrub write) = write
 opens_to_write (Restore dest plan) = false
 opens_to_write (Salvage dest plan) = false
 opens_to_write (Send dest file plan) = false
+opens_to_write (SelfTest number) = false
 
 -- the command that scrubs
 abbrev pub IsScrub : Command → Type 0
@@ -142,6 +152,7 @@ IsScrub (Scrub write) = Unit {0}
 IsScrub (Restore dest plan) = ⊥
 IsScrub (Salvage dest plan) = ⊥
 IsScrub (Send dest file plan) = ⊥
+IsScrub (SelfTest number) = ⊥
 
 -- a read, a write or a sync of a scrub failed on an image, of a rack that isn't sure: this was the last failed call
 pub record IsUnmended (layout : Layout) (old new : Seen) (slot : ℕ) : Type 0 where

@@ -8,6 +8,7 @@ use Rattle.btr_run.specs.Answers.{error_line}
 use Rattle.btr_run.specs.Commands.{command_outcome, CallsSink, MayCome, TakesMemory}
 use Rattle.btr_run.specs.Images.{taken, most_images}
 use Rattle.btr_run.specs.Outcomes.{Outcome, refused, Stands, OrBare, OrMemory, HasFirstPart, IsPrinted}
+use Rattle.btr_run.specs.SelfTested.{AsksToTry, IsTrialOutcome}
 use Rattle.btr_run.specs.Words.{Words, IsSentence, IsUsageAt, images_of}
 use Rattle.btr_run.specs.declared.plan.Command.{Command}
 use Rattle.btr_run.specs.declared.plan.Plan.{Plan}
@@ -21,11 +22,12 @@ images_outcome command words names shelf =
     if nat_lt most_images (length names) then Some (refused (Limit Images (length names))) else option_and_then (command_outcome command words)
     (taken names shelf)
 
--- what the words come to over a shelf
+-- what the words come to over a shelf: a self-test to some trial, and any other command to what it does over their images
 abbrev pub IsOutcome : Words → Shelf → Outcome → Type 0
 IsOutcome words shelf outcome =
     ((at : ℕ) × IsUsageAt words at × (outcome ≡ refused (Usage at)))
     ⊎ ((plan : Plan) × IsSentence plan words × (images_outcome plan.command words (images_of plan words) shelf ≡ Some outcome))
+    ⊎ ((number : ℕ) × AsksToTry words number × IsTrialOutcome number outcome)
 
 -- this answer, what was done in the sink and what was added to the text are what the words come to over the shelf
 pub record HasEffect (words : Words) (shelf : Shelf) (x y : Outside) (answer : Answer) : Type 0 where

@@ -20,6 +20,7 @@ pub mod Listed
 pub mod Restored
 pub mod Resolved
 pub mod Sent
+pub mod SelfTested
 pub mod Salvaged
 pub mod Commands
 pub mod Causes

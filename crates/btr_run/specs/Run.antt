@@ -1,4 +1,4 @@
--- A run, and what is promised of it: five things.
+-- A run, and what is promised of it: five things, and a sixth of a self-test.
 use Rattle.std.specs.Prelude.{◌≡◌, ◌≢◌, ◌⊎◌, ℕ, ◌<◌, true, Bool, List, [], String, get_or, map, Option, Some, IfSome}
 use Rattle.std.specs.String.{string_bytes}
 use Rattle.std.specs.declared.alloc.Global.{Global}
@@ -15,12 +15,14 @@ use Rattle.btr_run.specs.Commands.{CallsSink, IsBehindCommand, MayCome, MayWant,
 use Rattle.btr_run.specs.Effects.{AsksForSink, FollowsWords, HasEffect, HasPart, IsDecided, IsOutcome, IsTold, MayFollow, MayWantBy}
 use Rattle.btr_run.specs.Images.{AreUnchanged}
 use Rattle.btr_run.specs.Order.{FollowsOrder, InOrder, KeepsCommittedOrder, KeepsOrder}
-use Rattle.btr_run.specs.Outcomes.{CallFailed, Comes, OrBare, OrMemory}
+use Rattle.btr_run.specs.Outcomes.{CallFailed, Comes, IsPrinted, Outcome, OrBare, OrMemory}
 use Rattle.btr_run.specs.Promise.{KeepsHeadline, KeepsOutcome}
 use Rattle.btr_run.specs.Repaired.{AreLeft, AsksToWrite, KeepsRepair, LeavesImages}
 use Rattle.btr_run.specs.Scrubbed.{scrubbed_images}
+use Rattle.btr_run.specs.SelfTested.{AsksToTry, IsTrialOf}
 use Rattle.btr_run.specs.Stored.{IsStored, IsStoredOrTold}
 use Rattle.btr_run.specs.Words.{Words}
+use Rattle.btr_volume.specs.Start.{Images}
 use Rattle.btr_run.specs.declared.answer.Answer.{Answer}
 use Rattle.btr_run.specs.declared.answer.Answer.TheVariants.{ImageFault, SinkFault, OutFault, Memory}
 use Rattle.btr_run.specs.declared.plan.Command.{Command}
@@ -162,7 +164,23 @@ module _ {R T O : Type 0} (run : Run R T O) where
     pub left : AsksToWrite run.words → AreLeft AreImagesSteady before.shelf behind.slots behind.held run.answer
     pub synced : AsksToWrite run.words → IsSynced
 
+  -- ---- 6. A self-test makes no call of the rack and of the sink, and shows the trial of the volume that is made.
+
+  -- where the maker tells its volume it is this one's: whole, or a first part of it where the output failed or memory was wanted
+  abbrev pub ShowsTrial : Option Images → Type 0
+  ShowsTrial volume =
+      (number : ℕ) → AsksToTry run.words number
+      → (run.new.rack ≡ run.old.rack) × (run.new.tree ≡ run.old.tree)
+      × ((outcome : Outcome) × IsTrialOf volume number outcome × IsPrinted (Unit {0}) outside_before outside_behind outcome run.answer)
+
   -- ---- before its last line is put
+
+  -- a self-test was done, but for the line of a refusal
+  abbrev pub HasTried : Option Images → Type 0
+  HasTried volume =
+      (number : ℕ) → AsksToTry run.words number
+      → (run.new.rack ≡ run.old.rack) × (run.new.tree ≡ run.old.tree)
+      × Comes (Unit {0}) (IsTrialOf volume number) outside_before outside_behind run.answer
 
   -- the words were obeyed: all of the five, but for the line of a refusal, whose answer is due
   pub record IsObeyed : Type 0 where

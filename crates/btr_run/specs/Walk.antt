@@ -1,10 +1,10 @@
 -- The walk along a sentence, word by word.
-use Rattle.std.specs.Prelude.{ℕ, if◌then◌else◌, List, [], ◌∷◌, map, codes, Option, Some, None, is_some}
+use Rattle.std.specs.Prelude.{ℕ, ◌+◌, if◌then◌else◌, List, [], ◌∷◌, map, codes, Option, Some, None, is_some}
 use Rattle.std.specs.Option.{option_and_then, option_map}
 use Rattle.std.specs.Str.{bytes_eq}
 use Rattle.btr_run.specs.Numbers.{number_of}
 use Rattle.btr_run.specs.Restores.{with_dry, with_root, with_salvage, with_snapshots, with_verbose}
-use Rattle.btr_run.specs.Words.{Part, Word, Number, Destination, File, is_file, is_name, part_of}
+use Rattle.btr_run.specs.Words.{Part, Word, Number, Destination, File, Volume, is_file, is_name, is_volume, part_of}
 use Rattle.btr_run.specs.declared.options.Options.{Options as Given}
 use Rattle.btr_run.specs.declared.place.Next.{Next}
 use Rattle.btr_run.specs.declared.place.Next.TheVariants as next
@@ -53,6 +53,13 @@ behind_option left read at word =
     else if bytes_eq word (codes "-i") then option_map (with_given (Destination ∷ left) read) (with_salvage read.options)
     else behind_name word left next.Part (record read { name = at })
 
+-- behind the number of directories of a volume
+abbrev pub behind_number : List Part → Read → ℕ → Option Stage
+behind_number left read n = if is_volume n then Some (stage left next.End (record read { number = n })) else None
+
+abbrev pub behind_volume : List Part → Read → List ℕ → Option Stage
+behind_volume left read word = option_and_then (behind_number left read) (number_of word)
+
 -- behind a word of the part that is left next, or of the first image: the word of this number
 abbrev pub behind_part : List Part → Read → ℕ → List ℕ → Option Stage
 behind_part [] read at word = behind_name word [] next.Image (record read { images = at })
@@ -60,6 +67,7 @@ behind_part (Word this ∷ left) read at word = behind_word word this left read
 behind_part (Number ∷ left) read at word = option_map (λ n. stage left next.Part (record read { number = n })) (number_of word)
 behind_part (Destination ∷ left) read at word = behind_option left read at word
 behind_part (File ∷ left) read at word = behind_file word left (record read { file = at })
+behind_part (Volume ∷ left) read at word = behind_volume left (record read { images = at + 1 }) word
 
 -- behind the id of a subvolume
 abbrev pub behind_id : List Part → Read → List ℕ → Option Stage
@@ -70,9 +78,11 @@ abbrev pub behind : Next → List Part → Read → ℕ → List ℕ → Option 
 behind next.Part left read at word = behind_part left read at word
 behind next.Id left read at word = behind_id left read word
 behind next.Image left read at word = behind_name word left next.Image read
+behind next.End left read at word = None
 
 -- what was read, where the words so far are a whole sentence
 abbrev pub read_by : Next → Read → Option Read
 read_by next.Part read = None
 read_by next.Id read = None
 read_by next.Image read = Some read
+read_by next.End read = Some read

@@ -14,7 +14,7 @@ use Rattle.btr_run.specs.declared.plan.DumpChoice.TheVariants as dump
 use Rattle.btr_run.specs.declared.plan.Plan.{Plan}
 use Rattle.btr_run.specs.declared.sentence.Sentence.{Sentence}
 use Rattle.btr_run.specs.declared.sentence.Sentence.TheVariants.{Super, DumpAll, DumpBlock, DumpTree, DumpRoots, Resolve, Check, CheckData, Scrub, ScrubRead}
-use Rattle.btr_run.specs.declared.sentence.Sentence.TheVariants.{Roots, Restore, Send}
+use Rattle.btr_run.specs.declared.sentence.Sentence.TheVariants.{Roots, Restore, Send, SelfTest}
 
 abbrev pub Words : Type 0
 Words = List (List ℕ)
@@ -31,12 +31,18 @@ IsName word = IsTrue (is_name word)
 abbrev pub is_file : List ℕ → Bool
 is_file word = is_name word && (not (is_bad word) && nat_le (length word) 255)
 
--- what stands at one place of a sentence: a word itself, a number of 64 bits, options and behind them the destination's name, or the name of a file in it
+-- a volume is made of so many directories
+abbrev pub is_volume : ℕ → Bool
+is_volume directories = nat_le 1 directories && nat_le directories 1000
+
+-- what stands at one place of a sentence: a word itself, a number of 64 bits, options and behind them the destination's name, the name of a file in it, or,
+-- in the place of images, a volume by its number of directories
 pub data Part : Type 0 where
   Word : List ℕ → Part
   Number : Part
   Destination : Part
   File : Part
+  Volume : Part
 
 -- the same, of the program's table
 abbrev pub part_of : declared_part → Part
@@ -44,8 +50,9 @@ part_of (declared.Word word) = Word word.now
 part_of declared.Number = Number
 part_of declared.Destination = Destination
 part_of declared.File = File
+part_of declared.Volume = Volume
 
--- the sentences: what stands at the places of each, before the names of one or more images
+-- the sentences: what stands at the places of each, before the names of one or more images if no volume is made
 abbrev pub parts_of : Sentence → List Part
 parts_of Super = Word (codes "super") ∷ []
 parts_of DumpAll = Word (codes "inspect-internal") ∷ Word (codes "dump-tree") ∷ []
@@ -60,6 +67,7 @@ parts_of ScrubRead = Word (codes "scrub") ∷ Word (codes "start") ∷ Word (cod
 parts_of Roots = Word (codes "restore") ∷ Word (codes "-l") ∷ []
 parts_of Restore = Word (codes "restore") ∷ Destination ∷ []
 parts_of Send = Word (codes "send") ∷ Destination ∷ File ∷ []
+parts_of SelfTest = Word (codes "self-test") ∷ Volume ∷ []
 
 -- a restore, which may go on behind blocks that can't be had
 abbrev pub restore_of : Bool → ℕ → RestorePlan → Command
@@ -81,6 +89,7 @@ command_of ScrubRead read = command.Scrub false
 command_of Roots read = command.Dump dump.RootLines
 command_of Restore read = restore_of read.options.salvage read.name (plan_by read.options)
 command_of Send read = command.Send read.name read.file (send_by read.options)
+command_of SelfTest read = command.SelfTest read.number
 
 -- the images that a sentence names: one or more
 abbrev pub AreImages : Words → Type 0
@@ -102,10 +111,13 @@ Takes (Word this) at words old new = (words ≡ this ∷ []) × (new ≡ old)
 Takes Number at words old new = (n : ℕ) × (word : List ℕ) × IsNumber n word × (words ≡ word ∷ []) × (new ≡ record old { number = n })
 Takes Destination at words old new = TakesDestination at words old new
 Takes File at words old new = (word : List ℕ) × IsTrue (is_file word) × (words ≡ word ∷ []) × (new ≡ record old { file = at })
+Takes Volume at words old new =
+    (n : ℕ) × (word : List ℕ) × IsNumber n word × IsTrue (is_volume n) × (words ≡ word ∷ []) × (new ≡ record old { number = n; images = at + 1 })
 
--- the parts of a sentence take these words, one behind another, and the images' names come last
+-- the parts of a sentence take these words, one behind another, and a volume or the images' names come last
 abbrev pub Reads : List Part → ℕ → Words → Read → Read → Type 0
 Reads [] at words old new = AreImages words × (new ≡ record old { images = at })
+Reads (Volume ∷ parts) at words old new = Takes Volume at words old new
 Reads (part ∷ parts) at words old new =
     (taken : Words) × (rest : Words) × (mid : Read) × (words ≡ taken ++ rest) × Takes part at taken old mid × Reads parts (at + length taken) rest mid new
 

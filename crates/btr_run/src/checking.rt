@@ -41,8 +41,8 @@ pub(crate) fn show_findings<R: Rack, O: Out>(
     Ok(answer_for(count))
 }
 
-// The answer where so many findings were put.
-fn answer_for(count: u64) -> Answer
+/// The answer where so many things are wrong.
+pub(crate) fn answer_for(count: u64) -> Answer
     ensures { result ≡ found count }
 {
     if count == 0 {

@@ -6,6 +6,7 @@ ghost use Rattle.btr_rack.specs.Sink.{NotStarted};
 ghost use Rattle.btr_run.specs.Answers.{answer_of};
 ghost use Rattle.btr_run.specs.Commands.{HasWords, IsFit, opens_to_write};
 ghost use Rattle.btr_run.specs.Run.{IsPerformed, eyes, ran};
+ghost use Rattle.btr_run.specs.SelfTested.{TakesImages};
 
 use crate::answer::Answer;
 use crate::checking::show_findings;
@@ -20,7 +21,7 @@ use crate::trees::show_trees;
 use btr_rack::{Out, Rack, TreeSink};
 use std::alloc::Global;
 
-/// Does a command of some words over the open images, and puts its text.
+/// Does a command of some words over the open images that it takes, and puts its text.
 ///
 /// An error is the answer of what stopped it; the line of that answer isn't put here.
 pub(crate) fn perform<R: Rack, T: TreeSink, O: Out>(
@@ -31,6 +32,7 @@ pub(crate) fn perform<R: Rack, T: TreeSink, O: Out>(
     tree: &mut T,
     out: &mut O,
 ) -> Result<Answer, Answer>
+    requires images { TakesImages command }
     requires open { 0 < length (R.seen rack.old).slots }
     requires words { HasWords command (length words.now) }
     requires fit { IsFit command (map string_bytes words.now) }
@@ -51,6 +53,7 @@ pub(crate) fn perform<R: Rack, T: TreeSink, O: Out>(
         Command::Salvage { dest, plan } => {
             salvage_files(alloc, &plan, words[dest].as_str(), rack, tree, out)
         }
+        Command::SelfTest(_) => unreachable!(),
         Command::Send { dest, file, plan } => {
             let (dest, name) = (words[dest].as_str(), words[file].as_str());
             send_files(alloc, &plan, dest, name, rack, tree, out)

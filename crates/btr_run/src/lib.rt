@@ -23,6 +23,7 @@ mod restoring;
 mod running;
 mod salvaging;
 mod scrubbing;
+mod self_testing;
 mod sending;
 mod sentence;
 mod starting;

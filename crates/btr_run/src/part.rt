@@ -11,4 +11,6 @@ pub(crate) enum Part {
     Destination,
     /// The name of a file in the destination.
     File,
+    /// The number of directories of a made volume, from 1 to 1000; it stands last, and no image is named.
+    Volume,
 }

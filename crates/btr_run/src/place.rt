@@ -1,8 +1,8 @@
 // How far words have come along a sentence.
-ghost use Rattle.std.specs.Prelude.{◌≡◌, ◌↔◌, ◌∷◌, IsTrue, map};
+ghost use Rattle.std.specs.Prelude.{◌≡◌, ◌↔◌, ◌∷◌, ◌+◌, ◌<◌, ◌^◌, IsTrue, map};
 ghost use Rattle.std.specs.Option.{option_map};
 ghost use Rattle.btr_run.specs.Numbers.{number_of};
-ghost use Rattle.btr_run.specs.Walk.{behind, behind_file, behind_id, behind_name, behind_option, behind_part, behind_root, behind_word, read_by, stage, stage_of, with_given};
+ghost use Rattle.btr_run.specs.Walk.{behind, behind_file, behind_id, behind_name, behind_option, behind_part, behind_root, behind_volume, behind_word, read_by, stage, stage_of, with_given};
 ghost use Rattle.btr_run.specs.Words.{IsName, Destination, is_file, nothing, part_of};
 
 use crate::options::Options;
@@ -11,6 +11,9 @@ use btr_listing::good_name;
 
 // A name of a file has at most so many bytes.
 const MOST_NAME: usize = 255;
+
+// A volume is made of at most so many directories.
+const MOST_DIRECTORIES: u64 = 1000;
 
 /// What was read of the words of a sentence.
 #[derive(Clone, Copy)]
@@ -23,7 +26,7 @@ pub(crate) struct Read {
     pub(crate) name: usize,
     /// The number of the word that is the name of a file; 0 where there is none.
     pub(crate) file: usize,
-    /// The number of the first image's word; 0 where none was read.
+    /// The number of the first image's word, or of words where no image is named; 0 where this isn't read yet.
     pub(crate) images: usize,
 }
 
@@ -51,6 +54,8 @@ pub(crate) enum Next {
     Id,
     /// Another image's name, or none: the words so far are a sentence.
     Image,
+    /// None: the words so far are a sentence.
+    End,
 }
 
 /// A place in a sentence, behind some words.
@@ -65,12 +70,14 @@ pub(crate) struct Place {
 impl Place {
     /// The place behind one more word, the one of this number; `None` where the sentence has another word here.
     pub(crate) fn behind(self, at: usize, word: &str) -> Option<Place>
+        requires { at + 1 < 2 ^ 64 }
         ensures { option_map stage_of result ≡ behind self.next (map part_of self.left.now) self.read at word.now }
     {
         match self.next {
             Next::Part => behind_part(self.left, self.read, at, word),
             Next::Id => behind_id(self, word),
             Next::Image => behind_name(word, self.left, Next::Image, self.read),
+            Next::End => None,
         }
     }
 
@@ -82,6 +89,7 @@ impl Place {
             Next::Part => None,
             Next::Id => None,
             Next::Image => Some(self.read),
+            Next::End => Some(self.read),
         }
     }
 }
@@ -132,6 +140,7 @@ fn behind_flag(left: &'static [Part], read: Read) -> Option<Place>
 
 // Behind a word of the part that is left next, or of the first image.
 fn behind_part(left: &'static [Part], read: Read, at: usize, word: &str) -> Option<Place>
+    requires { at + 1 < 2 ^ 64 }
     ensures { option_map stage_of result ≡ behind_part (map part_of left.now) read at word.now }
 {
     let [part, rest @ ..] = left else {
@@ -145,6 +154,30 @@ fn behind_part(left: &'static [Part], read: Read, at: usize, word: &str) -> Opti
         }
         Part::Destination => behind_option(left, rest, read, at, word),
         Part::File => behind_file(word, rest, Read { file: at, ..read }),
+        Part::Volume => behind_volume(
+            rest,
+            Read {
+                images: at + 1,
+                ..read
+            },
+            word,
+        ),
+    }
+}
+
+// Behind the number of directories of a volume, which stands last.
+fn behind_volume(left: &'static [Part], read: Read, word: &str) -> Option<Place>
+    ensures { option_map stage_of result ≡ behind_volume (map part_of left.now) read word.now }
+{
+    let number = number(word)?;
+    if (1..=MOST_DIRECTORIES).contains(&number) {
+        Some(Place {
+            left,
+            next: Next::End,
+            read: Read { number, ..read },
+        })
+    } else {
+        None
     }
 }
 

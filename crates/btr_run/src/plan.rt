@@ -41,6 +41,8 @@ pub enum Command {
         file: usize,
         plan: SendPlan,
     },
+    /// `self-test`: make a volume of so many directories in memory, from 1 to 1000, and try the other commands on it.
+    SelfTest(u64),
 }
 
 impl Command {
@@ -57,6 +59,7 @@ impl Command {
             Command::Restore { .. } => false,
             Command::Salvage { .. } => false,
             Command::Send { .. } => false,
+            Command::SelfTest(_) => false,
         }
     }
 }
@@ -74,7 +77,7 @@ pub enum DumpChoice {
     RootLines,
 }
 
-/// A command, and the number of the first word that names an image.
+/// A command, and the number of the first word that names an image, or of words where none is named.
 #[derive(Clone, Copy, Debug, PartialEq, Eq)]
 pub struct Plan {
     pub command: Command,

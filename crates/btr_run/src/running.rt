@@ -3,28 +3,32 @@ ghost use Rattle.std.specs.Prelude.{◌≡◌, ◌<◌, [], ℕ};
 ghost use Rattle.btr_rack.specs.Sink.{NotStarted};
 ghost use Rattle.btr_run.specs.Answers.{answer_of, error_line};
 ghost use Rattle.btr_run.specs.Outcomes.{IsPut};
-ghost use Rattle.btr_run.specs.Run.{HasWholeEffect, IsAnswered, IsObeyed, KeepsFirstPart, LeavesItsImages, RestoresCommitted, eyes, ran};
+ghost use Rattle.btr_run.specs.Run.{HasWholeEffect, IsAnswered, IsObeyed, KeepsFirstPart, HasTried, LeavesItsImages, RestoresCommitted, ShowsTrial, eyes, ran};
 
 use crate::answer::Answer;
 use crate::commands::perform;
 use crate::opening::open_images;
-use crate::plan::Plan;
+use crate::plan::{Command, Plan};
 use crate::refusal::put_refusal;
+use crate::self_testing::try_volume;
+use btr_make::Maker;
 use btr_rack::{Out, Rack, TreeSink};
 use btr_restore::{committed_order, headline, opened_then, settled};
 use std::alloc::Global;
 
-/// Does what the words say over the images of the rack, writes files into the sink, puts its text, and answers how it ended.
+/// Does what the words say over the images of the rack, writes files into the sink, puts its text, and answers how it ended. The volume of a self-test
+/// is the maker's.
 ///
 /// Words that are no sentence and more than 64 images are refused before any call on the rack. The last thing put for a
 /// refusal is its error line. Where the output refuses a put, a first part of the text and the line stands there; where the sink refuses
 /// a call, all before it stands. Where memory is wanted on the way, the line for want of memory, or a first part of that, stands behind a first part of the text.
-pub fn run<R: Rack, T: TreeSink, O: Out>(
+pub fn run<R: Rack, T: TreeSink, O: Out, M: Maker + Drop>(
     alloc: Global,
     words: &[String],
     rack: &mut R,
     tree: &mut T,
     out: &mut O,
+    maker: M,
 ) -> Answer
     requires closed { (R.seen rack.old).slots ≡ [] }
     requires fresh { (T.sink tree.old).stage ≡ NotStarted }
@@ -49,8 +53,12 @@ pub fn run<R: Rack, T: TreeSink, O: Out>(
     // The images are only read, but by a scrub that writes: this leaves exactly what mends them, or a first part of it.
     ensures images { LeavesItsImages (ran (eyes R.seen T.sink T.account T.waits O.text O.account)
         words.now rack.old tree.old out.old rack.new tree.new out.new result) }
+
+    // A self-test makes no call of the rack and of the sink, and shows the trial of the volume that the maker made, whole or a first part of it.
+    ensures trial { ShowsTrial (ran (eyes R.seen T.sink T.account T.waits O.text O.account)
+        words.now rack.old tree.old out.old rack.new tree.new out.new result) (M.volume maker) }
 {
-    let done = carry_out(alloc, words, rack, tree, out);
+    let done = carry_out(alloc, words, rack, tree, out, maker);
     opened_then();
     settled();
     headline();
@@ -59,22 +67,28 @@ pub fn run<R: Rack, T: TreeSink, O: Out>(
 }
 
 // Does what the words say, but for the line of a refusal, which is the error.
-fn carry_out<R: Rack, T: TreeSink, O: Out>(
+fn carry_out<R: Rack, T: TreeSink, O: Out, M: Maker + Drop>(
     alloc: Global,
     words: &[String],
     rack: &mut R,
     tree: &mut T,
     out: &mut O,
+    maker: M,
 ) -> Result<Answer, Answer>
     requires closed { (R.seen rack.old).slots ≡ [] }
     requires fresh { (T.sink tree.old).stage ≡ NotStarted }
-    ensures { IsObeyed (ran (eyes R.seen T.sink T.account T.waits O.text O.account)
+    ensures obeyed { IsObeyed (ran (eyes R.seen T.sink T.account T.waits O.text O.account)
         words.now rack.old tree.old out.old rack.new tree.new out.new (answer_of result)) }
+    ensures tried { HasTried (ran (eyes R.seen T.sink T.account T.waits O.text O.account)
+        words.now rack.old tree.old out.old rack.new tree.new out.new (answer_of result)) (M.volume maker) }
 {
     let plan = match Plan::parse(words) {
         Ok(plan) => plan,
         Err(at) => return Err(Answer::Usage(at)),
     };
+    if let Command::SelfTest(number) = plan.command {
+        return try_volume(alloc, number, maker, out);
+    }
     open_images(&words[plan.images..], plan.command.writes(), rack)?;
     perform(alloc, plan.command, words, rack, tree, out)
 }

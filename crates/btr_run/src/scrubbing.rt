@@ -13,6 +13,7 @@ ghost use Rattle.btr_run.specs.Repaired.{LeavesImages, Scrubs};
 ghost use Rattle.btr_run.specs.Scrubbed.{IsScrubOutcome, scrub_outcome, scrubbed_images, tally_text};
 
 use crate::answer::Answer;
+use crate::checking::answer_for;
 use crate::filesystem::open_filesystem;
 use crate::plan::Command;
 use btr_rack::{Out, Rack};
@@ -87,15 +88,4 @@ fn tally_pieces(tally: Tally) -> [Piece<'static>; 13]
         Piece::Decimal(tally.unchecked),
         Piece::Plain(b"\n"),
     ]
-}
-
-// The answer where so many blocks are lost.
-fn answer_for(lost: u64) -> Answer
-    ensures { result ≡ found lost }
-{
-    if lost == 0 {
-        Answer::Done { skipped: 0 }
-    } else {
-        Answer::Found(lost)
-    }
 }

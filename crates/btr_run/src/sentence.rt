@@ -26,11 +26,12 @@ pub(crate) enum Sentence {
     Roots,
     Restore,
     Send,
+    SelfTest,
 }
 
 impl Sentence {
     /// All of them.
-    pub(crate) const ALL: [Sentence; 13] = [
+    pub(crate) const ALL: [Sentence; 14] = [
         Sentence::Super,
         Sentence::DumpAll,
         Sentence::DumpBlock,
@@ -44,6 +45,7 @@ impl Sentence {
         Sentence::Roots,
         Sentence::Restore,
         Sentence::Send,
+        Sentence::SelfTest,
     ];
 
     /// What stands at its places.
@@ -82,6 +84,7 @@ impl Sentence {
             Sentence::Roots => &[Part::Word("restore"), Part::Word("-l")],
             Sentence::Restore => &[Part::Word("restore"), Part::Destination],
             Sentence::Send => &[Part::Word("send"), Part::Destination, Part::File],
+            Sentence::SelfTest => &[Part::Word("self-test"), Part::Volume],
         }
     }
 
@@ -120,6 +123,7 @@ impl Sentence {
                 file: read.file,
                 plan: read.options.send_plan(),
             },
+            Sentence::SelfTest => Command::SelfTest(read.number),
         }
     }
 

@@ -123,6 +123,23 @@ const BEHIND_SCRUB: &[Row] = &[
     ),
 ];
 
+const BEHIND_SELF_TEST: &[Row] = &[
+    (&["self-test"], b"error: usage error at word 1\n"),
+    (&["self-test", "0"], b"error: usage error at word 1\n"),
+    (&["self-test", "1001"], b"error: usage error at word 1\n"),
+    (&["self-test", "01"], b"error: usage error at word 1\n"),
+    (&["self-test", "a"], b"error: usage error at word 1\n"),
+    (&["self-test", ""], b"error: usage error at word 1\n"),
+    (&["self-test", "-1"], b"error: usage error at word 1\n"),
+    (
+        &["self-test", "18446744073709551617"],
+        b"error: usage error at word 1\n",
+    ),
+    (&["self-test", "1", "a"], b"error: usage error at word 2\n"),
+    (&["self-test", "1", "1"], b"error: usage error at word 2\n"),
+    (&["self-test", "10", ""], b"error: usage error at word 2\n"),
+];
+
 fn refuses_all(rt: &impl Abort, alloc: Global, rows: &[Row]) -> Result<(), CallFault> {
     for (all, text) in rows {
         answers(rt, alloc, &mut MemRack::new(alloc), all, text, 2)?;
@@ -143,6 +160,11 @@ fn words_behind_inspect_internal(rt: HostRuntime) -> Result<(), CallFault> {
 #[test]
 fn words_behind_check(rt: HostRuntime) -> Result<(), CallFault> {
     refuses_all(&rt, rt.alloc(), BEHIND_CHECK)
+}
+
+#[test]
+fn words_behind_self_test(rt: HostRuntime) -> Result<(), CallFault> {
+    refuses_all(&rt, rt.alloc(), BEHIND_SELF_TEST)
 }
 
 #[test]

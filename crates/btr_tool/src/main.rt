@@ -9,6 +9,7 @@ mod words;
 
 use crate::words::SystemWords;
 use btr_ahead::AheadRack;
+use btr_make::Builder;
 use btr_rack::{FileRack, FolderTree, StdOut};
 use btr_run::{Answer, program};
 use std::process::ExitCode;
@@ -22,5 +23,5 @@ fn main(rt: HostRuntime) -> ExitCode {
     let mut tree = FolderTree::new(&rt, alloc);
     let mut out = StdOut::new(&rt);
     let words = SystemWords { system: &rt };
-    ExitCode::from(program(alloc, &words, &mut rack, &mut tree, &mut out))
+    ExitCode::from(program(alloc, &words, &mut rack, &mut tree, &mut out, Builder))
 }

@@ -17,6 +17,7 @@ returns-in-Ok g c = (
         headline = c.run.ensures.headline;
         part = c.run.ensures.part;
         images = c.run.ensures.images;
+        trial = c.run.ensures.trial;
       },
     );
   },

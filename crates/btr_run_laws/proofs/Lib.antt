@@ -1,0 +1,5 @@
+pub mod Serving
+pub mod Completing
+pub mod Sealed
+pub mod Restorable
+pub mod Repairable
