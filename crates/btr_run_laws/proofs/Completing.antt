@@ -1,7 +1,7 @@
 -- What the outcomes of the commands answer where all that they need is there.
-use Rattle.std.proofs.Common.{◌≡◌, ◌≢◌, ◌⊎◌, inl, inr, ⊎_elim, ℕ, ◌+◌, ◌<◌, Bool, true, false, cond, List, [], ◌∷◌, get_or, length, map, Option, Some, None, Result, Ok, Err}
+use Rattle.std.proofs.Common.{◌≡◌, ⊎_elim, ℕ, Bool, true, false, cond, List, [], ◌∷◌, get_or, length, map, Option, Some, None, Result, Ok, Err}
 use Rattle.std.proofs.Common.{refl, sym, ap, ◌∙◌, subst, arith}
-use Rattle.std.specs.Prelude.{slice_get, IsSome}
+use Rattle.std.specs.Prelude.{slice_get, nat_lt, IsSome}
 use Rattle.std.specs.Option.{option_map}
 use Rattle.btr_check.specs.Before.{refusal}
 use Rattle.btr_check.specs.Findings.{findings}
@@ -85,13 +85,19 @@ its_outcome words shelf x y answer plan images takes effect asks =
     (λ (same : (p : Plan) × IsSentence p words × (images_outcome p.command words (images_of p words) shelf ≡ Some effect.outcome)).
     sym (taken_outcome plan.command words (images_of plan words) shelf images asks.few asks.from)
     ∙ ap (λ (p : Plan). images_outcome p.command words (images_of p words) shelf) (one_plan words plan same.0 asks.sentence same.1) ∙ same.2)
-    (λ (trial : (n : ℕ) × AsksToTry words n × IsTrialOutcome n effect.outcome). absurd (no_trial words plan trial.0 asks.sentence trial.1 takes)) rest) effect.is
+    (λ (trial : (n : ℕ) × AsksToTry words n × IsTrialOutcome n effect.outcome).
+    absurd (no_trial words plan trial.0 asks.sentence trial.1 takes)) rest) effect.is
+
+the_one : (a b : Outcome) → ◌≡◌ {A = Option Outcome} (Some a) (Some b) → a ≡ b
+the_one a b e = cc e
 
 -- so it answers what such an outcome answers
 pub answers_so : (words : Words) (shelf : Shelf) (x y : Outside) (answer : Answer) (plan : Plan) (images : Images) → TakesImages plan.command
     → HasEffect words shelf x y answer → AsksOf words shelf plan images → (o : Outcome) → command_outcome plan.command words images ≡ Some o → answer ≡ o.answer
 answers_so words shelf x y answer plan images takes effect asks o is =
-    effect.answered ∙ ap (λ (o : Outcome). o.answer) (cc (sym (its_outcome words shelf x y answer plan images takes effect asks) ∙ is))
+    effect.answered
+    ∙ ap (λ (o : Outcome). o.answer)
+    (the_one effect.outcome o (sym (its_outcome words shelf x y answer plan images takes effect asks) ∙ is))
 
 -- ---- each command
 
@@ -120,7 +126,7 @@ module _ (images : Images) (fs : Filesystem) (opened : filesystem_of images ≡ 
     (0, refl),
   )
 
-  newest_in : Result (List Super) OpenFault → Option Super
+  abbrev newest_in : Result (List Super) OpenFault → Option Super
   newest_in (Ok all) = newest all
   newest_in (Err refusal) = None
 
@@ -204,16 +210,13 @@ commands_complete words shelf x y answer plan images fs effect asks opened needs
 -- ---- a self-test
 
 pub self_test_completes : SelfTestCompletes
-self_test_completes run volume number shows asks calm steady enough =
-    let shown = shows number asks in
-    let outcome = shown.2.0 in
-    let trial = some_trial volume number outcome shown.2.1 in
-    let found_so : run.answer ≡ outcome.answer → (differing : ℕ) × (run.answer ≡ found differing) =
-    λ is. (differing (trial_of trial.0 number), is ∙ ap (λ (o : Outcome). o.answer) trial.1) in
-    ⊎_elim (λ done. found_so done.0)
-    (λ rest. ⊎_elim
-    (λ sink. absurd (not_steady _ _ calm sink.1.1))
-    (λ more. ⊎_elim (λ out. absurd (not_steady _ _ steady out.1.1)) (λ want. absurd (enough want.0)) more) rest) shown.2.2
+self_test_completes x y answer volume number outcome one printed calm steady enough =
+    ⊎_elim (λ done. (differing (trial_of trial.0 number), done.0 ∙ ap (λ (o : Outcome). o.answer) trial.1))
+    (λ rest. ⊎_elim (λ sink. absurd (not_steady _ _ calm sink.1.1))
+    (λ more. ⊎_elim (λ out. absurd (not_steady _ _ steady out.1.1)) (λ want. absurd (enough want.0)) more) rest) printed
+  where
+    trial : IsTrialOutcome number outcome
+    trial = some_trial volume number outcome one
 
 -- ---- a restore in committed words
 
@@ -225,7 +228,11 @@ module _ (plan : RestorePlan) (dest : List ℕ) (images : Images) (start : Start
     where
       first_is : (xs : List (List ℕ)) → IsWhole (or_lost (addr_of want) (slice_get xs 0)) → IsWhole (or_lost (addr_of want) (chosen 0 xs))
       first_is [] whole = whole
-      first_is (x ∷ xs) whole = tt
+      first_is (x ∷ xs) whole = at (nat_lt 0 (length (x ∷ xs)))
+        where
+          at : (b : Bool) → IsWhole (or_lost (addr_of want) (slice_get (x ∷ xs) (cond b 0 0)))
+          at true = tt
+          at false = tt
 
       some_is : (o : Option (List ℕ)) → IsSome o → IsWhole (or_lost (addr_of want) o)
       some_is None some = absurd (cc some)

@@ -1,8 +1,9 @@
 -- What a scrub of the example needs.
-use Rattle.std.proofs.Common.{◌≡◌, ◌≢◌, ℕ, zero, suc, ◌+◌, ◌/◌, ◌%◌, ◌^◌, ◌<◌, ◌≤◌, Bool, true, false, cond, List, [], ◌∷◌, ◌++◌, length, get_or, Option, Some, None, Result, Ok, Err, refl, sym, ap, ◌∙◌, subst}
+use Rattle.std.proofs.Common.{◌≡◌, ℕ, ◌/◌, ◌%◌, ◌^◌, ◌<◌, Bool, true, false, cond, List, [], ◌∷◌, ◌++◌, length, get_or, Option, Some, None, Result, Ok, refl}
+use Rattle.std.proofs.Common.{sym, ap, ◌∙◌, subst}
 use Rattle.std.proofs.Common.{arith, eqb-true, ltb-true}
-use Rattle.std.specs.Prelude.{Contains, IsSome, codes, filter, filter_map, find, nat_lt, replicate, slice_get, ◌==◌, ◌&&◌}
-use Rattle.std.specs.List.{All, AllPass, list_all}
+use Rattle.std.specs.Prelude.{IsSome, filter_map, nat_lt, replicate, slice_get, ◌==◌, ◌&&◌}
+use Rattle.std.specs.List.{All, list_all}
 use Rattle.std.specs.Option.{IfSome, option_and_then}
 use Rattle.std.proofs.lemmas.List.{get_or_default}
 use Rattle.std.proofs.lemmas.List.Elements.{All-append, All-cons, All-nil}
@@ -12,7 +13,6 @@ use Rattle.btr_base.specs.Crc.{crc32c}
 use Rattle.btr_chunk.specs.Mapping.{position}
 use Rattle.btr_chunk.specs.declared.place.Part.TheVariants.{Mirror}
 use Rattle.btr_items.specs.Parts.{parts_within}
-use Rattle.btr_mend.specs.Blocks.{own_parts}
 use Rattle.btr_node.specs.Block.{entry_count, entry_key, is_leaf, item_at, items}
 use Rattle.btr_parity.specs.Slices.{IsSlice}
 use Rattle.btr_prog.specs.Maps.{Each}
@@ -30,15 +30,11 @@ use Rattle.btr_scrub.specs.Right.{AllPass as AllCommittedPass, HasRightCopy, IsH
 use Rattle.btr_scrub.specs.Units.{units}
 use Rattle.btr_super.specs.Super.{super_of}
 use Rattle.btr_volume.specs.Maps.{array_layout}
-use Rattle.btr_volume.specs.Start.{start_of}
 use Rattle.btr_volume.specs.Table.{table_scan}
 use Rattle.btr_run.specs.Filesystem.{filesystem_of, with_roots, with_start, with_table}
-use Rattle.btr_run.specs.Repaired.{ScrubsFrom}
 use Rattle.btr_run.specs.Scrubbed.{filesystem_as}
-use Rattle.btr_run.specs.Words.{IsName, nothing}
-use Rattle.btr_run.specs.declared.sentence.Sentence.TheVariants.{Scrub}
-use Rattle.btr_run_laws.specs.Example.{MeetsScrubs, block_at, chunk, chunk_tree, committed_blocks, extent_tree, file_tree, fs, images, layout, leaf_behind, root_tree}
-use Rattle.btr_run_laws.specs.Example.{scrub_words, sealed, shelf, start, table}
+use Rattle.btr_run_laws.specs.Example.{MeetsScrubs, block_at, chunk, chunk_tree, committed_blocks, extent_tree, file_tree, fs, images, layout, root_tree}
+use Rattle.btr_run_laws.specs.Example.{sealed, start, table}
 use Rattle.btr_run_laws.proofs.Sealed.{begun, chunk_fate, extent_fate, honest, root_fate, summed_chunks, summed_extents, summed_files, summed_roots}
 
 -- the committed blocks as a map
@@ -50,7 +46,7 @@ scan_needs : Each (λ w. D w ≡ fate images (array_layout start) w) (needs D (t
 unfolding is_leaf items entry_count item_at entry_key super_of sealed
 scan_needs = (sym chunk_fate, tt)
 
-scan_ends : (exec (fate images (array_layout start)) (table_scan start)).ending ≡ Ok (Ok table)
+pub scan_ends : (exec (fate images (array_layout start)) (table_scan start)).ending ≡ Ok (Ok table)
 unfolding is_leaf items entry_count item_at entry_key super_of sealed
 scan_ends = ap (λ r. r.ending) (sym (only_needs D (fate images (array_layout start)) (table_scan start) scan_needs))
 
@@ -62,7 +58,7 @@ none_differ =
     (option_and_then (λ block. cond (b && differ block root_tree) (Some (Read (Mirror 0))) None) (slice_get (cond b (root_tree ∷ []) []) 0))) summed_roots
 
 opened : filesystem_of images ≡ Ok fs
-unfolding super_of
+unfolding super_of sealed
 opened = ap (with_start images) begun ∙ ap (with_table images start) scan_ends ∙ ap (with_roots start table) none_differ
 
 -- the extents
@@ -115,7 +111,9 @@ are_bytes xs is k d lt = ltb-true (get_or xs k d) 256 (AllPass-from_list_all (λ
 
 sealed_bytes : (rest : List ℕ) → list_all (λ b. nat_lt b 256) (replicate 28 0 ++ rest) ≡ true → All (λ b. b < 256) (sealed rest)
 unfolding sealed
-sealed_bytes rest is = All-append (λ b. b < 256) (little_bytes 4 (crc32c rest)) (replicate 28 0 ++ rest) (low_bytes (crc32c rest)) (are_bytes (replicate 28 0 ++ rest) is)
+sealed_bytes rest is =
+    All-append (λ b. b < 256) (little_bytes 4 (crc32c rest)) (replicate 28 0 ++ rest)
+    (low_bytes (crc32c rest)) (are_bytes (replicate 28 0 ++ rest) is)
 
 block_is_slice : (rest : List ℕ) → length (sealed rest) ≡ 4096 → list_all (λ b. nat_lt b 256) (replicate 28 0 ++ rest) ≡ true → IsSlice 4096 (sealed rest)
 block_is_slice rest long bytes = record { long = long; bytes = sealed_bytes rest bytes }
@@ -202,25 +200,5 @@ repairable = record {
   rows = All-nil _;
 }
 
-asked : ScrubsFrom scrub_words shelf images
-asked = record {
-  first = 2;
-  sentence = record {
-    sentence = Scrub;
-    read = record nothing { images = 2 };
-    is_read = (
-      codes "scrub" ∷ [],
-      codes "start" ∷ codes "a" ∷ [],
-      nothing,
-      refl,
-      (refl, refl),
-      (codes "start" ∷ [], codes "a" ∷ [], nothing, refl, (refl, refl), (All-cons IsName (codes "a") [] refl (All-nil IsName), refl)),
-    );
-    plan_is = refl;
-  };
-  few = omega arith;
-  from = refl;
-}
-
 pub meets_scrubs : MeetsScrubs
-meets_scrubs = record { asked = asked; opened = opened; repairable = repairable }
+meets_scrubs = record { opened = opened; repairable = repairable }

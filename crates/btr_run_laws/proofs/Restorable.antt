@@ -1,31 +1,28 @@
 -- What a restore of the example needs.
-use Rattle.std.proofs.Common.{◌≡◌, ℕ, ◌+◌, Bool, true, false, List, [], ◌∷◌, length, Option, Some, None, Result, Ok, Err, refl, sym, ap, ◌∙◌, subst, arith}
+use Rattle.std.proofs.Common.{◌≡◌, List, [], ◌∷◌, None, Result, Ok, refl, sym, subst}
 use Rattle.std.specs.Prelude.{codes}
 use Rattle.std.specs.Str.{chars, is_utf8}
 use Rattle.std.specs.Char.{encode_utf8}
 use Rattle.std.specs.Fmt.{digits}
-use Rattle.std.proofs.lemmas.List.Elements.{All-cons, All-nil}
-use Rattle.btr_chunk.specs.declared.chunk.Chunk.{Chunk}
 use Rattle.btr_files.specs.declared.counts.Counts.{Counts}
 use Rattle.btr_items.specs.Parts.{parts_within}
 use Rattle.btr_node.specs.Block.{entry_count, entry_key, is_leaf, item_at, items}
 use Rattle.btr_prog.specs.Maps.{Each, IsWhole}
 use Rattle.btr_prog.specs.Prog.{exec, needs}
 use Rattle.btr_prog.specs.Stages.{Early, Late}
-use Rattle.btr_read.specs.Fate.{fate}
-use Rattle.btr_read.specs.declared.want.Want.{Want}
+use Rattle.btr_read.specs.Fate.{Agreed, fate}
 use Rattle.btr_read.specs.declared.want.Want.TheVariants.{Tree}
 use Rattle.btr_restore.specs.Committed.{AreWhole, IsClosed, EndsInOrder, IsIn, committed, want_of}
 use Rattle.btr_restore.specs.Journey.{journey}
 use Rattle.btr_super.specs.Super.{super_of}
-use Rattle.btr_volume.specs.Maps.{VolumeWant, array_layout, volume_map}
+use Rattle.btr_run.specs.Order.{IsAgreed}
+use Rattle.btr_volume.specs.Maps.{VolumeWant, array_layout, table_or, volume_map}
+use Rattle.btr_volume.specs.Start.{layout_by}
 use Rattle.btr_volume.specs.Table.{table_scan}
 use Rattle.btr_volume.specs.declared.fault.OpenFault.{OpenFault}
-use Rattle.btr_run.specs.Promise.{RestoresFrom}
-use Rattle.btr_run.specs.Words.{IsName, nothing}
-use Rattle.btr_run.specs.declared.sentence.Sentence.TheVariants.{Restore}
 use Rattle.btr_run_laws.specs.Complete.{own_fault}
-use Rattle.btr_run_laws.specs.Example.{MeetsRestores, committed_blocks, images, plan, restore_words, sealed, shelf, start, table}
+use Rattle.btr_run_laws.specs.Example.{MeetsRestores, committed_blocks, images, plan, sealed, start, table}
+use Rattle.btr_run_laws.proofs.Repairable.{scan_ends}
 use Rattle.btr_run_laws.proofs.Sealed.{agreed, begun, chunk_fate, file_fate, honest, root_fate}
 
 stands : (exec (committed committed_blocks images (array_layout start)) (table_scan start)).ending ≡ Ok (Ok table)
@@ -80,43 +77,16 @@ file_here = subst IsWhole (sym file_fate) tt
 whole : AreWhole plan (codes "out") images start committed_blocks
 whole = subst (Each Here) (sym needs_are) (chunks_here, (root_here, (root_here, (file_here, (file_here, (file_here, (file_here, tt)))))))
 
--- the words
-asked : RestoresFrom restore_words shelf plan (codes "out") images
-asked = record {
-  number = 1;
-  first = 2;
-  sentence = record {
-    sentence = Restore;
-    read = record nothing { name = 1; images = 2 };
-    is_read = (
-      codes "restore" ∷ [],
-      codes "out" ∷ codes "a" ∷ [],
-      nothing,
-      refl,
-      (refl, refl),
-      (
-        codes "out" ∷ [],
-        codes "a" ∷ [],
-        record nothing { name = 1 },
-        refl,
-        record { options = []; name = codes "out"; free = tt; named = refl; words_are = refl; read_is = refl },
-        (All-cons IsName (codes "a") [] refl (All-nil IsName), refl),
-      ),
-    );
-    plan_is = refl;
-  };
-  named = refl;
-  few = omega arith;
-  from = refl;
-}
+-- the copies agree, by the table of the images
+agreed_so : IsAgreed images start
+agreed_so = subst (λ e. Agreed images (layout_by start (table_or start.array e))) (sym scan_ends) agreed
 
 pub meets_restores : MeetsRestores
 meets_restores = record {
-  asked = asked;
   begun = begun;
   honest = honest;
   closed = closed;
   well = well;
   whole = whole;
-  agreed = λ want tested. agreed want tested;
+  agreed = agreed_so;
 }

@@ -1,5 +1,6 @@
 -- What stands in the example's image.
-use Rattle.std.proofs.Common.{◌≡◌, ℕ, zero, suc, ◌≤◌, List, [], ◌∷◌, length, Bool, true, false, cond, eqb-true, Option, Some, None, Result, Ok, Err, refl, sym, ap, ◌∙◌, subst, arith}
+use Rattle.std.proofs.Common.{◌≡◌, ℕ, zero, suc, ◌≤◌, List, [], ◌∷◌, length, Bool, true, false, cond, eqb-true, Option, Some, None, Result, Ok, Err, refl, sym}
+use Rattle.std.proofs.Common.{ap, ◌∙◌, subst, arith}
 use Rattle.std.specs.Prelude.{Contains, ◌==◌, ◌&&◌, filter, filter_map, slice_get}
 use Rattle.std.specs.Bool.{Decides}
 use Rattle.std.specs.Str.{bytes_eq}
@@ -23,7 +24,8 @@ use Rattle.btr_read.specs.declared.want.Want.{Want}
 use Rattle.btr_read.specs.declared.want.Want.TheVariants.{Tree, Block, Sector, Plain}
 use Rattle.btr_restore.specs.Committed.{IsHonest}
 use Rattle.btr_volume.specs.Start.{layout_by, start_of, start_with, super_then}
-use Rattle.btr_run_laws.specs.Example.{block_at, chunk, chunk_tree, committed_blocks, extent_tree, file_tree, image, images, layout, root_tree, sealed, start, super_block, table}
+use Rattle.btr_run_laws.specs.Example.{block_at, chunk, chunk_tree, committed_blocks, extent_tree, file_tree, image, images, layout, root_tree, sealed, start}
+use Rattle.btr_run_laws.specs.Example.{super_block, table}
 
 pub same_word : (word : List ℕ) → bytes_eq word word ≡ true
 same_word word = of (bytes_eq word word) (bytes_eq-Decides word word)
@@ -184,7 +186,8 @@ few_passing p (x ∷ y ∷ xs) few = absurd (omega (arith, few))
 few_reading : (want : Want) (at : Elements) → length (readings images (target layout want chunk at)) ≤ 1
 few_reading want at = of (stands_so (target layout want chunk at) (Read (Mirror 0)))
   where
-    of : (b : Bool) → length (filter_map (λ (o : Option (List ℕ)). o) (cond b (Some (value_of images (target layout want chunk at) (Read (Mirror 0)))) None ∷ [])) ≤ 1
+    of : (b : Bool) → length (filter_map (λ (o : Option (List ℕ)). o)
+        (cond b (Some (value_of images (target layout want chunk at) (Read (Mirror 0)))) None ∷ [])) ≤ 1
     of true = omega arith
     of false = omega arith
 

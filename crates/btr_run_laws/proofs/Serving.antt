@@ -1,5 +1,5 @@
 -- A program that is served comes to a value.
-use Rattle.std.proofs.Common.{◌≡◌, ℕ, List, Option, Some, None, Result, Ok, Err, refl, subst, sym}
+use Rattle.std.proofs.Common.{◌≡◌, ℕ, List, None, Result, Ok, Err, refl}
 use Rattle.btr_prog.specs.Prog.{BlockMap, Prog, Return, Stop, Need, Emit, Run, exec, given, needs, wants_of}
 use Rattle.btr_prog.specs.Maps.{Each, IsWhole}
 use Rattle.btr_run_laws.specs.Complete.{IsServed, if_given, own_fault}
@@ -10,7 +10,7 @@ module _ {W F S A : Type 0} (B : BlockMap W F) where
 
   given_ends : (x : Result (List ℕ) F) (k : List ℕ → Prog W F S A)
       → ((b : List ℕ) → Each (λ w. IsWhole (B w)) (needs B (k b)) → own_fault B (k b) ≡ None → Ends (exec B (k b)))
-      → IsWhole x → Each (λ w. IsWhole (B w)) (wants_of (given x (λ b. exec B (k b))).marks) → if_given {W = W} {F = F} {S = S} x (λ b. own_fault B (k b)) ≡ None
+      → IsWhole x → Each (λ w. IsWhole (B w)) (wants_of (given x (λ b. exec B (k b))).marks) → if_given x (λ b. own_fault B (k b)) ≡ None
       → Ends (given x (λ b. exec B (k b)))
   given_ends (Ok b) k h is whole well = h b whole well
   given_ends (Err f) k h is whole well = absurd is

@@ -20,17 +20,16 @@ use Rattle.btr_salvage.specs.Salvaging.{salvage_run}
 use Rattle.btr_salvage.specs.declared.salvaged.Salvaged.{Salvaged}
 use Rattle.btr_scrub.specs.Repair.{first_missing, meeting}
 use Rattle.btr_send.specs.Sending.{sending}
-use Rattle.btr_super.specs.declared.superblock.Super.{Super}
 use Rattle.btr_volume.specs.Maps.{volume_map}
-use Rattle.btr_volume.specs.Start.{Images, Start, layout_by, start_of, supers_from}
+use Rattle.btr_volume.specs.Start.{Images, Start, layout_by, start_of}
 use Rattle.btr_run.specs.Agreeing.{AsksOf}
 use Rattle.btr_run.specs.Checked.{filesystem_by, found}
 use Rattle.btr_run.specs.Effects.{HasEffect}
 use Rattle.btr_run.specs.Filesystem.{Filesystem, filesystem_of}
+use Rattle.btr_run.specs.Outcomes.{IsPrinted, Outcome}
 use Rattle.btr_run.specs.Promise.{KeepsOutcome, RestoresFrom, StandsAs}
-use Rattle.btr_run.specs.Run.{Run, ShowsTrial, outside_before, outside_behind}
 use Rattle.btr_run.specs.Scrubbed.{counts, filesystem_as}
-use Rattle.btr_run.specs.SelfTested.{AsksToTry}
+use Rattle.btr_run.specs.SelfTested.{IsTrialOf}
 use Rattle.btr_run.specs.Words.{Words}
 use Rattle.btr_run.specs.declared.answer.Answer.{Answer}
 use Rattle.btr_run.specs.declared.answer.Answer.TheVariants.{Done, Memory}
@@ -42,12 +41,12 @@ use Rattle.btr_run.specs.declared.plan.DumpChoice.{DumpChoice}
 use Rattle.btr_run.specs.declared.plan.DumpChoice.TheVariants.{All, Block, Tree, RootLines}
 use Rattle.btr_run.specs.declared.plan.Plan.{Plan}
 
-module _ {W F S : Type 0} where
-  -- on by a block's bytes, where there are any
-  abbrev pub if_given : Result (List ℕ) F → (List ℕ → Option F) → Option F
-  if_given (Ok bytes) k = k bytes
-  if_given (Err f) k = None
+-- on by a block's bytes, where there are any
+abbrev pub if_given : {F : Type 0} → Result (List ℕ) F → (List ℕ → Option F) → Option F
+if_given (Ok bytes) k = k bytes
+if_given (Err f) k = None
 
+module _ {W F S : Type 0} where
   -- the fault that a program states by what the blocks hold: that one breaks a rule, or that
   -- something isn't there
   abbrev pub own_fault : {A : Type 0} → BlockMap W F → Prog W F S A → Option F
@@ -134,13 +133,14 @@ RestoreCompletes =
     → AreWhole plan dest images start C
     → RestoredWhole x y answer plan dest images start C
 
--- a self-test shows a trial, where its output doesn't fail and memory suffices
-abbrev pub SelfTestCompletes : Type 1
+-- what a self-test shows and answers counts the lines that differ, where its output doesn't fail
+-- and memory suffices
+abbrev pub SelfTestCompletes : Type 0
 SelfTestCompletes =
-    {R T O : Type 0} (run : Run R T O) (volume : Option Images) (number : ℕ)
-    → ShowsTrial run volume
-    → AsksToTry run.words number
-    → Steady (outside_before run).sink_calls.faults (outside_behind run).sink_calls.faults
-    → Steady (outside_before run).out_calls.faults (outside_behind run).out_calls.faults
-    → run.answer ≢ Memory
-    → (differing : ℕ) × (run.answer ≡ found differing)
+    (x y : Outside) (answer : Answer) (volume : Option Images) (number : ℕ) (outcome : Outcome)
+    → IsTrialOf volume number outcome
+    → IsPrinted (Unit {0}) x y outcome answer
+    → Steady x.sink_calls.faults y.sink_calls.faults
+    → Steady x.out_calls.faults y.out_calls.faults
+    → answer ≢ Memory
+    → (differing : ℕ) × (answer ≡ found differing)

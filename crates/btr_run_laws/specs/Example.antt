@@ -3,7 +3,6 @@
 -- aren't computed: a block is sealed by the checksum of what stands behind it, whatever that is.
 use Rattle.std.specs.Prelude.{◌≡◌, ℕ, ◌+◌, ◌-◌, ◌*◌, ◌==◌, ◌&&◌, if◌then◌else◌, false, List, []}
 use Rattle.std.specs.Prelude.{◌∷◌, ◌++◌, length, replicate, codes, Option, Some, None, Ok}
-use Rattle.std.specs.Str.{bytes_eq}
 use Rattle.byteorder.specs.Endian.{little_bytes}
 use Rattle.btr_base.specs.Crc.{crc32c}
 use Rattle.btr_base.specs.declared.key.Key.{Key}
@@ -11,7 +10,6 @@ use Rattle.btr_base.specs.declared.kind.SumKind.TheVariants.{Crc32c}
 use Rattle.btr_chunk.specs.declared.chunk.Chunk.{Chunk}
 use Rattle.btr_chunk.specs.declared.profile.Profile.TheVariants.{Single}
 use Rattle.btr_files.specs.declared.plan.RestorePlan.{RestorePlan}
-use Rattle.btr_rack.specs.Rack.{Shelf}
 use Rattle.btr_read.specs.Layout.{Layout}
 use Rattle.btr_read.specs.declared.want.Want.{Want}
 use Rattle.btr_read.specs.declared.want.Want.TheVariants.{Tree, Block, Sector, Plain}
@@ -23,10 +21,7 @@ use Rattle.btr_volume.specs.Maps.{volume_map}
 use Rattle.btr_volume.specs.Start.{Images, Start, layout_by, start_of}
 use Rattle.btr_run.specs.Filesystem.{Filesystem, filesystem_of}
 use Rattle.btr_run.specs.Order.{IsAgreed}
-use Rattle.btr_run.specs.Promise.{RestoresFrom}
-use Rattle.btr_run.specs.Repaired.{ScrubsFrom}
 use Rattle.btr_run.specs.Scrubbed.{filesystem_as}
-use Rattle.btr_run.specs.Words.{Words}
 use Rattle.btr_run_laws.specs.Complete.{own_fault}
 
 -- bytes of keys, items and leaves
@@ -192,23 +187,12 @@ table = chunk ∷ []
 abbrev pub fs : Filesystem
 fs = record { sup = start.sup; layout = layout }
 
--- a restore of all files, and a scrub
+-- a restore of all files
 abbrev pub plan : RestorePlan
 plan = record { root = 5; snapshots = false; verbose = false; dry = false }
 
-abbrev pub restore_words : Words
-restore_words = codes "restore" ∷ codes "out" ∷ codes "a" ∷ []
-
-abbrev pub scrub_words : Words
-scrub_words = codes "scrub" ∷ codes "start" ∷ codes "a" ∷ []
-
--- the shelf that has the image
-abbrev pub shelf : Shelf
-shelf name = if bytes_eq name (codes "a") then Some image else None
-
--- all that the clauses on restores ask for, of these words
+-- all that the clauses on restores ask for, of such a restore into `out`
 pub record MeetsRestores : Type 0 where
-  pub asked : RestoresFrom restore_words shelf plan (codes "out") images
   pub begun : start_of images ≡ Ok start
   pub honest : IsHonest committed_blocks images (layout_by start table)
   pub closed : IsClosed plan (codes "out") images start committed_blocks table
@@ -219,6 +203,5 @@ pub record MeetsRestores : Type 0 where
 
 -- and those on scrubs
 pub record MeetsScrubs : Type 0 where
-  pub asked : ScrubsFrom scrub_words shelf images
   pub opened : filesystem_of images ≡ Ok fs
   pub repairable : IsRepairable images (filesystem_as fs) committed_blocks

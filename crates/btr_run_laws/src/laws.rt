@@ -26,8 +26,8 @@ pub fn self_test_completes()
     ensures { SelfTestCompletes }
 {}
 
-/// A small volume, with the words of a restore and of a scrub, meets all that the clauses of `run`
-/// ask for: so none of them is empty.
+/// A small volume meets all that the clauses of `run` ask for of the images of a restore of all
+/// files, and of those of a scrub: so none of them is empty.
 pub fn example_meets()
     ensures restores { MeetsRestores }
     ensures scrubs { MeetsScrubs }
