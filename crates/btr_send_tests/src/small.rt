@@ -1,8 +1,11 @@
 // Sends of small volumes.
+use super::made::Lines;
 use super::memory::{NOTHING, counts, sent_from, small};
+use super::replay::replayed;
 use btr_make::RowVolume;
 use btr_volume::Stop;
 use btr_walk::TreeFault;
+use std::alloc::{AllocError, Global};
 use std::test::Fail;
 
 // The first bytes of a stream.
@@ -10,6 +13,22 @@ const HEADER: &[u8] = b"btrfs-stream\0\x01\0\0\0";
 
 // The last ones: its last command, without attributes.
 const END: [u8; 10] = [0, 0, 0, 0, 21, 0, 0x50, 0x6C, 0xC9, 0x9D];
+
+// The five files of the small volumes.
+fn five_files(alloc: Global) -> Result<Lines, AllocError> {
+    let mut last = Vec::new(alloc);
+    last.extend_from_slice(&[0x41; 4096])?;
+    last.extend_from_slice(&[0; 4096])?;
+    last.extend_from_slice(&[0x42; 1808])?;
+    let mut lines = Lines::new(alloc);
+    lines.subvolume(b"v", &[0; 16], &[0; 8])?;
+    lines.file(b"e", b"")?;
+    lines.file(b"i", b"x")?;
+    lines.file(b"h1", b"hello")?;
+    lines.file(b"h2", b"hello")?;
+    lines.file(b"a", last.as_slice())?;
+    Ok(lines)
+}
 
 #[test]
 fn a_whole_volume(rt: HostRuntime) -> Result<(), Fail> {
@@ -21,6 +40,8 @@ fn a_whole_volume(rt: HostRuntime) -> Result<(), Fail> {
     assert_eq!(rt; (all.rows, all.whole.len(), all.part.len()), (2, 6360, 0));
     assert!(rt; all.whole.starts_with(HEADER));
     assert!(rt; all.whole.ends_with(&END));
+    let lines = five_files(rt.alloc())?;
+    assert!(rt; replayed(rt.alloc(), all.whole.as_slice())?.as_slice() == lines.as_slice());
     Ok(())
 }
 
