@@ -20,14 +20,14 @@ const ALL: [&str; 3] = ["restore", "out", "a"];
 
 // What is written over, and the block that has its checksum made right.
 #[derive(Clone, Copy)]
-struct Edit {
+pub(crate) struct Edit {
     at: u64,
     bytes: &'static [u8],
     block: u64,
 }
 
 // The small volume with one image, edited.
-fn edited(alloc: Global, edit: &Edit) -> Result<MemRack, CallFault> {
+pub(crate) fn edited(alloc: Global, edit: &Edit) -> Result<MemRack, CallFault> {
     let mut rack = row(alloc, RowVolume::V1)?;
     rack.poke("a", edit.at, edit.bytes)?;
     let len = if edit.block == SUPER { 4096 } else { 16384 };
@@ -36,7 +36,7 @@ fn edited(alloc: Global, edit: &Edit) -> Result<MemRack, CallFault> {
 }
 
 // An edit, the text, the exit status, and the rows that stand there then.
-const DAMAGED: &[(Edit, &[u8], u8, &[u8])] = &[
+pub(crate) const DAMAGED: &[(Edit, &[u8], u8, &[u8])] = &[
     (
         Edit {
             at: FILES + 96,
@@ -132,7 +132,7 @@ const FOUR: &[u8] = b"out\ne \ni x\nh1 hello\nh2 hello\n";
 
 // What is written over in the leaf of the files, and the line that is put.
 // The last entry is that of `a`: its DIR_INDEX stands at 2162202, its inode at 2161468, its first extent at 2161404.
-const LEFT_OUT: &[(u64, &[u8], &[u8])] = &[
+pub(crate) const LEFT_OUT: &[(u64, &[u8], &[u8])] = &[
     (2162202, &[44, 1], b"skip missing /a\n"),
     (2162231, &[7], b"skip symlink /a\n"),
     (2162231, &[3], b"skip special /a\n"),
@@ -143,7 +143,7 @@ const LEFT_OUT: &[(u64, &[u8], &[u8])] = &[
 ];
 
 // The small volume with one image, in whose leaf of the files bytes are written over.
-fn in_leaf(alloc: Global, at: u64, bytes: &'static [u8]) -> Result<MemRack, CallFault> {
+pub(crate) fn in_leaf(alloc: Global, at: u64, bytes: &'static [u8]) -> Result<MemRack, CallFault> {
     edited(
         alloc,
         &Edit {

@@ -4,6 +4,10 @@
 #[cfg(test)]
 mod copying;
 #[cfg(test)]
+mod damaged;
+#[cfg(test)]
+mod failing;
+#[cfg(test)]
 mod hostile;
 #[cfg(test)]
 mod restoring;
