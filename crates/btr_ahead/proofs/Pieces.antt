@@ -34,7 +34,7 @@ piece_bytes images kept place is lies =
     ∙ ap (λ (xs : List ℕ). slice_range xs from (from + place.len)) (sym is)
     ∙ range-front kept.bytes kept.place.len from (from + place.len) (omega arith) inner
 
--- .. and so are read, where the images are told
+-- a piece of what is kept has the bytes that were read at its place, where the images are told
 pub piece_read : (held : Option (List (List ℕ))) (kept : KeptBytes) (place : Place) → AreRead held kept → LiesIn place kept.place → AreBytesOf held place.slot place.off place.len (piece_of kept place)
 piece_read None kept place read lies = tt
 piece_read (Some images) kept place read lies = sym (piece_bytes images kept place read lies)

@@ -26,11 +26,12 @@ part_read (Some candidate) = None
 abbrev pub first_part : Target → Option Part
 first_part t = part_read (slice_get (candidates t) 0)
 
+-- where a part of what is sought stands, if there is one
 abbrev pub range_of_part : Target → Option Part → Option Place
 range_of_part t None = None
 range_of_part t (Some part) = range_of t part
 
--- .. and where it stands
+-- where the bytes stand that are read first of what is sought, if the first candidate reads a part as it stands
 abbrev pub first_range : Result Target Fault → Option Place
 first_range (Err fault) = None
 first_range (Ok t) = range_of_part t (first_part t)
@@ -39,7 +40,8 @@ first_range (Ok t) = range_of_part t (first_part t)
 abbrev pub first_place : Layout → ℕ → Option Place
 first_place layout addr = first_range (sought layout (Plain addr))
 
--- this is the place of the bytes that are sought first for the sector at an address: where they pass by a checksum, the sector comes to them
+-- this is the place of the bytes that are sought first for the sector at an address: where they
+-- pass by a checksum, the sector comes to them
 abbrev pub IsFirstPlace : Layout → ℕ → Place → Type 0
 IsFirstPlace layout addr place =
     (images : List (List ℕ)) (sum : Sum) → let bytes = bytes_of images place.slot place.off place.len in
@@ -55,7 +57,7 @@ pub record IsInSlot (slots : List Slot) (place : Place) : Type 0 where
 abbrev pub AreRead : Option (List (List ℕ)) → KeptBytes → Type 0
 AreRead held kept = AreBytesOf held kept.place.slot kept.place.off kept.place.len (take kept.place.len kept.bytes)
 
--- .. and so are those that were read ahead
+-- the bytes that were read ahead are those of their place, where the images are told
 abbrev pub IsAhead : Option (List (List ℕ)) → DataAhead → Type 0
 IsAhead held ahead = AreRead held ahead.kept
 

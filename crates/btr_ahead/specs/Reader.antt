@@ -12,6 +12,7 @@ pub record Reader (R : Type 0) : Type 0 where
   pub rack : R
   pub account : Account
 
+-- a reader that reads ahead: the rack below, and its own account of failed calls
 abbrev pub reader : {R : Type 0} → R → Account → Reader R
 reader rack account = record { rack = rack; account = account }
 
@@ -23,7 +24,7 @@ KeepsRead held kept = IfSome kept (λ b. AreRead held b.value)
 abbrev pub seen_ahead : Seen → Account → Seen
 seen_ahead below account = record below { sure = false; account = account }
 
--- .. which is that of a rack
+-- what is seen of a reader that reads ahead is what is seen of a rack
 pub sound_ahead : (below : Seen) → IsRack below → (account : Account) → IsRack (seen_ahead below account)
 sound_ahead below is account = record { sized = is.sized; bytes = is.bytes; calm = λ e. cc }
 
@@ -35,7 +36,8 @@ FailsFrom place len old new = Accounts {T = Unit {0}} (range_in place.slot place
 abbrev pub MayFailAhead : Place → Account → Account → Type 0
 MayFailAhead place old new = NoneFailed old new ⊎ ((place.len ≡ 4096) × ((len : ℕ) × (4096 < len) × FailsFrom place len old new))
 
--- What a read does to the account of the rack below: a read ahead may have failed, and then it is as the answer says. So what failed wasn't tried again.
+-- What a read does to the account of the rack below: a read ahead may have failed, and then it is as the
+-- answer says. So what failed wasn't tried again.
 pub record AccountsAhead {T : Type 0} (place : Place) (old new : Account) (result : Result T RackError) : Type 0 where
   pub between : Account
   pub ahead : MayFailAhead place old between

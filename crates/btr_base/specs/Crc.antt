@@ -2,7 +2,8 @@
 use Rattle.std.specs.Prelude.{ℕ, zero, suc, ◌*◌, ◌-◌, ◌^◌, ◌/◌, ◌%◌, ◌==◌, Bool, List, ◌++◌, length, bit_xor, if◌then◌else◌}
 use Rattle.btr_base.specs.Poly.{plus, zeros, bits, number, message, remainder}
 
--- x^32 + this polynomial is the generator. 82F63B78h is 1EDC6F41h with its bits reversed, so that bit 0 has the degree 31.
+-- x^32 + this polynomial is the generator. 82F63B78h is 1EDC6F41h with its bits
+-- reversed, so that bit 0 has the degree 31.
 unfoldable pub generator : List Bool
 generator = bits 32 0x82F63B78
 

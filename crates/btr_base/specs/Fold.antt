@@ -1,8 +1,9 @@
 -- How the register of a long piece is computed: most of its bytes are dropped, and sent ahead.
 --
--- x^561 + x^300 + x^214 + x^198 + x^154 + 1 is a multiple of the generator, and so is the same polynomial in x^8. So a byte may
--- be dropped where it is added to the bytes that stand 261, 347, 363, 407 and 561 places behind it. By x^176 + x^144 + x^46 + x^26
--- + x^18 + x^13 + x^4 + 1, another multiple, those are 32, 130, 150, 158, 163, 172 and 176 places behind it.
+-- x^561 + x^300 + x^214 + x^198 + x^154 + 1 is a multiple of the generator, and so is the same polynomial in
+-- x^8. So a byte may be dropped where it is added to the bytes that stand 261, 347, 363, 407 and 561 places
+-- behind it. By x^176 + x^144 + x^46 + x^26 + x^18 + x^13 + x^4 + 1, another multiple, those are 32, 130,
+-- 150, 158, 163, 172 and 176 places behind it.
 use Rattle.std.specs.Prelude.{ℕ, zero, suc, ◌+◌, List, [], ◌∷◌, length, slice_index, bit_xor}
 use Rattle.btr_base.specs.Crc.{shifted_by}
 
@@ -24,8 +25,8 @@ unfoldable pub gathered : List ℕ → (ℕ → ℕ) → ℕ → ℕ
 gathered [] number j = 0
 gathered (e ∷ es) number j = bit_xor (number (j + e)) (gathered es number j)
 
--- what was sent to a place by the multiple with these exponents, where the list has the dropped bytes, from as many places before
--- the place 0 on as its highest exponent says
+-- what was sent to a place by the multiple with these exponents, where the list has the dropped bytes, from as many
+-- places before the place 0 on as its highest exponent says
 abbrev pub sent : List ℕ → List ℕ → ℕ → ℕ
 sent es dropped j = gathered es (slice_index dropped) j
 

@@ -4,19 +4,23 @@ use Rattle.std.specs.List.{range_with_len}
 use Rattle.std.specs.Int.{w64, rotate_left}
 use Rattle.btr_base.specs.Field.{number_at}
 
--- its five constants
+-- its first constant
 abbrev pub prime_1 : ℕ
 prime_1 = 0x9E3779B185EBCA87
 
+-- its second constant
 abbrev pub prime_2 : ℕ
 prime_2 = 0xC2B2AE3D27D4EB4F
 
+-- its third constant
 abbrev pub prime_3 : ℕ
 prime_3 = 0x165667B19E3779F9
 
+-- its fourth constant
 abbrev pub prime_4 : ℕ
 prime_4 = 0x85EBCA77C2B2AE63
 
+-- its fifth constant
 abbrev pub prime_5 : ℕ
 prime_5 = 0x27D4EB2F165667C5
 
@@ -44,16 +48,19 @@ numbers_every step off bytes = map (λ t. number_at 8 (step * t + off) bytes) (r
 unfoldable pub lane : ℕ → ℕ → List ℕ → ℕ
 lane start off bytes = fold rounded start (numbers_every 32 off bytes)
 
--- the four lanes
+-- the first lane
 abbrev pub lane_0 : List ℕ → ℕ
 lane_0 bytes = lane (added prime_1 prime_2) 0 bytes
 
+-- the second lane
 abbrev pub lane_1 : List ℕ → ℕ
 lane_1 bytes = lane prime_2 8 bytes
 
+-- the third lane
 abbrev pub lane_2 : List ℕ → ℕ
 lane_2 bytes = lane 0 16 bytes
 
+-- the fourth lane
 abbrev pub lane_3 : List ℕ → ℕ
 lane_3 bytes = lane (2 ^ 64 - prime_1) 24 bytes
 

@@ -34,5 +34,6 @@ objectid_of turn (Some (Leaf items)) = option_map_or (λ item. item.key.objectid
 objectid_of turn (Some (Inner pointers)) = 0
 objectid_of turn None = 0
 
+-- the objectid that a lookup in a block finds in one turn
 abbrev pub objectid_in_turn : ℕ → List ℕ → ℕ
 objectid_in_turn turn block = objectid_of turn (node_of block)

@@ -35,8 +35,8 @@ place_of _ turn size = turn % size
 abbrev pub flipped : List ℕ → ℕ → List ℕ
 flipped piece at = slice_set piece at (bit_xor (slice_index piece at) 1)
 
--- what a kernel keeps after a turn: the sum with the piece; the sum of the double and the piece; the first of two slices
--- whose P it kept and whose Q is the piece; the slice whose Q it kept; or what it kept before
+-- what a kernel keeps after a turn: the sum with the piece; the sum of the double and the piece; the first of two
+-- slices whose P it kept and whose Q is the piece; the slice whose Q it kept; or what it kept before
 abbrev pub Keeps : Kernel → ℕ → List ℕ → List ℕ → List ℕ → Type 0
 Keeps P turn piece old new = new ≡ plus old piece
 Keeps Q turn piece old new = new ≡ plus (scaled 2 old) piece

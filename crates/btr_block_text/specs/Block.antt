@@ -17,9 +17,11 @@ counts_text header =
     codes " items " ++ decimal header.items ++ codes " generation " ++ decimal header.generation
     ++ codes " owner " ++ decimal header.owner ++ codes "\n"
 
+-- the line of a leaf at an address
 abbrev pub leaf_line : ℕ → Header → List ℕ
 leaf_line addr header = codes "leaf " ++ decimal addr ++ counts_text header
 
+-- the line of an inner node at an address
 abbrev pub node_line : ℕ → Header → List ℕ
 node_line addr header = codes "node " ++ decimal addr ++ codes " level " ++ decimal header.level ++ counts_text header
 

@@ -1,4 +1,5 @@
--- The lines of a CHUNK_ITEM, whose body is only known to be as long as its stripes need. Each line stands behind two tabs.
+-- The lines of a CHUNK_ITEM, whose body is only known to be as long as its
+-- stripes need. Each line stands behind two tabs.
 -- The format is described at https://btrfs.readthedocs.io/en/latest/dev/On-disk-format.html
 use Rattle.std.specs.Prelude.{ℕ, ◌+◌, ◌*◌, List, ◌++◌, codes}
 use Rattle.std.specs.Fmt.{decimal}
@@ -6,6 +7,7 @@ use Rattle.std.specs.List.{flat_map, range_with_len}
 use Rattle.btr_base.specs.Field.{number_at, bytes_at}
 use Rattle.btr_text.specs.Pieces.{hex_text, id_text}
 
+-- the line of a chunk, without its stripes
 unfoldable pub chunk_line : List ℕ → List ℕ
 chunk_line body =
     codes "\t\tlength " ++ decimal (number_at 8 0 body) ++ codes " owner " ++ decimal (number_at 8 8 body)

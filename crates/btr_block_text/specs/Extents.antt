@@ -17,11 +17,13 @@ use Rattle.btr_block_text.specs.Read.{of_read, of_parts}
 abbrev pub tree_line : List ℕ → ℕ → List ℕ
 tree_line words id = words ++ decimal id ++ codes "\n"
 
+-- the line of a data reference of a file: its root, inode, offset and count
 abbrev pub file_line : ℕ → ℕ → ℕ → ℕ → List ℕ
 file_line root objectid offset count =
     codes "\t\tfile ref root " ++ decimal root ++ codes " objectid " ++ decimal objectid ++ codes " offset " ++ decimal offset
     ++ codes " count " ++ decimal count ++ codes "\n"
 
+-- the line of a data reference of a leaf: its address and count
 abbrev pub shared_file_line : ℕ → ℕ → List ℕ
 shared_file_line parent count = codes "\t\tshared file ref parent " ++ decimal parent ++ codes " count " ++ decimal count ++ codes "\n"
 
@@ -32,12 +34,15 @@ link_line (File root objectid offset) count = file_line root objectid offset cou
 link_line (SharedTree parent) count = tree_line (codes "\t\tshared tree ref parent ") parent
 link_line (SharedFile parent) count = shared_file_line parent count
 
+-- the line of a reference that stands in an extent's item
 abbrev pub inline_ref_line : List ℕ → InlineRef → List ℕ
 inline_ref_line body found = link_line found.link found.count
 
+-- the line of a reference that has an item of its own
 abbrev pub loose_ref_line : LooseRef → List ℕ
 loose_ref_line found = link_line found.link found.count
 
+-- the line of the first key and level of a tree block
 abbrev pub block_line : Key → ℕ → List ℕ
 block_line key level = codes "\t\tblock key " ++ key_text key ++ codes " level " ++ decimal level ++ codes "\n"
 
@@ -47,6 +52,7 @@ tree_block_line None level = []
 tree_block_line (Some key) None = []
 tree_block_line (Some key) (Some level) = block_line key level
 
+-- the line of an extent: its references, generation and flags
 abbrev pub extent_line : ExtentItem → List ℕ
 extent_line extent =
     codes "\t\trefs " ++ decimal extent.refs ++ codes " generation " ++ decimal extent.generation

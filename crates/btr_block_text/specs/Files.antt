@@ -15,6 +15,7 @@ use Rattle.btr_items.specs.declared.shape.Shape.TheVariants.{Inline, Regular, Pr
 use Rattle.btr_text.specs.Pieces.{hex_text, octal_text, key_text, name_text}
 use Rattle.btr_block_text.specs.Read.{of_read}
 
+-- the line of an inode
 abbrev pub inode_line : Inode → List ℕ
 inode_line inode =
     codes "\t\tsize " ++ decimal inode.size ++ codes " nlink " ++ decimal inode.nlink ++ codes " mode " ++ octal_text inode.mode
@@ -24,13 +25,16 @@ inode_line inode =
 abbrev pub named : List ℕ → ℕ → ℕ → List ℕ
 named body at len = codes " namelen " ++ decimal len ++ codes " name " ++ name_text (bytes_at len at body) ++ codes "\n"
 
+-- the line of a name in an INODE_REF
 abbrev pub inode_ref_line : List ℕ → InodeRef → List ℕ
 inode_ref_line body found = codes "\t\tindex " ++ decimal found.index ++ named body found.name_at found.name_len
 
+-- the line of a name in an INODE_EXTREF
 abbrev pub ext_ref_line : List ℕ → ExtRef → List ℕ
 ext_ref_line body found =
     codes "\t\tparent " ++ decimal found.parent ++ codes " index " ++ decimal found.index ++ named body found.name_at found.name_len
 
+-- the line of an entry of a directory
 abbrev pub entry_line : List ℕ → Entry → List ℕ
 entry_line body entry =
     codes "\t\tlocation " ++ key_text entry.location ++ codes " kind " ++ decimal entry.kind
@@ -48,18 +52,22 @@ shape_text (Inline len) = codes " inline bytes " ++ decimal len
 shape_text (Regular addr disk_len skip len) = disk_text (codes " regular disk ") addr disk_len skip len
 shape_text (Prealloc addr disk_len skip len) = disk_text (codes " prealloc disk ") addr disk_len skip len
 
+-- the end of the line of a file extent: its full size and its compression
 abbrev pub range_end : FileExtent → List ℕ
 range_end extent = codes " ram " ++ decimal extent.ram ++ codes " compression " ++ decimal extent.compression ++ codes "\n"
 
+-- the line of a file extent
 abbrev pub file_extent_line : FileExtent → List ℕ
 file_extent_line extent = codes "\t\tgeneration " ++ decimal extent.generation ++ shape_text extent.shape ++ range_end extent
 
--- the lines of an INODE_ITEM, of a DIR_INDEX, and of an EXTENT_DATA whose key has an offset
+-- the line of an INODE_ITEM, if its body has the form of one
 abbrev pub inode_text : List ℕ → List ℕ
 inode_text body = of_read inode_line (inode_of body)
 
+-- the line of a DIR_INDEX, if its body has the form of one
 abbrev pub index_text : List ℕ → List ℕ
 index_text body = of_read (entry_line body) (index_entry_of body)
 
+-- the line of an EXTENT_DATA whose key has an offset, if its body has the form of one
 abbrev pub file_extent_text : ℕ → List ℕ → List ℕ
 file_extent_text offset body = of_read file_extent_line (file_extent_of offset body)

@@ -50,6 +50,7 @@ pending tree =
     else if (tree.refs == 0) && is_file_tree tree.id then Some (Deletion tree.id)
     else None
 
+-- a tree of this id is missing
 abbrev pub missing_if : ℕ → Option TreeRoot → List Stop
 missing_if id None = NoTree id ∷ []
 missing_if id (Some tree) = []
@@ -74,15 +75,16 @@ OfList Memory = ⊥
 abbrev pub root_faults : Filesystem → List BlockFault
 root_faults fs = filter_map (wrong (kind_of_sums fs)) (whole fs.blocks (root_tree fs.sup).place)
 
--- all reasons, in their order: a block of the root tree has a fault, or an item of it hasn't its form; a balance is pending, or a
--- tree is being deleted; there is no extent tree, or no device tree
+-- all reasons, in their order: a block of the root tree has a fault, or an item of it hasn't its form; a balance is
+-- pending, or a tree is being deleted; there is no extent tree, or no device tree
 abbrev pub refusals : Filesystem → List Stop
 refusals fs = map fault_stop (root_faults fs) ++ list_refusals (listed fs.sup fs.blocks)
 
--- the first one
+-- the first of a list, if it has any
 abbrev pub first_of : {X : Type 0} → List X → Option X
 first_of [] = None
 first_of (x ∷ xs) = Some x
 
+-- why a filesystem isn't checked: the first reason, if there is any
 abbrev pub refusal : Filesystem → Option Stop
 refusal fs = first_of (refusals fs)

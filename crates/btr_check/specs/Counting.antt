@@ -37,6 +37,7 @@ module _ (B : Map) where
   abbrev pub AreThere : List Reached → Type 0
   AreThere blocks = AllByRecursion (λ (one : Reached). IsBlock B one.place one.block) blocks
 
+  -- where some blocks stand
   abbrev pub places_of : List Reached → List RootPlace
   places_of blocks = map (λ (one : Reached). one.place) blocks
 
@@ -52,6 +53,7 @@ module _ (B : Map) where
       (blocks : List Reached) → places ≡ places_of blocks → AreThere blocks
       → (extents : List Extent) → IsFull extents full → Unless (λ u. new ≡ fold with_use old (flat_map (uses_of extents) blocks)) result
 
+  -- what the roots of some trees and all blocks at these places use is counted, or the count stopped
   abbrev pub UsesCount : List TreeRoot → List RootPlace → BTreeSet ℕ → Result Uses Stop → Type 0
   UsesCount trees places full result =
       (blocks : List Reached) → places ≡ places_of blocks → AreThere blocks

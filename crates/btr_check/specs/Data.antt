@@ -21,7 +21,8 @@ use Rattle.btr_sums.specs.Sums.{summed}
 use Rattle.btr_check.specs.Filesystem.{Filesystem, kind_of_sums, tree_items}
 use Rattle.btr_check.specs.Trees.{tree_of}
 
--- the bytes of a sector: its checksum is looked up, and then it is wanted by that, or without a test where there is none
+-- the bytes of a sector: its checksum is looked up, and then it is wanted by
+-- that, or without a test where there is none
 abbrev pub sector_bytes : SumKind → Option TreeRoot → ℕ → Lookup (List ℕ)
 sector_bytes kind sums sector = bind (sum_at kind sums sector) (λ sum. Need (want_by sector sum) Return)
 
@@ -38,6 +39,7 @@ module _ (fs : Filesystem) where
   abbrev pub sum_runs : List SumRun
   sum_runs = runs_in (kind_of_sums fs) (tree_items fs 7)
 
+  -- 31: which sectors that have a checksum aren't readable
   abbrev pub data_findings : List Finding
   data_findings = filter_map (data_lost (tree_of fs.sup fs.blocks 7)) (summed sum_runs)
 

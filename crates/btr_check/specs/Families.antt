@@ -25,13 +25,15 @@ abbrev pub group_tree : List TreeRoot → Option TreeRoot
 group_tree trees = or_first (last_of 11 trees) (last_of 2 trees)
 
 module _ (fs : Filesystem) where
-  -- block groups, device extents and devices
+  -- the block groups of a filesystem
   abbrev pub groups : List Group
   groups = groups_in (items_if fs.blocks (group_tree (listed fs.sup fs.blocks)))
 
+  -- the device extents of a filesystem
   abbrev pub device_extents : List DeviceExtent
   device_extents = device_extents_in (tree_items fs 4)
 
+  -- the devices of a filesystem
   abbrev pub devices : List StatedDevice
   devices = devices_in (chunk_items fs)
 

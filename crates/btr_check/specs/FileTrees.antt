@@ -20,10 +20,11 @@ use Rattle.btr_walk.specs.Reading.{Map}
 use Rattle.btr_check.specs.Trees.{items_in}
 use Rattle.btr_check.specs.declared.file_tree.FileTree.{FileTree}
 
--- what is kept of a tree: what of its names has not met its counterpart yet, and the sectors that its files use
+-- what is kept of a tree of files before its first item
 abbrev pub nothing_met : ℕ → FileTree
 nothing_met dirid = record { names = nothing_unpaired dirid; uses = record { loose = []; used = [] } }
 
+-- what of a tree's names has not met its counterpart yet, and the sectors that its files use, after one more mark
 abbrev pub file_step : FileTree → Mark → FileTree
 file_step met mark = record { names = unpaired_step met.names mark; uses = uses_step met.uses mark }
 

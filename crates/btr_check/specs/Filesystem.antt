@@ -39,16 +39,19 @@ abbrev pub neighbours : {X : Type 0} → List X → List (X × X)
 neighbours list = zip list (drop 1 list)
 
 module _ (fs : Filesystem) where
+  -- the kind of the checksums of a filesystem
   abbrev pub kind_of_sums : SumKind
   kind_of_sums = kind_in fs.sup
 
-  -- the items of the root tree, of the chunk tree, and of the tree of another id
+  -- the items of the root tree
   abbrev pub root_items : List TreeItem
   root_items = items_in fs.blocks (root_tree fs.sup)
 
+  -- the items of the chunk tree
   abbrev pub chunk_items : List TreeItem
   chunk_items = items_in fs.blocks (chunk_tree fs.sup)
 
+  -- the items of the tree of an id
   abbrev pub tree_items : ℕ → List TreeItem
   tree_items id = items_of fs.sup fs.blocks id
 

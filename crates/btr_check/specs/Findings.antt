@@ -21,6 +21,7 @@ abbrev pub or_rules : List Finding → List Finding → List Finding
 or_rules [] rules = rules
 or_rules (finding ∷ findings) rules = finding ∷ findings
 
+-- all that is wrong with a filesystem: its trees first, and what the rules find where the trees are sound
 abbrev pub all_findings : Bool → Filesystem → List Finding
 all_findings read_data fs = or_rules (walk_findings fs) (rule_findings read_data fs)
 

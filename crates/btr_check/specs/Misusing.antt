@@ -16,16 +16,19 @@ module _ (nodesize : ℕ) (extent : Extent) (one : Finding) where
   abbrev pub is_by : ℕ → Used → Bool
   is_by addr what = (addr == extent.addr) && is_one_of (misused nodesize extent what) one
 
+  -- a finding is one by a use of the extent as a tree block
   abbrev pub is_by_block : BlockUse → Bool
   is_by_block block = is_by block.addr (TreeBlock block.level)
 
+  -- a finding is one by a use of the extent as data
   abbrev pub is_by_data : DataUse → Bool
   is_by_data data_use = is_by data_use.addr (Data data_use.len)
 
--- a finding of an extent is by one of some uses
+-- a finding of an extent is by one of some uses as tree blocks
 abbrev pub by_blocks : ℕ → Extent → List BlockUse → Finding → Bool
 by_blocks nodesize extent blocks one = list_any (is_by_block nodesize extent one) blocks
 
+-- a finding of an extent is by one of some uses as data
 abbrev pub by_data : ℕ → Extent → List DataUse → Finding → Bool
 by_data nodesize extent uses one = list_any (is_by_data nodesize extent one) uses
 
@@ -33,11 +36,12 @@ by_data nodesize extent uses one = list_any (is_by_data nodesize extent one) use
 abbrev pub misused_of : ℕ → List Extent → List Use → List Finding
 misused_of nodesize extents uses = flat_map (extent_findings nodesize uses) extents
 
--- some uses are all those of the extent at an address, and maybe others
+-- some uses are all those as tree blocks of the extent at an address, and maybe others
 abbrev pub HasBlocksAt : ℕ → List BlockUse → List BlockUse → Type 0
 HasBlocksAt addr some all = (p : BlockUse → Bool) → list_any (λ block. (block.addr == addr) && p block) some ≡ list_any
     (λ block. (block.addr == addr) && p block) all
 
+-- some uses are all those as data of the extent at an address, and maybe others
 abbrev pub HasDataAt : ℕ → List DataUse → List DataUse → Type 0
 HasDataAt addr some all = (p : DataUse → Bool) → list_any (λ one. (one.addr == addr) && p one) some ≡ list_any (λ one. (one.addr == addr) && p one) all
 

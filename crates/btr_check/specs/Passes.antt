@@ -65,7 +65,8 @@ pub record IsWalked (listed_trees all_trees : List TreeRoot) (walk : WalkSeen) (
   pub walked : IsWalkOf fs all_trees walk
   pub sound : walk_findings fs ≡ []
 
--- where something is known of a filesystem, some findings were put into a set, unless a block could not be read or there was no memory
+-- where something is known of a filesystem, some findings were put into a set, unless a
+-- block could not be read or there was no memory
 abbrev pub Puts : (Filesystem → Type 0) → (Filesystem → List Finding) → FoundSet → FoundSet → Result (Unit {0}) Stop → Filesystem → Type 0
 Puts Known found old new result fs = Known fs → Unless (λ u. Adds (found fs) old new) result
 

@@ -47,16 +47,20 @@ edges_of (range ∷ ranges) = joined (edge_of (Some range)) (edges_of ranges)
 abbrev pub Known : Type 0
 Known = List (Place × Subtree)
 
+-- where a block of a level at a spot stands
 abbrev pub place_at : ℕ → Spot → Place
 place_at level spot = record { addr = spot.addr; generation = spot.generation; level = level }
 
+-- what is kept of the subtree at a spot with these edges: its bounds and the edges
 abbrev pub subtree_with : Spot → Option Edges → Subtree
 subtree_with spot edges = record { first = spot.first; up = spot.up; edges = edges }
 
+-- what is kept, with the subtree of a level at a spot in place of one that was kept there
 abbrev pub with_subtree : Known → ℕ → Spot → Option Edges → Known
 with_subtree known level spot edges =
     insert_entry place_cmp known (place_at level spot) (subtree_with spot edges)
 
+-- what is kept, with a subtree more if that is asked
 abbrev pub kept_if : Bool → Known → ℕ → Spot → Option Edges → Known
 kept_if true known level spot edges = with_subtree known level spot edges
 kept_if false known level spot edges = known
@@ -107,7 +111,7 @@ module _ (fs : Filesystem) where
   abbrev pub subtree_marks : ℕ → Spot → List Mark
   subtree_marks level spot = tour_at first_key last_key fs.blocks level spot
 
-  -- .. of children of a level, each behind its pointer in the node at an address
+  -- what a tour meets from children of a level downwards, each behind its pointer in the node at an address
   abbrev pub children_marks : ℕ → ℕ → List Spot → List Mark
   children_marks addr level spots =
       flat_map (child_tour first_key last_key (subtree_marks level) addr level) spots
@@ -125,6 +129,7 @@ module _ (fs : Filesystem) where
     pub edges_are : edges ≡ edges_of (ranges_met marks)
     pub knows : Knows new known
 
+  -- these marks were walked, so far as memory sufficed, where each subtree that was kept before can be passed
   abbrev pub Walks : List Mark → WalkSeen → WalkSeen → Known → Known
       → Result (Option Edges) Stop → Type 0
   Walks marks old new known known' (Ok edges) = Knows old known → Walked marks old new known' edges

@@ -19,6 +19,7 @@ pub record World : Type 0 where
   pub rack : Seen
   pub vol : Volume
 
+-- what is seen of a rack and a volume, made of both
 abbrev pub world : Seen → Volume → World
 world rack vol = record { rack = rack; vol = vol }
 
@@ -39,6 +40,7 @@ FaultUnread layout old new (Unmapped addr) = ⊤
 FaultUnread layout old new (Crosses addr) = ⊤
 FaultUnread layout old new (Malformed addr) = ⊤
 
+-- a stop that says that a block could not be read has its cause
 abbrev pub StopUnread : Layout → Seen → Seen → Stop → Type 0
 StopUnread layout old new (NoTree id) = ⊤
 StopUnread layout old new (Tree f) = FaultUnread layout old new f
@@ -50,6 +52,7 @@ StopUnread layout old new Sink = ⊤
 StopUnread layout old new Out = ⊤
 StopUnread layout old new Memory = ⊤
 
+-- an answer that says that a block could not be read has its cause
 abbrev pub UnreadCause : {A : Type 0} → Layout → Seen → Seen → Result A Stop → Type 0
 UnreadCause layout old new (Ok a) = ⊤
 UnreadCause layout old new (Err stop) = StopUnread layout old new stop
@@ -62,6 +65,7 @@ is_unread (Unmapped addr) = false
 is_unread (Crosses addr) = false
 is_unread (Malformed addr) = false
 
+-- a stop says that a block could not be read, or that there is no memory
 abbrev pub is_outside : Stop → Bool
 is_outside (NoTree id) = false
 is_outside (Tree f) = is_unread f
@@ -95,12 +99,13 @@ OfReading Sink = ⊥
 OfReading Out = ⊥
 OfReading Memory = ⊤
 
+-- an answer is none of the stops of a call that only reads blocks
 abbrev pub StopsReading : {A : Type 0} → Result A Stop → Type 0
 StopsReading (Ok a) = ⊤
 StopsReading (Err stop) = OfReading stop
 
--- A call that reads a volume: it only read, the volume can be read on, its fault has its cause, and so far as the calls were steady
--- P holds of the filesystem.
+-- A call that reads a volume: it only read, the volume can be read on, its fault has its cause, and so far as the
+-- calls were steady P holds of the filesystem.
 pub record Ran {A : Type 0} (P : Filesystem → Type 0) (x y : World) (answer : Result A Stop) : Type 0 where
   pub reads : OnlyReads x.rack y.rack
   pub volume : SameVolume x.vol y.vol

@@ -8,9 +8,11 @@ pub record Printed : Type 0 where
   pub word : List ℕ
   pub count : ℕ
 
+-- how a kind is printed, made of its word and its count
 abbrev pub printed : List ℕ → ℕ → Printed
 printed word count = record { word = word; count = count }
 
+-- the word of each kind, and how many of its numbers are printed
 unfoldable pub printed_of : ℕ → Printed
 printed_of kind =
     if kind == 1 then printed (codes "lost") 1
@@ -45,9 +47,11 @@ printed_of kind =
     else if kind == 30 then printed (codes "total-used") 2
     else printed (codes "data-lost") 1
 
+-- a number after a space
 abbrev pub number_text : ℕ → List ℕ
 number_text n = 32 ∷ decimal n
 
+-- numbers, each after a space
 abbrev pub numbers_text : List ℕ → List ℕ
 numbers_text numbers = flat_map number_text numbers
 

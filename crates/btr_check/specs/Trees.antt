@@ -19,10 +19,11 @@ use Rattle.btr_check.specs.declared.places.Place.{Place}
 use Rattle.btr_refs.specs.Forward.{Use, root_use, block_uses}
 use Rattle.btr_refs.specs.declared.extent.Extent.{Extent}
 
--- the root tree and the chunk tree, whose roots the superblock has
+-- the root tree, whose root the superblock has
 abbrev pub root_tree : Super → TreeRoot
 root_tree sup = named_root 1 (root_root sup)
 
+-- the chunk tree, whose root the superblock has
 abbrev pub chunk_tree : Super → TreeRoot
 chunk_tree sup = named_root 3 (chunk_root sup)
 
@@ -30,6 +31,7 @@ chunk_tree sup = named_root 3 (chunk_root sup)
 abbrev pub tree_in : Key → List ℕ → Option TreeRoot
 tree_in key body = if key.kind == root_item then option_map (described key) (result_ok (root_item_of body)) else None
 
+-- the tree that an item is a ROOT_ITEM of, if it is one
 abbrev pub tree_of_item : TreeItem → Option TreeRoot
 tree_of_item item = tree_in item.key item.body
 
@@ -60,16 +62,19 @@ module _ (sup : Super) (B : Map) where
   abbrev pub tree_of : ℕ → Option TreeRoot
   tree_of id = last_of id listed
 
+  -- the items of the tree of an id, or none where there is no such tree
   abbrev pub items_of : ℕ → List TreeItem
   items_of id = items_if B (tree_of id)
 
--- blocks are told apart by address, generation and level
+-- where a block stands, by which blocks are told apart
 abbrev pub place_of : RootPlace → Place
 place_of root = record { addr = root.addr; generation = root.generation; level = root.level }
 
+-- blocks are ordered by address, then generation, then level
 abbrev pub place_cmp : Place → Place → Ordering
 place_cmp a b = ordering_then (nat_cmp a.addr b.addr) (ordering_then (nat_cmp a.generation b.generation) (nat_cmp a.level b.level))
 
+-- a block stands at one of some places
 abbrev pub is_among : List Place → Place → Bool
 is_among places one = list_any (λ other. is_eq (place_cmp one other)) places
 

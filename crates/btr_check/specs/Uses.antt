@@ -12,30 +12,33 @@ use Rattle.btr_check.specs.Trees.{uses}
 use Rattle.btr_refs.specs.Differences.{count_findings, differences, total_findings}
 use Rattle.btr_check.specs.Filesystem.{Filesystem, extents, tree_items}
 
--- 9: a tree block is used as one, and data as data
+-- a use is as a tree block, or as data
 abbrev pub is_kind : Bool → Used → Bool
 is_kind true (TreeBlock level) = true
 is_kind true (Data len) = false
 is_kind false (TreeBlock level) = false
 is_kind false (Data len) = true
 
+-- 9: a tree block is used as one, and data as data
 abbrev pub extent_kind : Extent → Used → Option Finding
 extent_kind extent what = unless (is_kind (is_tree_block extent.flags) what) (found 9 (extent.addr ∷ extent.flags ∷ []))
 
--- 10: an extent is as long as a node, or as a file says
+-- how long a use says that an extent is: as long as a node, or as a file says
 abbrev pub used_len : ℕ → Used → ℕ
 used_len nodesize (TreeBlock level) = nodesize
 used_len nodesize (Data len) = len
 
+-- 10: an extent is as long as a node, or as a file says
 abbrev pub extent_length : ℕ → Extent → Used → Option Finding
 extent_length nodesize extent what = unless (extent.len == used_len nodesize what) (found 10 (extent.addr ∷ extent.len ∷ used_len nodesize what ∷ []))
 
--- 11: a tree block that states a level is used at it
+-- the finding that a tree block at an address states another level than it is used at
 abbrev pub level_differs : ℕ → Option ℕ → Used → Option Finding
 level_differs addr None what = None
 level_differs addr (Some level) (TreeBlock found_level) = unless (level == found_level) (found 11 (addr ∷ level ∷ found_level ∷ []))
 level_differs addr (Some level) (Data len) = None
 
+-- 11: a tree block that states a level is used at it
 abbrev pub extent_level : Extent → Used → Option Finding
 extent_level extent what = level_differs extent.addr extent.level what
 
@@ -52,6 +55,7 @@ misused_by nodesize extent one = if one.addr == extent.addr then misused nodesiz
 abbrev pub extent_findings : ℕ → List Use → Extent → List Finding
 extent_findings nodesize uses extent = flat_map (misused_by nodesize extent) uses
 
+-- all uses of a filesystem, tree by tree
 abbrev pub all_uses : Filesystem → List Use
 all_uses fs = uses fs.sup fs.blocks (extents fs)
 
@@ -59,20 +63,23 @@ all_uses fs = uses fs.sup fs.blocks (extents fs)
 abbrev pub counts_of : List Counted → RefCounts
 counts_of refs = counted_all [] refs
 
--- how often each reference is counted, and how often it is stored
+-- how often each reference is counted among all uses
 abbrev pub counted_refs : Filesystem → RefCounts
 counted_refs fs = counts_of (map met (all_uses fs))
 
+-- how often each reference is stored in the extent tree
 abbrev pub stored_refs : Filesystem → RefCounts
 stored_refs fs = counts_of (stored_in (tree_items fs 2))
 
--- 7, 8: the uses that are counted and the references that are stored differ
+-- 7: a reference is counted another number of times than it is stored
 abbrev pub found_on_counts : Filesystem → List Finding
 found_on_counts fs = count_findings (counted_refs fs) (stored_refs fs)
 
+-- 8: an extent states another number of references than are stored
 abbrev pub found_on_totals : Filesystem → List Finding
 found_on_totals fs = total_findings (extents fs) (stored_refs fs)
 
+-- 7, 8: where the uses that are counted and the references that are stored differ
 abbrev pub difference_findings : Filesystem → List Finding
 difference_findings fs = differences (counted_refs fs) (extents fs) (stored_refs fs)
 

@@ -30,12 +30,14 @@ pub record RootSeen : Type 0 where
   pub wrong : Option BlockFault
   pub trees : List TreeRoot
 
+-- the tree that a mark of the root tree is an item of, if it is one
 abbrev pub trees_at : Mark → List TreeRoot
 trees_at (Block place block) = []
 trees_at (Child addr place) = []
 trees_at (Item item) = option_to_list (tree_of_item item)
 trees_at (Left fault) = []
 
+-- what is kept of the root tree before its first mark
 abbrev pub nothing_seen : SumKind → RootSeen
 nothing_seen kind = record { kind = kind; wrong = None; trees = [] }
 
@@ -43,6 +45,7 @@ nothing_seen kind = record { kind = kind; wrong = None; trees = [] }
 abbrev pub EndsWith : RootSeen → Result (Vec TreeRoot Global) BlockFault → Type 0
 EndsWith seen result = MatchResult result (λ trees. (seen.wrong ≡ None) × (trees.items ≡ seen.trees)) (λ fault. seen.wrong ≡ Some fault)
 
+-- what is kept of the root tree after one more mark
 abbrev pub root_step : RootSeen → Mark → RootSeen
 root_step seen mark = record { kind = seen.kind; wrong = or_first seen.wrong (wrong seen.kind mark); trees = seen.trees ++ trees_at mark }
 
@@ -51,16 +54,18 @@ pub record Places : Type 0 where
   pub keys : List Place
   pub list : List RootPlace
 
+-- no blocks were met yet
 abbrev pub no_places : Places
 no_places = record { keys = []; list = [] }
 
+-- the blocks that were met with one more, each once
 abbrev pub with_place : Places → RootPlace → Places
 with_place places place =
     if is_among places.keys (place_of place) then places
     else record { keys = insert_key place_cmp places.keys (place_of place); list = places.list ++ place ∷ [] }
 
--- what is kept of trees: what is broken in them, the ranges of files that aren't apart, the last range of the tree that is walked,
--- and the blocks that were met
+-- what is kept of trees: what is broken in them, the ranges of files that aren't apart, the last range of the tree
+-- that is walked, and the blocks that were met
 pub record WalkSeen : Type 0 where
   pub kind : SumKind
   pub broken : List Finding
@@ -68,6 +73,7 @@ pub record WalkSeen : Type 0 where
   pub last : Option FileRange
   pub places : Places
 
+-- what is kept of trees before the first mark
 abbrev pub nothing_walked : SumKind → WalkSeen
 nothing_walked kind = record { kind = kind; broken = []; overlapping = []; last = None; places = no_places }
 
@@ -82,22 +88,26 @@ behind_last None range = []
 behind_last (Some last) None = []
 behind_last (Some last) (Some range) = option_to_list (not_apart (last, range))
 
+-- the last range of a file, or the one before where a mark has none
 abbrev pub or_last : Option FileRange → Option FileRange → Option FileRange
 or_last last None = last
 or_last last (Some range) = Some range
 
+-- the blocks that were met after one more mark
 abbrev pub place_met : Places → Mark → Places
 place_met places (Block place block) = with_place places place
 place_met places (Child addr place) = places
 place_met places (Item item) = places
 place_met places (Left fault) = places
 
+-- the range of a file that a mark has, if it has one
 abbrev pub range_at : Mark → Option FileRange
 range_at (Block place block) = None
 range_at (Child addr place) = None
 range_at (Item item) = range_of item
 range_at (Left fault) = None
 
+-- what is kept of trees after one more mark
 abbrev pub walk_step : WalkSeen → Mark → WalkSeen
 walk_step seen mark = record {
   kind = seen.kind;
@@ -129,7 +139,8 @@ abbrev pub ArePlaces : Filesystem → List TreeRoot → List RootPlace → Type 
 ArePlaces fs trees places = places ≡ map (λ (one : Reached). one.place)
     (first_met [] (flat_map (λ (tree : TreeRoot). blocks_met (whole fs.blocks tree.place)) trees))
 
--- what was walked of some trees: what is broken in them, the ranges of files that aren't apart, and the blocks that they reach, each once
+-- what was walked of some trees: what is broken in them, the ranges of files that aren't
+-- apart, and the blocks that they reach, each once
 pub record IsWalkOf (fs : Filesystem) (trees : List TreeRoot) (seen : WalkSeen) : Type 0 where
   pub broken : seen.broken ≡ flat_map (tree_broken fs) trees
   pub overlapping : seen.overlapping ≡ flat_map (tree_overlapping fs) trees

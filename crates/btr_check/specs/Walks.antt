@@ -33,9 +33,11 @@ broken kind mark = option_map fault_finding (wrong kind mark)
 abbrev pub range_with : Key → ℕ → FileExtent → FileRange
 range_with key leaf extent = record { inode = key.objectid; start = key.offset; end = end_of key.offset extent; leaf = leaf }
 
+-- the range of a file that an EXTENT_DATA has, if it has its form
 abbrev pub range_in : Key → ℕ → List ℕ → Option FileRange
 range_in key leaf body = if key.kind == extent_data then option_map (range_with key leaf) (result_ok (file_extent_of key.offset body)) else None
 
+-- the range of a file that an item has, if it is an EXTENT_DATA
 abbrev pub range_of : TreeItem → Option FileRange
 range_of item = range_in item.key item.leaf item.body
 

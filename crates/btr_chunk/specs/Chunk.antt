@@ -71,5 +71,6 @@ mirror_count Raid5 n = None
 mirror_count Raid6 n = None
 mirror_count _ n = Some n
 
+-- how many copies a chunk has of each byte; none is said of RAID5 and RAID6, which have parity
 abbrev pub mirrors : Chunk → Option ℕ
 mirrors chunk = mirror_count chunk.profile (length chunk.stripes)

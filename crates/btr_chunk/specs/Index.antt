@@ -52,7 +52,7 @@ pub record IsLast (f : ℕ → Option Chunk) (addr : ℕ) (chunk : Chunk) : Type
   pub before : start ≤ addr
   pub last : (k : ℕ) → start < k → k ≤ addr → f k ≡ None
 
--- the answer is that chunk, if there is one
+-- the answer is the last chunk that starts at or before an address, if there is one
 abbrev pub AnswersLast : (ℕ → Option Chunk) → ℕ → Option (Bor Chunk) → Type 0
 AnswersLast f addr answer = MatchOption answer ((k : ℕ) → k ≤ addr → f k ≡ None) (λ chunk. IsLast f addr chunk.now)
 
@@ -63,7 +63,7 @@ pub record IsFirst (f : ℕ → Option Chunk) (addr : ℕ) (chunk : Chunk) : Typ
   pub behind : addr ≤ start
   pub first : (k : ℕ) → addr ≤ k → k < start → f k ≡ None
 
--- the answer is that chunk, if there is one
+-- the answer is the first chunk that starts at or after an address, if there is one
 abbrev pub AnswersFirst : (ℕ → Option Chunk) → ℕ → Option (Bor Chunk) → Type 0
 AnswersFirst f addr answer = MatchOption answer ((k : ℕ) → addr ≤ k → f k ≡ None) (λ chunk. IsFirst f addr chunk.now)
 

@@ -41,7 +41,8 @@ pub record IsPosition (chunk : Chunk) (at : Elements) : Type 0 where
   pub index : at.index < data_count chunk.profile (length chunk.stripes)
   pub inside : at.row * 65536 + at.rest < stripe_length chunk
 
--- some bytes from a position on lie in one piece on a stripe: in an element where the profile has rows, and in the stripe
+-- some bytes from a position on lie in one piece on a stripe: in an element
+-- where the profile has rows, and in the stripe
 pub record Reaches (chunk : Chunk) (at : Elements) (size : ℕ) : Type 0 where
   pub inside : at.row * 65536 + at.rest + size ≤ stripe_length chunk
   pub element : is_striped chunk.profile ≡ true → at.rest + size ≤ 65536
@@ -53,8 +54,8 @@ HasPart profile n (Slice i) = IsNone (mirror_count profile n) × (i < data_count
 HasPart profile n P = IsNone (mirror_count profile n)
 HasPart profile n Q = profile ≡ Raid6
 
--- the number of the stripe that a part of a position lies on, of n stripes. With k slices of data in a row, slice i of the
--- row q lies on stripe (q + i) % n, P on (q + k) % n, Q on (q + k + 1) % n
+-- the number of the stripe that a part of a position lies on, of n stripes. With k slices of data in a row, slice i of
+-- the row q lies on stripe (q + i) % n, P on (q + k) % n, Q on (q + k + 1) % n
 abbrev pub stripe_of : Profile → ℕ → Part → Elements → ℕ
 stripe_of Raid0 n (Mirror i) at = at.index
 stripe_of Raid10 n (Mirror i) at = 2 * at.index + i

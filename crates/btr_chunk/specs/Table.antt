@@ -65,7 +65,8 @@ chunk_at chunks addr = find (λ chunk. holds chunk addr) chunks
 abbrev pub next_at : List Chunk → ℕ → Option Chunk
 next_at chunks addr = find (λ chunk. nat_le addr chunk.start) chunks
 
--- what each table keeps: at most 65536 chunks in ascending order, no two of which share an address or a byte of a device
+-- what each table keeps: at most 65536 chunks in ascending order, no two of
+-- which share an address or a byte of a device
 pub record IsTable (chunks : List Chunk) : Type 0 where
   pub few : length chunks ≤ 65536
   pub sound : (i : ℕ) (a : Chunk) → slice_get chunks i ≡ Some a → IsChunk a × (some_meet (stripe_length a) a.stripes ≡ false)

@@ -33,6 +33,7 @@ Text = List ℕ
 abbrev pub Shown : Type 0
 Shown = Program Text (Unit {0})
 
+-- a text that is shown in one piece
 abbrev pub piece : Text → Shown
 piece text = Emit text (Return tt)
 
@@ -58,6 +59,7 @@ abbrev pub root_text : ℕ → ℕ → ℕ → ℕ → ℕ → Text
 root_text id offset addr level generation =
     codes "tree " ++ decimal id ++ codes " offset " ++ decimal offset ++ codes " bytenr " ++ decimal addr ++ codes " level " ++ decimal level ++ codes " generation " ++ decimal generation ++ codes "\n"
 
+-- the line of a tree's root
 abbrev pub root_line : TreeRoot → Text
 root_line root = root_text root.id root.offset root.place.addr root.place.level root.place.generation
 

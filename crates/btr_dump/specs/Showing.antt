@@ -26,6 +26,7 @@ part text n = Some (take n text)
 abbrev pub whole : List Text → Text
 whole pieces = flat_map (λ piece. piece) pieces
 
+-- a run whose steps are pieces of a text
 abbrev pub TextRun : Type 0 → Type 0
 TextRun A = Run Want Fault Text A
 
@@ -66,6 +67,7 @@ AskedFollows Is r done (Err (Missing n)) = ⊥
 AskedFollows Is r done (Err (Image slot)) = ⊥
 AskedFollows Is r done (Err Sink) = ⊥
 
+-- the pieces that a call put, and its answer, follow the run of a tree that was asked for
 pub record PutsAsked (Is : UnreadBlock → Want → Type 0) (r : TextRun (Option ℕ)) (old new : Option Text) (result : Result (Unit {0}) Stop) : Type 0 where
   pub done : List Text
   pub adds : Adds old new (whole done)
@@ -79,7 +81,8 @@ BlockAgreed layout addr held = IfSome held (λ images. Agree images layout (Bloc
 pub record TellsBlock (layout : Layout) (addr : ℕ) (old new : Seen) (P : Map → Type 0) : Type 0 where
   pub calls : Calls (BlockAgreed layout addr) (shown old) (shown new) (OnMap layout P)
 
--- the output refused within some first marks of a run: a first part of what waited before and then of their pieces was put
+-- the output refused within some first marks of a run: a first part of what
+-- waited before and then of their pieces was put
 pub record CutIn {A : Type 0} (r : TextRun A) (old new : Option Text) (waited waits : Text) : Type 0 where
   pub before : List (Mark Want Text)
   pub behind : List (Mark Want Text)
@@ -109,7 +112,7 @@ Writes Is seen r old new waited waits (Err Sink) = ⊥
 abbrev pub WritesShown : Blocks → Seen → Seen → Shown → Option Text → Option Text → Text → Text → Result (Unit {0}) Stop → Type 0
 WritesShown store before now p old new waited waits result = TellsOf store before now (λ Is B. Writes Is [] (exec B p) old new waited waits result)
 
--- .. and so does what a call put
+-- what a call put into a text follows a program, so far as the calls over its store were steady
 abbrev pub PutsShown : Blocks → Seen → Seen → Shown → Option Text → Option Text → Result (Unit {0}) Stop → Type 0
 PutsShown store before now p old new result = TellsOf store before now (λ Is B. Puts Is (exec B p) old new result)
 

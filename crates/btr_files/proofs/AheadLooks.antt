@@ -52,7 +52,7 @@ paired layout {a} P Q R f one two = record {
 pub stays : (layout : Layout) {a b : Seen} (P : Map → Type 0) (root : RootPlace) (ahead : SumsAhead) → Tells layout a b P → Tells layout a b (λ B. IsAheadIn B root ahead → IsAheadIn B root ahead)
 stays layout P root ahead told = drawn layout P (λ B. IsAheadIn B root ahead → IsAheadIn B root ahead) (λ B p kept. kept) told
 
--- .. or it is what was read ahead
+-- what a lookup read ahead are checksums of the tree, and are kept instead of those before
 pub read_in : (layout : Layout) {a b : Seen} (Is : UnreadBlock → Want → Type 0) (root : RootPlace) (kind : SumKind) (addr : ℕ) (key : Key) (reach : Reach) (old new : SumsAhead) → key ≡ sum_key addr → IsReadAhead kind addr reach new → Tells layout a b (λ B. ReachesItem Is B root key (Ok (Some reach))) → Tells layout a b (λ B. Reaches B root key (Ok (Some reach))) → Tells layout a b (λ B. IsAheadIn B root old → IsAheadIn B root new)
 read_in layout {a} {b} Is root kind addr key reach old new is law found reaches =
     paired layout (λ B. ReachesItem Is B root (sum_key addr) (Ok (Some reach))) (λ B. Reaches B root (sum_key addr) (Ok (Some reach))) (λ B. IsAheadIn B root old → IsAheadIn B root new)
@@ -78,7 +78,7 @@ module _ (layout : Layout) (kind : SumKind) (sums : Option TreeRoot) (nosum : Bo
   pub want_kept : {a : Seen} (Is : UnreadBlock → Want → Type 0) → Tells layout a a (λ B. IsSummed B sums ahead → ComesOf Is B (sector_want kind sums nosum addr) (Ok (Sector addr sum)))
   want_kept Is = unread_on layout (λ B. IsSummed B sums ahead → ComesOf Is B (sector_want kind sums nosum addr) (Ok (Sector addr sum))) (by_kept Is)
 
--- .. or by a lookup
+-- a sector's want by a lookup of its checksum, whatever checksums are kept
 pub want_looked : (layout : Layout) {a b : Seen} (program : Lookup Want) (result : Result Want TreeFault) (sums : Option TreeRoot) (ahead : SumsAhead) → Looks layout a b program result → Tells layout a b (λ B. IsSummed B sums ahead → ComesOf (unread_by layout a b) B program result)
 want_looked layout {a} {b} program result sums ahead looks =
     drawn layout (λ B. ComesOf (unread_by layout a b) B program result) (λ B. IsSummed B sums ahead → ComesOf (unread_by layout a b) B program result) (λ B f summed. f) looks

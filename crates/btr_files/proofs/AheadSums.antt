@@ -117,7 +117,7 @@ end_fits i n size lt =
     let le : i + 1 ≤ n = omega (arith, lt) in
     subst (λ m. m ≤ n * size) (shared i 1 size ∙ ap (λ m. i * size + m) (one-times size)) (mul-le (i + 1) size n size le (omega arith))
 
--- .. it ends within the run
+-- a part of a run of sectors ends within the run
 pub part_ends : (first part count size : ℕ) → part ≤ count - first → first < count → first * size + part * size ≤ count * size
 part_ends first part count size few lt =
     let le : first + part ≤ count = omega (arith, few, lt) in

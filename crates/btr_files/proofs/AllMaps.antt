@@ -32,7 +32,7 @@ choice-zero images want (Ok t) = ap (or_lost (addr_of want)) (either_zero (is_pl
 pub choices-zero : (images : Images) (layout : Layout) (want : Want) → choices images 0 layout want ≡ fate images layout want
 choices-zero images layout want = choice-zero images want (sought layout want)
 
--- .. so the first of all maps is the one map
+-- the first of all maps is the one map of fates
 pub maps-zero : (sure : Sure) (images : Images) (layout : Layout) → maps_by sure images 0 layout ≡ fate images layout
 maps-zero First images layout = refl
 maps-zero Any images layout = fun_ext (λ want. choices-zero images layout want)

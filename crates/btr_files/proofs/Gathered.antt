@@ -39,7 +39,7 @@ link_same bytes more place within =
     (ap (take n) (drop-append-le place.at bytes more (omega (arith, within)))
     ∙ take-append-le n (drop place.at bytes) more (omega (arith, within, length-drop place.at bytes)))
 
--- .. and so do all
+-- all names of a list stay where bytes come after those of all
 links_same : (bytes more : List ℕ) (places : List NamePlace) → All (IsWithin (length bytes)) places
     → map (link_at (bytes ++ more)) places ≡ map (link_at bytes) places
 links_same bytes more [] h = refl

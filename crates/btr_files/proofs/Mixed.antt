@@ -1,5 +1,5 @@
--- Programs in which the bytes of a want that passes a test are shown by one step, or by none: the steps of a run, where such a want may come to any of several
--- things, are each a step under one of the maps.
+-- Programs in which the bytes of a want that passes a test are shown by one step, or by none: the steps of a run, where
+-- such a want may come to any of several things, are each a step under one of the maps.
 use Rattle.std.proofs.Common.{◌≡◌, ◌⊎◌, ℕ, Bool, true, false, IsTrue, List, [], ◌∷◌, Result, Ok, Err, refl, sym, ap, ◌∙◌, subst, inl, inr}
 use Rattle.std.proofs.Math.Path.{fun_ext}
 use Rattle.btr_prog.specs.Blind.{IsAlike}
@@ -145,7 +145,7 @@ module _ {W F S A : Type 0} (plain : W → Bool) (Fits : W → List ℕ → Type
           λ n. ap (λ (r : Run W F S A). r.ending) (there n) ∙ h.1 n,
         )
 
-    -- .. or one step for the bytes, and then the same
+    -- one step for the bytes, and after it the same for the bytes of each map
     mix_step : (f : List ℕ → S) (rest : Prog W F S A) → ((bytes : List ℕ) → k bytes ≡ Emit (f bytes) rest)
         → ((bytes others : List ℕ) → Fits w bytes → Fits w others → R (f bytes) (f others))
         → (q : Run W F S A) → IsMix rest q → IsMix (Need w k) (first (Wants w) (first (Does (f b)) q))

@@ -89,7 +89,7 @@ module _ (kind : SumKind) (source : Source) (Bs : ℕ → Map) where
         h,
       )
 
-  -- .. which are those of a program
+  -- an item is treated by a run of the program of its pieces
   pub treats_item : (g : Given) (item : TreeItem) (items : Items) (p : Program Piece (Result Given ℕ)) (q : Pieces) → item_pieces kind source g item ≡ p → Then kind source Bs p items q → Treats kind source Bs g (first (Does item) items) q
   treats_item g item items p q e h = treats_by g item items h.0 h.0.ending q (subst (λ x. GoesTo Bs x h.0) (sym e) h.1) refl h.2
 

@@ -36,7 +36,7 @@ pub record Passes (source : Source) (B : Map) (seen : List Want) (old new : Bloc
   pub held : HoldsLeaf B seen old scan → HoldsLeaf B (seen ++ past) new scan'
 
 module _ (source : Source) (B : Map) (first : Blocks) (scan0 : Scan) (end0 : ℕ) where
-  -- .. from whatever was seen before
+  -- what is left after the first extent leads on to what is left after a later one, whatever was wanted before
   abbrev pub Gone : Blocks → Scan → ℕ → Type 0
   Gone store scan end = (seen : List Want) → IsOn scan0.lo scan0.hi B seen scan0.place → Passes source B seen first store scan0 scan end0 end
 

@@ -37,18 +37,21 @@ todo_at size leaf start (shape.Regular addr disk_len skip len) =
     if addr == 0 then Next else Sectors (record { start = start; addr = addr + skip; count = sector_count size start len })
 todo_at size leaf start (shape.Prealloc addr disk_len skip len) = Next
 
--- .. of any extent: nothing where it begins at the size or behind it
+-- what is still to come of any extent in a leaf: nothing where it begins at the size or after it
 abbrev pub todo_of : ℕ → ℕ → ℕ → Shape → Todo
 todo_of size leaf start s = if nat_le size start then Over else todo_at size leaf start s
 
+-- an item of an extent, as what is to be given next of its file
 abbrev pub ahead_at : ℕ → TreeItem → FileExtent → Ahead
 ahead_at size item fields = record { todo = todo_of size item.leaf item.key.offset fields.shape; end = end_of item.key.offset fields }
 
+-- an item of an extent that is clear is given next; a compressed or encoded one is malformed for this
 abbrev pub ahead_clear : ℕ → TreeItem → FileExtent → Survey → Result Ahead TreeFault
 ahead_clear size item fields Clear = Ok (ahead_at size item fields)
 ahead_clear size item fields Compressed = Err (Malformed item.leaf)
 ahead_clear size item fields Encoded = Err (Malformed item.leaf)
 
+-- an item of an extent that has its form and begins after the last one is given next; another is malformed
 abbrev pub ahead_formed : ℕ → ℕ → TreeItem → Result FileExtent ItemFault → Result Ahead TreeFault
 ahead_formed size end item (Ok fields) =
     if nat_le end item.key.offset then ahead_clear size item fields (judged fields) else Err (Malformed item.leaf)
@@ -74,6 +77,7 @@ FitsAhead size end (Err f) = Unit {0}
 abbrev pub IsFound : Todo → Type 0
 IsFound todo = todo ≢ Next
 
+-- an extent was found that has bytes before the size, or that begins at it or after it
 abbrev pub HasFound : Result (Option Ahead) TreeFault → Type 0
 HasFound (Ok (Some ahead)) = IsFound ahead.todo
 HasFound (Ok None) = Unit {0}
@@ -108,19 +112,20 @@ pub record LeadsOn
   pub held : HoldsLeaf B seen old scan → HoldsLeaf B (seen ++ past) new scan'
   pub met : IfSome scan'.leaf (WasMet new item)
 
--- .. or to the zeros up to the size, where there is no extent more
+-- what is left after an extent leads to the zeros up to the size, where there is no extent more
 pub record LeadsOut (source : Source) (B : Map) (store : Blocks) (scan : Scan) (end : ℕ) : Type 0 where
   pub past : List Want
   pub goes : (kind : SumKind) (Bs : ℕ → Map) (at : ℕ) (q : Run Want Fault Piece (Unit {0}))
       → EndsAt kind source Bs at q → Onward kind source Bs at end (exec B (left_of B store scan)) (prepend (want_marks past) q)
 
--- .. or a fault follows it
+-- what is left after an extent leads to a fault
 abbrev pub HaltsAt : Source → (UnreadBlock → Want → Type 0) → Map → List Want → Blocks → Scan → ℕ → TreeFault → Type 0
 HaltsAt source Is B seen store scan end f =
     (kind : SumKind) (Bs : ℕ → Map) (at : ℕ)
     → (q : Run Want Fault Piece (Unit {0})) × Onward kind source Bs at end (exec B (left_of B store scan)) q
     × Follows Is no_part seen q [] (Err (halt_of f))
 
+-- a look for the next extent finds it, or the end of the file, or a fault
 abbrev pub NextExtentBy : Source → (UnreadBlock → Want → Type 0) → Map → List Want → Blocks → Blocks → Scan → Scan → ℕ
     → Result (Option Ahead) TreeFault → Type 0
 NextExtentBy source Is B seen old new scan scan' end (Ok (Some ahead)) = LeadsOn source B seen old new scan scan' end ahead
@@ -140,12 +145,14 @@ pub record LooksOn (source : Source) (B : Map) (seen : List Want) (p p' : Progre
       → LeftBy kind source Bs B p' q → LeftBy kind source Bs B p (prepend (want_marks past) q)
   pub on : IsGoing B (seen ++ past) p'
 
+-- a file that is looked at goes on to what is left, or to a fault
 abbrev pub LookedBy : Source → (UnreadBlock → Want → Type 0) → Map → List Want → Progress → Result Progress TreeFault → Type 0
 LookedBy source Is B seen p (Ok p') = LooksOn source B seen p p'
 LookedBy source Is B seen p (Err f) =
     (kind : SumKind) (Bs : ℕ → Map)
     → (q : Run Want Fault Piece (Unit {0})) × LeftBy kind source Bs B p q × Follows Is no_part seen q [] (Err (halt_of f))
 
+-- what comes of a file that is looked at, whatever was read before
 abbrev pub IsLooked : Source → (UnreadBlock → Want → Type 0) → Map → Progress → Result Progress TreeFault → Type 0
 IsLooked source Is B p result = (seen : List Want) → IsGoing B seen p → LookedBy source Is B seen p result
 

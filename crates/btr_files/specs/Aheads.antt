@@ -29,7 +29,8 @@ sum_key addr = key sums_objectid 128 addr
 abbrev pub kept_sum : SumsAhead → ℕ → Option Sum
 kept_sum ahead addr = sum_in ahead.kind addr ahead.bytes ahead.run
 
--- each checksum that is kept is that of its sector in the body of a run; it isn't before an address, and its key is below a bound
+-- each checksum that is kept is that of its sector in the body of a run; it isn't
+-- before an address, and its key is below a bound
 pub record IsFrom (kind : SumKind) (addr : ℕ) (body : List ℕ) (run : SumRun) (until : Option Key) (ahead : SumsAhead) : Type 0 where
   pub of_kind : ahead.kind ≡ kind
   pub behind : (other : ℕ) (sum : Sum) → kept_sum ahead other ≡ Some sum → addr ≤ other

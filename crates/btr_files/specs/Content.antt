@@ -45,7 +45,8 @@ if_clear x Clear rest = rest
 if_clear x Compressed rest = Stop (Malformed x.leaf)
 if_clear x Encoded rest = Stop (Malformed x.leaf)
 
--- files of a volume whose checksums are of a kind and stand in a tree, if there is one; `nosum` is that of an inode without checksums
+-- files of a volume whose checksums are of a kind and stand in a tree, if there is one;
+-- `nosum` is that of an inode without checksums
 module _ (kind : SumKind) (sums : Option TreeRoot) (nosum : Bool) where
   -- the want of the sector at an address
   abbrev pub sector_want : ℕ → Lookup Want
@@ -58,8 +59,9 @@ module _ (kind : SumKind) (sums : Option TreeRoot) (nosum : Bool) where
       looks (sector_want addr) (λ want. Need want (λ bytes. Emit (Bytes (take left bytes) (not (is_plain want))) (sectors n (addr + 4096) (left - 4096))))
 
   module _ (size : ℕ) where
-    -- the bytes of an extent that starts before the size, behind zeros up to it, and up to where the file has been given then. A hole,
-    -- a preallocated extent and an empty one have no bytes: they are zeros of the next gap. A leaf's checksum covers what stands in it.
+    -- the bytes of an extent that starts before the size, behind zeros up to it, and up to where the file has
+    -- been given then. A hole, a preallocated extent and an empty one have no bytes: they are zeros of the next
+    -- gap. A leaf's checksum covers what stands in it.
     abbrev pub shaped : ℕ → Extent → Shape → Program Piece (Result ℕ ℕ)
     shaped at x (Inline len) =
         if len == 0 then Return (Ok at)

@@ -14,13 +14,15 @@ use Rattle.btr_volume.specs.Tree.{key, last}
 use Rattle.btr_files.specs.declared.clearness.Survey.{Survey}
 use Rattle.btr_files.specs.declared.clearness.Survey.TheVariants.{Clear, Compressed, Encoded}
 
--- an extent: its position in the file, the leaf that it stands in, what it says, and the bytes that stand in it if it is inline
+-- an extent: its position in the file, the leaf that it stands in, what it says, and
+-- the bytes that stand in it if it is inline
 pub record Extent : Type 0 where
   pub start : ℕ
   pub leaf : ℕ
   pub fields : FileExtent
   pub inline : List ℕ
 
+-- an extent of an item and its fields
 abbrev pub extent : TreeItem → FileExtent → Extent
 extent item fields = record { start = item.key.offset; leaf = item.leaf; fields = fields; inline = inline_data item.body }
 

@@ -15,11 +15,12 @@ use Rattle.btr_volume.specs.declared.root.TreeRoot.{TreeRoot}
 use Rattle.btr_files.specs.Content.{Piece, Bytes, Gap, sector_want, content}
 use Rattle.btr_files.specs.Extents.{Extent, extents}
 
--- the bytes of some pieces
+-- the bytes of a piece
 abbrev pub piece_bytes : Piece → List ℕ
 piece_bytes (Bytes bytes summed) = bytes
 piece_bytes (Gap count) = replicate count 0
 
+-- the bytes of some pieces
 abbrev pub bytes_of : List Piece → List ℕ
 bytes_of pieces = flat_map piece_bytes pieces
 
@@ -28,10 +29,12 @@ abbrev pub covers : ℕ → Extent → Bool
 covers p x = nat_le x.start p && nat_lt p (end_of x.start x.fields)
 
 module _ (B : BlockMap Want Fault) (kind : SumKind) (sums : Option TreeRoot) (nosum : Bool) where
+  -- the bytes of a block, or none where they could not be had
   abbrev pub bytes_or_none : Result (List ℕ) Fault → List ℕ
   bytes_or_none (Ok bytes) = bytes
   bytes_or_none (Err fault) = []
 
+  -- the bytes that a want comes to, or none where there is no want
   abbrev pub bytes_by : Result Want Fault → List ℕ
   bytes_by (Ok want) = bytes_or_none (B want)
   bytes_by (Err fault) = []
@@ -68,8 +71,9 @@ ContentIsFile =
     → (length (bytes_of (steps B (content kind sums nosum size tree ino))) ≡ size)
     × ((p : ℕ) → p < size → slice_index (bytes_of (steps B (content kind sums nosum size tree ino))) p ≡ file_at B kind sums nosum (steps B (extents tree ino)) p)
 
--- The same whatever reads failed, where each want comes to what some map says of it, each time perhaps another, and the maps differ in nothing but the bytes of
--- sectors without a checksum: each byte of a file that was given whole is the one that it has by some of them.
+-- The same whatever reads failed, where each want comes to what some map says of it, each time perhaps another,
+-- and the maps differ in nothing but the bytes of sectors without a checksum: each byte of a file that was given
+-- whole is the one that it has by some of them.
 abbrev pub SomeContentIsFile : Type 0
 SomeContentIsFile =
     (maps : ℕ → BlockMap Want Fault) (kind : SumKind) (sums : Option TreeRoot) (nosum : Bool) (size : ℕ) (tree : TreeRoot) (ino : ℕ)

@@ -38,15 +38,15 @@ zeros_at size at Over = size - at
 abbrev pub given_to : Progress → ℕ → Todo → Progress
 given_to p at todo = record { rest = p.rest; at = at; end = p.end; todo = todo }
 
--- .. behind some zeros
+-- the file after some zeros were given
 abbrev pub behind_zeros : Progress → ℕ → Progress
 behind_zeros p zeros = given_to p (p.at + zeros) p.todo
 
--- .. behind all bytes of the extent that was met last
+-- the file after all bytes of the extent that was met last were given
 abbrev pub behind_end : ℕ → Progress → Progress
 behind_end size p = if nat_le size p.end then given_to p size Over else given_to p p.end Next
 
--- .. and behind the first of some sectors
+-- the file after the first of some sectors was given
 abbrev pub behind_sector : ℕ → Progress → SectorPart → Progress
 behind_sector size p part =
     if nat_le part.count 1 then behind_end size p
@@ -62,6 +62,7 @@ IsSpan block (span.Inline at len) =
     (101 ≤ length block) × IsTrue (is_leaf block) × (at < length (items block)) × (0 < len) × (21 + len ≤ length (body_at block at))
 IsSpan block (span.Sector len verified) = (0 < len) × (len ≤ length block)
 
+-- the piece that a block has for a span of an extent
 abbrev pub span_piece : List ℕ → Span → Piece
 span_piece block (span.Inline at len) = Bytes (take len (inline_data (body_at block at))) true
 span_piece block (span.Sector len verified) = Bytes (take len block) verified
@@ -84,6 +85,7 @@ pub record IsSectorLent (old new : Blocks) (loan : Lent) : Type 0 where
   pub live : IsLiveIn new loan
   pub len : loan.len ≡ 4096
 
+-- the loan of a sector is new and live, or no loan changed
 abbrev pub LendsSector : Blocks → Blocks → Result Lent TreeFault → Type 0
 LendsSector old new (Ok loan) = IsSectorLent old new loan
 LendsSector old new (Err f) = SameLoans old new
@@ -103,19 +105,23 @@ pub record IsSpanLent (old new : Blocks) (loan : Lent) (place : Span) : Type 0 w
   pub live : IsLiveIn new loan
   pub there : IsSomeAnd (block_of new loan) (λ block. IsSpan block place)
 
+-- the loan of what was shown is new and live, or there is none and no loan changed
 abbrev pub LendsShown : Blocks → Blocks → Shown → Type 0
 LendsShown old new (shown.Gap count) = SameLoans old new
 LendsShown old new (shown.Bytes loan place) = IsSpanLent old new loan place
 
+-- the loan of the step that gives the next piece is new and live, or no loan changed
 abbrev pub LendsStep : Blocks → Blocks → Result Shown TreeFault → Type 0
 LendsStep old new (Ok given) = LendsShown old new given
 LendsStep old new (Err f) = SameLoans old new
 
+-- the loan of the next piece is new and live, or no loan changed
 abbrev pub LendsNext : Blocks → Blocks → Result (Option Shown) TreeFault → Type 0
 LendsNext old new (Ok (Some given)) = LendsShown old new given
 LendsNext old new (Ok None) = SameLoans old new
 LendsNext old new (Err f) = SameLoans old new
 
+-- a gap that is shown isn't empty
 abbrev pub IsShown : Shown → Type 0
 IsShown (shown.Gap count) = 0 < count
 IsShown (shown.Bytes loan place) = Unit {0}
@@ -126,7 +132,7 @@ pub record StepsOn (source : Source) (p p' : Progress) (given : Shown) : Type 0 
   pub further : p.at < p'.at
   pub shown : IsShown given
 
--- .. or it is given up to its size; after a fault it is given as far as it was
+-- a step gives more of a file, or the file is given up to its size; after a fault it is given as far as it was
 abbrev pub NextStepsOn : Source → Progress → Progress → Result (Option Shown) TreeFault → Type 0
 NextStepsOn source p p' (Ok (Some given)) = StepsOn source p p' given
 NextStepsOn source p p' (Ok None) = IsUnderway source p' × (p'.at ≡ source.size)
@@ -145,17 +151,21 @@ module _ (kind : SumKind) (source : Source) (Is : UnreadBlock → Want → Type 
   abbrev pub EndsIn : List Want → Progress → Result (Unit {0}) (Halt Fault UnreadBlock) → Type 0
   EndsIn seen p answer = (q : Run Want Fault Piece (Unit {0})) × LeftBy kind source Bs (Bs 0) p q × Follows Is no_part seen q [] answer
 
+  -- a step gives the next piece, or a fault
   abbrev pub GivenBy : List Want → Progress → Progress → Blocks → Result Shown TreeFault → Type 0
   GivenBy seen p p' store (Ok given) = GivesStep seen p p' store given
   GivenBy seen p p' store (Err f) = EndsIn seen p (Err (halt_of f))
 
+  -- a step gives the next piece or a fault, whatever was wanted before
   abbrev pub IsGiven : Progress → Progress → Blocks → Result Shown TreeFault → Type 0
   IsGiven p p' store result = (seen : List Want) → IsGoing (Bs 0) seen p → GivenBy seen p p' store result
 
+  -- a step gives the next piece, the end of the file, or a fault
   abbrev pub NextStepBy : List Want → Progress → Progress → Blocks → Result (Option Shown) TreeFault → Type 0
   NextStepBy seen p p' store (Ok (Some given)) = GivesStep seen p p' store given
   NextStepBy seen p p' store (Ok None) = EndsIn seen p (Ok tt)
   NextStepBy seen p p' store (Err f) = EndsIn seen p (Err (halt_of f))
 
+  -- a step gives the next piece, the end or a fault, whatever was wanted before
   abbrev pub IsNextStep : Progress → Progress → Blocks → Result (Option Shown) TreeFault → Type 0
   IsNextStep p p' store result = (seen : List Want) → IsGoing (Bs 0) seen p → NextStepBy seen p p' store result

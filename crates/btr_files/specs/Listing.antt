@@ -35,6 +35,7 @@ IsDirOn B seen dir = IsRestOn B seen dir.rest
 pub record IsDir (dir : Dir) : Type 0 where
   pub shaped : IsShaped dir.rest.place.rest
 
+-- an entry of a row, with the name that its buffer holds
 abbrev pub named_row : DirRow → NameBuf → DirEntry
 named_row row name = record { row = row; name = name_in name }
 
@@ -46,6 +47,7 @@ IsRowBy item name (Ok entry) (Err f) = ⊥
 IsRowBy item name (Err fault) (Ok row) = ⊥
 IsRowBy item name (Err fault) (Err f) = f ≡ Malformed item.leaf
 
+-- a row is the entry that an item holds, with its name in the buffer, or the item's leaf is malformed
 abbrev pub IsRow : TreeItem → NameBuf → Result (Option DirRow) TreeFault → Type 0
 IsRow item name result = IsRowBy item name (index_entry_of item.body) result
 
@@ -61,6 +63,7 @@ pub record GivesEntry (B : Map) (seen : List Want) (dir dir' : Dir) (entry : Dir
   pub is : exec B (dir_left B dir) ≡ prepend (want_marks past) (first (Does entry) (exec B (dir_left B dir')))
   pub on : IsDirOn B (seen ++ past) dir'
 
+-- the next entry of a directory is given, or its end, or a fault
 abbrev pub NextEntryBy : (UnreadBlock → Want → Type 0) → Map → List Want → Dir → Dir → NameBuf → Result (Option DirRow) TreeFault → Type 0
 NextEntryBy Is B seen dir dir' name (Ok (Some row)) = GivesEntry B seen dir dir' (named_row row name)
 NextEntryBy Is B seen dir dir' name (Ok None) = EndsRows Is B seen (rest_left B dir.rest) (Ok None)
@@ -78,12 +81,14 @@ pub record GivesRow (B : Map) (seen : List Want) (old new : Blocks) (scan scan' 
   pub on : IsOn scan.lo scan.hi B (seen ++ past) scan'.place
   pub held : HoldsLeaf B seen old scan → HoldsLeaf B (seen ++ past) new scan'
 
+-- the next row of a directory is given, or its end, or a fault
 abbrev pub NextRowBy : (UnreadBlock → Want → Type 0) → Map → List Want → Blocks → Blocks → Scan → Scan → NameBuf
     → Result (Option DirRow) TreeFault → Type 0
 NextRowBy Is B seen old new scan scan' name (Ok (Some row)) = GivesRow B seen old new scan scan' (named_row row name)
 NextRowBy Is B seen old new scan scan' name (Ok None) = EndsRows Is B seen (left_of B old scan) (Ok None)
 NextRowBy Is B seen old new scan scan' name (Err f) = EndsRows Is B seen (left_of B old scan) (Err f)
 
+-- the next row of a directory is given, or its end, or a fault, whatever was read before
 abbrev pub IsNextRow : (UnreadBlock → Want → Type 0) → Map → Blocks → Blocks → Scan → Scan → NameBuf
     → Result (Option DirRow) TreeFault → Type 0
 IsNextRow Is B old new scan scan' name result =

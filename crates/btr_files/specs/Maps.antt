@@ -9,7 +9,8 @@ use Rattle.btr_walk.specs.Reading.{Map}
 use Rattle.btr_volume.specs.Maps.{Maps}
 use Rattle.btr_volume.specs.Start.{Images}
 
--- the maps of some images, by how surely it is known which copies were read: the first that passes, or any where there is no test
+-- the maps of some images, by how surely it is known which copies were read: the first
+-- that passes, or any where there is no test
 abbrev pub maps_by : Sure → Images → ℕ → Maps
 maps_by First images n = fate images
 maps_by Any images n = choices images n

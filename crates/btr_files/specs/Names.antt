@@ -36,13 +36,15 @@ pub record Link : Type 0 where
   pub index : ℕ
   pub name : List ℕ
 
+-- a name of an inode, made of its parts
 abbrev pub link : ℕ → ℕ → List ℕ → Link
 link parent index name = record { parent = parent; index = index; name = name }
 
--- the name in a part of an INODE_REF, whose key has the directory, and in one of an INODE_EXTREF
+-- the name in a part of an INODE_REF, whose key has the directory
 abbrev pub inode_link : ℕ → List ℕ → InodeRef → Link
 inode_link parent body part = link parent part.index (bytes_at part.name_len part.name_at body)
 
+-- the name in a part of an INODE_EXTREF
 abbrev pub ext_link : List ℕ → ExtRef → Link
 ext_link body part = link part.parent part.index (bytes_at part.name_len part.name_at body)
 
@@ -81,6 +83,7 @@ pub record Mount : Type 0 where
   pub tree : ℕ
   pub link : Link
 
+-- a name of a subvolume, made of its parts
 abbrev pub mount : ℕ → Link → Mount
 mount tree link = record { tree = tree; link = link }
 

@@ -50,11 +50,13 @@ abbrev pub links_met : Link → Met → Result (List Link) ItemFault → Option 
 links_met wanted seen (Ok more) = Some (met_links wanted seen more)
 links_met wanted seen (Err fault) = None
 
+-- exactly one name was met, and it is the one that is wanted
 abbrev pub is_one : Met → Bool
 is_one met.None = false
 is_one (met.One is_wanted) = is_wanted
 is_one met.Several = false
 
+-- the search for a link goes on with the names of one item more
 abbrev pub link_step : LinkSearch → TreeItem → Next LinkSearch Bool
 link_step s item =
     formed_next (links_of item.key item.body) (λ more. Go (record { wanted = s.wanted; met = met_links (link_in s.wanted) s.met more }))
@@ -69,6 +71,7 @@ parts_met wanted of seen (Err fault ∷ parts) = None
 abbrev pub mount_in : MountSearch → Mount
 mount_in s = mount s.tree (link_in s.wanted)
 
+-- the search for a name of a subvolume goes on with one item more
 abbrev pub mount_step : MountSearch → TreeItem → Next MountSearch Bool
 mount_step s item = formed_next (root_ref_of item.body)
     (λ part. Go (record { tree = s.tree; wanted = s.wanted; met = met_more s.met (same_mount (mount_of item.key item.body part) (mount_in s)) }))
@@ -79,8 +82,10 @@ cleared Clear next = next
 cleared Compressed next = End Compressed
 cleared Encoded next = End Encoded
 
+-- a survey of a file goes on with an extent that begins after the last one and is clear
 abbrev pub survey_fields : Surveyor → ℕ → FileExtent → Next Surveyor Survey
 survey_fields s start fields = if nat_le s.end start then cleared (judged fields) (Go (record { end = end_of start fields })) else Broken
 
+-- a survey of a file goes on with one item more, if it has its form
 abbrev pub survey_step : Surveyor → TreeItem → Next Surveyor Survey
 survey_step s item = formed_next (file_extent_of item.key.offset item.body) (survey_fields s item.key.offset)

@@ -51,6 +51,7 @@ pub record Given : Type 0 where
   pub at : ℕ
   pub end : ℕ
 
+-- how far a file has been given
 abbrev pub given : ℕ → ℕ → Given
 given at end = record { at = at; end = end }
 
@@ -80,7 +81,8 @@ module _ (kind : SumKind) (source : Source) where
   abbrev pub behind_bytes : ℕ → Program Piece (Result Given ℕ)
   behind_bytes end = Return (on_behind end (on_at source.size end))
 
-  -- what is still to come of the extent that was met last, whose bytes these are if it is inline, and where the file has been given then
+  -- what is still to come of the extent that was met last, whose bytes these are if it is
+  -- inline, and where the file has been given then
   abbrev pub todo_prog : ℕ → ℕ → List ℕ → Todo → Program Piece (Result Given ℕ)
   todo_prog at end inline Next = Return (Ok (given at end))
   todo_prog at end inline (Inline part) =
@@ -95,6 +97,7 @@ module _ (kind : SumKind) (source : Source) where
   zeros_to_end at = gap (source.size - at) (Return tt)
 
   module _ (Bs : ℕ → Map) where
+    -- the run of the zeros up to a file's size
     abbrev pub EndsAt : ℕ → Run Want Fault Piece (Unit {0}) → Type 0
     EndsAt at q = GoesTo Bs (zeros_to_end at) q
 
@@ -105,7 +108,7 @@ module _ (kind : SumKind) (source : Source) where
         × ThreadsTo (λ g' item. GoesTo Bs (item_pieces g' item)) (λ g' u. g'.at) g items.marks items.ending r
         × AfterTo r.marks r.ending EndsAt q
 
-    -- .. of a file that has been given up to a position, or has no extent more before its size
+    -- a run of what is left of a file that has been given up to a position, or has no extent more before its size
     abbrev pub Behind : Run Want Fault TreeItem (Unit {0}) → Result Given ℕ → Run Want Fault Piece (Unit {0}) → Type 0
     Behind items (Ok g) = Treats g items
     Behind items (Err at) = EndsAt at
@@ -114,8 +117,8 @@ module _ (kind : SumKind) (source : Source) where
     abbrev pub Then : Program Piece (Result Given ℕ) → Run Want Fault TreeItem (Unit {0}) → Run Want Fault Piece (Unit {0}) → Type 0
     Then p items q = (r : Run Want Fault Piece (Result Given ℕ)) × GoesTo Bs p r × AfterTo r.marks r.ending (Behind items) q
 
-    -- the runs of what is left of a file, by how far it has been given, where the blocks of its extents come to what B says, and its sectors each to
-    -- what any of the maps says
+    -- the runs of what is left of a file, by how far it has been given, where the blocks of its extents come to what B
+    -- says, and its sectors each to what any of the maps says
     abbrev pub LeftBy : Map → Progress → Run Want Fault Piece (Unit {0}) → Type 0
     LeftBy B p = Then (todo_prog p.at p.end (inline_of (met_last B p.rest)) p.todo) (exec B (rest_left B p.rest))
 
@@ -139,7 +142,7 @@ pub record IsGoing (B : Map) (seen : List Want) (p : Progress) : Type 0 where
   pub rest : IsRestOn B seen p.rest
   pub inline : IsInline (met_last B p.rest) p.todo
 
--- .. and the checksums that are kept are those of the tree
+-- the blocks that a file goes on from were wanted, and the checksums that are kept are those of the tree
 abbrev pub IsFileOn : Map → List Want → FileBytes → Type 0
 IsFileOn B seen file = IsGoing B seen file.progress × IsSummed B file.source.sums file.ahead
 
@@ -147,8 +150,8 @@ IsFileOn B seen file = IsGoing B seen file.progress × IsSummed B file.source.su
 abbrev pub bytes_left : FileBytes → ℕ
 bytes_left file = file.source.size - file.progress.at
 
--- what is still to come of an extent that ends at a position, in a file that has been given up to another one: its bytes begin before the size and before
--- the end, and sectors stand at whole sectors' addresses
+-- what is still to come of an extent that ends at a position, in a file that has been given up to another one: its
+-- bytes begin before the size and before the end, and sectors stand at whole sectors' addresses
 abbrev pub FitsTodo : ℕ → ℕ → ℕ → Todo → Type 0
 FitsTodo size at end Next = at ≤ end
 FitsTodo size at end (Inline part) = (at ≤ part.start) × (part.start < size) × (part.start < end) × (0 < part.len)
@@ -197,6 +200,7 @@ abbrev pub EndsBy : SumKind → (UnreadBlock → Want → Type 0) → (ℕ → M
     → Result (Unit {0}) (Halt Fault UnreadBlock) → Type 0
 EndsBy kind Is Bs seen file answer = (q : Run Want Fault Piece (Unit {0})) × FileGoes kind Bs file q × Follows Is no_part seen q [] answer
 
+-- a call gives the next piece of a file, its end, or a fault
 abbrev pub NextPieceBy : SumKind → (UnreadBlock → Want → Type 0) → (ℕ → Map) → List Want → FileBytes → FileBytes
     → Result (Option Lending) TreeFault → Type 0
 NextPieceBy kind Is Bs seen file file' (Ok (Some piece)) = GivesPiece kind Bs seen file file' (piece_of piece)
@@ -217,6 +221,7 @@ pub record Streamed
   pub content : TellsAll old.store.layout before now (λ Bs.
       IsNextPiece (kind_in old.sup) (unread_by old.store.layout before now) Bs file file' result)
 
+-- the file and its volume end as the step's answer says, but for that file's own
 abbrev pub StreamEnds : MutBor Volume → FileBytes → FileBytes → Seen → Seen → Result (Option Lending) TreeFault → Fml
 StreamEnds vol file file' before now result =
     follows_so the_row the_row vol.ghost_name none (λ _ _. ⊤) (λ new. Streamed vol.now new file file' before now result)

@@ -33,6 +33,7 @@ covers run addr = nat_le run.start addr && nat_lt addr (run.start + run.count * 
 abbrev pub sum_in : SumKind → ℕ → List ℕ → SumRun → Option Sum
 sum_in kind addr body run = if covers run addr then Some (stored_sum kind (drop ((addr - run.start) / 4096 * sum_size kind) body)) else None
 
+-- a key is of an item of checksums
 abbrev pub is_sums : Key → Bool
 is_sums key = (key.objectid == sums_objectid) && (key.kind == extent_csum)
 
@@ -52,7 +53,7 @@ abbrev pub tree_behind : Option (Bor TreeRoot) → Option TreeRoot
 tree_behind None = None
 tree_behind (Some tree) = Some tree.now
 
--- .. and none where there is no checksum tree
+-- the lookup of the checksum of the sector at an address: none where there is no checksum tree
 abbrev pub sum_at : SumKind → Option TreeRoot → ℕ → Lookup (Option Sum)
 sum_at kind None addr = Return None
 sum_at kind (Some sums) addr = sum_under kind sums.place addr

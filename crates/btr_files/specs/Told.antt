@@ -49,10 +49,11 @@ TellsMount vol before now parent dirid index name id result =
 abbrev pub TellsSum : Volume → Seen → Seen → Option TreeRoot → ℕ → Result (Option Sum) TreeFault → Type 0
 TellsSum vol before now sums addr result = LooksIn vol before now (sum_at (kind_in vol.sup) sums addr) result
 
--- the checksums that are kept are what look-ups give, where those before were: in the tree with a root, and in the checksum tree, if there is one
+-- so far as its calls were steady, the checksums that are kept stay those of the tree with a root
 abbrev pub KeepsAhead : Layout → Seen → Seen → RootPlace → SumsAhead → SumsAhead → Type 0
 KeepsAhead layout before now root ahead ahead' = Tells layout before now (λ B. IsAheadIn B root ahead → IsAheadIn B root ahead')
 
+-- so far as its calls were steady, the checksums that are kept stay those of the tree
 abbrev pub KeepsSums : Volume → Seen → Seen → Option TreeRoot → SumsAhead → SumsAhead → Type 0
 KeepsSums vol before now sums ahead ahead' = Tells vol.store.layout before now (λ B. IsSummed B sums ahead → IsSummed B sums ahead')
 
@@ -67,11 +68,12 @@ abbrev pub TellsSector : Layout → Seen → Seen → Want → Blocks → Result
 TellsSector layout before now want store result =
     TellsAll layout before now (λ Bs. SectorComes (unread_by layout before now) Bs want store result)
 
--- the next row of a scan of a directory's items, and the next entry of a directory
+-- so far as its calls were steady, what was answered is the next row of a scan of a directory's items
 abbrev pub TellsRow : Blocks → Blocks → Seen → Seen → Scan → Scan → NameBuf → Result (Option DirRow) TreeFault → Type 0
 TellsRow store store' before now scan scan' name result =
     Tells store.layout before now (λ B. IsNextRow (unread_by store.layout before now) B store store' scan scan' name result)
 
+-- so far as its calls were steady, what was answered is the next entry of a directory
 abbrev pub TellsEntry : Volume → Seen → Seen → Dir → Dir → NameBuf → Result (Option DirRow) TreeFault → Type 0
 TellsEntry vol before now dir dir' name result =
     Tells vol.store.layout before now (λ B. IsNextEntry (unread_by vol.store.layout before now) B dir dir' name result)
@@ -91,12 +93,13 @@ abbrev pub TellsStep : Volume → Seen → Seen → Source → Progress → Prog
 TellsStep vol before now source p p' store result =
     TellsAll vol.store.layout before now (λ Bs. IsGiven (kind_in vol.sup) source (unread_by vol.store.layout before now) Bs p p' store result)
 
--- a step, and the next step: where the checksums that are kept were those of the tree, so are those that are kept then
+-- so far as its calls were steady, what was answered is a step of a file, and its checksums stay right
 abbrev pub TellsSummed : Volume → Seen → Seen → Source → SumsAhead → SumsAhead → Progress → Progress → Blocks → Result Shown TreeFault → Type 0
 TellsSummed vol before now source ahead ahead' p p' store result =
     TellsAll vol.store.layout before now (λ Bs. IsSummed (Bs 0) source.sums ahead
     → IsGiven (kind_in vol.sup) source (unread_by vol.store.layout before now) Bs p p' store result × IsSummed (Bs 0) source.sums ahead')
 
+-- so far as its calls were steady, what was answered is the next piece of a file, and its checksums stay right
 abbrev pub TellsNextStep : Volume → Seen → Seen → Source → SumsAhead → SumsAhead → Progress → Progress → Blocks
     → Result (Option Shown) TreeFault → Type 0
 TellsNextStep vol before now source ahead ahead' p p' store result =

@@ -24,7 +24,8 @@ entry_at at body =
       end = end;
     })
 
--- the entry of a DIR_INDEX of a size has kind 1 to 7 and no data, ends where the body ends, and leads to an inode, or as a directory to a subvolume's root
+-- the entry of a DIR_INDEX of a size has kind 1 to 7 and no data, ends where the body ends, and leads to an
+-- inode, or as a directory to a subvolume's root
 abbrev pub is_index : Entry → ℕ → Bool
 is_index entry size =
     nat_le 1 entry.kind && nat_le entry.kind 7 && (entry.extra_len == 0) && (entry.end == size)

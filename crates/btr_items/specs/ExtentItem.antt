@@ -8,9 +8,11 @@ use Rattle.btr_items.specs.Types.{extent_item, metadata_item}
 use Rattle.btr_items.specs.declared.extent_item.ExtentItem.{ExtentItem}
 use Rattle.btr_items.specs.declared.fault.ItemFault.{ItemFault}
 
+-- the flags say that an extent is of data
 abbrev pub is_data : ℕ → Bool
 is_data flags = not (bit_and flags 1 == 0)
 
+-- the flags say that an extent is a tree block
 abbrev pub is_tree_block : ℕ → Bool
 is_tree_block flags = not (bit_and flags 2 == 0)
 
@@ -20,7 +22,8 @@ flags_fit kind flags =
     if is_tree_block flags then not (is_data flags) && ((kind == extent_item) || (kind == metadata_item))
     else is_data flags && (kind == extent_item)
 
--- where the inline references begin: an EXTENT_ITEM of a tree block has a key and a level, of 18 bytes, in front of them
+-- where the inline references begin: an EXTENT_ITEM of a tree block has a key
+-- and a level, of 18 bytes, in front of them
 abbrev pub first_place : ℕ → ℕ → ℕ
 first_place kind flags = if (kind == extent_item) && is_tree_block flags then 42 else 24
 

@@ -16,7 +16,8 @@ is_range start len = is_aligned start && is_aligned len && nat_lt (start + len) 
 abbrev pub holds : ℕ → ℕ → ℕ → Bool
 holds disk_len skip len = nat_le (skip + len) disk_len
 
--- the rules on a regular or preallocated extent of 53 bytes. A hole has the address 0, and what it skips isn't looked at.
+-- the rules on a regular or preallocated extent of 53 bytes. A hole has the
+-- address 0, and what it skips isn't looked at.
 abbrev pub place_fits : ℕ → List ℕ → Bool
 place_fits offset body =
     let addr = number_at 8 21 body in

@@ -1,4 +1,5 @@
--- TREE_BLOCK_REF, SHARED_BLOCK_REF, EXTENT_DATA_REF and SHARED_DATA_REF: a reference to an extent in an item of its own.
+-- TREE_BLOCK_REF, SHARED_BLOCK_REF, EXTENT_DATA_REF and SHARED_DATA_REF: a
+-- reference to an extent in an item of its own.
 use Rattle.std.specs.Prelude.{ℕ, ◌==◌, ◌&&◌, Bool, false, List, length, Option, Some, None, Result}
 use Rattle.btr_base.specs.declared.key.Key.{Key}
 use Rattle.btr_items.specs.Form.{fields_if}

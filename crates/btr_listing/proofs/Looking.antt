@@ -79,7 +79,7 @@ module _ {A C : Type 0} (p : Lookup A) (k : A → Lookup C) (layout : Layout) wh
       (follows_as (unread_by layout' b c) (unread_by layout a c) (λ u w i. since layout layout' same reads u w i) no_part [] (exec B (k v)) []
       (answer_of r) two)))) h g
 
-  -- .. where the first came to a fault
+  -- one lookup that came to a fault, and then no other
   pub looks_halt : {a b : Seen} (f : TreeFault) → Looks layout a b p (Err f) → Looks layout a b (bind p k) (Err f)
   looks_halt {a} {b} f h =
       drawn layout (λ B. Follows {S = ⊥} (unread_by layout a b) no_part [] (exec B p) [] (Err (halt_of f))) (λ B. Follows {S = ⊥}
@@ -125,7 +125,7 @@ module _ {A C : Type 0} (p : Lookup A) (k : Super → A → Lookup C) {old mid :
         (subst (λ x. Looks vol.store.layout old mid p x) is h.content) (subst (λ s. Looks vol'.store.layout mid new (k s a) r) h.volume.sup g.content);
   }
 
-  -- .. where the first came to a fault
+  -- one lookup by the superblock of its volume that came to a fault, and then no other
   pub looked_halt : (f : TreeFault) → Looked p old vol mid vol' found → found ≡ Err f → Looked (bind p (k vol.sup)) old vol mid vol' (Err f)
   looked_halt f h is = record {
     reads = h.reads;

@@ -38,10 +38,11 @@ met_in deep tree dirid path entry =
 abbrev pub target : Met → ℕ
 target met = met.entry.row.location.objectid
 
--- the name that an entry is of its inode, and of its subvolume
+-- the name that an entry is of its inode
 abbrev pub link_of : Met → Link
 link_of met = link met.dirid met.entry.row.index met.entry.name
 
+-- the name that an entry is of its subvolume
 abbrev pub mount_of : Met → Mount
 mount_of met = mount met.tree.id (link_of met)
 
@@ -58,6 +59,7 @@ file_found met (Some inode) =
     if nat_lt (2 ^ 60) inode.size then Return (Skip cause.Size)
     else bind (survey met.tree (target met)) (λ found. Return (surveyed inode found))
 
+-- what a file of an inode comes to, by the lookup of that inode
 abbrev pub file_decided : Met → Lookup Decision
 file_decided met = bind (inode_in met.tree (target met)) (file_found met)
 
@@ -65,6 +67,7 @@ file_decided met = bind (inode_in met.tree (target met)) (file_found met)
 abbrev pub link_found : Met → Bool → Decision
 link_found met is = if is then Folder met.tree (target met) else Skip cause.Link
 
+-- what a directory comes to, by the lookup of whether the entry is its one name
 abbrev pub directory_decided : Met → Lookup Decision
 directory_decided met = bind (linked (link_of met) met.tree (target met)) (λ is. Return (link_found met is))
 
@@ -80,6 +83,7 @@ module _ (rules : Rules) where
   root_found (Some inner) =
       if not (inner.offset == 0) && not rules.snapshots then Skip cause.Snapshot else Folder inner inner.dirid
 
+  -- what a subvolume comes to, by the lookup of its root
   abbrev pub root_decided : Super → Met → Lookup Decision
   root_decided s met = bind (tree_of s (target met)) (λ found. Return (root_found found))
 
@@ -87,6 +91,7 @@ module _ (rules : Rules) where
   abbrev pub mount_found : Met → Super → Bool → Lookup Decision
   mount_found met s is = if is then root_decided s met else Return Empty
 
+  -- what a subvolume comes to, by whether it is to be entered and by the lookup of whether the entry is its one name
   abbrev pub subvolume_decided : Super → Met → Lookup Decision
   subvolume_decided s met =
       if not rules.subvolumes then Return (Skip cause.Subvolume)
@@ -127,7 +132,8 @@ module _ (rules : Rules) where
   MayLeaveOut met cause.Subvolume = rules.subvolumes ≡ false
   MayLeaveOut met cause.Snapshot = rules.snapshots ≡ false
 
-  -- a decision fits its entry: it is left out for a cause that it may have, or it has a good name, and no directory is entered that is too deep
+  -- a decision fits its entry: it is left out for a cause that it may have, or it has a good name,
+  -- and no directory is entered that is too deep
   abbrev pub Fits : Met → Decision → Type 0
   Fits met (Skip cause) = MayLeaveOut met cause
   Fits met (File inode) = IsGoodName met.entry.name

@@ -12,6 +12,7 @@ path_in path name = path ++ 47 ∷ name
 abbrev pub line : List ℕ → List ℕ → List ℕ
 line word path = word ++ codes " " ++ flat_map shown path ++ codes "\n"
 
+-- the line that a path is skipped, with the cause
 abbrev pub skip_line : List ℕ → List ℕ → List ℕ
 skip_line cause path = codes "skip " ++ line cause path
 
@@ -19,18 +20,23 @@ skip_line cause path = codes "skip " ++ line cause path
 abbrev pub more : ℕ → ℕ
 more n = if n == 2 ^ 64 - 1 then n else n + 1
 
+-- no count yet
 abbrev pub no_counts : Counts
 no_counts = record { dirs = 0; files = 0; skipped = 0 }
 
+-- the counts with one directory more
 abbrev pub with_dir : Counts → Counts
 with_dir counts = record counts { dirs = more counts.dirs }
 
+-- the counts with one file more
 abbrev pub with_file : Counts → Counts
 with_file counts = record counts { files = more counts.files }
 
+-- the counts with one skipped thing more
 abbrev pub with_skip : Counts → Counts
 with_skip counts = record counts { skipped = more counts.skipped }
 
+-- the line of the counts
 abbrev pub counts_line : Counts → List ℕ
 counts_line counts =
     codes "directories " ++ decimal counts.dirs ++ codes " files " ++ decimal counts.files

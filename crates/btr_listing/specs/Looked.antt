@@ -19,7 +19,8 @@ pub record CanLook (rack : Seen) (vol : Volume) : Type 0 where
   pub serves : Serves rack vol.store
   pub room : 4 ≤ free_count vol.store
 
--- A lookup only read, its volume is as before and can be looked up in again, a fault has its cause, and what was answered follows its program.
+-- A lookup only read, its volume is as before and can be looked up in again, a fault has its cause,
+-- and what was answered follows its program.
 pub record Looked
     {A : Type 0} (p : Lookup A) (old : Seen) (vol : Volume) (new : Seen) (vol' : Volume) (answer : Result A TreeFault) : Type 0 where
   pub reads : OnlyReads old new
@@ -42,6 +43,6 @@ met_by entry = record {
 abbrev pub FitsEntry : Rules → Met → Result Decision TreeFault → Type 0
 FitsEntry rules met result = IfOk result (Fits rules met)
 
--- .. whatever the rules are
+-- a decision fits its entry, if there is one, whatever the rules are
 abbrev pub FitsAll : Met → Result Decision TreeFault → Type 0
 FitsAll met result = (rules : Rules) → FitsEntry rules met result

@@ -10,13 +10,15 @@ use Rattle.btr_super.specs.declared.superblock.Super.{Super}
 unfoldable pub zeros : ℕ → List ℕ
 zeros n = replicate n 0
 
--- a number of 8, 4 or 2 bytes
+-- a number of 8 bytes
 unfoldable pub number_u64 : ℕ → List ℕ
 number_u64 n = to_le_bytes w64 n
 
+-- a number of 4 bytes
 unfoldable pub number_u32 : ℕ → List ℕ
 number_u32 n = to_le_bytes w32 n
 
+-- a number of 2 bytes
 unfoldable pub number_u16 : ℕ → List ℕ
 number_u16 n = to_le_bytes w16 n
 

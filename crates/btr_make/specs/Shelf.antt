@@ -5,8 +5,8 @@ use Rattle.btr_rack.specs.declared.place.Place.{Place}
 use Rattle.btr_rack.specs.Rack.{Slot, Account}
 use Rattle.btr_rack.specs.Memory.{MemoryRack, Failures, slots_of, shelf_of, named}
 
--- what writing into images leaves as it is: which images there are and which of them are open, what is to fail, what waits
--- for a sync, and the account of the failed calls
+-- what writing into images leaves as it is: which images there are and which of them are open, what is to fail, what
+-- waits for a sync, and the account of the failed calls
 pub record Standing : Type 0 where
   pub slots : List Slot
   pub failing : Failures
@@ -15,6 +15,7 @@ pub record Standing : Type 0 where
   pub account : Account
   pub names : List ℕ → Bool
 
+-- what writing into the images of a rack leaves as it is
 unfoldable pub standing : MemoryRack → Standing
 standing rack = record {
   slots = slots_of rack;

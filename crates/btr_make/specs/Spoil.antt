@@ -12,10 +12,12 @@ use Rattle.btr_make.specs.Shelf.{standing}
 abbrev pub page_of : List ℕ → ℕ → List ℕ
 page_of image page = slice_range image (4096 * page) (4096 * page + 4096)
 
+-- all bytes are 0
 abbrev pub is_zeros : List ℕ → Bool
 is_zeros bytes = list_all (λ b. b == 0) bytes
 
--- a page that is spoiled: the image has all of it, it stands from 1048576 on and at no superblock's place, and isn't all zeros
+-- a page that is spoiled: the image has all of it, it stands from 1048576 on and at
+-- no superblock's place, and isn't all zeros
 abbrev pub is_spoiled : List ℕ → ℕ → Bool
 is_spoiled image page =
     nat_le (4096 * page + 4096) (length image) && nat_le 1048576 (4096 * page) && not (list_any (λ place. place == 4096 * page) places)

@@ -154,7 +154,7 @@ module _ (images : Images) (t : Target) where
         ap (λ c. record { bad = c; repaired = 0; lost = false }) (bad_count flags count are)
         ∙ ap (λ l. record { bad = length (bad_parts images t); repaired = 0; lost = l }) (sym (ap is_none first.accepts))
 
-    -- .. and where it is written
+    -- what is counted where a copy passes and the bad ones are written
     pub counted_write : (m : ℕ) (flags : List Bool) (count : ℕ) → m < n → IsFirst images t m → AreBad images t n flags count → record { bad = count; repaired = count; lost = false } ≡ mended_of images t true
     counted_write m flags count lt first are =
         let number = bad_count flags count are in
@@ -173,7 +173,7 @@ module _ (images : Images) (t : Target) where
         by true e = e
         by false e = refl
 
-    -- .. and all of them are counted
+    -- all copies are counted as bad, and the block as lost, where no copy passes
     pub counted_lost : (write : Bool) → passing images t ≡ [] → record { bad = n; repaired = 0; lost = true } ≡ mended_of images t write
     counted_lost write h =
         ap (λ c. record { bad = c; repaired = 0; lost = true }) (sym (ap length bad_are ∙ all_bad 0 n (λ k l u. none_sound h k (omega (arith, u)))))

@@ -74,7 +74,7 @@ module _ (t : Target) (write : Bool) (marks : List Bool) (a b : Seen) (reads : O
             unwritten = λ w. absurd (false≢true (sym w ∙ yes));
           }
 
-          -- .. up to a write that failed
+          -- the block was written up to a write that failed
           pub mends_cut : (fault : MendFault) → Overwrites {A = Unit {0}} t bytes (flagged flags n) marks marks' b d (Err fault) → Mends t write marks marks' a d (Err fault)
           mends_cut fault h = record {
             does = does_as_halt (IsOfCopy t) (Unit {0}) Mended (λ i. copy_writes t bytes (flagged flags n)) (λ images. writes_if write (block_writes images t)) marks marks' a d fault same_writes (behind (Err fault) h);

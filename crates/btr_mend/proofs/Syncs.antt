@@ -111,7 +111,7 @@ synced_next marks n before now left h here = record {
       (was.0, λ lt. elim (cases_lt range.slot n) [ inl below ↦ was.1 below | inr above ↦ at.1 (omega (arith, lt, above)) ]);
 }
 
--- .. behind a sync of this slot
+-- of what was left before, so much is left after a sync of this slot
 synced_others : (marks : List Bool) (n : ℕ) (before now left : List Range) → AreSynced marks n before now → left ≡ in_others n now → AreSynced marks (n + 1) before left
 synced_others marks n before now left h is = synced_next marks n before now left h (λ range i.
     let f = passing_filter (λ (r : Range). not (eqb r.slot n)) range now (subst (In range) is i) in

@@ -59,7 +59,7 @@ strands_none (Ok x) before now same = same
 strands_none (Err (Image slot)) before now same = ([], same ∙ sym (append-nil before))
 strands_none (Err Memory) before now same = same
 
--- .. and that is said of any value
+-- what waits for good after a fault is the same for a call with any value
 pub strands_same : (A B : Type 0) (e : MendFault) (old new : List Range) → Strands {A = A} old new (Err e) → Strands {A = B} old new (Err e)
 strands_same A B (Image slot) old new h = h
 strands_same A B Memory old new h = h
@@ -346,7 +346,7 @@ module _ (P : Range → Type 0) (ws vs : List Write) (m n : List Bool) (a b : Se
                 ],
               )
 
-      -- .. as it is wanted, which it is where there is something in both
+      -- two turns, with a sync between them as it is wanted, which it is where there is something in both
       pub turns_done : (wanted : Bool) → SyncsIf wanted n o b d (Ok tt) → (wanted ≡ false → (ws ≡ []) ⊎ (vs ≡ [])) → TakesTurns P ws vs m q a z r
       turns_done true s empty = turns_synced s
       turns_done false s empty = turns_alone (empty refl) s.1 s.2

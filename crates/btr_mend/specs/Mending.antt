@@ -49,8 +49,8 @@ abbrev pub Counts : Option Images → Target → Bool → Result Mended MendFaul
 Counts held t write (Ok mended) = IfSome held (λ images. mended ≡ mended_of images t write)
 Counts held t write (Err fault) = Unit {0}
 
--- A block was read, and written where it is bad: exactly the writes that mend it, or those up to one that failed. What was written is marked by its slot.
--- Where it was only to be read, it was.
+-- A block was read, and written where it is bad: exactly the writes that mend it, or those up to one that failed. What
+-- was written is marked by its slot. Where it was only to be read, it was.
 pub record Mends (t : Target) (write : Bool) (marks marks' : List Bool) (old new : Seen) (result : Result Mended MendFault) : Type 0 where
   pub does : Does (IsOfCopy t) (λ images. writes_if write (block_writes images t)) marks marks' old new result
   pub counts : Counts old.held t write result

@@ -22,7 +22,8 @@ AreMarked marks ranges = (range : Range) → In range ranges → IsMarked marks 
 abbrev pub plain : Seen → Seen
 plain rack = record rack { unsynced = []; never_synced = [] }
 
--- What waits for good: nothing more at Ok, and where an image failed some ranges on it, those that waited as a sync of it failed.
+-- What waits for good: nothing more at Ok, and where an image failed some ranges on
+-- it, those that waited as a sync of it failed.
 abbrev pub Strands : {A : Type 0} → List Range → List Range → Result A MendFault → Type 0
 Strands old new (Ok a) = new ≡ old
 Strands old new (Err (Image slot)) = (waiting : List Range) × (new ≡ old ++ in_slot slot waiting)

@@ -10,8 +10,8 @@ use Rattle.btr_mend.specs.declared.mended.MendFault.{MendFault}
 abbrev pub waiting : Seen → List Range
 waiting rack = rack.unsynced ++ rack.never_synced
 
--- Writes in two turns, as they were stopped: in the first turn, and at most ranges of that wait; or the first is done and stored, they were stopped in the
--- second, and at most ranges of that wait.
+-- Writes in two turns, as they were stopped: in the first turn, and at most ranges of that wait; or the first is done
+-- and stored, they were stopped in the second, and at most ranges of that wait.
 abbrev pub IsInTurn : List Write → List Write → Images → Images → List Range → Type 0
 IsInTurn first second images left own =
     (IsStopped first images left × AreAmong own (ranges_of first))
@@ -23,8 +23,8 @@ pub record WaitsInTurn (first second : List Write) (images : Images) (old new : 
   pub among : AreAmong (waiting new) (waiting old ++ own)
   pub turn : IsSomeAnd new.held (λ left. IsInTurn first second images left own)
 
--- Images were written in two turns, and the marked ones synced between them where there is something to write in both: exactly those writes, or those up to
--- a call that failed. Where all that waited was marked, it is.
+-- Images were written in two turns, and the marked ones synced between them where there is something to write in both:
+-- exactly those writes, or those up to a call that failed. Where all that waited was marked, it is.
 pub record TakesTurns {A : Type 0} (P : Range → Type 0) (first second : List Write) (marks marks' : List Bool) (old new : Seen) (result : Result A MendFault) : Type 0 where
   pub does : Does (IsSyncOr P) (λ images. first ++ second) [] [] (plain old) (plain new) result
   pub waits : IfSome old.held (λ images. WaitsInTurn first second images old new)

@@ -67,8 +67,8 @@ pub record Marks (ranges : List Range) (old new : List Bool) : Type 0 where
   pub added : All (λ (range : Range). IsMarked new range.slot) ranges
   pub kept : (slot : ℕ) → IsMarked old slot → IsMarked new slot
 
--- Images were read, and ranges of them written, which wait for a sync: the slots and the shelf are as before. No opening failed, and the count of
--- faults never falls.
+-- Images were read, and ranges of them written, which wait for a sync: the slots and the shelf are as before. No
+-- opening failed, and the count of faults never falls.
 pub record OnlyWrites (ranges : List Range) (old new : Seen) : Type 0 where
   pub same : new ≡ record old { held = new.held; unsynced = old.unsynced ++ ranges; account = new.account }
   pub later : old.account.faults ≤ new.account.faults
@@ -87,8 +87,8 @@ AccountsMend P old new (Ok a) = NoneFailed old.account new.account
 AccountsMend P old new (Err (Image slot)) = FailsAt P slot old new
 AccountsMend P old new (Err Memory) = NoneFailed old.account new.account
 
--- Images were read and written: exactly the writes that follow from what they held, or those up to one that failed. Ranges of these writes wait for a sync,
--- and are marked by their slots.
+-- Images were read and written: exactly the writes that follow from what they held, or those up to one that failed.
+-- Ranges of these writes wait for a sync, and are marked by their slots.
 pub record Does {A : Type 0} (P : Range → Type 0) (writes : Images → List Write) (marks marks' : List Bool) (old new : Seen) (result : Result A MendFault) : Type 0 where
   pub ranges : List Range
   pub only : OnlyWrites ranges old new

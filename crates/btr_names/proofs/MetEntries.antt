@@ -40,7 +40,7 @@ entry_by a b claims names =
     (λ i. (a.offset == (claims i).offset) && ((a.dir == (claims i).dir) && ((a.location.objectid == (claims i).target.objectid) && (a.location.kind == (claims i).target.kind) && (a.location.offset == (claims i).target.offset)) && (a.kind == (claims i).kind) && bytes_eq a.name (names i)))
     ∙ (λ i. itself a.offset i && (itself a.dir i && (itself a.location.objectid i && itself a.location.kind i && itself a.location.offset i) && itself a.kind i && name_itself a.name i))
 
--- .. and so does a reference
+-- a reference that claims the same by the same name stands for another
 ref_by : (a b : NameRef) (f g : ℕ) → ref_claim g b ≡ ref_claim f a → b.name ≡ a.name → same_ref a b ≡ true
 ref_by a b f g claims names =
     (λ i. (a.inode == (claims i).target.objectid) && (a.parent == (claims i).dir) && (a.index == (claims i).offset) && bytes_eq a.name (names i))
@@ -137,7 +137,7 @@ module _ (pairs : Pairs) (came : List Item) (inodes : List InodeAt) (indexed has
     of_seconds = second_there;
   }
 
-  -- .. and in another one
+  -- an entry more in a directory that has links
   pub indexed_more : met_fits (waiting_at pairs.waiting (entry_claim (under_hash entry))) true entry.name ≡ true
       → EntriesMet (met pairs (entry_claim (under_hash entry)) true entry.name) (first ∷ came) inodes (indexed ++ entry ∷ []) hashed
   indexed_more fit = record {
@@ -244,7 +244,7 @@ module _ (dirid : ℕ) (pairs : Pairs) (came : List Item) (inodes : List InodeAt
     of_seconds = before.of_seconds;
   }
 
-  -- .. and one that asks for a reference
+  -- an entry more that asks for a reference
   pub entry_more : (entry : Entry) → leads_to_inode entry ≡ true → met_fits (waiting_at pairs.waiting (link_claim entry)) true entry.name ≡ true
       → LinksMet dirid (met pairs (link_claim entry) true entry.name) (item true (link_claim entry) entry.name ∷ came) inodes (indexed ++ entry ∷ []) refs
   entry_more entry leads fit = record {
@@ -277,7 +277,7 @@ module _ (dirid : ℕ) (pairs : Pairs) (came : List Item) (inodes : List InodeAt
     of_seconds = λ e h. let two = before.of_seconds e h in (any_left (same_ref (ref_to e)) refs (ref ∷ []) two.0, two.1);
   }
 
-  -- .. and one of an inode that is there
+  -- a reference more of an inode that is there
   pub ref_more : (format : ℕ) (ref : NameRef) → ((e : Entry) → ref_claim format ref ≡ link_claim e → list_any (fits_mode e) inodes ≡ true) → met_fits (waiting_at pairs.waiting (ref_claim format ref)) false ref.name ≡ true
       → LinksMet dirid (met pairs (ref_claim format ref) false ref.name) (item false (ref_claim format ref) ref.name ∷ came) inodes indexed (refs ++ ref ∷ [])
   ref_more format ref has fit = record {

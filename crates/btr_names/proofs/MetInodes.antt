@@ -28,7 +28,8 @@ IsCounted indexed refs at = is_counted (counted_of indexed refs at) ≡ true
 abbrev IsBefore : ℕ → List Entry → List NameRef → InodeAt → Type 0
 IsBefore number indexed refs at = (at.number < number) × IsCounted indexed refs at
 
--- the last inode: those before it have lower numbers and state what there is of them; of higher ones there is nothing, and of it what was counted
+-- the last inode: those before it have lower numbers and state what there is of them; of higher ones
+-- there is nothing, and of it what was counted
 pub record IsLast (current : Current) (inodes : List InodeAt) (indexed : List Entry) (refs : List NameRef) : Type 0 where
   pub front : List InodeAt
   pub is : inodes ≡ front ++ current.at ∷ []
@@ -269,7 +270,7 @@ removed_first orphans at inodes dir true is (inr rest) = any_right (λ number. d
 removed_first orphans at inodes dir false is (inl it) = absurd (true≢false (sym it.1 ∙ is))
 removed_first orphans at inodes dir false is (inr rest) = rest
 
--- .. and so it is among those that are being removed
+-- a directory without links that is there is among those that are being removed
 pub all_removed : (unlinked orphans : List ℕ) (inodes : List InodeAt) (dir : ℕ) → ((number : ℕ) → IsIn unlinked number → ⊥)
     → AllByRecursion (IsKept unlinked orphans) inodes → IsGone inodes dir → is_among (removed_dirs orphans inodes) dir ≡ true
 all_removed unlinked orphans [] dir none kept gone = gone

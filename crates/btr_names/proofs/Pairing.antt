@@ -114,7 +114,7 @@ inserted : (es : List (Claim × Half)) (k q : Claim) (h g : Half) → waiting_at
 inserted [] k q h g none waits = absurd waits
 inserted (e ∷ es) k q h g none waits = inserted_by (claim_cmp k e.0) e es k q h g none (inserted es k q h g) waits
 
--- .. which waits too
+-- a claim that comes to wait waits
 new_by : (o : Ordering) (e : Claim × Half) (es : List (Claim × Half)) (k : Claim) (h : Half) → claim_cmp k e.0 ≡ o → Waits (insert_entry claim_cmp es k h) k h
     → Waits (match_ordering o ((k, h) ∷ e ∷ es) ((e.0, h) ∷ es) (e ∷ insert_entry claim_cmp es k h)) k h
 new_by Less e es k h is rest = inl (refl, refl)
@@ -125,7 +125,7 @@ new_inserted : (es : List (Claim × Half)) (k : Claim) (h : Half) → Waits (ins
 new_inserted [] k h = inl (refl, refl)
 new_inserted (e ∷ es) k h = new_by (claim_cmp k e.0) e es k h refl (new_inserted es k h)
 
--- .. and no other one does
+-- what waits after a claim was put: this claim, or what waited before
 abbrev IsIt : Claim → Half → List (Claim × Half) → Claim → Half → Type 0
 IsIt k h es q g = ((k ≡ q) × (h ≡ g)) ⊎ Waits es q g
 

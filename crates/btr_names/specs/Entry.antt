@@ -5,7 +5,8 @@ use Rattle.btr_names.specs.declared.dir_entry.DirEntry.{DirEntry}
 use Rattle.btr_names.specs.declared.dir_entry.Target.{Target}
 use Rattle.btr_names.specs.declared.link_name.LinkName.{LinkName}
 
--- an entry: its directory, its item's offset (the entry's index, or the hash of its name), and where it leads, of which kind, by which name
+-- an entry: its directory, its item's offset (the entry's index, or the hash of its name), and
+-- where it leads, of which kind, by which name
 pub record Entry : Type 0 where
   pub dir : ℕ
   pub offset : ℕ
@@ -28,5 +29,6 @@ location_of target = record { objectid = target.objectid; kind = target.kind; of
 abbrev pub entry_of : DirEntry → Entry
 entry_of entry = record { dir = entry.dir; offset = entry.offset; location = location_of entry.target; kind = entry.kind; name = entry.name.now }
 
+-- what a reference in memory says
 abbrev pub ref_of : LinkName → NameRef
 ref_of link = record { inode = link.inode; parent = link.parent; index = link.index; name = link.name.now }

@@ -8,13 +8,14 @@ use Rattle.btr_names.specs.declared.current.Current.{Current}
 use Rattle.btr_names.specs.declared.inode_at.InodeAt.{InodeAt}
 use Rattle.btr_names.specs.Names.{format_of, has_links, has_size, is_unlinked}
 
--- the inode whose items come; whether one states something else than what was counted, or an item isn't that of the inode before it; and
--- the inodes without links that no orphan item has named yet
+-- the inode whose items come; whether one states something else than what was counted, or an item isn't that of the
+-- inode before it; and the inodes without links that no orphan item has named yet
 pub record Inodes : Type 0 where
   pub last : Option Current
   pub is_wrong : Bool
   pub unlinked : List ℕ
 
+-- what is kept before the first inode
 abbrev pub no_inodes : Inodes
 no_inodes = record { last = None; is_wrong = false; unlinked = [] }
 
@@ -22,14 +23,17 @@ no_inodes = record { last = None; is_wrong = false; unlinked = [] }
 abbrev pub begun_with : InodeAt → Current
 begun_with at = record { at = at; links = 0; names = 0 }
 
--- an inode states how many references it has, and, of a directory with links, how long the names in it are, each counted twice
+-- an inode states how many references it has, and, of a directory with links, how
+-- long the names in it are, each counted twice
 abbrev pub is_counted : Current → Bool
 is_counted current = has_links current.at current.links && (is_unlinked current.at || has_size current.at current.names)
 
+-- the last inode, if there is one, states what was counted
 abbrev pub last_counted : Option Current → Bool
 last_counted None = true
 last_counted (Some current) = is_counted current
 
+-- the kind in the mode of the last inode, and 0 where there is none
 abbrev pub last_format : Option Current → ℕ
 last_format None = 0
 last_format (Some current) = format_of current.at.inode
@@ -39,6 +43,7 @@ abbrev pub may_follow : Option Current → ℕ → Bool
 may_follow None number = true
 may_follow (Some current) number = not (nat_le number current.at.number) && is_counted current
 
+-- the last inode has this number
 abbrev pub is_last : ℕ → Option Current → Bool
 is_last number None = false
 is_last number (Some current) = current.at.number == number
@@ -48,16 +53,19 @@ abbrev pub is_gone : ℕ → Option Current → Bool
 is_gone dir None = false
 is_gone dir (Some current) = (current.at.number == dir) && is_unlinked current.at
 
--- one reference more, and one name more
+-- an inode with one reference more
 abbrev pub one_link : Current → Current
 one_link current = record { at = current.at; links = current.links + 1; names = current.names }
 
+-- an inode with one name more, whose length counts twice
 abbrev pub one_name : List ℕ → Current → Current
 one_name name current = record { at = current.at; links = current.links; names = current.names + 2 * length name }
 
+-- the last inode with one reference more
 abbrev pub last_linked : Option Current → Option Current
 last_linked last = option_map one_link last
 
+-- the last inode with one name more
 abbrev pub last_named : Option Current → List ℕ → Option Current
 last_named last name = option_map (one_name name) last
 

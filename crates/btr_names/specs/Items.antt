@@ -31,26 +31,31 @@ module _ (key : Key) (body : List ℕ) where
     name = bytes_at fields.name_len fields.name_at body;
   }
 
+  -- the entries in those parts of an item that are formed
   abbrev pub entries_read : List (Result Fields ItemFault) → List Entry
   entries_read parts = map entry_with (all_read parts)
 
-  -- the entry of a DIR_INDEX, and those of a DIR_ITEM
+  -- the entry in a DIR_INDEX
   abbrev pub indexed_in : List Entry
   indexed_in = if key.kind == dir_index then entries_read (index_entry_of body ∷ []) else []
 
+  -- the entries in a DIR_ITEM
   abbrev pub hashed_in : List Entry
   hashed_in = if key.kind == dir_item then entries_read (entries_of body) else []
 
-  -- a reference in an INODE_REF, whose key has the directory, and one in an INODE_EXTREF
+  -- a reference in an INODE_REF, whose key has the directory
   abbrev pub ref_with : InodeRef → NameRef
   ref_with fields = record { inode = key.objectid; parent = key.offset; index = fields.index; name = bytes_at fields.name_len fields.name_at body }
 
+  -- a reference in an INODE_EXTREF
   abbrev pub ext_ref_with : ExtRef → NameRef
   ext_ref_with fields = record { inode = key.objectid; parent = fields.parent; index = fields.index; name = bytes_at fields.name_len fields.name_at body }
 
+  -- the references in those parts of an INODE_REF that are formed
   abbrev pub refs_read : List (Result InodeRef ItemFault) → List NameRef
   refs_read parts = map ref_with (all_read parts)
 
+  -- the references in those parts of an INODE_EXTREF that are formed
   abbrev pub ext_refs_read : List (Result ExtRef ItemFault) → List NameRef
   ext_refs_read parts = map ext_ref_with (all_read parts)
 
@@ -65,9 +70,11 @@ module _ (key : Key) (body : List ℕ) where
   abbrev pub inode_with : Inode → InodeAt
   inode_with inode = record { number = key.objectid; inode = inode }
 
+  -- the inode of an item, if it is formed
   abbrev pub inodes_read : List (Result Inode ItemFault) → List InodeAt
   inodes_read parts = map inode_with (all_read parts)
 
+  -- the inode in an item, if it is an INODE_ITEM
   abbrev pub inodes_in : List InodeAt
   inodes_in = if key.kind == inode_item then inodes_read (inode_of body ∷ []) else []
 

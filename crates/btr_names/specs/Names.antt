@@ -14,7 +14,8 @@ use Rattle.btr_names.specs.declared.inode_at.InodeAt.{InodeAt}
 use Rattle.btr_names.specs.Entry.{Entry, NameRef}
 use Rattle.btr_names.specs.Items.{inodes_in, indexed_in, hashed_in, refs_in, orphans_in}
 
--- what a tree of files holds: inodes, the entries of DIR_INDEXes and those of DIR_ITEMs, the inodes' references, and the inodes kept without a name
+-- what a tree of files holds: inodes, the entries of DIR_INDEXes and those of DIR_ITEMs, the inodes'
+-- references, and the inodes kept without a name
 pub record Names : Type 0 where
   pub tree : ℕ
   pub dirid : ℕ
@@ -36,10 +37,11 @@ names_in tree dirid items = record {
   orphans = flat_map (λ (item : TreeItem). orphans_in item.key) items;
 }
 
--- what a tree holds before its items are met, and after one more
+-- what a tree holds before its items are met
 abbrev pub no_names : ℕ → ℕ → Names
 no_names tree dirid = record { tree = tree; dirid = dirid; inodes = []; indexed = []; hashed = []; refs = []; orphans = [] }
 
+-- what a tree holds after one more item
 abbrev pub names_with : Names → Key → List ℕ → Names
 names_with names key body = record {
   tree = names.tree;
@@ -62,6 +64,7 @@ names_step names (Left fault) = names
 abbrev pub NamesLaw : Type 0
 NamesLaw = (tree dirid : ℕ) (marks : List Mark) → fold names_step (no_names tree dirid) marks ≡ names_in tree dirid (items_met marks)
 
+-- two entries lead to the same: equal keys
 abbrev pub same_location : Key → Key → Bool
 same_location a b = (a.objectid == b.objectid) && (a.kind == b.kind) && (a.offset == b.offset)
 
@@ -69,7 +72,7 @@ same_location a b = (a.objectid == b.objectid) && (a.kind == b.kind) && (a.offse
 abbrev pub same_entry : Entry → Entry → Bool
 same_entry a b = (a.dir == b.dir) && same_location a.location b.location && (a.kind == b.kind) && bytes_eq a.name b.name
 
--- .. and stand at one place
+-- two entries lead from one directory to the same, by one name, and stand at one place
 abbrev pub is_entry : Entry → Entry → Bool
 is_entry a b = (a.offset == b.offset) && same_entry a b
 
@@ -81,13 +84,15 @@ under_hash entry = record entry { offset = hash_of entry.name }
 abbrev pub leads_to_inode : Entry → Bool
 leads_to_inode entry = entry.location.kind == inode_item
 
--- the reference that an entry asks for, and those that some ask for
+-- the reference that an entry asks for
 abbrev pub ref_to : Entry → NameRef
 ref_to entry = record { inode = entry.location.objectid; parent = entry.dir; index = entry.offset; name = entry.name }
 
+-- the references that some entries ask for: those that lead to inodes
 abbrev pub asked : List Entry → List NameRef
 asked entries = map ref_to (filter leads_to_inode entries)
 
+-- two references are of one inode in one directory, by one index and one name
 abbrev pub same_ref : NameRef → NameRef → Bool
 same_ref a b = (a.inode == b.inode) && (a.parent == b.parent) && (a.index == b.index) && bytes_eq a.name b.name
 
@@ -102,6 +107,7 @@ mode_of_kind kind =
     else if kind == 6 then 0o140000
     else 0o120000
 
+-- the kind of a file that an inode's mode has
 abbrev pub format_of : Inode → ℕ
 format_of inode = bit_and inode.mode 0o170000
 
@@ -121,10 +127,11 @@ links_of refs number = count_by (λ (ref : NameRef). ref.inode == number) refs
 abbrev pub names_size : List Entry → ℕ → ℕ
 names_size indexed dir = sum_by (λ (entry : Entry). cond (entry.dir == dir) (2 * length entry.name) 0) indexed
 
--- the inode that an entry leads to has its reference, or is there and of the entry's kind, if it leads to one
+-- the inode that an entry leads to has its reference, if it leads to one
 abbrev pub ref_kept : List NameRef → Entry → Bool
 ref_kept refs entry = not (leads_to_inode entry) || list_any (same_ref (ref_to entry)) refs
 
+-- the inode that an entry leads to is there and of the entry's kind, if it leads to one
 abbrev pub mode_kept : List InodeAt → Entry → Bool
 mode_kept inodes entry = not (leads_to_inode entry) || list_any (fits_mode entry) inodes
 
@@ -156,7 +163,8 @@ has_links at links = (at.number == 2 ^ 64 - 12) || (at.inode.nlink == links)
 abbrev pub has_size : InodeAt → ℕ → Bool
 has_size at size = not (format_of at.inode == 0o040000) || (at.inode.size == size)
 
--- 15 to 17 and 19 don't speak of entries of the directories that are being removed, which their list of numbers has; that of 21 and 22 has the orphans.
+-- 15 to 17 and 19 don't speak of entries of the directories that are being removed, which their list of
+-- numbers has; that of 21 and 22 has the orphans.
 module _ (tree : ℕ) where
   -- 15: the directory has the entry under its name's hash too
   abbrev pub entry_item : List ℕ → List Entry → Entry → Option Finding
@@ -206,5 +214,6 @@ findings_but removed names =
     ++ filter_map (dir_size names.tree names.orphans names.indexed) names.inodes
     ++ filter_map (orphan names.tree names.orphans) names.inodes
 
+-- what is wrong with the names of a tree
 abbrev pub names_findings : Names → List Finding
 names_findings names = findings_but (removed_dirs names.orphans names.inodes) names

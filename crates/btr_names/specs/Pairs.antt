@@ -12,9 +12,11 @@ use Rattle.btr_names.specs.Entry.{Entry, NameRef}
 use Rattle.btr_names.specs.Names.{mode_of_kind}
 use Rattle.btr_names.specs.Sets.{target_cmp}
 
+-- what a location leads to
 abbrev pub target_of : Key → Target
 target_of key = record { objectid = key.objectid; kind = key.kind; offset = key.offset }
 
+-- what leads to the inode of a number
 abbrev pub inode_target : ℕ → Target
 inode_target number = record { objectid = number; kind = 1; offset = 0 }
 
@@ -22,10 +24,11 @@ inode_target number = record { objectid = number; kind = 1; offset = 0 }
 abbrev pub entry_claim : Entry → Claim
 entry_claim entry = record { dir = entry.dir; offset = entry.offset; target = target_of entry.location; kind = entry.kind }
 
--- what an entry says of the inode that it leads to, and what a reference says of its inode, whose mode has a format
+-- what an entry says of the inode that it leads to
 abbrev pub link_claim : Entry → Claim
 link_claim entry = record { dir = entry.dir; offset = entry.offset; target = inode_target entry.location.objectid; kind = mode_of_kind entry.kind }
 
+-- what a reference says of its inode, whose mode has this kind
 abbrev pub ref_claim : ℕ → NameRef → Claim
 ref_claim format ref = record { dir = ref.parent; offset = ref.index; target = inode_target ref.inode; kind = format }
 
@@ -47,6 +50,7 @@ pub record Pairs : Type 0 where
   pub waiting : List (Claim × Half)
   pub differ : Bool
 
+-- nothing waits yet, and no names differ
 abbrev pub no_pairs : Pairs
 no_pairs = record { waiting = []; differ = false }
 
@@ -59,6 +63,7 @@ abbrev pub met_fits : Option Half → Bool → List ℕ → Bool
 met_fits None is_first name = true
 met_fits (Some half) is_first name = fits half is_first name
 
+-- what waits after an item: it waits where none waited, and else the other one does no more
 abbrev pub met_left : List (Claim × Half) → Option Half → Claim → Bool → List ℕ → List (Claim × Half)
 met_left waiting None claim is_first name = insert_entry claim_cmp waiting claim (record { is_first = is_first; name = name })
 met_left waiting (Some half) claim is_first name = remove_entry (is_at (claim_cmp claim)) waiting
@@ -67,6 +72,7 @@ met_left waiting (Some half) claim is_first name = remove_entry (is_at (claim_cm
 abbrev pub waiting_then : List (Claim × Half) → Claim → Bool → List ℕ → List (Claim × Half)
 waiting_then waiting claim is_first name = met_left waiting (waiting_at waiting claim) claim is_first name
 
+-- the pairs after one more item with a claim and a name
 abbrev pub met : Pairs → Claim → Bool → List ℕ → Pairs
 met pairs claim is_first name = record {
   waiting = waiting_then pairs.waiting claim is_first name;

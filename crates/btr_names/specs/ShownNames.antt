@@ -10,6 +10,7 @@ use Rattle.btr_names.specs.Subvolume.{NamedSubvolume}
 abbrev pub row_name : List ℕ → SubvolumeRow → NamedSubvolume
 row_name names row = record { parent = row.parent; dirid = row.dirid; index = row.index; child = row.child; name = name_in names row.name }
 
+-- the names of some rows
 abbrev pub row_names : List ℕ → List SubvolumeRow → List NamedSubvolume
 row_names names rows = map (row_name names) rows
 
@@ -17,5 +18,6 @@ row_names names rows = map (row_name names) rows
 abbrev pub AddsName : Vec ℕ Global → Vec SubvolumeRow Global → Vec ℕ Global → Vec SubvolumeRow Global → NamedSubvolume → Type 0
 AddsName names rows names' rows' one = row_names names'.items rows'.items ≡ row_names names.items rows.items ++ one ∷ []
 
+-- all names of some rows lie within the buffer
 abbrev pub HasSubvolumeNames : List ℕ → List SubvolumeRow → Type 0
 HasSubvolumeNames names rows = All (λ (row : SubvolumeRow). IsWithin names row.name) rows

@@ -21,6 +21,7 @@ use Rattle.btr_names.specs.Entry.{Entry}
 use Rattle.btr_names.specs.Items.{all_read}
 use Rattle.btr_names.specs.Subvolume.{NamedSubvolume, name_of}
 
+-- the name of a subvolume, by its parent tree, its own, and the fields of the item
 abbrev pub name_with : ℕ → ℕ → List ℕ → RootRef → NamedSubvolume
 name_with parent child body fields = record {
   parent = parent;
@@ -30,23 +31,27 @@ name_with parent child body fields = record {
   name = bytes_at fields.name_len fields.name_at body;
 }
 
+-- the name of a subvolume in an item, if it is formed
 abbrev pub names_read : ℕ → ℕ → List ℕ → List (Result RootRef ItemFault) → List NamedSubvolume
 names_read parent child body parts = map (name_with parent child body) (all_read parts)
 
--- a ROOT_REF goes from the parent to the child, and a ROOT_BACKREF from the child to the parent
+-- the name in a ROOT_REF, which goes from the parent to the child
 abbrev pub root_refs_in : Key → List ℕ → List NamedSubvolume
 root_refs_in key body = if key.kind == root_ref then names_read key.objectid key.offset body (root_ref_of body ∷ []) else []
 
+-- the name in a ROOT_BACKREF, which goes from the child to the parent
 abbrev pub root_backrefs_in : Key → List ℕ → List NamedSubvolume
 root_backrefs_in key body = if key.kind == root_backref then names_read key.offset key.objectid body (root_ref_of body ∷ []) else []
 
--- the entries of a tree that lead to subvolumes, as their names
+-- an entry leads to a subvolume
 abbrev pub leads_to_root : Entry → Bool
 leads_to_root entry = entry.location.kind == root_item
 
+-- an entry of a tree that leads to a subvolume, as its name
 abbrev pub name_at : ℕ → Entry → NamedSubvolume
 name_at tree entry = record { parent = tree; dirid = entry.dir; index = entry.offset; child = entry.location.objectid; name = entry.name }
 
+-- the entries of a tree that lead to subvolumes, as their names
 abbrev pub names_at : ℕ → List Entry → List NamedSubvolume
 names_at tree entries = map (name_at tree) (filter leads_to_root entries)
 
@@ -56,10 +61,11 @@ pub record Subvolumes : Type 0 where
   pub backrefs : List NamedSubvolume
   pub entries : List NamedSubvolume
 
+-- no names of subvolumes
 abbrev pub no_subvolumes : Subvolumes
 no_subvolumes = record { refs = []; backrefs = []; entries = [] }
 
--- .. after one more item of the root tree
+-- the names of subvolumes after one more item of the root tree
 abbrev pub subvolumes_with : Subvolumes → Key → List ℕ → Subvolumes
 subvolumes_with names key body = record { refs = names.refs ++ root_refs_in key body; backrefs = names.backrefs ++ root_backrefs_in key body; entries = names.entries }
 
@@ -78,13 +84,15 @@ subvolumes_in items entries = record {
   entries = entries;
 }
 
+-- what a tour of the root tree leaves, before any entries, is what its items hold
 abbrev pub SubvolumesLaw : Type 0
 SubvolumesLaw = (marks : List Mark) → fold subvolumes_step no_subvolumes marks ≡ subvolumes_in (items_met marks) []
 
--- .. and after the entries of one more tree
+-- the names of subvolumes after the entries of one more tree
 abbrev pub subvolumes_at : Subvolumes → ℕ → List Entry → Subvolumes
 subvolumes_at names tree entries = record { refs = names.refs; backrefs = names.backrefs; entries = names.entries ++ names_at tree entries }
 
+-- two names of subvolumes are the same
 abbrev pub same_name : NamedSubvolume → NamedSubvolume → Bool
 same_name a b = (a.parent == b.parent) && (a.dirid == b.dirid) && (a.index == b.index) && (a.child == b.child) && bytes_eq a.name b.name
 
@@ -94,6 +102,7 @@ name_kept names name =
     unless (list_any (same_name name) names.refs && list_any (same_name name) names.backrefs && list_any (same_name name) names.entries)
     (found 23 (name.parent ∷ name.child ∷ []))
 
+-- what is wrong with the names of subvolumes
 abbrev pub subvolume_findings : Subvolumes → List Finding
 subvolume_findings names = filter_map (name_kept names) (names.refs ++ names.backrefs)
 

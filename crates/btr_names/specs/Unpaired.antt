@@ -19,13 +19,15 @@ nothing_unpaired dirid = record { dirid = dirid; inodes = no_inodes; entries = n
 abbrev pub with_inode : Unpaired → InodeAt → Unpaired
 with_inode u at = record { dirid = u.dirid; inodes = begun u.inodes at; entries = u.entries; links = u.links; subvolumes = u.subvolumes }
 
--- an entry at an index asks for one under its name's hash, and for a reference of the inode that it leads to, unless its directory has no links
+-- an entry at an index asks for one under its name's hash, unless its directory has no links
 abbrev pub index_met : Bool → Pairs → Entry → Pairs
 index_met gone entries entry = if gone then entries else met entries (entry_claim (under_hash entry)) true entry.name
 
+-- an entry that leads to an inode asks for a reference of it, unless its directory has no links
 abbrev pub link_asked : Bool → Pairs → Entry → Pairs
 link_asked gone links entry = if gone || not (leads_to_inode entry) then links else met links (link_claim entry) true entry.name
 
+-- what hasn't met its counterpart after an entry at an index
 abbrev pub with_indexed : Unpaired → Entry → Unpaired
 with_indexed u entry = record {
   dirid = u.dirid;
@@ -35,10 +37,11 @@ with_indexed u entry = record {
   subvolumes = u.subvolumes ++ filter leads_to_root (entry ∷ []);
 }
 
--- an entry under a hash
+-- an entry under a hash asks for one at an index, unless its directory has no links
 abbrev pub hash_met : Bool → Pairs → Entry → Pairs
 hash_met gone entries entry = if gone then entries else met entries (entry_claim entry) false entry.name
 
+-- what hasn't met its counterpart after an entry under a hash
 abbrev pub with_hashed : Unpaired → Entry → Unpaired
 with_hashed u entry = record {
   dirid = u.dirid;
@@ -48,10 +51,11 @@ with_hashed u entry = record {
   subvolumes = u.subvolumes;
 }
 
--- a reference of the inode whose items come
+-- a reference of the inode whose items come asks for an entry, unless it needs none
 abbrev pub link_met : ℕ → ℕ → Pairs → NameRef → Pairs
 link_met dirid format links ref = if is_free dirid ref then links else met links (ref_claim format ref) false ref.name
 
+-- what hasn't met its counterpart after a reference of an inode
 abbrev pub with_ref : Unpaired → NameRef → Unpaired
 with_ref u ref = record {
   dirid = u.dirid;
@@ -81,10 +85,12 @@ unpaired_step u (Left fault) = u
 abbrev pub are_paired : Unpaired → Bool
 are_paired u = are_settled u.inodes && are_met u.entries && are_met u.links
 
--- where a tour of a tree leaves all names paired, nothing is wrong with them; and the entries that lead to subvolumes are kept
+-- where a tour of a tree leaves all names paired, nothing is wrong with them; and
+-- the entries that lead to subvolumes are kept
 pub record Tells (tree dirid : ℕ) (marks : List Mark) : Type 0 where
   pub sound : are_paired (fold unpaired_step (nothing_unpaired dirid) marks) ≡ true → names_findings (names_in tree dirid (items_met marks)) ≡ []
   pub subvolumes : (fold unpaired_step (nothing_unpaired dirid) marks).subvolumes ≡ filter leads_to_root (names_in tree dirid (items_met marks)).indexed
 
+-- what a tour of a tree leaves says whether its names are sound, whatever the tour met
 abbrev pub UnpairedLaw : Type 0
 UnpairedLaw = (tree dirid : ℕ) (marks : List Mark) → Tells tree dirid marks

@@ -1,4 +1,5 @@
--- A block of a tree: behind its header of 101 bytes stands a table, of items in a leaf and of pointers in an inner node.
+-- A block of a tree: behind its header of 101 bytes stands a table, of items in
+-- a leaf and of pointers in an inner node.
 -- The format is described at https://btrfs.readthedocs.io/en/latest/dev/On-disk-format.html
 use Rattle.std.specs.Prelude.{ℕ, ◌+◌, ◌*◌, ◌-◌, ◌<◌, ◌≤◌, IsTrue, Bool, true, ◌&&◌, ◌==◌, nat_lt, nat_le, List, [], ◌∷◌, map, length, slice_index}
 use Rattle.std.specs.List.{range_with_len}
@@ -26,7 +27,8 @@ entry_number size block i = key_number (entry_key size block i)
 abbrev pub IsAscending : (ℕ → ℕ) → ℕ → Type 0
 IsAscending number n = (i j : ℕ) → i < j → j < n → number i < number j
 
--- an item: its key, where its bytes begin, counted from the header's end, how many the table says they are, and its bytes
+-- an item: its key, where its bytes begin, counted from the header's end, how
+-- many the table says they are, and its bytes
 pub record Item : Type 0 where
   pub key : Key
   pub offset : ℕ
@@ -72,7 +74,8 @@ abbrev pub ascends : List Key → Bool
 ascends [] = true
 ascends (key ∷ keys) = is_before key keys && ascends keys
 
--- the first item ends at `end`, each next one ends where the one before begins, and none begins before the end of the table
+-- the first item ends at `end`, each next one ends where the one before begins,
+-- and none begins before the end of the table
 abbrev pub is_packed : ℕ → ℕ → List Item → Bool
 is_packed table end [] = true
 is_packed table end (item ∷ rest) = (item.offset + item.size == end) && (nat_le table item.offset && is_packed table item.offset rest)

@@ -2,6 +2,7 @@
 use Rattle.std.specs.Prelude.{◌≡◌, ℕ, zero, suc, ◌*◌, Bool, true, false, not, List, [], ◌∷◌, ◌++◌, take, drop, length, replicate, slice_index_or, slice_set, count_by, map, Option, Some, None, if◌then◌else◌, ◌<◌}
 use Rattle.std.specs.List.{concat, range_with_len}
 
+-- a pool of slots of one size, each with its bytes, lent or free
 pub record Slots : Type 0 where
   -- the number of bytes of each slot
   pub size : ℕ
@@ -32,7 +33,8 @@ bytes_at pool k = slice_index_or pool.bytes k []
 abbrev pub loan_at : Slots → ℕ → Option (List ℕ)
 loan_at pool k = if slice_index_or pool.lent k false then Some (bytes_at pool k) else None
 
--- the pool as a map from its live loans to their bytes, in the order of the slots. It says nothing of what was left in a free slot
+-- the pool as a map from its live loans to their bytes, in the order of the slots. It
+-- says nothing of what was left in a free slot
 abbrev pub loans_of : Slots → List (Option (List ℕ))
 loans_of pool = map (loan_at pool) (range_with_len 0 (length pool.lent))
 

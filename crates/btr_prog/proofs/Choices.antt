@@ -84,7 +84,7 @@ module _ {W F S I : Type 0} (Bs : I → BlockMap W F) where
         let t = after_first (Does s) d.0.marks d.0.ending (λ a. GoesTo Bs (k a)) r (subst (λ (x : Run W F S A). AfterTo x.marks x.ending (λ b. GoesTo Bs (k b)) r) d.1 h) in
         (t.0, t.1, goes_bind p d.0 t.0 d.2 t.2)
 
-    -- .. and there is no other
+    -- each run of one program and then another is a run of the first, and then one of the other
     given_parts : (w : W) (i : I) (x : Result (List ℕ) F) (g : List ℕ → Prog W F S A) (q r : Run W F S C) → Bs i w ≡ x → r ≡ first (Wants w) q → ((bytes : List ℕ) (s : Run W F S C) → GoesTo Bs (bind (g bytes) k) s → Bound (g bytes) s) → goes_given x (λ bytes. GoesTo Bs (bind (g bytes) k)) q → Bound (Need w g) r
     given_parts w i (Ok bytes) g q r e c ih d =
         let b = ih bytes q d in

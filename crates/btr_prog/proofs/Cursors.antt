@@ -1,5 +1,5 @@
--- A loop over a cursor: what is past, the next item, and what the cursor answers where it comes to none, of the program that
--- treats the items.
+-- A loop over a cursor: what is past, the next item, and what the cursor answers where it comes to
+-- none, of the program that treats the items.
 use Rattle.std.proofs.Common.{◌≡◌, ℕ, List, [], ◌∷◌, ◌++◌, Option, None, Result, Err, refl, ap, ◌∙◌, sym, subst, append-nil}
 use Rattle.std.specs.Option.{option_to_list}
 use Rattle.btr_prog.specs.Prog.{Mark, Wants, Does, Run, run, first, prepend, steps_of, wants_of, want_marks}
@@ -70,7 +70,7 @@ module _ {W F S A T St R : Type 0} (Body : St → S → Run W F T (Result St R) 
     cursor_halts Is part seen st r (Unread u) h = breaks_as no_part no_part (λ ws. Names Is u (seen ++ ws)) st r h
     cursor_halts Is part seen st r Broke h = breaks_as no_part part (λ ws. Unit {0}) st r h
 
-    -- .. so the loop that ends by it has its answer
+    -- a loop ends with the answer of a cursor that came to no item
     pub so_far_cursor : {U : Type 0} (Is : U → W → Type 0) (part : T → ℕ → Option T) (Whole : Run W F T R → Type 0) (seen : List W) (done : List T) (st : St) (r : Run W F S A) (h : Halt F U) → Follows Is no_part seen r [] (Err h) → SoFar Whole (Treats st r) seen done → Answers Is part Whole done (Err h)
     so_far_cursor Is part Whole seen done st r h f s =
         subst (λ (x : List T). Answers Is part Whole x (Err h)) (append-nil done)

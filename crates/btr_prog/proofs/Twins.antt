@@ -185,7 +185,7 @@ names_five (x ∷ xs) ys e n =
     let m : Names Is 5 (0 ∷ []) = subst (λ (ms : List (Mark ℕ ℕ)). Names Is 5 (wants_of ms)) (ap (λ z. z ∷ xs) i ∙ ap (λ z. Wants 0 ∷ z) (no_marks xs ys t)) n in
     elim m [ inl e ↦ omega (arith, e) | inr e ↦ e ]
 
--- .. or another one could not
+-- that a want could not be read doesn't follow where the answer names another one
 want_unread_twin : ((u w : ℕ) (r : R) → Follows Is no_part [] (first (Wants w) r) [] (Err (Unread u))) → ⊥
 want_unread_twin h = let b = h 5 0 (ended 1) in names_five b.before b.behind b.place b.holds
 

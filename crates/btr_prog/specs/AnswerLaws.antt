@@ -61,12 +61,13 @@ module _ (W F S A U : Type 0) (Is : U → W → Type 0) where
       → part s n ≡ Some t
       → Follows Is part seen (first (Does s) r) (t ∷ []) (Err Broke)
 
-  -- a call that was broken off, or could not read a block again, before it did anything
+  -- a call that was broken off before it did anything
   abbrev pub BrokeHere : Type 0
   BrokeHere =
       (part : S → ℕ → Option S) (seen : List W) (r : Run W F S A)
       → Follows Is part seen r [] (Err Broke)
 
+  -- a call that could not read again a block that was wanted before, and did nothing
   abbrev pub UnreadHere : Type 0
   UnreadHere =
       (part : S → ℕ → Option S) (seen : List W) (u : U) (r : Run W F S A)
@@ -90,6 +91,7 @@ module _ (W F S A U : Type 0) (Is : U → W → Type 0) where
       → Follows Is part seen (exec B p) done (Err (Unread u))
       → Follows Is part seen (exec C p) done (Err (Unread u))
 
+  -- where B has C's bytes or none of each want of C's run, a call broken off as B's run says is one as C's run says
   abbrev pub PartLaw : Type 0
   PartLaw =
       (part : S → ℕ → Option S) (seen : List W) (B C : BlockMap W F) (p : Prog W F S A) (done : List S)

@@ -3,15 +3,15 @@ use Rattle.std.specs.Prelude.{◌≡◌, ◌⊎◌, ℕ, List, [], ◌∷◌, �
 use Rattle.std.specs.Option.{option_to_list}
 use Rattle.btr_prog.specs.Prog.{Mark, Wants, Does, Run, steps_of, wants_of}
 
--- what ends a call without a value: its program's fault, a block that could not be read, of which the call tells something,
--- or something else that broke it off at any place, as a sink that failed
+-- what ends a call without a value: its program's fault, a block that could not be read, of which the call tells
+-- something, or something else that broke it off at any place, as a sink that failed
 pub data Halt (F U : Type 0) : Type 0 where
   Fault : F → Halt F U
   Unread : U → Halt F U
   Broke : Halt F U
 
--- Some want is the one that could not be read. `Is u w` says when w is the one of which u is told: that it has the address,
--- which reads of it failed, and all else that is the cause.
+-- Some want is the one that could not be read. `Is u w` says when w is the one of which u is told: that it has the
+-- address, which reads of it failed, and all else that is the cause.
 abbrev pub Names : {W U : Type 0} → (U → W → Type 0) → U → List W → Type 0
 Names Is u [] = ⊥
 Names Is u (w ∷ ws) = Is u w ⊎ Names Is u ws

@@ -1,4 +1,5 @@
--- Where a want may come to several things: what a listing under maps that lack blocks has to do with one under maps that have them.
+-- Where a want may come to several things: what a listing under maps that lack blocks
+-- has to do with one under maps that have them.
 use Rattle.std.specs.Prelude.{◌≡◌, ◌⊎◌, ℕ, Bool, IsTrue, List, [], ◌∷◌, ◌++◌, Option, Result, Err}
 use Rattle.btr_prog.specs.Prog.{BlockMap, Prog, Return, Stop, Need, Emit, Mark, Wants, Run, exec, needs, steps_of, wants_of}
 use Rattle.btr_prog.specs.Maps.{Each, IsWithin, IsWhole}
@@ -44,9 +45,9 @@ module _ (W F S A J : Type 0) where
       → (wants_of q.marks ≡ needs C p) × (q.ending ≡ (exec C p).ending)
 
 module _ (W F S A J I U : Type 0) (Is : U → W → Type 0) where
-  -- Where the program is blind to what may differ among Cs, all its runs by Cs want what C's run wants. Let each map of Bs have,
-  -- of each of these wants, the bytes of some map of Cs or none. Then an answer by Bs is one by Cs, or the call stopped at a want
-  -- of such a run that one of Bs lacks, with its fault and exactly the steps before it.
+  -- Where the program is blind to what may differ among Cs, all its runs by Cs want what C's run wants. Let each map of
+  -- Bs have, of each of these wants, the bytes of some map of Cs or none. Then an answer by Bs is one by Cs, or the
+  -- call stopped at a want of such a run that one of Bs lacks, with its fault and exactly the steps before it.
   abbrev pub GoesHeldLaw : Type 0
   GoesHeldLaw =
       J

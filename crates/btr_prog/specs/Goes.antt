@@ -5,6 +5,7 @@ use Rattle.btr_prog.specs.Thread.{end_of}
 use Rattle.btr_prog.specs.Answers.{Halt, Follows}
 
 module _ {W F S : Type 0} where
+  -- the runs of what follows a want: those for its bytes, or none but its fault
   abbrev pub goes_given : {A : Type 0} → Result (List ℕ) F → (List ℕ → Run W F S A → Type 0) → Run W F S A → Type 0
   goes_given (Ok bytes) K r = K bytes r
   goes_given (Err f) K r = r ≡ run [] (Err f)
@@ -26,6 +27,7 @@ module _ {W F S : Type 0} where
   Goes Is part seen Bs p done ans = (r : Run W F S _) × GoesTo Bs p r × Follows Is part seen r done ans
 
 module _ {W F : Type 0} where
+  -- the runs that go on from a step that was treated: those from the new state, or only the end with its result
   abbrev pub GoOnTo : {T St R : Type 0} → (St → Run W F T R → Type 0) → Result St R → Run W F T R → Type 0
   GoOnTo K (Ok st) r = K st r
   GoOnTo K (Err x) r = r ≡ run [] (Ok x)

@@ -45,7 +45,7 @@ module _ (W F S A I : Type 0) where
       → ThreadsTo (λ st' s. GoesTo Bs (body st' s)) done st q.marks q.ending r
       → GoesTo Bs (thread body done st p) r
 
-  -- .. and there is no other
+  -- each run of treating a program's steps is one that treats the steps of some run of the program
   abbrev pub ThreadGoes : Type 0 → Type 0 → Type 0 → Type 0
   ThreadGoes T St R =
       I
@@ -74,7 +74,7 @@ module _ (W F S A I U : Type 0) (Is : U → W → Type 0) where
       → Goes Is part seen Bs p done (Err h)
       → Goes Is part seen Bs (bind p k) done (Err h)
 
-  -- a want that came to bytes, as one of the maps says; one that came to a fault; one that could not be read
+  -- a want that came to bytes, as one of the maps says
   abbrev pub GoesCame : Type 0
   GoesCame =
       (part : S → ℕ → Option S) (seen : List W) (Bs : I → BlockMap W F) (i : I) (w : W) (bytes : List ℕ)
@@ -83,6 +83,7 @@ module _ (W F S A I U : Type 0) (Is : U → W → Type 0) where
       → Goes Is part (seen ++ (w ∷ [])) Bs (k bytes) done ans
       → Goes Is part seen Bs (Need w k) done ans
 
+  -- a want that came to a fault, as one of the maps says
   abbrev pub GoesFaults : Type 0
   GoesFaults =
       (part : S → ℕ → Option S) (seen : List W) (Bs : I → BlockMap W F) (i : I) (w : W) (f : F)
@@ -90,6 +91,7 @@ module _ (W F S A I U : Type 0) (Is : U → W → Type 0) where
       → Bs i w ≡ Err f
       → Goes Is part seen Bs (Need w k) [] (Err (Fault f))
 
+  -- a want that could not be read
   abbrev pub GoesUnread : Type 0
   GoesUnread =
       I
@@ -98,7 +100,7 @@ module _ (W F S A I U : Type 0) (Is : U → W → Type 0) where
       → Is u w
       → Goes Is part seen Bs (Need w k) [] (Err (Unread u))
 
-  -- a step that was done, and what came then; one that was broken off, of which a part is left
+  -- a step that was done, and what came then
   abbrev pub GoesStep : Type 0
   GoesStep =
       (part : S → ℕ → Option S) (seen : List W) (Bs : I → BlockMap W F) (s : S) (p : Prog W F S A)
@@ -106,6 +108,7 @@ module _ (W F S A I U : Type 0) (Is : U → W → Type 0) where
       → Goes Is part seen Bs p done ans
       → Goes Is part seen Bs (Emit s p) (s ∷ done) ans
 
+  -- a step that was broken off, of which a part is left
   abbrev pub GoesBroke : Type 0
   GoesBroke =
       I

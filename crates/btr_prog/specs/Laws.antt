@@ -18,7 +18,7 @@ module _ (W F S A : Type 0) where
       → (exec B p).ending ≡ Ok a
       → needs B (bind p k) ≡ needs B p ++ needs B (k a)
 
-  -- .. and where it came to a fault no more
+  -- the wants of one program after another, where the first came to a fault: the first one's alone
   abbrev pub NeedsStop : Type 0 → Type 0
   NeedsStop C =
       (B : BlockMap W F) (p : Prog W F S A) (k : A → Prog W F S C) (f : F)
@@ -36,7 +36,7 @@ module _ (W F S A : Type 0) where
       → Each (λ w. IsWithin (B w) (C w)) (needs C p)
       → exec B p ≡ cut B (exec C p)
 
-  -- .. and is C's whole run where B has them all
+  -- where B has C's bytes of each want of C's run, its run is C's
   abbrev pub WholeLaw : Type 0
   WholeLaw =
       (B C : BlockMap W F) (p : Prog W F S A)

@@ -27,6 +27,7 @@ abbrev pub marks_if : {W S F : Type 0} → Result (List ℕ) F → List (Mark W 
 marks_if (Ok bytes) ms = ms
 marks_if (Err f) ms = []
 
+-- how a run ends that goes on where a want has bytes: as what follows does, or with the want's fault
 abbrev pub ending_if : {F A : Type 0} → Result (List ℕ) F → Result A F → Result A F
 ending_if (Ok bytes) e = e
 ending_if (Err f) e = Err f

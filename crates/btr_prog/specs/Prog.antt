@@ -41,6 +41,7 @@ wants_of (Wants w ∷ ms) = w ∷ wants_of ms
 wants_of (Does s ∷ ms) = wants_of ms
 
 module _ {W F S : Type 0} where
+  -- a run of these marks and this ending
   abbrev pub run : {A : Type 0} → List (Mark W S) → Result A F → Run W F S A
   run ms e = record { marks = ms; ending = e }
 

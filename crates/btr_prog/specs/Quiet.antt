@@ -4,6 +4,7 @@ use Rattle.btr_prog.specs.Prog.{BlockMap, Prog, Return, Stop, Need, Emit, Mark, 
 use Rattle.btr_prog.specs.Answers.{Halt, Follows, no_part}
 use Rattle.btr_prog.specs.Goes.{Goes}
 
+-- the marks of a program without steps, as marks that could have some
 abbrev pub quiet_marks : {W S : Type 0} → List (Mark W ⊥) → List (Mark W S)
 quiet_marks [] = []
 quiet_marks (Wants w ∷ ms) = Wants w ∷ quiet_marks ms
@@ -17,6 +18,7 @@ module _ {W F S A : Type 0} where
   quiet (Need w k) = Need w (λ bytes. quiet (k bytes))
   quiet (Emit s p) = absurd s
 
+  -- a run without steps, as one that could have some
   abbrev pub quiet_run : Run W F ⊥ A → Run W F S A
   quiet_run r = run (quiet_marks r.marks) r.ending
 
@@ -33,7 +35,8 @@ module _ (W F S A : Type 0) where
       → Follows Is no_part seen (exec B p) done ans
       → Follows Is part seen (exec B (quiet {S = S} p)) [] ans
 
-  -- .. also where each want may come to any of several things
+  -- what is answered of a program without steps is answered of it as a part, also where a want may come to several
+  -- things
   abbrev pub GoesQuiet : Type 0 → (U : Type 0) → (U → W → Type 0) → Type 0
   GoesQuiet I U Is =
       (part : S → ℕ → Option S) (seen : List W) (Bs : I → BlockMap W F) (p : Prog W F ⊥ A)

@@ -1,5 +1,5 @@
--- Two block maps one after another: what is read under the first gives a table, and the rest is read under the table's map.
--- So the chunk tree is found by the superblock's own chunks, and every other block by the whole chunk table.
+-- Two block maps one after another: what is read under the first gives a table, and the rest is read under the table's
+-- map. So the chunk tree is found by the superblock's own chunks, and every other block by the whole chunk table.
 use Rattle.std.specs.Prelude.{◌≡◌, ◌⊎◌, ℕ, List, [], ◌∷◌, ◌++◌, map, Option, Result, Ok, Err}
 use Rattle.btr_prog.specs.Prog.{BlockMap, Prog, Return, Stop, Need, Emit, Mark, Wants, Does, Run, run, exec, bind, and_then, needs}
 use Rattle.btr_prog.specs.Maps.{Each, IsWithin, cut, Loses}
@@ -16,15 +16,18 @@ abbrev pub both : {T W F : Type 0} → BlockMap W F → (T → BlockMap W F) →
 both B D (Early w) = B w
 both B D (Late t w) = D t w
 
+-- a mark whose want is renamed
 abbrev pub renamed_mark : {V W S : Type 0} → (V → W) → Mark V S → Mark W S
 renamed_mark f (Wants v) = Wants (f v)
 renamed_mark f (Does s) = Does s
 
+-- marks whose wants are renamed
 abbrev pub renamed_marks : {V W S : Type 0} → (V → W) → List (Mark V S) → List (Mark W S)
 renamed_marks f [] = []
 renamed_marks f (m ∷ ms) = renamed_mark f m ∷ renamed_marks f ms
 
 module _ {V W F S A : Type 0} where
+  -- a run whose wants are renamed
   abbrev pub renamed_run : (V → W) → Run V F S A → Run W F S A
   renamed_run f r = run (renamed_marks f r.marks) r.ending
 
@@ -40,6 +43,7 @@ abbrev pub unless_refused : {T X W F S A : Type 0} → (X → A) → (T → Prog
 unless_refused refused k (Ok t) = k t
 unless_refused refused k (Err x) = Return (refused x)
 
+-- the run that goes on from a table; a refusal of the first part is the value of the whole
 abbrev pub run_unless_refused : {T X W F S A : Type 0} → (X → A) → (T → Run W F S A) → Result T X → Run W F S A
 run_unless_refused refused k (Ok t) = k t
 run_unless_refused refused k (Err x) = run [] (Ok (refused x))
@@ -98,14 +102,16 @@ module _ (T X W F S A : Type 0) where
       (refused : X → A) (B : BlockMap W F) (D : T → BlockMap W F) (p : Prog W F S (Result T X)) (k : T → Prog W F S A)
       → needs (both B D) (staged refused p k) ≡ staged_needs (needs B p) (exec B p).ending (λ t. needs (D t) (k t))
 
-  -- where B and D have of C's and E's bytes or none, the run under them is that under C and E, cut at the first want, of either part, that is lacked
+  -- where B and D have of C's and E's bytes or none, the run under them is that under C and E, cut at the
+  -- first want, of either part, that is lacked
   abbrev pub StagedCut : Type 0
   StagedCut =
       (refused : X → A) (B C : BlockMap W F) (D E : T → BlockMap W F) (p : Prog W F S (Result T X)) (k : T → Prog W F S A)
       → IsWithinBoth B C D E p k
       → exec (both B D) (staged refused p k) ≡ cut (both B D) (exec (both C E) (staged refused p k))
 
-  -- .. and so it is that run, or stops at the first want that is lacked, with exactly the marks before it
+  -- where B and D have of C's and E's bytes or none, the run under them is the same, or it stops at the first want that
+  -- is lacked, with exactly the marks before it
   abbrev pub StagedLost : Type 0
   StagedLost =
       (refused : X → A) (B C : BlockMap W F) (D E : T → BlockMap W F) (p : Prog W F S (Result T X)) (k : T → Prog W F S A)
@@ -149,6 +155,7 @@ module _ (T X W F S A U : Type 0) (Is : U → Staged T W → Type 0) where
       → Goes (λ u w. Is u (Late t w)) part [] (λ i. Ds i t) (k t) more ans
       → Goes Is part [] (λ i. both (Bs i) (Ds i)) (staged refused p k) (done ++ more) ans
 
+  -- the same of a first part that was refused, where a want may come to any of several things
   abbrev pub GoesStagedRefused : Type 0 → Type 0
   GoesStagedRefused I =
       (refused : X → A) (part : S → ℕ → Option S) (Bs : I → BlockMap W F)
@@ -156,6 +163,7 @@ module _ (T X W F S A U : Type 0) (Is : U → Staged T W → Type 0) where
       → Goes (λ u w. Is u (Early w)) part [] Bs p done (Ok (Err x))
       → Goes Is part [] (λ i. both (Bs i) (Ds i)) (staged refused p k) done (Ok (refused x))
 
+  -- the same of a first part that halted, where a want may come to any of several things
   abbrev pub GoesStagedHalt : Type 0 → Type 0
   GoesStagedHalt I =
       I

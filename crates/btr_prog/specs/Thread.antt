@@ -21,10 +21,12 @@ module _ {W F : Type 0} where
   go_on_run k (Ok st) = k st
   go_on_run k (Err r) = run [] (Ok r)
 
+  -- how a treated run ends: with the result of the last state and the value, or with the fault
   abbrev pub end_of : {T A St R : Type 0} → (St → A → R) → St → Result A F → Run W F T R
   end_of done st (Ok a) = run [] (Ok (done st a))
   end_of done st (Err f) = run [] (Err f)
 
+  -- the run that treats the steps of a run one after another, with its wants between them
   abbrev pub thread_run : {S A T St R : Type 0} → (St → S → Run W F T (Result St R)) → (St → A → R) → St → List (Mark W S) → Result A F → Run W F T R
   thread_run body done st [] e = end_of done st e
   thread_run body done st (Wants w ∷ ms) e = first (Wants w) (thread_run body done st ms e)

@@ -3,7 +3,8 @@ use Rattle.std.specs.Prelude.{ℕ, List, [], ◌∷◌, Result, Ok, Err}
 use Rattle.btr_prog.specs.Prog.{BlockMap, Prog, Return, Stop, Need, Emit, Wants, Does, Run, run, first}
 use Rattle.btr_prog.specs.Outcomes.{Outcome, outcome}
 
--- A trying program is done with a value, tries a want and goes on by its bytes or its fault, or does a step and goes on.
+-- A trying program is done with a value, tries a want and goes on by its bytes
+-- or its fault, or does a step and goes on.
 pub data Trying (W F S A : Type 0) : Type 0 where
   Done : A → Trying W F S A
   Try : W → (Result (List ℕ) F → Trying W F S A) → Trying W F S A
@@ -39,7 +40,7 @@ module _ {W F S : Type 0} where
   attempt (Need w k) = Try w (λ fate. by_fate fate (λ bytes. attempt (k bytes)) (λ f. Err f))
   attempt (Emit s p) = Act s (attempt p)
 
-  -- .. whose steps are not done but gathered: they are handed on too
+  -- a program as a part of a trying one whose steps are not done but gathered: steps and ending are handed on
   abbrev pub gathered : {T A : Type 0} → Prog W F T A → Trying W F S (Outcome F T A)
   gathered (Return a) = Done (outcome [] (Ok a))
   gathered (Stop f) = Done (outcome [] (Err f))

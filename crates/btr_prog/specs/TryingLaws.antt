@@ -13,7 +13,7 @@ attempted (Err (Fault f)) = Ok (Err f)
 attempted (Err (Unread u)) = Err (Unread u)
 attempted (Err Broke) = Err Broke
 
--- .. and its steps
+-- an answer of a program, where its own fault and the steps that were gathered are handed on
 abbrev pub gathered_by : {F S A U : Type 0} → List S → Result A (Halt F U) → Result (Outcome F S A) (Halt F U)
 gathered_by done (Ok a) = Ok (outcome done (Ok a))
 gathered_by done (Err (Fault f)) = Ok (outcome done (Err f))
@@ -63,7 +63,7 @@ module _ (W F S A U : Type 0) (Is : U → W → Type 0) where
       → Follows Is part seen (exec B p) done ans
       → Follows Is part seen (tried B (attempt p)) done (attempted ans)
 
-  -- .. whose steps are gathered: none is done
+  -- what is answered of a program is answered of it as a part that gathers its steps and does none
   abbrev pub FollowsGathered : Type 0 → Type 0
   FollowsGathered T =
       (part : S → ℕ → Option S) (own : T → ℕ → Option T) (seen : List W) (B : BlockMap W F) (p : Prog W F T A)

@@ -77,7 +77,7 @@ module _ (Bs : ℕ → Want → Result (List ℕ) ℕ) (a : ℕ) where
               (follows_alone IsTold part f.seen b p.0 (Ok (Ok page)) (follows_value IsTold part [] (next last page) r true p.0 p.2.2)) f.sofar;
         }
 
-    -- .. or is empty, which ends the listing
+    -- a page is empty, which ends the listing
     pub far_early : Puts Bs (shown page) now new (Ok false) → Puts Bs (listing a) old new (Ok last)
     far_early p =
         let r = p.2.0 in
@@ -88,7 +88,7 @@ module _ (Bs : ℕ → Want → Result (List ℕ) ℕ) (a : ℕ) where
               (follows_alone IsTold part f.seen b p.0 (Ok (Err last)) (follows_value IsTold part [] (next last page) r false p.0 p.2.2)) f.sofar,
         )
 
-    -- .. or stops it
+    -- a page stops the listing
     pub far_stops : (stop : Stop) → Puts Bs (shown page) now new (Err stop) → Puts Bs (listing a) old new (Err stop)
     far_stops stop p =
         let r = p.2.0 in

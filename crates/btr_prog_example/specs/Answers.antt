@@ -11,12 +11,14 @@ use Rattle.btr_prog_example.specs.Blocks.{IsTold}
 use Rattle.btr_prog_example.specs.Rows.{Row, part}
 use Rattle.btr_prog_example.specs.Listing.{rows}
 
+-- a stop as a halt of the program: a fault of a page, a page that could not be read, or a step that was broken off
 abbrev pub halt_of : Stop → Halt ℕ Want
 halt_of (Lost a) = Fault a
 halt_of (Unread told) = answers.Unread told
 halt_of Sink = Broke
 halt_of Memory = Broke
 
+-- the answer of a call as an answer of the program
 abbrev pub answer_of : {A : Type 0} → Result A Stop → Result A (Halt ℕ Want)
 answer_of (Ok a) = Ok a
 answer_of (Err stop) = Err (halt_of stop)

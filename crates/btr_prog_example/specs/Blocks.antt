@@ -20,6 +20,7 @@ copies Any held n w = held n w
 abbrev pub Agreed : Held → Type 0
 Agreed held = (n a : ℕ) → held n (Catalogue a) ≡ held 0 (Catalogue a)
 
+-- the address of a want
 abbrev pub addr_of : Want → ℕ
 addr_of (Catalogue a) = a
 addr_of (Page a) = a

@@ -11,6 +11,7 @@ abbrev pub items : List ℕ → Prog Want ℕ ℕ (Unit {0})
 items [] = Return tt
 items (page ∷ pages) = Emit page (items pages)
 
+-- the pages of a catalogue, as a program that wants it
 abbrev pub catalogue : ℕ → Prog Want ℕ ℕ (Unit {0})
 catalogue a = Need (Catalogue a) items
 
@@ -19,6 +20,7 @@ abbrev pub rows : List ℕ → Prog Want ℕ Row Bool
 rows [] = Return false
 rows (b ∷ bytes) = Emit (Bytes (b ∷ bytes)) (Emit End (Return true))
 
+-- the rows of a page, and whether it has bytes, as a program that wants it
 abbrev pub shown : ℕ → Prog Want ℕ Row Bool
 shown page = Need (Page page) rows
 
@@ -27,6 +29,7 @@ abbrev pub next : ℕ → ℕ → Bool → Result ℕ ℕ
 next last page true = Ok page
 next last page false = Err last
 
+-- a page is shown, and the listing goes on by what came of it
 abbrev pub treat : ℕ → ℕ → Prog Want ℕ Row (Result ℕ ℕ)
 treat last page = bind (shown page) (λ more. Return (next last page more))
 

@@ -13,6 +13,7 @@ pub record CallCount : Type 0 where
   pub failing : List ℕ
   pub faults : ℕ
 
+-- the calls of a sink or an output before the first, none of which is to fail
 abbrev pub no_calls : CallCount
 no_calls = record { made = 0; failing = []; faults = 0 }
 
@@ -32,10 +33,11 @@ account_of c = record { faults = c.faults; sure = is_sure c; ample = false }
 abbrev pub strikes : CallCount → Bool
 strikes c = list_any (λ n. n == next_count c.made) c.failing
 
--- after one more call, and after one that failed
+-- the calls after one more
 abbrev pub after_call : CallCount → CallCount
 after_call c = record c { made = next_count c.made }
 
+-- the calls after one more that failed
 abbrev pub after_fault : CallCount → CallCount
 after_fault c = record c { made = next_count c.made; faults = next_count c.faults }
 

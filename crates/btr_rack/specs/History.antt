@@ -13,12 +13,15 @@ pub record Event : Type 0 where
   pub call : RawCall
   pub bytes : List ℕ
 
+-- a call of the system with these bytes
 abbrev pub event : RawCall → List ℕ → Event
 event call bytes = record { call = call; bytes = bytes }
 
+-- a call that the system refused
 abbrev pub refused : Event
 refused = event Refused []
 
+-- a call that the system interrupted
 abbrev pub interrupted : Event
 interrupted = event Interrupted []
 
@@ -77,8 +80,8 @@ abbrev pub replay : List Event → List ℕ
 replay [] = []
 replay (e ∷ older) = after e.call e.bytes (replay older)
 
--- The calls since `old` read or stored these bytes, one piece after the other from `off` on: `call` says which of both. So many of them
--- were interrupted, and none was refused.
+-- The calls since `old` read or stored these bytes, one piece after the other from `off` on: `call` says which of both.
+-- So many of them were interrupted, and none was refused.
 pub data Moves (call : ℕ → RawCall) (off : ℕ) (old : List Event) : ℕ → List Event → List ℕ → Type 0 where
   nothing_moved : Moves call off old 0 old []
   piece_moved : (again : ℕ) (now : List Event) (bytes piece : List ℕ) → Moves call off old again now bytes → 0 < length piece
@@ -86,18 +89,18 @@ pub data Moves (call : ℕ → RawCall) (off : ℕ) (old : List Event) : ℕ →
   none_moved : (again : ℕ) (now : List Event) (bytes : List ℕ) → Moves call off old again now bytes
       → Moves call off old (again + 1) (interrupted ∷ now) bytes
 
--- .. all of these, with at most 16 interruptions
+-- the calls since `old` read or stored these bytes, at most 16 of them were interrupted, and none was refused
 pub record Moved (call : ℕ → RawCall) (off : ℕ) (old new : List Event) (bytes : List ℕ) : Type 0 where
   pub again : ℕ
   pub few : again ≤ 16
   pub moves : Moves call off old again new bytes
 
--- .. or these, and then the system refused a call, or interrupted one for the seventeenth time
+-- so many bytes were moved, and then the system refused a call, or interrupted one for the seventeenth time
 pub record Stops (call : ℕ → RawCall) (off : ℕ) (old new : List Event) (bytes : List ℕ) : Type 0 where
   pub before : List Event
   pub moved : Moved call off old before bytes
   pub stop : (new ≡ refused ∷ before) ⊎ ((moved.again ≡ 16) × (new ≡ interrupted ∷ before))
 
--- .. which came before the last of these
+-- fewer bytes than these were moved when the system refused a call, or interrupted one for the seventeenth time
 abbrev pub FallsShort : (ℕ → RawCall) → ℕ → List Event → List Event → List ℕ → Type 0
 FallsShort call off old new bytes = (done : ℕ) × (done < length bytes) × Stops call off old new (take done bytes)

@@ -7,5 +7,6 @@ pub record MemoryOut : Type 0 where
   pub text : List ℕ
   pub calls : CallCount
 
+-- an output to which nothing was written
 abbrev pub empty_out : MemoryOut
 empty_out = record { text = []; calls = no_calls }

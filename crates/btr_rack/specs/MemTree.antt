@@ -11,6 +11,7 @@ pub record MemoryTree : Type 0 where
   pub tree : Tree
   pub calls : CallCount
 
+-- a sink to which nothing was put
 abbrev pub empty_tree : MemoryTree
 empty_tree = record { tree = record { rows = []; part = None }; calls = no_calls }
 
@@ -20,15 +21,17 @@ stage_of rows (Some _) = InFile
 stage_of [] None = NotStarted
 stage_of (_ ∷ _) None = BetweenFiles
 
--- how many folders were entered and not left
+-- the depth after one more row
 abbrev pub deeper : ℕ → Row → ℕ
 deeper depth (Start _) = depth
 deeper depth (Dir _) = depth + 1
 deeper depth Up = depth - 1
 deeper depth (File _ _) = depth
 
+-- how many folders were entered and not left
 abbrev pub depth_of : List Row → ℕ
 depth_of rows = fold deeper 0 rows
 
+-- the sink that a tree in memory is
 abbrev pub sink_of : Tree → Sink
 sink_of tree = record { stage = stage_of tree.rows tree.part; depth = depth_of tree.rows; tree = Some tree }

@@ -28,33 +28,39 @@ pub record Failures : Type 0 where
   pub failing_ranges : List NamedRange
   pub tear : Option ℕ
 
+-- no call, write or range is to fail, and no write tears
 abbrev pub nothing_fails : Failures
 nothing_fails = record { calls = 0; writes = 0; failing_calls = []; failing_writes = []; failing_ranges = []; tear = None }
 
--- after one more call, and one more write
+-- the counts after one more call
 abbrev pub after_call : Failures → Failures
 after_call f = record f { calls = next_count f.calls }
 
+-- the counts after one more write
 abbrev pub after_write : Failures → Failures
 after_write f = record f { calls = next_count f.calls; writes = next_count f.writes }
 
--- with one more call, write or range that is to fail, and with a tear
+-- one more call, by its number, is to fail
 abbrev pub failing_call : ℕ → Failures → Failures
 failing_call n f = record f { failing_calls = f.failing_calls ++ n ∷ [] }
 
+-- one more write, by its number, is to fail
 abbrev pub failing_write : ℕ → Failures → Failures
 failing_write n f = record f { failing_writes = f.failing_writes ++ n ∷ [] }
 
+-- one more range of an image is to fail
 abbrev pub failing_range : List ℕ → ℕ → ℕ → Failures → Failures
 failing_range name off len f = record f { failing_ranges = f.failing_ranges ++ record { name = name; off = off; len = len } ∷ [] }
 
+-- a write that fails fills its range with this byte
 abbrev pub tearing : ℕ → Failures → Failures
 tearing byte f = record f { tear = Some byte }
 
--- the next call is to fail by its number, and so is the next write
+-- the next call is to fail by its number
 abbrev pub call_strikes : Failures → Bool
 call_strikes f = list_any (λ n. n == next_count f.calls) f.failing_calls
 
+-- the next write is to fail by its number
 abbrev pub write_strikes : Failures → Bool
 write_strikes f = call_strikes f || list_any (λ n. n == next_count f.writes) f.failing_writes
 
@@ -63,7 +69,8 @@ abbrev pub touches : List ℕ → ℕ → ℕ → NamedRange → Bool
 touches name off len range = bytes_eq range.name name && nat_lt (max range.off off) (min (range.off + range.len) (off + len))
 
 -- A rack in memory: its images, of which the first `opened` are open, in the order of their opening, and
--- the others are on the shelf; what is to fail; the ranges that wait for a sync, and those that wait for good; and the account of the failed calls.
+-- the others are on the shelf; what is to fail; the ranges that wait for a sync, and those that wait for
+-- good; and the account of the failed calls.
 pub record MemoryRack : Type 0 where
   pub images : List MemoryImage
   pub opened : ℕ
@@ -76,10 +83,11 @@ pub record MemoryRack : Type 0 where
 abbrev pub empty_rack : MemoryRack
 empty_rack = record { images = []; opened = 0; failing = nothing_fails; unsynced = []; never_synced = []; account = no_failure }
 
--- the rack with one more image on the shelf, and with this to fail
+-- the rack with one more image on the shelf
 abbrev pub with_image : MemoryImage → MemoryRack → MemoryRack
 with_image image rack = record rack { images = rack.images ++ image ∷ [] }
 
+-- the rack with these calls and ranges to fail
 abbrev pub with_failing : Failures → MemoryRack → MemoryRack
 with_failing failing rack = record rack { failing = failing }
 
@@ -91,16 +99,19 @@ with_counts failing account rack = record rack { failing = failing; account = ac
 abbrev pub named : MemoryRack → List ℕ → Option (List ℕ)
 named rack name = option_map bytes_in (find (is_named name) rack.images)
 
--- the open images, and the others
+-- the open images
 abbrev pub open_images : MemoryRack → List MemoryImage
 open_images rack = take rack.opened rack.images
 
+-- the images that are on the shelf and not open
 abbrev pub shelved_images : MemoryRack → List MemoryImage
 shelved_images rack = drop rack.opened rack.images
 
+-- the slots of the open images
 abbrev pub slots_of : MemoryRack → List Slot
 slots_of rack = map (λ image. image.slot) (open_images rack)
 
+-- the bytes of the open images
 abbrev pub held_of : MemoryRack → List (List ℕ)
 held_of rack = map bytes_in (open_images rack)
 
@@ -109,6 +120,7 @@ abbrev pub shelf_of : MemoryRack → Shelf
 shelf_of rack name =
     if list_any (is_named name) (open_images rack) then None else option_map bytes_in (find (is_named name) (shelved_images rack))
 
+-- a list has no members
 abbrev pub is_empty : {X : Type 0} → List X → Bool
 is_empty [] = true
 is_empty (_ ∷ _) = false

@@ -9,22 +9,27 @@ use Rattle.btr_rack.specs.Rack.{IsRack}
 use Rattle.btr_rack.specs.Image.{MemoryImage, Pages, bytes_in, kept_byte, page_byte}
 use Rattle.btr_rack.specs.Memory.{MemoryRack, seen_of, is_calm}
 
+-- each open image has as many bytes as its slot says
 sized : (images : List MemoryImage) → map length (map bytes_in images) ≡ map (λ slot. slot.len) (map (λ image. image.slot) images)
 sized [] = refl
 sized (image ∷ images) = λ i. length-map-range_with_len (page_byte image.pages) 0 image.slot.len i ∷ sized images i
 
+-- what a division by 256 leaves is below 256
 below : (n : ℕ) → n % 256 < 256
 below n = omega arith
 
+-- the bytes of a range of pages are below 256
 small : (pages : Pages) (from len : ℕ) → All (λ b. b < 256) (map (page_byte pages) (range_with_len from len))
 small pages from zero = λ k d lt. absurd (omega arith)
 small pages from (suc len) = All-cons (λ b. b < 256) (page_byte pages from) (map (page_byte pages) (range_with_len (from + 1) len)) (below (kept_byte pages from)) (small pages (from + 1) len)
 
+-- all bytes of the images are below 256
 bytes : (images : List MemoryImage) → All (All (λ b. b < 256)) (map bytes_in images)
 bytes [] = λ k d lt. absurd (omega arith)
 bytes (image ∷ images) =
     All-cons (All (λ b. b < 256)) (bytes_in image) (map bytes_in images) (small image.pages 0 image.slot.len) (bytes images)
 
+-- the count of failed calls of a sure account is below its type's last value
 calm : (calm? : Bool) (faults : ℕ) → (calm? && nat_lt faults (2 ^ 64 - 1)) ≡ true → faults < 2 ^ 64 - 1
 calm true faults e = ltb-true faults (2 ^ 64 - 1) e
 calm false faults e = cc

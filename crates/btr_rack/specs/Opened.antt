@@ -9,6 +9,7 @@ pub record OpenImage : Type 0 where
   pub slot : Slot
   pub history : List Event
 
+-- the slots of opened images
 abbrev pub slots_of : List OpenImage → List Slot
 slots_of images = map (λ image. image.slot) images
 

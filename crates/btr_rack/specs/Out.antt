@@ -14,8 +14,8 @@ abbrev pub Puts : {T : Type 0} → Option (List ℕ) → Option (List ℕ) → L
 Puts old new bytes (Ok _) = Adds old new bytes
 Puts old new bytes (Err _) = (n : ℕ) × Adds old new (take n bytes)
 
--- The account of an output or a sink: how many calls failed, whether it is sure, so that no call is to fail, and whether it is ample, so that
--- no call wants memory.
+-- The account of an output or a sink: how many calls failed, whether it is sure, so that no call is to fail, and
+-- whether it is ample, so that no call wants memory.
 pub record CallAccount : Type 0 where
   pub faults : ℕ
   pub sure : Bool

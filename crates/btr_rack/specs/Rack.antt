@@ -14,6 +14,7 @@ pub record Slot : Type 0 where
 abbrev pub no_slot : Slot
 no_slot = record { name = []; len = 0; write = false }
 
+-- a slot of a rack, or an empty one past the last
 abbrev pub slot_at : List Slot → ℕ → Slot
 slot_at slots slot = slice_index_or slots slot no_slot
 
@@ -54,6 +55,7 @@ pub record Opening : Type 0 where
   pub name : List ℕ
   pub write : Bool
 
+-- an opening of an image by its name, for writing or only for reading
 abbrev pub opening_of : List ℕ → Bool → Opening
 opening_of name write = record { name = name; write = write }
 
@@ -137,16 +139,18 @@ Takes name (Some old) (Some new) (Some images) (Some images') (Ok _) = TakesImag
 Takes name shelf shelf' images images' (Ok _) = (shelf ≡ None) × (shelf' ≡ None) × (images ≡ None) × (images' ≡ None)
 Takes name shelf shelf' images images' (Err _) = (shelf' ≡ shelf) × (images' ≡ images)
 
--- what a write does to the opened images, where they are told: the range holds the bytes at Ok, and some bytes otherwise
+-- what a write does to the opened images, where they are told: the range holds
+-- the bytes at Ok, and some bytes otherwise
 abbrev pub Writes : {T : Type 0} → ℕ → ℕ → List ℕ → Option (List (List ℕ)) → Option (List (List ℕ)) → Result T RackError → Type 0
 Writes slot off bytes None new result = new ≡ None
 Writes slot off bytes (Some images) new (Ok _) = new ≡ Some (written images slot off bytes)
 Writes slot off bytes (Some images) new (Err _) =
     (some : List ℕ) × (length some ≡ length bytes) × (new ≡ Some (written images slot off some))
 
--- What is seen of a rack: the opened images, in the order of their opening; their bytes, and the images that may be opened, where it tells
--- them; the ranges that were written since the last sync of their image, and those that waited when a sync of their image failed, which wait for good; whether
--- it is sure, so that no call is to fail; and the calls that failed.
+-- What is seen of a rack: the opened images, in the order of their opening; their bytes, and the images that
+-- may be opened, where it tells them; the ranges that were written since the last sync of their image, and
+-- those that waited when a sync of their image failed, which wait for good; whether it is sure, so that no
+-- call is to fail; and the calls that failed.
 pub record Seen : Type 0 where
   pub slots : List Slot
   pub held : Option (List (List ℕ))
@@ -173,7 +177,8 @@ AccountsNextOpening name write old new result =
 abbrev pub OnlyCounts : Seen → Seen → Type 0
 OnlyCounts old new = new ≡ record old { account = new.account }
 
--- The images were only read: they and all else but the account are as before. No opening failed, and the count of faults never falls.
+-- The images were only read: they and all else but the account are as before. No opening
+-- failed, and the count of faults never falls.
 pub record OnlyReads (old new : Seen) : Type 0 where
   pub same : OnlyCounts old new
   pub later : old.account.faults ≤ new.account.faults
@@ -183,7 +188,8 @@ pub record OnlyReads (old new : Seen) : Type 0 where
 abbrev pub forgotten : Account → Account
 forgotten account = record account { fresh = 0; missed = [] }
 
--- A sure rack opens what stands on its shelf, and stays sure. The only fault that it answers is that of an image that isn't there.
+-- A sure rack opens what stands on its shelf, and stays sure. The only fault that it
+-- answers is that of an image that isn't there.
 abbrev pub OpensSurely : {T : Type 0} → List ℕ → Seen → Seen → Result T RackError → Type 0
 OpensSurely name old new (Ok _) = new.sure ≡ old.sure
 OpensSurely name old new (Err Failed) = old.sure ≡ true → IfSome old.shelf (λ shelf. shelf name ≡ None)
@@ -199,15 +205,16 @@ FailsUnsure sure (Err Memory) = ⊤
 abbrev pub Unsyncs : Place → Seen → Seen → Type 0
 Unsyncs range old new = new ≡ record old { held = new.held; unsynced = old.unsynced ++ range ∷ []; account = new.account }
 
--- the ranges of a slot, and those of the others
+-- the ranges that lie in a slot
 abbrev pub in_slot : ℕ → List Place → List Place
 in_slot slot ranges = filter (λ range. range.slot == slot) ranges
 
+-- the ranges that lie in other slots
 abbrev pub in_others : ℕ → List Place → List Place
 in_others slot ranges = filter (λ range. not (range.slot == slot)) ranges
 
--- What a sync does: at Ok nothing of the slot waits any more, but what waits for good. Where it failed, the system may have forgotten what waited: it
--- waits for good.
+-- What a sync does: at Ok nothing of the slot waits any more, but what waits for good. Where it failed, the system may
+-- have forgotten what waited: it waits for good.
 abbrev pub Syncs : {T : Type 0} → ℕ → Seen → Seen → Result T RackError → Type 0
 Syncs slot old new (Ok _) = new ≡ record old { unsynced = in_others slot old.unsynced; account = new.account }
 Syncs slot old new (Err Failed) =
@@ -218,8 +225,8 @@ Syncs slot old new (Err Failed) =
     }
 Syncs slot old new (Err Memory) = OnlyCounts old new
 
--- What holds of every rack that can be seen: the opened images have the lengths of their slots, what is told are bytes, and the count of faults
--- of a sure rack is below its type's last value.
+-- What holds of every rack that can be seen: the opened images have the lengths of their slots, what is told are bytes,
+-- and the count of faults of a sure rack is below its type's last value.
 pub record IsRack (seen : Seen) : Type 0 where
   pub sized : IfSome seen.held (λ images. map length images ≡ map (λ slot. slot.len) seen.slots)
   pub bytes : IfSome seen.held (λ images. All (All (λ b. b < 256)) images)

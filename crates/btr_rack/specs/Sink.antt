@@ -27,17 +27,19 @@ pub record Sink : Type 0 where
 abbrev pub with_row : Row → Tree → Tree
 with_row row tree = record tree { rows = tree.rows ++ row ∷ [] }
 
--- an unfinished file
+-- the tree with an unfinished file
 abbrev pub with_part : Part → Tree → Tree
 with_part part tree = record tree { part = Some part }
 
+-- an unfinished file of a name, still without bytes
 abbrev pub empty_part : List ℕ → Part
 empty_part name = record { name = name; bytes = [] }
 
--- the unfinished file with more bytes
+-- an unfinished file with more bytes
 abbrev pub longer : List ℕ → Part → Part
 longer bytes part = record part { bytes = part.bytes ++ bytes }
 
+-- the tree whose unfinished file has more bytes
 abbrev pub with_bytes : List ℕ → Tree → Tree
 with_bytes bytes tree = record tree { part = option_map (longer bytes) tree.part }
 
@@ -46,22 +48,27 @@ abbrev pub with_finished : Tree → Option Part → Tree
 with_finished tree None = tree
 with_finished tree (Some part) = record { rows = tree.rows ++ File part.name part.bytes ∷ []; part = None }
 
--- the steps of the calls
+-- the sink after it was started, with a row of its destination
 abbrev pub started : List ℕ → Sink → Sink
 started name s = record { stage = BetweenFiles; depth = 0; tree = option_map (with_row (Start name)) s.tree }
 
+-- the sink after a folder was entered
 abbrev pub entered : List ℕ → Sink → Sink
 entered name s = record s { depth = s.depth + 1; tree = option_map (with_row (Dir name)) s.tree }
 
+-- the sink after a folder was left
 abbrev pub left : Sink → Sink
 left s = record s { depth = s.depth - 1; tree = option_map (with_row Up) s.tree }
 
+-- the sink after a file was begun
 abbrev pub begun : List ℕ → Sink → Sink
 begun name s = record s { stage = InFile; tree = option_map (with_part (empty_part name)) s.tree }
 
+-- the sink after the unfinished file grew
 abbrev pub grown : List ℕ → Sink → Sink
 grown bytes s = record s { tree = option_map (with_bytes bytes) s.tree }
 
+-- the sink after the unfinished file was finished
 abbrev pub finished : Sink → Sink
 finished s = record s { stage = BetweenFiles; tree = option_map (λ t. with_finished t t.part) s.tree }
 
@@ -75,6 +82,7 @@ abbrev pub Grows : {T : Type 0} → List ℕ → Sink → Sink → Result T Sink
 Grows bytes old new (Ok _) = new ≡ grown bytes old
 Grows bytes old new (Err _) = (n : ℕ) × (new ≡ grown (take n bytes) old)
 
+-- a stage is within a file
 abbrev pub is_in_file : Stage → Bool
 is_in_file NotStarted = false
 is_in_file BetweenFiles = false

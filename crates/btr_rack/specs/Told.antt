@@ -11,6 +11,7 @@ pub record Told : Type 0 where
   pub rows : List Row
   pub name : List ℕ
 
+-- nothing was told yet
 abbrev pub nothing_told : Told
 nothing_told = record { rows = []; name = [] }
 

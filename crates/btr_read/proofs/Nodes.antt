@@ -71,7 +71,7 @@ store_lent p p' setting k e is = subst (λ q. IsStore q setting) (sym e) (record
   count = is.count;
 })
 
--- .. and written
+-- the slots of a store, of which one was lent and written
 pub store_written : (p p' : Slots) (setting : Setting) (k : ℕ) → OnlyWrites k (with_lent p k) p' → IsStore p setting → IsStore p' setting
 store_written p p' setting k writes is = record {
   size = writes.size ∙ is.size;
@@ -81,7 +81,7 @@ store_written p p' setting k writes is = record {
   count = writes.count ∙ is.count;
 }
 
--- .. and given back
+-- the slots of a store, of which one was given back
 pub store_freed : (p p' : Slots) (setting : Setting) (k : ℕ) → p' ≡ with_free p k → IsStore p setting → IsStore p' setting
 store_freed p p' setting k e is = subst (λ q. IsStore q setting) (sym e) (record {
   size = is.size;
@@ -105,13 +105,13 @@ store_shaped p p' setting same is = record {
 pub sound_still : (wants wants' : List (Option Want)) (nodes nodes' : List Bool) (p p' : Slots) (setting : Setting) → IsStore p' setting → StillNodes wants nodes wants' nodes' p p' → IsSound p wants nodes setting → IsSound p' wants' nodes' setting
 sound_still wants wants' nodes nodes' p p' setting store still is = record { store = store; known = still_nodes wants wants' nodes nodes' p p' setting.nodesize still is.known }
 
--- .. by what was found in the slots behind a look at what is kept
+-- a store is sound after what was found in its slots by a look at what is kept
 pub found_sound : (p0 p1 p2 : Slots) (w0 w1 w2 : List (Option Want)) (n0 n1 n2 : List Bool) (setting : Setting) → p1 ≡ p0 → w1 ≡ w0 → n1 ≡ n0 → SameShape p1 p2 → StillNodes w1 n1 w2 n2 p1 p2 → IsSound p0 w0 n0 setting → IsSound p2 w2 n2 setting
 found_sound p0 p1 p2 w0 w1 w2 n0 n1 n2 setting pool wants nodes shape still is =
     let was : IsSound p1 w1 n1 setting = subst (λ p. IsSound p w1 n1 setting) (sym pool) (subst (λ w. IsSound p0 w n1 setting) (sym wants) (subst (λ n. IsSound p0 w0 n setting) (sym nodes) is)) in
     sound_still w1 w2 n1 n2 p1 p2 setting (store_shaped p1 p2 setting shape was.store) still was
 
--- .. by what was written into a slot that was taken
+-- a store is sound after a slot was taken and written
 pub written_sound : (p0 p2 p3 : Slots) (w0 w2 : List (Option Want)) (n0 n2 : List Bool) (setting : Setting) (k : ℕ) → p2 ≡ with_lent p0 k → OnlyWrites k p2 p3 → StillKept w0 w2 p0 p3 → n2 ≡ n0 → IsSound p0 w0 n0 setting → IsSound p3 w2 n2 setting
 written_sound p0 p2 p3 w0 w2 n0 n2 setting k lent writes still nodes is =
     sound_still w0 w2 n0 n2 p0 p3 setting (store_written p0 p3 setting k (subst (λ p. OnlyWrites k p p3) lent writes) is.store) (nodes_with w0 w2 n0 n2 p0 p3 still nodes) is

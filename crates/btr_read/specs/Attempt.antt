@@ -40,7 +40,8 @@ pub record IsFirst (t : Target) (old new : Seen) (bytes : List ℕ) : Type 0 whe
   pub pass : passes t.setting t.want bytes ≡ true
   pub first : IfSome old.held (λ images. slice_get (passing images t) 0 ≡ Some bytes)
 
--- some read failed, the last one in a range that a candidate that stands reads, and bytes are those of one that stands and passes
+-- some read failed, the last one in a range that a candidate that stands reads, and
+-- bytes are those of one that stands and passes
 pub record IsLater (t : Target) (old new : Seen) (bytes : List ℕ) : Type 0 where
   pub rose : Rose old.account.faults new.account.faults
   pub read : new.account.opening ≡ None

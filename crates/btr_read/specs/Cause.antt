@@ -39,9 +39,9 @@ LastOf t old new =
     ((new.last ≡ old.last) × (new.opening ≡ old.opening))
     ⊎ ((new.opening ≡ None) × Any (λ candidate. (stands t candidate ≡ true) × IsOf t new.last candidate) (candidates t))
 
--- The rack isn't sure: some call failed, the last one on this slot, in a range that a candidate reads. At least as many failed as there are
--- candidates that pass, and each of these reads a range in which one of those that failed lies. `missed` are the places
--- of the calls that failed since the reading began.
+-- The rack isn't sure: some call failed, the last one on this slot, in a range that a candidate reads. At least as many
+-- failed as there are candidates that pass, and each of these reads a range in which one of those that failed lies.
+-- `missed` are the places of the calls that failed since the reading began.
 pub record IsUnread (t : Target) (old new : Seen) (slot : ℕ) : Type 0 where
   pub unsure : old.sure ≡ false
   pub rose : Rose old.account.faults new.account.faults

@@ -51,8 +51,8 @@ abbrev pub disagreeing_of : List (List ℕ) → Result Target Fault → Option �
 disagreeing_of images (Err fault) = None
 disagreeing_of images (Ok t) = other_slot images t (candidates t)
 
--- Where the candidates of a block don't agree: the smallest slot that the first one reads that passes and differs from the first one
--- that passes.
+-- Where the candidates of a block don't agree: the smallest slot that the first one reads that passes
+-- and differs from the first one that passes.
 abbrev pub disagreeing : List (List ℕ) → Layout → Want → Option ℕ
 disagreeing images layout want = disagreeing_of images (sought layout want)
 
@@ -62,8 +62,8 @@ AreRead t missed [] read = read ≡ []
 AreRead t missed (c ∷ cs) read =
     ((rest : List Candidate) × (read ≡ c ∷ rest) × AreRead t missed cs rest) ⊎ (Any (λ place. IsOf t place c) missed × AreRead t missed cs read)
 
--- What comparing the candidates of what is sought answers: where those that were read don't agree. Whatever a rack tells, the slot is the smallest that a
--- candidate that stands reads; and where no count rose, all were read.
+-- What comparing the candidates of what is sought answers: where those that were read don't agree. Whatever a rack
+-- tells, the slot is the smallest that a candidate that stands reads; and where no count rose, all were read.
 pub record IsCompared (t : Target) (old new : Seen) (slot : Option ℕ) : Type 0 where
   pub read : List Candidate
   pub are_read : AreRead t new.account.missed (candidates t) read

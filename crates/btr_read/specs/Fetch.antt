@@ -15,8 +15,8 @@ use Rattle.btr_read.specs.Reading.{AgreedOn, OnMap, shown}
 use Rattle.btr_read.specs.Cause.{LastOf, IsUnread}
 use Rattle.btr_read.specs.Store.{Blocks, Lent, block_of, kept_want, KeepsIn, KeepsFree}
 
--- the bytes of a fetched block pass, and are a candidate's; they are those of the block map where no count rose, and where
--- all candidates that pass are equal
+-- the bytes of a fetched block pass, and are a candidate's; they are those of the block map where no count rose,
+-- and where all candidates that pass are equal
 pub record IsFetched (layout : Layout) (want : Want) (old new : Seen) (bytes : List ℕ) : Type 0 where
   pub pass : passes layout.setting want bytes ≡ true
   pub stand : IfSome old.held (λ images. Contains (passing_for images (sought layout want)) bytes)
@@ -39,8 +39,8 @@ FitsFetch layout want old new store (Err (fault.Unread addr slot)) = IsUnreadFor
 FitsFetch layout want old new store (Err (fault.Unmapped addr)) = sought layout want ≡ Err (Unmapped addr)
 FitsFetch layout want old new store (Err (fault.Crosses addr)) = sought layout want ≡ Err (Crosses addr)
 
--- Where a block is lost or has no position, no call failed. Where it was had, those that failed are forgotten, and the last one is
--- the one before, or lies in a range of a candidate that stands.
+-- Where a block is lost or has no position, no call failed. Where it was had, those that failed are forgotten, and the
+-- last one is the one before, or lies in a range of a candidate that stands.
 abbrev pub AccountsFetch : Layout → Want → Account → Account → Result Lent ReadFault → Type 0
 AccountsFetch layout want old new (Ok loan) = (new.fresh ≡ 0) × (new.missed ≡ []) × IfOk (sought layout want) (λ t. LastOf t old new)
 AccountsFetch layout want old new (Err (fault.Lost addr)) = NoneFailed (forgotten old) new

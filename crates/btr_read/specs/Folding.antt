@@ -43,7 +43,8 @@ abbrev pub SolvesFront : ℕ → ℕ → ℕ → Slots → Slots → ℕ → ℕ
 SolvesFront x y len old new p q =
     IsTheOne len (WeighsWith (front_of old p len) (front_of old q len) x y) (front_of new p len)
 
--- a slot has the first of two slices, x and y, of what P and Q leave of it in two slots, and of the second one in a third
+-- a slot has the first of two slices, x and y, of what P and Q leave of it in
+-- two slots, and of the second one in a third
 abbrev pub SolvesWith : ℕ → ℕ → ℕ → Slots → Slots → ℕ → ℕ → ℕ → ℕ → Type 0
 SolvesWith x y len old new k p q slice =
     let other = front_of old slice len in

@@ -49,11 +49,12 @@ LendsTried want old new (Ok Differs) = SameLoans old new
 LendsTried want old new (Ok Absent) = SameLoans old new
 LendsTried want old new (Err (Failed slot)) = SameLoans old new
 
--- what a try of a mirror of a want answers, and what it does to the account, where the want has a position
+-- what a try of a mirror of a want answers, where the want has a position
 abbrev pub AnswersMirror : Layout → Want → ℕ → Option (List (List ℕ)) → Blocks → Result Tried TryFault → Type 0
 AnswersMirror layout want mirror held store result =
     IfOk (sought layout want) (λ t. FitsTried t (mirror_candidate mirror) held store result)
 
+-- a try of a mirror changes the account as the reads of its candidate do, where the want has a position
 abbrev pub AccountsMirror : Layout → Want → ℕ → Seen → Seen → Result Tried TryFault → Type 0
 AccountsMirror layout want mirror old new result =
     IfOk (sought layout want) (λ t. AccountsTried t (mirror_candidate mirror) old new result)

@@ -3,7 +3,8 @@ use Rattle.std.specs.Prelude.{◌≡◌, ℕ, ◌+◌, Bool, length, slice_get, 
 use Rattle.btr_read.specs.declared.candidate.Candidate.{Candidate}
 use Rattle.btr_read.specs.Candidates.{Target, among, candidates, ways}
 
--- the way of a number among those that read an older image, or that read none; or how many are left of the number behind all of them
+-- the way of a number among those that read an older image, or that read none; or how
+-- many are left of the number behind all of them
 abbrev pub FitsAmong : Target → Bool → ℕ → Result ℕ ℕ → Type 0
 FitsAmong t older k (Ok way) = (c : Candidate) × (slice_get (ways t) way ≡ Some c) × (slice_get (among t older) k ≡ Some c)
 FitsAmong t older k (Err left) = left + length (among t older) ≡ k

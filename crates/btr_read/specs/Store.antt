@@ -22,7 +22,8 @@ pub record Kept : Type 0 where
   pub want : Want
   pub bytes : List ℕ
 
--- a store: how blocks are found and tested, and by slot the bytes of its loan, if one is live, and the block that is kept in it, if one is
+-- a store: how blocks are found and tested, and by slot the bytes of its loan, if one is live,
+-- and the block that is kept in it, if one is
 pub record Blocks : Type 0 where
   pub layout : Layout
   pub loans : List (Option (List ℕ))
@@ -56,7 +57,8 @@ pub record IsStore (pool : Slots) (setting : Setting) : Type 0 where
 abbrev pub IsNode : List ℕ → Type 0
 IsNode block = IsSome (node_of block)
 
--- by the wants whose blocks stand in the slots, which of them are known to be good nodes, and the slots' bytes: those that are known to be are
+-- by the wants whose blocks stand in the slots, which of them are known to be good nodes, and the
+-- slots' bytes: those that are known to be are
 abbrev pub AreNodes : List (Option Want) → List Bool → List (List ℕ) → ℕ → Type 0
 AreNodes wants nodes slots size =
     (k : ℕ) (want : Want) → slice_index_or wants k None ≡ Some want → slice_index_or nodes k false ≡ true → IsNode (take size (slice_index_or slots k []))

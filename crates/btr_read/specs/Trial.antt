@@ -43,10 +43,11 @@ pub record BeganAt (before now : Seen) : Type 0 where
   pub held : now.held ≡ before.held
   pub sure : now.sure ≡ before.sure
 
--- what it is that one passes, or that none does, after the reads that failed
+-- what a search comes to when a candidate passes: the first one, or a later one after reads that failed
 abbrev pub passed_outcome : Option ℕ → Outcome
 passed_outcome failed = if is_none failed then outcome.First else outcome.Later
 
+-- what a search comes to when no candidate passes: a read that failed, or a lost block
 abbrev pub ended_outcome : Option ℕ → Outcome
 ended_outcome None = outcome.Lost
 ended_outcome (Some slot) = outcome.Unread slot
@@ -62,11 +63,12 @@ abbrev pub FitsTrial : Target → Seen → Seen → List ℕ → Trial → Type 
 FitsTrial t before now slot (Ended outcome) = FitsOutcome t before now slot outcome
 FitsTrial t before now slot (Stopped tried unread) = TriedSoFar t before now (Some unread.slot) tried
 
--- a trial, and its outcome, where the first k candidates had been tried when it began
+-- a trial goes on, where the first k candidates had been tried when it began
 abbrev pub GoesOn : Target → Option ℕ → ℕ → Seen → Seen → Slots → ℕ → Trial → Type 0
 GoesOn t failed k old new pool slot trial =
     (before : Seen) → BeganAt before old → TriedSoFar t before old failed k → FitsTrial t before new (bytes_at pool slot) trial
 
+-- a trial and its outcome, when the first k candidates had been tried before it
 abbrev pub EndsFrom : Target → Option ℕ → ℕ → Seen → Seen → Slots → ℕ → Outcome → Type 0
 EndsFrom t failed k old new pool slot outcome =
     (before : Seen) → BeganAt before old → TriedSoFar t before old failed k → FitsOutcome t before new (bytes_at pool slot) outcome

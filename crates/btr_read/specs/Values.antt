@@ -11,8 +11,8 @@ use Rattle.btr_read.specs.declared.candidate.Candidate.TheVariants.{Read, ByP, B
 use Rattle.btr_read.specs.Candidates.{Target, size_of, slice_count, parts_read, ranges_of, element, fits_p, fits_q, fits_both, value_of}
 use Rattle.btr_read.specs.Sought.{IsTarget, IsRebuilt}
 
--- a slice solves the equations of a candidate by parities: with it, and for two parities with some slice in the place of
--- the other one, the row has these parities
+-- a slice solves the equations of a candidate by parities: with it, and for two parities with some slice in the place
+-- of the other one, the row has these parities
 abbrev pub Solves : List (List ℕ) → Target → Candidate → List ℕ → Type 0
 Solves images t (Read part) X = X ≡ element images t part
 Solves images t ByP X = fits_p images t X ≡ true

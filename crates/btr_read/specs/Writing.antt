@@ -62,8 +62,8 @@ ComesFirst wants used slot other =
     IsSome (slice_index_or wants slot None)
     → IsSome (slice_index_or wants other None) × (slice_index_or used slot 0 ≤ slice_index_or used other 0)
 
--- by the times of the slots' last use, and what the times have counted up to: a slot is used at a time of its own, behind all others
--- until the count stands still at its type's last value
+-- by the times of the slots' last use, and what the times have counted up to: a slot is used at a time of its own,
+-- behind all others until the count stands still at its type's last value
 pub record IsUsed (old_used : List ℕ) (old_clock slot : ℕ) (new_used : List ℕ) (new_clock : ℕ) : Type 0 where
   pub clock : new_clock ≡ min (old_clock + 1) (2 ^ 64 - 1)
   pub used : new_used ≡ slice_set old_used slot new_clock

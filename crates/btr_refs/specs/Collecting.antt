@@ -46,7 +46,7 @@ collect_answer (Err Memory) = Err Broke
 abbrev pub Collects : {A : Type 0} → Layout → Seen → Seen → Lookup A → Result A CollectFault → Type 0
 Collects layout old new program result = Tells layout old new (λ B. Follows {S = ⊥} (unread_by layout old new) no_part [] (exec B program) [] (collect_answer result))
 
--- .. of a volume, what the extent tree with a root says
+-- so far as its calls were steady, what was collected is what the extent tree of a volume says, from its root on
 abbrev pub CollectsStored : Volume → TreeRoot → Seen → Seen → Result Kept CollectFault → Type 0
 CollectsStored vol tree old new result = Collects vol.store.layout old new (stored_of vol.sup.nodesize tree.place) result
 

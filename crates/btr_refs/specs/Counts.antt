@@ -19,6 +19,7 @@ sum_of refs one = sum_by (λ (other : Counted). cond (same_ref one other.key) ot
 abbrev pub is_met : List Counted → RefKey → Bool
 is_met refs one = list_any (λ (other : Counted). same_ref one other.key) refs
 
+-- how often a reference is met among some, if it is met
 abbrev pub count_of : List Counted → RefKey → Option ℕ
 count_of refs one = if is_met refs one then Some (sum_of refs one) else None
 
@@ -26,6 +27,7 @@ count_of refs one = if is_met refs one then Some (sum_of refs one) else None
 abbrev pub RefCounts : Type 0
 RefCounts = List (RefKey × ℕ)
 
+-- how often a reference is counted, if it is
 abbrev pub found_at : RefCounts → RefKey → Option ℕ
 found_at counts one = lookup (is_at (ref_cmp one)) counts
 
@@ -37,10 +39,11 @@ Counts refs counts = (one : RefKey) → found_at counts one ≡ count_of refs on
 abbrev pub count_in : RefCounts → RefKey → ℕ
 count_in counts one = unwrap_or (found_at counts one) 0
 
--- a map with one more reference, and with some more
+-- the counts with one more reference
 abbrev pub counted : RefCounts → Counted → RefCounts
 counted counts one = insert_entry ref_cmp counts one.key (count_in counts one.key + one.count)
 
+-- the counts with some more references
 abbrev pub counted_all : RefCounts → List Counted → RefCounts
 counted_all counts refs = fold counted counts refs
 

@@ -28,6 +28,7 @@ ref_count forward stored key =
 abbrev pub total_at : RefCounts → ℕ → ℕ
 total_at stored addr = sum_by (λ entry. cond (entry.0.addr == addr) entry.1 0) stored
 
+-- the finding that an extent states another number of references than are stored
 abbrev pub total_row : ℕ → ℕ → ℕ → Finding
 total_row addr refs sum = found 8 (addr ∷ refs ∷ shown_sum sum ∷ [])
 
@@ -60,16 +61,19 @@ abbrev pub is_shown : Finding → Option Finding → Bool
 is_shown one None = false
 is_shown one (Some finding) = is_same one finding
 
+-- a rule's finding on a thing is this one
 abbrev pub is_row : {X : Type 0} → (X → Option Finding) → Finding → X → Bool
 is_row rule one x = is_shown one (rule x)
 
--- a set has just what it had, and the finding of a rule on something, on some things, or on the references of a map
+-- a set has just what it had, and the finding of a rule on something
 abbrev pub PutsRow : {X : Type 0} → (X → Option Finding) → X → FoundSet → FoundSet → Type 0
 PutsRow rule x old new = (one : Finding) → has new one ≡ (is_row rule one x || has old one)
 
+-- a set has just what it had, and the findings of a rule on some things
 abbrev pub PutsRows : {X : Type 0} → (X → Option Finding) → List X → FoundSet → FoundSet → Type 0
 PutsRows rule xs old new = (one : Finding) → has new one ≡ (list_any (is_row rule one) xs || has old one)
 
+-- a set has just what it had, and the findings of a rule on the references of a map
 abbrev pub PutsRefs : (RefKey → Option Finding) → BTreeMap RefKey ℕ → FoundSet → FoundSet → Type 0
 PutsRefs rule refs old new = PutsRows rule (keys_of refs.entries) old new
 

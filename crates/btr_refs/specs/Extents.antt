@@ -24,9 +24,11 @@ use Rattle.btr_refs.specs.Counts.{Counted, RefCounts, counted_all}
 use Rattle.btr_refs.specs.RefKey.{key_of}
 use Rattle.btr_refs.specs.declared.ref_key.RefKey.{RefKey}
 
+-- a kind of item is an extent's
 abbrev pub is_extent : ℕ → Bool
 is_extent kind = (kind == extent_item) || (kind == metadata_item)
 
+-- a kind of item is a reference's that has an item of its own
 abbrev pub is_loose : ℕ → Bool
 is_loose kind = ((kind == tree_block_ref) || (kind == extent_data_ref)) || ((kind == shared_block_ref) || (kind == shared_data_ref))
 
@@ -40,6 +42,7 @@ extent_with nodesize key extent = record {
   level = if key.kind == metadata_item then Some key.offset else extent.level;
 }
 
+-- the extent of an item, if it has the form of one
 abbrev pub extent_of : ℕ → Key → List ℕ → List Extent
 extent_of nodesize key body = option_to_list (option_map (extent_with nodesize key) (result_ok (extent_item_of key.kind body)))
 
@@ -47,21 +50,24 @@ extent_of nodesize key body = option_to_list (option_map (extent_with nodesize k
 abbrev pub extent_in : ℕ → Key → List ℕ → List Extent
 extent_in nodesize key body = if is_extent key.kind then extent_of nodesize key body else []
 
--- the references in an extent's item
+-- a reference in an extent's item, with its count
 abbrev pub inline_ref : ℕ → InlineRef → Counted
 inline_ref addr part = record { key = key_of addr part.link; count = part.count }
 
+-- the references in those parts of an extent's item that are formed
 abbrev pub parts_counted : ℕ → List (Result InlineRef ItemFault) → List Counted
 parts_counted addr parts = map (inline_ref addr) (filter_map result_ok parts)
 
+-- the references in an extent's item, if it is formed
 abbrev pub inline_refs : ℕ → List ℕ → Result ExtentItem ItemFault → List Counted
 inline_refs addr body (Ok extent) = parts_counted addr (inline_refs_of extent.first body)
 inline_refs addr body (Err fault) = []
 
--- the reference in an item of its own
+-- a reference in an item of its own, with its count
 abbrev pub loose_ref : ℕ → LooseRef → Counted
 loose_ref addr part = record { key = key_of addr part.link; count = part.count }
 
+-- the reference in an item of its own, if it is formed
 abbrev pub loose_refs : Key → List ℕ → List Counted
 loose_refs key body = map (loose_ref key.objectid) (option_to_list (result_ok (loose_ref_of key body)))
 
@@ -72,10 +78,11 @@ refs_in key body =
     else if is_loose key.kind then loose_refs key body
     else []
 
--- the extents and the references among the items of the extent tree, in the order of their keys
+-- the extents among the items of the extent tree, in the order of their keys
 abbrev pub extents_in : ℕ → List TreeItem → List Extent
 extents_in nodesize items = flat_map (λ (item : TreeItem). extent_in nodesize item.key item.body) items
 
+-- the references among the items of the extent tree, in the order of their keys
 abbrev pub stored_in : List TreeItem → List Counted
 stored_in items = flat_map (λ (item : TreeItem). refs_in item.key item.body) items
 
@@ -92,10 +99,11 @@ pub record Kept : Type 0 where
   pub refs : RefCounts
   pub extents : List Extent
 
+-- what is kept before the first item
 abbrev pub nothing_kept : ℕ → Kept
 nothing_kept nodesize = record { nodesize = nodesize; refs = []; extents = [] }
 
--- one more item; one that hasn't its form breaks its leaf
+-- what is kept with one more item
 abbrev pub kept_with : Kept → TreeItem → Kept
 kept_with kept item = record {
   nodesize = kept.nodesize;
@@ -103,6 +111,7 @@ kept_with kept item = record {
   extents = kept.extents ++ extent_in kept.nodesize item.key item.body;
 }
 
+-- one more item is kept; one that hasn't its form breaks its leaf
 abbrev pub kept_step : Kept → TreeItem → Next Kept Kept
 kept_step kept item = if is_formed item.key item.body then Go (kept_with kept item) else Broken
 
@@ -112,10 +121,11 @@ AddsRefs formed more old new (Ok true) = (formed ≡ true) × (new ≡ counted_a
 AddsRefs formed more old new (Ok false) = formed ≡ false
 AddsRefs formed more old new (Err e) = ⊤
 
--- .. those in an extent's item, from a place on, and the one in an item of its own
+-- the references in an extent's item are counted from a place on, if they are formed
 abbrev pub AddsInline : ℕ → ℕ → List ℕ → RefCounts → RefCounts → Result Bool Memory → Type 0
 AddsInline addr first body old new result = AddsRefs (list_all is_ok (inline_refs_of first body)) (parts_counted addr (inline_refs_of first body)) old new result
 
+-- the reference in an item of its own is counted, if it is formed
 abbrev pub AddsLoose : Key → List ℕ → RefCounts → RefCounts → Result Bool Memory → Type 0
 AddsLoose key body old new result = AddsRefs (is_ok (loose_ref_of key body)) (loose_refs key body) old new result
 
@@ -125,10 +135,11 @@ AddsItem formed refs extents old new listed listed' (Ok true) = (formed ≡ true
 AddsItem formed refs extents old new listed listed' (Ok false) = formed ≡ false
 AddsItem formed refs extents old new listed listed' (Err e) = ⊤
 
--- .. one that is an extent, and any one
+-- an extent is kept with the references in its item, if it is formed and its key fits
 abbrev pub AddsExtent : ℕ → Key → List ℕ → BTreeMap RefKey ℕ → BTreeMap RefKey ℕ → Vec Extent Global → Vec Extent Global → Result Bool Memory → Type 0
 AddsExtent nodesize key body old new listed listed' result =
     AddsItem (key_fits key && extent_fits key.kind body) (inline_refs key.objectid body (extent_item_of key.kind body)) (extent_of nodesize key body) old.entries new.entries listed.items listed'.items result
 
+-- an item of any kind is kept as what it is, if it is formed
 abbrev pub AddsAny : ℕ → Key → List ℕ → BTreeMap RefKey ℕ → BTreeMap RefKey ℕ → Vec Extent Global → Vec Extent Global → Result Bool Memory → Type 0
 AddsAny nodesize key body old new listed listed' result = AddsItem (is_formed key body) (refs_in key body) (extent_in nodesize key body) old.entries new.entries listed.items listed'.items result

@@ -24,6 +24,7 @@ shown_sum sum = min sum (2 ^ 64 - 1)
 abbrev pub finding_cmp : Finding → Finding → Ordering
 finding_cmp = then_cmp (on (λ finding. finding.kind) nat_cmp) (on (λ finding. finding.n) (slice_cmp nat_cmp))
 
+-- two findings are the same
 abbrev pub is_same : Finding → Finding → Bool
 is_same a b = is_eq (finding_cmp a b)
 
@@ -40,6 +41,7 @@ is_one_of findings one = list_any (is_same one) findings
 abbrev pub FoundSet : Type 0
 FoundSet = List Finding
 
+-- a finding is among what was found
 abbrev pub has : FoundSet → Finding → Bool
 has set one = is_one_of set one
 

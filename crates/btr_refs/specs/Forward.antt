@@ -36,10 +36,11 @@ pub record Use : Type 0 where
   pub link : Link
   pub what : Used
 
--- a use as a tree block of a level, and as data of a length
+-- a use as a tree block of a level
 abbrev pub block_use : ℕ → Link → ℕ → Use
 block_use addr link level = record { addr = addr; link = link; what = TreeBlock level }
 
+-- a use as data of a length
 abbrev pub data_use : ℕ → Link → ℕ → Use
 data_use addr link len = record { addr = addr; link = link; what = Data len }
 
@@ -47,14 +48,16 @@ data_use addr link len = record { addr = addr; link = link; what = Data len }
 abbrev pub root_use : TreeRoot → Use
 root_use tree = block_use tree.place.addr (Tree tree.id) tree.place.level
 
--- a block's references to tree blocks and to data are by its address, or by its owner; data's by the owner are by the inode too,
--- and by where in the file the extent would begin, modulo 2^64
+-- a block's reference to a tree block: by the block's address, or by the tree that owns it
 abbrev pub tree_link : Origin → Link
 tree_link from = if from.by_address then SharedTree from.addr else Tree from.owner
 
+-- a block's reference to data of a file: by the block's address, or by the tree that owns it, the inode and where the
+-- extent begins
 abbrev pub file_link : Origin → ℕ → ℕ → Link
 file_link from objectid offset = if from.by_address then SharedFile from.addr else File from.owner objectid offset
 
+-- where in the file an extent would begin of which a part stands at an offset, modulo 2^64
 abbrev pub begin_of : ℕ → ℕ → ℕ
 begin_of offset skip = (offset + (2 ^ 64 - skip)) % 2 ^ 64
 
@@ -68,21 +71,26 @@ range_uses from key addr disk_len skip =
     if addr == 0 then []
     else data_use addr (file_link from key.objectid (begin_of key.offset skip)) disk_len ∷ []
 
+-- what a file uses by a part of this shape: an inline one is no extent
 abbrev pub shape_uses : Origin → Key → Shape → List Use
 shape_uses from key (Inline len) = []
 shape_uses from key (Regular addr disk_len skip len) = range_uses from key addr disk_len skip
 shape_uses from key (Prealloc addr disk_len skip len) = range_uses from key addr disk_len skip
 
+-- what a file uses by an item, if it has its form
 abbrev pub extent_uses : Origin → Key → Result FileExtent ItemFault → List Use
 extent_uses from key (Ok extent) = shape_uses from key extent.shape
 extent_uses from key (Err fault) = []
 
+-- what an item of a leaf uses: only an EXTENT_DATA uses data
 abbrev pub item_uses : Origin → Key → List ℕ → List Use
 item_uses from key body = if key.kind == extent_data then extent_uses from key (file_extent_of key.offset body) else []
 
+-- what the items of a leaf use
 abbrev pub leaf_uses : Origin → List Item → List Use
 leaf_uses from items = flat_map (λ (item : Item). item_uses from item.key item.body) items
 
+-- what a node uses: its items' data, or its children
 abbrev pub node_uses : Origin → ℕ → Option Node → List Use
 node_uses from level None = []
 node_uses from level (Some (Leaf items)) = leaf_uses from items
@@ -100,9 +108,11 @@ block_uses by_address addr level block = node_uses (origin_of by_address addr bl
 abbrev pub met : Use → Counted
 met one = record { key = key_of one.addr one.link; count = 1 }
 
+-- uses as tree blocks are ordered by address, then level
 abbrev pub block_cmp : BlockUse → BlockUse → Ordering
 block_cmp a b = ordering_then (nat_cmp a.addr b.addr) (nat_cmp a.level b.level)
 
+-- uses as data are ordered by address, then length
 abbrev pub data_cmp : DataUse → DataUse → Ordering
 data_cmp a b = ordering_then (nat_cmp a.addr b.addr) (nat_cmp a.len b.len)
 
@@ -112,17 +122,21 @@ pub record Uses : Type 0 where
   pub tree_blocks : List BlockUse
   pub data_extents : List DataUse
 
+-- what is kept before the first use
 abbrev pub no_uses : Uses
 no_uses = record { refs = []; tree_blocks = []; data_extents = [] }
 
+-- the uses as tree blocks with one more, if it is one
 abbrev pub blocks_with : List BlockUse → ℕ → Used → List BlockUse
 blocks_with blocks addr (TreeBlock level) = insert_key block_cmp blocks (record { addr = addr; level = level })
 blocks_with blocks addr (Data len) = blocks
 
+-- the uses as data with one more, if it is one
 abbrev pub data_with : List DataUse → ℕ → Used → List DataUse
 data_with extents addr (TreeBlock level) = extents
 data_with extents addr (Data len) = insert_key data_cmp extents (record { addr = addr; len = len })
 
+-- what is kept with one more use
 abbrev pub with_use : Uses → Use → Uses
 with_use uses one = record {
   refs = counted uses.refs (met one);

@@ -24,6 +24,7 @@ pub record IsKept (run : SectorRun) : Type 0 where
   pub some : 0 < run.count
   pub within : IsWithin run
 
+-- all runs have a sector, and end at 2^64 at the latest
 abbrev pub AreKept : List SectorRun → Type 0
 AreKept runs = All IsKept runs
 
@@ -81,11 +82,12 @@ pub record AreListed (single lines : List Finding) (runs : List SectorRun) : Typ
   pub within : AreWithin runs
   pub few : length single + length lines < 2 ^ 64
 
--- the finding on a sector of a run
+-- the finding on a run's first sector that isn't done, where so many are, if there is one
 abbrev pub finding_of : ℕ → Option SectorRun → Option Finding
 finding_of done None = None
 finding_of done (Some run) = if nat_lt done run.count then Some (sector_finding run.rule ((run.first + done) * 4096)) else None
 
+-- the finding on the sector at a place among runs, if there is one
 abbrev pub sector_at : List SectorRun → RunPlace → Option Finding
 sector_at runs place = finding_of place.done (slice_get runs place.run)
 
@@ -100,6 +102,7 @@ step_by single line Less = record { finding = Some single; single = true; line =
 step_by single line Equal = record { finding = Some line; single = true; line = true }
 step_by single line Greater = record { finding = Some line; single = false; line = true }
 
+-- what is taken from the front of two lists: from the one that isn't empty, or from both by their order
 abbrev pub step_of : Option Finding → Option Finding → Step
 step_of None None = record { finding = None; single = false; line = false }
 step_of None (Some line) = record { finding = Some line; single = false; line = true }

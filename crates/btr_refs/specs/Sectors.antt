@@ -34,6 +34,7 @@ runs_findings runs = flat_map run_findings runs
 abbrev pub IsWithin : SectorRun → Type 0
 IsWithin run = run.first + run.count ≤ 2 ^ 52
 
+-- the sectors of all runs end at 2^64 at the latest
 abbrev pub AreWithin : List SectorRun → Type 0
 AreWithin runs = All IsWithin runs
 

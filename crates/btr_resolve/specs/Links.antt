@@ -24,14 +24,16 @@ pub record HasBy (addr : ℕ) (item : TreeItem) (extent : DiskExtent) (owner : O
 abbrev pub uses_of : (ℕ → Bool) → Reached → List Use
 uses_of by_address from = block_uses (by_address from.place.addr) from.place.addr from.place.level from.block
 
--- The use of the extent of an item by its leaf: as data of all its bytes on the disk. The link is of the kind File, by the leaf's owner, the inode and where in
--- the file the extent would begin; or of the kind SharedFile, by the leaf's address.
+-- The use of the extent of an item by its leaf: as data of all its bytes on the disk. The link is of
+-- the kind File, by the leaf's owner, the inode and where in the file the extent would begin; or of
+-- the kind SharedFile, by the leaf's address.
 abbrev pub use_by : (ℕ → Bool) → Reached → TreeItem → DiskExtent → Use
 use_by by_address leaf item extent =
     data_use extent.addr
     (file_link (origin_of (by_address leaf.place.addr) leaf.place.addr leaf.block) item.key.objectid (begin_of item.key.offset extent.skip)) extent.disk_len
 
--- An owner of an address is linked: among some uses is that of the extent of the item by which the file has the byte, by a leaf of the tree.
+-- An owner of an address is linked: among some uses is that of the extent of the item by which
+-- the file has the byte, by a leaf of the tree.
 pub record IsLinked (B : Map) (tree : TreeRoot) (by_address : ℕ → Bool) (addr : ℕ) (uses : List Use) (owner : Owner) : Type 0 where
   pub tree_is : owner.tree ≡ tree
   pub leaf : Reached
@@ -47,8 +49,8 @@ pub record IsLinked (B : Map) (tree : TreeRoot) (by_address : ℕ → Bool) (add
 abbrev pub HasUsesOf : (ℕ → Bool) → List Use → Reached → Type 0
 HasUsesOf by_address uses from = All (Contains uses) (uses_of by_address from)
 
--- Where some uses have those of all blocks of a tree, whichever of these refer by their address, each owner of an address in the tree is linked, also those that
--- are told before a block that is broken.
+-- Where some uses have those of all blocks of a tree, whichever of these refer by their address, each owner of an
+-- address in the tree is linked, also those that are told before a block that is broken.
 abbrev pub OwnersLinked : Type 0
 OwnersLinked =
     (B : Map) (tree : TreeRoot) (by_address : ℕ → Bool) (addr : ℕ) (uses : List Use)

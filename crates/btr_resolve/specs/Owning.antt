@@ -28,13 +28,15 @@ on_disk (Inline len) = None
 on_disk (Regular addr disk_len skip len) = placed addr disk_len skip len
 on_disk (Prealloc addr disk_len skip len) = placed addr disk_len skip len
 
--- the position in a file of the byte at an address, by the extent that begins at `start` in the file, if it has the byte
+-- the position in a file of the byte at an address, by the extent that begins
+-- at `start` in the file, if it has the byte
 abbrev pub plain_position : ℕ → ℕ → DiskExtent → Option ℕ
 plain_position addr start extent =
     let first = extent.addr + extent.skip in
     if nat_le first addr && nat_lt addr (first + extent.len) then Some (start + (addr - first)) else None
 
--- the position by a compressed extent, where each byte on the disk is one of all that it makes: where it begins in the file
+-- the position by a compressed extent, where each byte on the disk is one of all
+-- that it makes: where it begins in the file
 abbrev pub packed_position : ℕ → ℕ → DiskExtent → Option ℕ
 packed_position addr start extent = if nat_le extent.addr addr && nat_lt addr (extent.addr + extent.disk_len) then Some start else None
 

@@ -28,8 +28,8 @@ abbrev pub path_below : (ℕ → Lookup Path) → Option Link → Lookup Path
 path_below above None = Return None
 path_below above (Some name) = bind (above name.parent) (λ path. Return (entry_path name.name path))
 
--- The path of a directory of a tree, so many steps below the top directory at most: that one's is empty, and another's is its parent's path, `/` and
--- its name. Where a directory on the way has not exactly one name, there is none.
+-- The path of a directory of a tree, so many steps below the top directory at most: that one's is empty, and another's
+-- is its parent's path, `/` and its name. Where a directory on the way has not exactly one name, there is none.
 abbrev pub directory_path : ℕ → TreeRoot → ℕ → Lookup Path
 directory_path zero tree dir = if dir == tree.dirid then Return (Some []) else Return None
 directory_path (suc n) tree dir =

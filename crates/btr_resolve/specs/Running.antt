@@ -62,7 +62,8 @@ abbrev pub ended : {A : Type 0} → Result A Stop → Result A (Halt fate.Fault 
 ended (Ok a) = Ok a
 ended (Err stop) = Err (stop_halt stop)
 
--- what lies behind a stop: a tree's fault has its cause; no other stop is answered than these, a refusal of the output, and want of memory
+-- what lies behind a stop: a tree's fault has its cause; no other stop is answered than these,
+-- a refusal of the output, and want of memory
 abbrev pub StopCause : {A : Type 0} → Layout → Seen → Seen → Result A Stop → Type 0
 StopCause layout old new (Ok a) = Unit {0}
 StopCause layout old new (Err (Tree f)) = FaultCause layout old new f
@@ -93,8 +94,8 @@ abbrev pub stop_of : SinkError → Stop
 stop_of sink.Failed = Out
 stop_of sink.Memory = Memory
 
--- A call put the lines of a program: what was put and answered follows its run, so far as the reads were steady, whatever failed. It only read, its
--- volume can be read on, and its fault has its cause.
+-- A call put the lines of a program: what was put and answered follows its run, so far as the reads were steady,
+-- whatever failed. It only read, its volume can be read on, and its fault has its cause.
 pub record Ran {A : Type 0} (p : Program Line A) (x y : World) (answer : Result A Stop) : Type 0 where
   pub reads : OnlyReads x.rack y.rack
   pub volume : SameVolume x.vol y.vol

@@ -96,7 +96,7 @@ module _ (plan : RestorePlan) (dest : List ℕ) (images : Images) (start : Start
       (each_as (λ w. IsIn C w) (λ w. within (Early w)) (λ w is n. choices_within C images n w (array_layout start) (array_honest C images start table closed.stands honest) is) (needs B scan) (early_wants (λ fault. Err (refusal_of fault)) there B D scan rest closed.holds))
       (λ t is. each_as (λ w. IsIn C w) (λ w. within (Late t w)) (λ w inside n. choices_within C images n w (layout_by start t) (subst (λ t. IsHonest C images (layout_by start t)) (the_table t is) honest) inside) (needs (D t) (rest t)) (late_wants (λ fault. Err (refusal_of fault)) there B D scan rest t is closed.holds))
 
-  -- .. which the first candidates are too
+  -- of each want of the committed journey the first candidates have the committed bytes, or none
   pub first_within : Each (λ want. IsWithin (volume_map start (fate images) want) (volume_map start (committed C images) want)) (needs (volume_map start (committed C images)) (journey plan dest start))
   first_within =
       each_as (λ want. (n : ℕ) → Within n want) (λ want. IsWithin (volume_map start (fate images) want) (volume_map start (committed C images) want))

@@ -43,7 +43,7 @@ module _ {W F : Type 0} where
       leads_bind (λ t d a. (t ≡ s) × (d ≡ c)) K s c (quiet p) k (leads_quiet (λ t d a. (t ≡ s) × (d ≡ c)) s c p (λ a. (refl, refl)))
       (λ t d a e. subst (λ x. Leads K x d (k a)) (sym e.0) (subst (λ x. Leads K s x (k a)) (sym e.1) (h a)))
 
-  -- .. and something holds of its value
+  -- a lookup does no step, and something holds of its value
   pub leads_found : {A C : Type 0} (K : Claim C) (s : Sink) (c : Counts) (p : Prog W F ⊥ A) (k : A → Prog W F Step C) (Q : A → Type 0) → Gives Q p → ((a : A) → Q a → Leads K s c (k a)) → Leads K s c (bind (quiet p) k)
   leads_found K s c (Return a) k Q g h = h a g
   leads_found K s c (Stop f) k Q g h = tt

@@ -101,7 +101,7 @@ module _ (treat : Counts → DirEntry → Program Step Counts) (B : Map) (Bs : �
       abbrev rest : Run Want Fault DirEntry (Unit {0})
       rest = exec B (dir_left B dir')
 
-      -- .. and treated wholly
+      -- an entry was met and treated wholly
       pub left_next : (Is : UnreadBlock → Want → Type 0) (counts' : Counts) → MetOf treat whole B Bs counts entry dir' done → Goes Is part [] Bs (treat counts entry) more (Ok counts') → LeftOf treat whole B Bs counts' dir' (done ++ more)
       left_next Is counts' l t =
           let b : Run Want Fault Step (Result Counts Counts) = with_value {S = Step} Bs Ok t.0 in
@@ -112,7 +112,7 @@ module _ (treat : Counts → DirEntry → Program Step Counts) (B : Map) (Bs : �
             on = rest_more B l.seen (wants_of b.marks) dir'.rest l.on;
           }
 
-      -- .. and not treated to its end
+      -- an entry was met and not treated to its end
       pub left_halts : (Is : UnreadBlock → Want → Type 0) (halt : Halt Fault UnreadBlock) → MetOf treat whole B Bs counts entry dir' done → Goes Is part [] Bs (treat counts entry) more (Err halt) → Goes Is part [] Bs whole (done ++ more) (Err halt)
       left_halts Is halt l t =
           let b : Run Want Fault Step (Result Counts Counts) = with_value {S = Step} Bs Ok t.0 in
@@ -183,7 +183,7 @@ module _ (treat : Counts → DirEntry → Program Step Counts) (x : World) where
       out_calls = l.out_calls;
     }
 
-    -- .. or to its end
+    -- the listing came to its end
     pub listed_end : (result : Result (Option DirRow) TreeFault) → result ≡ Ok None → Tells y.vol.store.layout y.rack rack (Next y.vol.store.layout result) → Ran whole x (world rack vol y.out) (Ok counts)
     listed_end result is t = record {
       reads = reads_then l.reads reads;
@@ -230,7 +230,7 @@ module _ (treat : Counts → DirEntry → Program Step Counts) (x : World) where
         out_calls = r.out_calls ∙ l.out_calls;
       }
 
-      -- .. or not to its end
+      -- an entry was not treated to its end
       pub listed_halt : (s : TheStop) → Ran (treat counts entry) (world rack vol y.out) z (Err s) → Ran whole x z (Err s)
       listed_halt s r = record {
         reads = reads_then (reads_then l.reads reads) r.reads;

@@ -48,7 +48,7 @@ pub record In (d : ℕ) (s : Sink) : Type 0 where
 abbrev Stands : ℕ → Claim Counts
 Stands d s c counts = At d s × (counts ≡ c)
 
--- .. or in a directory below, if the one it is in isn't too deep
+-- between two files again, or in a directory below, if the one it is in isn't too deep
 abbrev Comes : Bool → ℕ → Claim Treated
 Comes deep d s c (Over counts) = At d s × (counts ≡ c)
 Comes deep d s c (Within tree dirid counts) = (deep ≡ false) × At (d + 1) s × (counts ≡ c)

@@ -55,7 +55,7 @@ module _ {A C : Type 0} (p : Program Step A) (k : A → Program Step C) (x y z :
     stops = stops_kept s h.stops;
   }
 
--- .. and calls that read too
+-- calls that read and write, one after another
 module _ {A C : Type 0} (p : Program Step A) (k : A → Program Step C) (x y z : World) where
   pub ran_then : (a : A) (r : Result C TheStop) → Ran p x y (Ok a) → Ran (k a) y z r → Ran (bind p k) x z r
   ran_then a r h g = record {
@@ -169,7 +169,7 @@ module _ {C : Type 0} (b : Bool) (step : Step) (rest : Program Step C) where
     pub row_halt : Wrote (unless b) x y (Err s) → Wrote (cond b rest (Emit step rest)) x y (Err s)
     row_halt h = subst (λ (p : Program Step C). Wrote p x y (Err s)) (unless_bind b) (wrote_halt (unless b) (λ u. rest) x y y s h)
 
--- .. before calls that read too
+-- the calls of the sink and the lines that come before the rest of a program that reads too
 module _ {C : Type 0} (b : Bool) (step : Step) (rest : Program Step C) (rack : Seen) (vol : Volume) (x y : Outside) (z : World) (r : Result C TheStop) where
   pub row_ran : IsReady rack vol → Wrote (unless b step rest b) x y (Ok tt) → Ran rest (world rack vol y) z r → Ran (cond b rest (Emit step rest)) (world rack vol x) z r
   row_ran ready w h = subst (λ (p : Program Step C). Ran p (world rack vol x) z r) (unless_bind b step rest b)

@@ -115,12 +115,13 @@ module _ (Bs : ℕ → Map) where
         subst (λ (x : List Step). Answers Is part Whole x (Err halt)) (append-nil done)
         (so_far_ends Is part Whole (PutsLeft kind Bs plain file) l.seen done [] (Err halt) l.so_far (c.0, (e.0, e.1, c.1), c.2))
 
-    -- .. or to its end
+    -- a run without pieces puts none
     no_more : (ms : List (Mark Want Piece)) (e : Result (Unit {0}) Fault) → [] ≡ steps_of ms → e ≡ Ok tt → (r : Run Want Fault Step Bool) × ThreadsTo Body last plain ms e r × ([] ≡ steps_of r.marks) × (r.ending ≡ Ok plain)
     no_more [] e n i = subst (λ (x : Result (Unit {0}) Fault). (r : Run Want Fault Step Bool) × ThreadsTo Body last plain [] x r × ([] ≡ steps_of r.marks) × (r.ending ≡ Ok plain)) (sym i) (run [] (Ok plain), refl, refl, refl)
     no_more (Wants w ∷ ms) e n i = let g = no_more ms e n i in (first (Wants w) g.0, (g.0, refl, g.1), g.2, g.3)
     no_more (Does p ∷ ms) e n i = cc
 
+    -- the file came to its end
     pub file_end : (Is : UnreadBlock → Want → Type 0) → (l : LeftToPut whole kind Bs plain file done) → EndsBy kind Is Bs l.seen file (Ok tt) → Goes Is part [] Bs whole done (Ok plain)
     file_end Is l e =
         let c = no_more e.0.marks e.0.ending e.2.0 e.2.1 in
@@ -150,7 +151,7 @@ module _ (Bs : ℕ → Map) where
             on = file_more file l.seen (wants_of b.marks) l.on;
           }
 
-      -- .. or not put
+      -- the piece was not put
       pub piece_halts : (halt : Halt Fault UnreadBlock) → PieceToPut whole kind Bs plain piece file done → Goes Is part [] Bs (put plain piece) more (Err halt) → Goes Is part [] Bs whole (done ++ more) (Err halt)
       piece_halts halt l t =
           let b : Run Want Fault Step (Result Bool Bool) = with_value {S = Step} Bs Ok t.0 in
@@ -218,7 +219,7 @@ module _ (whole : Program Step Bool) (x y : World) (plain : Bool) (file file' : 
         out_calls = l.out_calls;
       }
 
-  -- .. or to its end
+  -- it came to its end
   pub writing_end : (result : Result (Option Lending) TreeFault) → result ≡ Ok None → Streamed y.vol vol file file' y.rack rack result → WasWritten whole x (world rack vol y.out) file' (Ok plain)
   writing_end result is m =
       let n = streamed result (Ok None) is m in
@@ -304,7 +305,7 @@ writing_first x file p reading same begins on = record {
   out_calls = refl;
 }
 
--- .. and is given back
+-- a file was written wholly and is given back
 pub writing_over : (whole : Program Step Bool) (x y : World) (vol : Volume) (file : FileBytes) (r : Result Bool TheStop) → IsReady x.rack x.vol → WasWritten whole x y file r → vol.sup ≡ y.vol.sup → SameLoans (without_file y.vol.store file) vol.store → Serves y.rack vol.store → Ran whole x (world y.rack vol y.out) r
 writing_over whole x y vol file r ready w sup back serves =
     let same : SameVolume x.vol vol = record { sup = sup ∙ w.sup; store = record { layout = back.layout ∙ w.others.layout; loans = back.loans ∙ w.others.loans } } in

@@ -20,7 +20,8 @@ use Rattle.btr_restore.specs.Journey.{journey}
 abbrev pub Commit : Type 0
 Commit = Want → Option (List ℕ)
 
--- of what is sought the committed bytes, and without a test the candidate of a number, or the first where there aren't so many
+-- of what is sought the committed bytes, and without a test the candidate of a
+-- number, or the first where there aren't so many
 abbrev pub committed_of : Commit → Images → ℕ → Want → Result Target Fault → Result (List ℕ) Fault
 committed_of C images n want (Err fault) = Err fault
 committed_of C images n want (Ok t) = or_lost (addr_of want) (if is_plain want then chosen n (passing images t) else C want)

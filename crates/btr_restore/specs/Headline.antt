@@ -41,7 +41,8 @@ module _ (plan : RestorePlan) (dest : List ℕ) (images : Images) (start : Start
     pub lost : volume_map start (fate images) want ≡ Err (Lost (addr_of (want_of want)))
     pub is : found ≡ outcome_by (steps_of before) (Err (Lost (addr_of (want_of want))))
 
-  -- the outcome is that of the committed journey where each need has a candidate that passes; else it stops before the first without one
+  -- the outcome is that of the committed journey where each need has a candidate that passes;
+  -- else it stops before the first without one
   pub record IsRestored (found : Outcome) : Type 0 where
     pub whole : AreWhole plan dest images start C → found ≡ outcome (exec (volume_map start (committed C images)) (journey plan dest start))
     pub short : (AreWhole plan dest images start C → ⊥) → StopsShort found

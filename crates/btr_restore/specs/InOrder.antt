@@ -72,8 +72,8 @@ abbrev pub answer_by : Ending → Answer
 answer_by (Ok value) = Ok value
 answer_by (Err fault) = Err (halt_fault fault)
 
--- What follows the first copies, and ends as the images decide, is the outcome of restore over their bytes, where the candidates of the root
--- tree's root block agree.
+-- What follows the first copies, and ends as the images decide, is the outcome of restore over their bytes, where the
+-- candidates of the root tree's root block agree.
 abbrev pub SettledLaw : Type 0
 SettledLaw =
     (plan : RestorePlan) (dest : List ℕ) (images : Images) (start : Start) (old new : Seen) (done : List Step) (ending : Ending)
@@ -82,7 +82,8 @@ SettledLaw =
     → Follows plan dest start old new (λ n. fate images) done (answer_by ending)
     → outcome_by done ending ≡ restore_outcome plan dest images
 
--- the call stopped at a want of a run of the committed journey that the images lack: exactly the steps before it were done, and the answer names it
+-- the call stopped at a want of a run of the committed journey that the images lack: exactly the steps
+-- before it were done, and the answer names it
 pub record LostAt
     (plan : RestorePlan) (dest : List ℕ) (images : Images) (start : Start) (C : Commit) (done : List Step)
     (answer : Answer) : Type 0 where
@@ -97,7 +98,8 @@ pub record LostAt
   pub steps : done ≡ steps_of before
   pub is : answer ≡ Err (halt_fault (Lost (addr_of (want_of want))))
 
--- over honest images what follows the images' journey follows the committed one, or stops where the images lack a want of it
+-- over honest images what follows the images' journey follows the committed one,
+-- or stops where the images lack a want of it
 abbrev pub CommittedOrder : Type 0
 CommittedOrder =
     (plan : RestorePlan) (dest : List ℕ) (images : Images) (start : Start) (C : Commit) (table : List Chunk)
@@ -107,12 +109,15 @@ CommittedOrder =
     → Follows plan dest start old new (choices images) done answer
     → Follows plan dest start old new (committed_choices C images) done answer ⊎ LostAt plan dest images start C done answer
 
--- whatever the plan, the destination, the start and the calls are
+-- a chunk tree that came to a table, and then restore under it, whatever the plan, the destination, the start and the
+-- calls are
 abbrev pub OpenedThenLaw : Type 0
 OpenedThenLaw = (plan : RestorePlan) (dest : List ℕ) (start : Start) (old new : Seen) → OpenedThen plan dest start old new
 
+-- a chunk tree that is refused ends restore, whatever the plan, the destination, the start and the calls are
 abbrev pub OpenRefusedLaw : Type 0
 OpenRefusedLaw = (plan : RestorePlan) (dest : List ℕ) (start : Start) (old new : Seen) → OpenRefused plan dest start old new
 
+-- a chunk tree that could not be read ends restore, whatever the plan, the destination, the start and the calls are
 abbrev pub OpenHaltedLaw : Type 0
 OpenHaltedLaw = (plan : RestorePlan) (dest : List ℕ) (start : Start) (old new : Seen) → OpenHalted plan dest start old new

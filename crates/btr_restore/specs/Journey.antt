@@ -137,6 +137,7 @@ module _ (plan : RestorePlan) (dest : List ℕ) (s : Super) where
       row plan (step.Start dest)
       (bind (directory plan s sums most_depth tree tree.dirid [] no_counts) (λ counts. Emit (Line (counts_line counts)) (Return counts)))
 
+  -- the restore of the tree that a lookup found, or the stop that there is none
   abbrev pub from_root : Option TreeRoot → Program Step Counts
   from_root None = Stop (NoTree plan.root)
   from_root (Some tree) = looks (sums_lookup plan s) (restored tree)

@@ -45,15 +45,17 @@ module _ (plan : RestorePlan) (s : Super) (sums : Option TreeRoot) where
   abbrev pub treat_in : ℕ → TreeRoot → ℕ → List ℕ → Counts → DirEntry → Program Step Counts
   treat_in n = treat plan s sums (is_deep n) (listing_in n)
 
--- what is listed by the superblock, in a directory that has one of so many places: what is in one that was entered, and the way up; an entry, and what
--- is in it; and a directory, below which so many more may be entered
+-- what is listed by the superblock in a directory that was entered, and the way up; so many more may be entered below
+-- it
 abbrev pub within_for : Job → ℕ → List ℕ → TreeRoot → ℕ → Counts → Super → Program Step Counts
 within_for job n path inner dirid counts s =
     listed_in job.plan s job.sums (listing_in job.plan s job.sums n) path (Within inner dirid counts)
 
+-- an entry of a directory, with its name in a buffer, by the superblock
 abbrev pub entry_for : Job → ℕ → TreeRoot → ℕ → List ℕ → Counts → DirRow → NameBuf → Super → Program Step Counts
 entry_for job n tree dirid path counts row name s = treat_in job.plan s job.sums n tree dirid path counts (named_row row name)
 
+-- a listing of a directory by the superblock
 abbrev pub listing_for : Job → ℕ → TreeRoot → ℕ → List ℕ → Counts → Super → Program Step Counts
 listing_for job n tree dirid path counts s = directory job.plan s job.sums n tree dirid path counts
 
@@ -67,10 +69,11 @@ abbrev pub StandsIf : Bool → ℕ → Sink → Result (Unit {0}) Stop → Type 
 StandsIf dry n sink (Ok u) = Stands dry n sink
 StandsIf dry n sink (Err stop) = Unit {0}
 
--- where a sink stood, it stands as deep after a listing; and one less deep, where the listing leaves its directory
+-- where a sink stood, it stands as deep after a listing that came to its end
 abbrev pub KeepsDepth : Bool → Sink → Sink → Result (Unit {0}) Stop → Type 0
 KeepsDepth dry old new result = (n : ℕ) → Stands dry n old → StandsIf dry n new result
 
+-- a sink stands one less deep after a listing that came to its end and leaves its directory
 abbrev pub LeavesDepth : Bool → Sink → Sink → Result (Unit {0}) Stop → Type 0
 LeavesDepth dry old new result = (n : ℕ) → Stands dry (n + 1) old → StandsIf dry n new result
 
@@ -84,9 +87,11 @@ TellsBoth layout old new P =
     Calls (AgreedOn layout) (shown old) (shown new) (λ sure held. IfSome held (λ images. P (fate images layout) (maps_of layout sure images)))
 
 module _ (treat : Counts → DirEntry → Program Step Counts) where
+  -- what a listing makes of each entry
   abbrev pub body_of : Counts → DirEntry → Program Step (Result Counts Counts)
   body_of counts entry = bind (treat counts entry) (λ after. Return (Ok after))
 
+  -- what a listing answers: its last counts
   abbrev pub last_of : Counts → Unit {0} → Counts
   last_of counts u = counts
 
@@ -100,7 +105,7 @@ module _ (treat : Counts → DirEntry → Program Step Counts) where
     pub so_far : SoFar (GoesTo Bs whole) (Left Bs counts (exec B (dir_left B dir))) seen done
     pub on : IsDirOn B seen dir
 
-  -- .. after an entry was met
+  -- of the runs of a whole listing these steps are done, and an entry was met that is to be treated next
   pub record MetOf
       (whole : Program Step Counts) (B : Map) (Bs : ℕ → Map) (counts : Counts) (entry : DirEntry) (dir : Dir)
       (done : List Step) : Type 0 where

@@ -22,7 +22,8 @@ use Rattle.btr_listing.specs.Lines.{skip_line, no_counts, with_dir, with_file, w
 use Rattle.btr_restore.specs.Restoring.{sink_after}
 use Rattle.btr_listing.specs.Step.{Step, Start, Dir, Up, File, Bytes, Zeros, Done, Line}
 
--- a sink may take the call of a step: it stands where the call asks it to; no bad name comes to it, and it is never more than 512 directories deep
+-- a sink may take the call of a step: it stands where the call asks it to; no bad name comes to it, and
+-- it is never more than 512 directories deep
 abbrev pub Takes : Sink → Step → Type 0
 Takes s (Start name) = s.stage ≡ NotStarted
 Takes s (Dir name) = (s.stage ≡ BetweenFiles) × (is_bad name ≡ false) × (s.depth < 512)
@@ -44,7 +45,8 @@ begins_with [] text = true
 begins_with (b ∷ front) [] = false
 begins_with (b ∷ front) (c ∷ text) = (b == c) && begins_with front text
 
--- the counts after a step: directories that were entered, files that were finished, and entries that a line says are skipped
+-- the counts after a step: directories that were entered, files that were
+-- finished, and entries that a line says are skipped
 abbrev pub counted : Counts → Step → Counts
 counted counts (Start name) = counts
 counted counts (Dir name) = with_dir counts
@@ -61,14 +63,15 @@ IfCounts (Ok (Ok counts)) P = P counts
 IfCounts (Ok (Err refusal)) P = Unit {0}
 IfCounts (Err fault) P = Unit {0}
 
--- A run is in order: a sink that isn't started may take its steps, and at the end it stands in the destination again, between two files. The counts are those of the
--- steps. Of a dry run, which calls no sink, nothing is said.
+-- A run is in order: a sink that isn't started may take its steps, and at the end it stands in the destination again,
+-- between two files. The counts are those of the steps. Of a dry run, which calls no sink, nothing is said.
 pub record IsOrderly (sink : Sink) (run : Run VolumeWant Fault Step (Result Counts OpenFault)) : Type 0 where
   pub takes : TakesAll sink (steps_of run.marks)
   pub between : IfCounts run.ending (λ counts. (fold sink_after sink (steps_of run.marks)).stage ≡ BetweenFiles)
   pub depth : IfCounts run.ending (λ counts. (fold sink_after sink (steps_of run.marks)).depth ≡ 0)
   pub counts : IfCounts run.ending (λ counts. counts ≡ fold counted no_counts (steps_of run.marks))
 
+-- each run of a restore that isn't dry is in order
 abbrev pub OrderlyLaw : Type 0
 OrderlyLaw =
     (plan : RestorePlan) (dest : List ℕ) (start : VolumeStart) (maps : ℕ → BlockMap VolumeWant Fault) (sink : Sink)
@@ -78,7 +81,8 @@ OrderlyLaw =
     → GoesTo maps (journey plan dest start) run
     → IsOrderly sink run
 
--- the step that an entry is told by: its file or its directory, or the line that it is skipped, for a cause that it may have
+-- the step that an entry is told by: its file or its directory, or the line that
+-- it is skipped, for a cause that it may have
 abbrev pub IsOfEntry : Rules → Met → Step → Type 0
 IsOfEntry rules met (Dir other) = other ≡ met.entry.name
 IsOfEntry rules met (File other) = other ≡ met.entry.name
@@ -97,6 +101,7 @@ pub record IsTold (rules : Rules) (met : Met) (done : List Step) : Type 0 where
   pub steps : done ≡ step ∷ more
   pub of_entry : IsOfEntry rules met step
 
+-- a restore that isn't dry tells each entry that it treats or enters
 abbrev pub ToldLaw : Type 0
 ToldLaw =
     (plan : RestorePlan) (s : Super) (sums : Option TreeRoot) (met : Met) (counts : Counts) (came : Treated)

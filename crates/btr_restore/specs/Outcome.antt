@@ -30,6 +30,7 @@ nothing = record { rows = []; part = None }
 abbrev pub tree_after : List Step → Tree
 tree_after steps = fold after_step nothing steps
 
+-- the line that a step is, if it is one
 abbrev pub text_in : Step → List ℕ
 text_in (Start name) = []
 text_in (Dir name) = []

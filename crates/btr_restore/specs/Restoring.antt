@@ -40,10 +40,12 @@ pub record Scene : Type 0 where
   pub sink : Sink
   pub text : Option (List ℕ)
 
+-- what is seen of a rack, a sink and an output
 abbrev pub scene : Seen → Sink → Option (List ℕ) → Scene
 scene rack sink text = record { rack = rack; sink = sink; text = text }
 
--- Some steps were done in the sink and in the output; so far as the reads were steady, P holds of them, of what a block may come to, and of which want could not be read.
+-- Some steps were done in the sink and in the output; so far as the reads were steady, P holds of them, of what a block
+-- may come to, and of which want could not be read.
 pub record Did (layout : Layout) (before now : Scene) (P : (UnreadBlock → Want → Type 0) → (ℕ → Map) → List Step → Type 0) : Type 0 where
   pub done : List Step
   pub sink : now.sink ≡ fold sink_after before.sink done
@@ -66,6 +68,7 @@ stop_halt sink_stop = Broke
 stop_halt out_stop = Broke
 stop_halt Memory = Broke
 
+-- the answer of a call as the answer of its program
 abbrev pub ended : {A : Type 0} → Result A Stop → Result A (Halt fate.Fault UnreadBlock)
 ended (Ok a) = Ok a
 ended (Err stop) = Err (stop_halt stop)
@@ -100,7 +103,8 @@ sink_answer (Err Memory) = Ok tt
 abbrev pub SinkCounts : {A : Type 0} → CallAccount → CallAccount → Result A Stop → Type 0
 SinkCounts old new result = Counts old new (sink_answer result)
 
--- the account of the output changed only where a call of it failed, and then that is the answer, or that the sink failed behind it
+-- the account of the output changed only where a call of it failed, and then that is
+-- the answer, or that the sink failed behind it
 abbrev pub OutCounts : {A : Type 0} → CallAccount → CallAccount → Result A Stop → Type 0
 OutCounts old new (Ok a) = new ≡ old
 OutCounts old new (Err (NoTree id)) = new ≡ old
@@ -127,11 +131,12 @@ pub record Emits
   pub text : told' ≡ text_after told done
   pub goes : (layout : Layout) (old new : Seen) (Bs : ℕ → Map) → Goes (unread_by layout old new) part [] Bs p done answer
 
--- the stops that refusals are
+-- the stop that a failed call of an output is
 abbrev pub stops_out : SinkError → Stop
 stops_out Failed = out_stop
 stops_out NoMemory = Memory
 
+-- the stop that a failed call of a sink is
 abbrev pub stops_sink : SinkError → Stop
 stops_sink Failed = sink_stop
 stops_sink NoMemory = Memory

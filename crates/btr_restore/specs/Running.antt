@@ -27,6 +27,7 @@ pub record Outside : Type 0 where
   pub text : Option (List ℕ)
   pub out_calls : CallAccount
 
+-- a sink and an output with the accounts of their calls
 abbrev pub outside : Sink → CallAccount → Option (List ℕ) → CallAccount → Outside
 outside sink sink_calls text out_calls = record { sink = sink; sink_calls = sink_calls; text = text; out_calls = out_calls }
 
@@ -40,6 +41,7 @@ pub record World : Type 0 where
   pub vol : Volume
   pub out : Outside
 
+-- a rack, a volume, and what is outside of them
 abbrev pub world : Seen → Volume → Outside → World
 world rack vol out = record { rack = rack; vol = vol; out = out }
 
@@ -47,6 +49,7 @@ world rack vol out = record { rack = rack; vol = vol; out = out }
 abbrev pub beside : {R T : Type 0} → (R → Seen) → (T → Sink) → (T → CallAccount) → R → Volume → T → Option (List ℕ) → CallAccount → World
 beside seen sink sink_calls rack vol tree text out_calls = world (seen rack) vol (outside (sink tree) (sink_calls tree) text out_calls)
 
+-- what is seen of it without the accounts
 abbrev pub scene_of : World → Scene
 scene_of x = scene x.rack x.out.sink x.out.text
 
@@ -92,7 +95,7 @@ WroteRow plan step sink calls tree tree' answer =
     → Wrote (row plan step (Return tt)) (outside (sink tree) (calls tree) text out_calls)
     (outside (sink tree') (calls tree') text out_calls) answer
 
--- .. and calls of the output did the steps of a program, whatever the sink is
+-- calls of the output did the steps of a program, whatever the sink is
 abbrev pub WroteLines : {A O : Type 0} → Program Step A → (O → Option (List ℕ)) → (O → CallAccount) → O → O → Result A Stop → Type 0
 WroteLines p text calls out out' answer =
     (sink : Sink) (sink_calls : CallAccount)
@@ -102,13 +105,13 @@ WroteLines p text calls out out' answer =
 abbrev pub RanFor : {A : Type 0} → (Super → Program Step A) → World → World → Result A Stop → Type 0
 RanFor p x y answer = (s : Super) → s ≡ x.vol.sup → Ran (p s) x y answer
 
--- .. whatever the output is
+-- a call did the steps of a program by the superblock of its volume, whatever the output is
 abbrev pub RanBeside : {A : Type 0} → Super → (Super → Program Step A) → (Option (List ℕ) → CallAccount → World)
     → (Option (List ℕ) → CallAccount → World) → Result A Stop → Type 0
 RanBeside sup p x y answer =
     (s : Super) (text : Option (List ℕ)) (calls : CallAccount) → s ≡ sup → Ran (p s) (x text calls) (y text calls) answer
 
--- .. a lookup, whatever the sink and the output are
+-- a call did a lookup by the superblock of its volume, whatever the sink and the output are
 abbrev pub LookedFor : {A : Type 0} → (Super → Lookup A) → Seen → Volume → Seen → Volume → Result A Stop → Type 0
 LookedFor p rack vol rack' vol' answer =
     (x : Outside) (s : Super) → s ≡ vol.sup → Ran (quiet (p s)) (world rack vol x) (world rack' vol' x) answer

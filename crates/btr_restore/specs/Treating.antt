@@ -19,6 +19,7 @@ abbrev pub came_to : Counts → Treated → journey.Treated
 came_to counts Over = journey.Over counts
 came_to counts (Within tree dirid) = journey.Within tree dirid counts
 
+-- an answer of an entry, with the counts then
 abbrev pub came : Counts → Result Treated Stop → Result journey.Treated Stop
 came counts (Ok treated) = Ok (came_to counts treated)
 came counts (Err stop) = Err stop
@@ -34,9 +35,10 @@ abbrev pub written_for : Job → Entry → List ℕ → Inode → Counts → Sup
 written_for job entry name inode counts s =
     journey.written job.plan s job.sums entry.tree entry.row.location.objectid name entry.path.now inode counts
 
--- what is done about an entry, by what it came to, and an entry from the first lookup on
+-- what is done about an entry, by what it came to and by the superblock
 abbrev pub done_for : Job → Entry → Decision → Counts → Super → Program Step journey.Treated
 done_for job entry decision counts s = journey.done_about job.plan s job.sums (met_by entry) counts decision
 
+-- what is done about an entry, from its first lookup on, by the superblock
 abbrev pub treated_for : Job → Entry → Counts → Super → Program Step journey.Treated
 treated_for job entry counts s = journey.treated job.plan s job.sums (met_by entry) counts

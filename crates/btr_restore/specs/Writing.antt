@@ -23,9 +23,11 @@ use Rattle.btr_restore.specs.Restoring.{sink_after, text_after, Does as Did, Sto
 use Rattle.btr_restore.specs.Running.{World, Wrote, outside, scene_of}
 use Rattle.btr_listing.specs.Step.{Step}
 
+-- one piece is put, and the file goes on with whether any of its bytes had no checksum
 abbrev pub put_of : Bool → Piece → Program Step (Result Bool Bool)
 put_of plain piece = bind (put plain piece) (λ after. Return (Ok after))
 
+-- what is answered of a file whose pieces were put: whether any of its bytes had no checksum
 abbrev pub last_plain : Bool → Unit {0} → Bool
 last_plain plain u = plain
 
@@ -33,11 +35,11 @@ last_plain plain u = plain
 abbrev pub Puts : (ℕ → Map) → Bool → Run Want Fault Piece (Unit {0}) → Run Want Fault Step Bool → Type 0
 Puts Bs plain q = ThreadsTo (λ st piece. GoesTo Bs (put_of st piece)) last_plain plain q.marks q.ending
 
--- .. that a file has still to give
+-- the runs that put the pieces that a file has still to give
 abbrev pub PutsLeft : SumKind → (ℕ → Map) → Bool → FileBytes → Run Want Fault Step Bool → Type 0
 PutsLeft kind Bs plain file r = (q : Run Want Fault Piece (Unit {0})) × FileGoes kind Bs file q × Puts Bs plain q r
 
--- .. behind a piece that was given
+-- the runs that put a piece that was given, and those that its file has still to give
 abbrev pub PutsFrom : SumKind → (ℕ → Map) → Bool → Piece → FileBytes → Run Want Fault Step Bool → Type 0
 PutsFrom kind Bs plain piece file r =
     (q : Run Want Fault Piece (Unit {0})) × FileGoes kind Bs file q × Puts Bs plain (first (Does piece) q) r
@@ -49,7 +51,7 @@ pub record LeftToPut
   pub so_far : SoFar (GoesTo Bs whole) (PutsLeft kind Bs plain file) seen done
   pub on : IsFileOn (Bs 0) seen file
 
--- .. after a piece was given
+-- of the runs of a whole program these steps are done, and a piece was given that is to be put next
 pub record PieceToPut
     (whole : Program Step Bool) (kind : SumKind) (Bs : ℕ → Map) (plain : Bool) (piece : Piece) (file : FileBytes)
     (done : List Step) : Type 0 where
@@ -94,7 +96,7 @@ PutsPiece plain piece sink calls tree tree' answer =
     → Wrote (put plain piece) (outside (sink tree) (calls tree) text out_calls)
     (outside (sink tree') (calls tree') text out_calls) answer
 
--- a step of a file that is being written, and all that is still to come of it, whatever its whole program is and where that began
+-- a step of a file that is being written, whatever its whole program is and where that began
 abbrev pub PutsNext : Bool → FileBytes → FileBytes → (Option (List ℕ) → CallAccount → World)
     → (Option (List ℕ) → CallAccount → World) → Result (Option Bool) Stop → Type 0
 PutsNext plain file file' before now answer =
@@ -102,6 +104,7 @@ PutsNext plain file file' before now answer =
     (text : Option (List ℕ)) (calls : CallAccount)
     → IsWriting whole x (before text calls) plain file → WritesOn whole x (now text calls) plain file' answer
 
+-- all that is still to come of a file that is being written, whatever its whole program is and where that began
 abbrev pub PutsRest : FileBytes → FileBytes → (Option (List ℕ) → CallAccount → World) → (Option (List ℕ) → CallAccount → World)
     → Result Bool Stop → Type 0
 PutsRest file file' before now answer =

@@ -127,7 +127,7 @@ module _ (layout : Layout) (row : Row) (write : Bool) (marks : List Bool) (a b :
           unwritten = λ w. absurd (false≢true (sym w ∙ written));
         }
 
-    -- .. up to a call that failed
+    -- it was written up to a call that failed
     pub mends_cut : NoneFailed a.account b.account → (fault : MendFault) → TakesTurns {A = Unit {0}} (IsOfRow layout row) told_rebuilt told_parities marks marks' b d (Err fault) → MendsRow layout row write marks marks' a d (Err fault)
     mends_cut none fault turns =
         let h = turns_behind a b reads {A = Unit {0}} (IsOfRow layout row) told_rebuilt told_parities marks marks' d (Err fault) none turns in

@@ -108,7 +108,7 @@ pub record IsSpot (t : Target) (spot : Spot) : Type 0 where
   pub rest : spot.rest ≡ t.at.rest
   pub len : spot.len ≡ size_of t
 
--- .. of a chunk that keeps the rule, and has parity
+-- a block's place in a row of a chunk that keeps the rule, and has parity
 pub record IsSited (spot : Spot) (t : Target) : Type 0 where
   pub place : IsSpot t spot
   pub keeps_rule : IsChunk t.chunk
@@ -140,11 +140,12 @@ pub record IsHeld (images : Images) (t : Target) (spot : Spot) (bytes : List ℕ
 
 -- ---- what the parities leave of slices
 
--- the part that a parity is, and the number of its element
+-- the part of a full stripe that a parity is
 abbrev pub part_of : Parity → Part
 part_of parity.P = P
 part_of parity.Q = Q
 
+-- the number of a parity's element: P's comes after the slices, and then Q's
 abbrev pub element_of : Parity → ℕ → ℕ
 element_of parity.P slices = slices
 element_of parity.Q slices = slices + 1
@@ -181,7 +182,7 @@ ReadsQ (ByBoth j) = Unit {0}
 abbrev pub Gathers : Spot → List ℕ → Candidate → Parity → List ℕ → Type 0
 Gathers spot bytes c p sum = (images : Images) (t : Target) → IsHeld images t spot bytes → IsLeft images t c p (take spot.len sum)
 
--- .. what a candidate gives
+-- the front of a buffer has what a candidate gives
 abbrev pub Computes : Spot → List ℕ → Candidate → List ℕ → Type 0
 Computes spot bytes c block = (images : Images) (t : Target) → IsHeld images t spot bytes → value_of images t c ≡ take spot.len block
 

@@ -21,7 +21,8 @@ use Rattle.btr_row.specs.Rows.{Row, parities, parities_writes, parity_writes, ra
 use Rattle.btr_row.specs.declared.buffer.RowBuffer.{RowBuffer}
 use Rattle.btr_row.specs.declared.mended.MendedRow.{MendedRow}
 
--- a full stripe of the chunk that starts at an address: the chunk has the row, and each element of it stands on a device that is given
+-- a full stripe of the chunk that starts at an address: the chunk has the row, and each
+-- element of it stands on a device that is given
 pub record IsFullStripe (layout : Layout) (start number : ℕ) (row : Row) : Type 0 where
   pub chunk : chunk_at layout.chunks start ≡ Some row.chunk
   pub number_is : row.number ≡ number
@@ -29,7 +30,7 @@ pub record IsFullStripe (layout : Layout) (start number : ℕ) (row : Row) : Typ
   pub inside : number * 65536 + 65536 ≤ stripe_length row.chunk
   pub stand : (part : Part) → HasPart row.chunk.profile (length row.chunk.stripes) part → IsSome (range_in_element layout row part 0 65536)
 
--- there is such a row
+-- there is a full stripe of this number
 pub record HasStripe (layout : Layout) (start number : ℕ) : Type 0 where
   pub row : Row
   pub is : IsFullStripe layout start number row
@@ -43,13 +44,14 @@ pub record IsOn (row : Row) (t : Target) : Type 0 where
 abbrev pub is_at : Target → Result Target Fault
 is_at t = Ok t
 
--- the row of a number in the chunk that starts at an address, whose checked blocks are those of some wants, in their order
+-- the row of a number in the chunk that starts at an address, whose checked
+-- blocks are those of some wants, in their order
 pub record IsRowOf (layout : Layout) (start number : ℕ) (wants : List Want) (row : Row) : Type 0 where
   pub stripe : IsFullStripe layout start number row
   pub blocks : map (sought layout) wants ≡ map is_at row.blocks
   pub lie : All (IsOn row) row.blocks
 
--- there is such a row
+-- there is a row of this number, with these checked blocks
 pub record IsRow (layout : Layout) (start number : ℕ) (wants : List Want) : Type 0 where
   pub row : Row
   pub is : IsRowOf layout start number wants row
@@ -67,7 +69,7 @@ pub record HasRoom (buffer : RowBuffer) (count : ℕ) : Type 0 where
   pub block : 65536 ≤ length buffer.block.items
   pub spare : 65536 ≤ length buffer.spare.items
 
--- .. of the row of a number in the chunk that starts at an address
+-- a buffer has room for the elements of the row of a number in the chunk that starts at an address
 abbrev pub HasRoomFor : Layout → ℕ → ℕ → List Want → RowBuffer → Type 0
 HasRoomFor layout start number wants buffer = (row : Row) → IsRowOf layout start number wants row → HasRoom buffer (length row.chunk.stripes)
 
@@ -95,8 +97,9 @@ abbrev pub CountsRow : Option Images → Layout → Row → Bool → Result Mend
 CountsRow held layout row write (Ok mended) = IfSome held (λ images. mended ≡ mended_row images layout row write)
 CountsRow held layout row write (Err fault) = Unit {0}
 
--- A row was read, and written where it is to be mended: exactly the writes that mend it, or those up to a call that failed. Its parities are written in a turn
--- of their own, behind its blocks. Where all that waited for a sync was marked, it is. Where the row was only to be read, it was.
+-- A row was read, and written where it is to be mended: exactly the writes that mend it, or those up to a call that
+-- failed. Its parities are written in a turn of their own, behind its blocks. Where all that waited for a sync was
+-- marked, it is. Where the row was only to be read, it was.
 pub record MendsRow (layout : Layout) (row : Row) (write : Bool) (marks marks' : List Bool) (old new : Seen) (result : Result MendedRow MendFault) : Type 0 where
   pub does : Does (IsSyncOr (IsOfRow layout row)) (λ images. writes_if write (row_writes images layout row)) [] [] (plain old) (plain new) result
   pub waits : IfSome old.held (λ images. WaitsInTurn (writes_if write (rebuilt_writes images layout row)) (writes_if write (parities_writes images layout row)) images old new)

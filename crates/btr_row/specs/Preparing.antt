@@ -59,7 +59,8 @@ WritesWanted layout stripe wants judged buffer writes marks marks' old new resul
 abbrev pub HasOneTurn : Images → Layout → Row → Type 0
 HasOneTurn images layout row = (rebuilt_writes images layout row ≡ []) ⊎ (parities_writes images layout row ≡ [])
 
--- the blocks of the row of wanted blocks were written as it follows from what was prepared, and behind them its parities
+-- the blocks of the row of wanted blocks were written as it follows from what
+-- was prepared, and behind them its parities
 abbrev pub WritesInTurn : {A : Type 0} → Layout → FullStripe → List Want → Judged → RowBuffer → List Bool → List Bool → Seen → Seen → Result A MendFault → Type 0
 WritesInTurn layout stripe wants judged buffer marks marks' old new result =
     (told : Option Images) (row : Row) → IsStripeOf layout stripe row → IsRowOf layout stripe.chunk stripe.number wants row → TellsRow layout row judged buffer told old.held

@@ -1,4 +1,5 @@
--- Full stripes: a row of a chunk with parity, and its columns, the 4096 bytes at one multiple of 4096 in each of its elements.
+-- Full stripes: a row of a chunk with parity, and its columns, the 4096 bytes at
+-- one multiple of 4096 in each of its elements.
 use Rattle.std.specs.Prelude.{ℕ, ◌+◌, ◌*◌, Bool, not, ◌&&◌, ◌||◌, ◌==◌, nat_lt, List, [], ◌∷◌, ◌++◌, length, map, Option, is_some, slice_range}
 use Rattle.std.specs.List.{filter, filter_map, flat_map, fold, list_all, list_any, range_with_len}
 use Rattle.std.specs.Option.{option_map, option_map_or}
@@ -25,6 +26,7 @@ pub record Row : Type 0 where
   pub blocks : List Target
   pub kept : ℕ → Bool
 
+-- how many slices a full stripe has
 abbrev pub slice_count : Row → ℕ
 slice_count row = data_count row.chunk.profile (length row.chunk.stripes)
 
@@ -65,6 +67,7 @@ module _ (images : List (List ℕ)) (layout : Layout) where
   abbrev pub slice_with : (Target → Option (List ℕ)) → Row → ℕ → List ℕ
   slice_with given row i = fold (with_block given) (element row (Slice i)) (blocks_at row i)
 
+  -- all slices of a full stripe, with what is given for their blocks
   abbrev pub slices_with : (Target → Option (List ℕ)) → Row → List (List ℕ)
   slices_with given row = map (slice_with given row) (range_with_len 0 (slice_count row))
 
@@ -88,6 +91,7 @@ module _ (images : List (List ℕ)) (layout : Layout) where
   abbrev pub differing : Row → Part → List ℕ
   differing row part = filter (λ column. is_decided row column && differs row part column) (range_with_len 0 16)
 
+  -- the write of a column of a parity, as the accepted blocks give it, if its element has an image
   abbrev pub sector_write : Row → Part → ℕ → Option Write
   sector_write row part column =
       option_map (λ range. record { range = range; bytes = column_of column (element_with (accepted images) row part) }) (range_in_element layout row part (column * 4096) 4096)

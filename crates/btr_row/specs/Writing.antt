@@ -26,7 +26,8 @@ write_at slot off bytes = record { range = range_in slot off (length bytes); byt
 abbrev pub told_writes : (Images → List Write) → Option Images → List Write
 told_writes writes told = option_map_or writes told []
 
--- what is known of the images as they were when the row was read: the row is in memory, and where they weren't told they aren't now
+-- what is known of the images as they were when the row was read: the row is in memory,
+-- and where they weren't told they aren't now
 pub record Tells (layout : Layout) (row : Row) (bytes : List ℕ) (told held : Option Images) : Type 0 where
   pub known : IfSome told (λ images. HoldsRow images layout row bytes)
   pub untold : told ≡ None → held ≡ None
@@ -69,7 +70,7 @@ WritesBlock layout stripe want bytes marks marks' old new result =
     (told : Option Images) (row : Row) (t : Target) → IsStripeOf layout stripe row → Tells layout row bytes told old.held → sought layout want ≡ Ok t
     → Does (IsOfRow layout row) (λ images. told_writes (λ images. block_writes images t) told) marks marks' old new result
 
--- .. all wanted blocks of it
+-- what mends all wanted blocks of a row, whose bytes as they were read are given
 abbrev pub WritesBlocks : {A : Type 0} → Layout → FullStripe → List Want → List ℕ → List Bool → List Bool → Seen → Seen → Result A MendFault → Type 0
 WritesBlocks layout stripe wants bytes marks marks' old new result =
     (told : Option Images) (row : Row) → IsStripeOf layout stripe row → IsRowOf layout stripe.chunk stripe.number wants row → Tells layout row bytes told old.held

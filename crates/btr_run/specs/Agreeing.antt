@@ -68,7 +68,8 @@ AreAgreedFor (Salvage dest plan) images = AreAgreed images
 AreAgreedFor (Send dest file plan) images = AreAgreed images
 AreAgreedFor (SelfTest number) images = AreAgreed images
 
--- a block could not be read that the scan of the chunk tree wants, found by the chunks of the system array, and nothing is put but its line
+-- a block could not be read that the scan of the chunk tree wants, found by the chunks of the
+-- system array, and nothing is put but its line
 pub record LacksTable (images : Images) (outcome : Outcome) : Type 0 where
   pub start : Start
   pub is : start_of images ≡ Ok start
@@ -101,13 +102,14 @@ pub record LacksUnits (images : Images) (outcome : Outcome) : Type 0 where
 abbrev pub IsScrubbedOrUnread : Bool → Images → Outcome → Type 0
 IsScrubbedOrUnread write images outcome = IsOrUnopened images (scrub_outcome write images) outcome ⊎ LacksUnits images outcome
 
--- Restoring may come to what its blocks are, or the filesystem isn't opened: images that their superblocks refuse come to that refusal, whatever else
--- failed. What it comes to over images that are opened the order of its steps says.
+-- Restoring may come to what its blocks are, or the filesystem isn't opened: images that their superblocks refuse come
+-- to that refusal, whatever else failed. What it comes to over images that are opened the order of its steps says.
 abbrev pub IsRestoredOrUnopened : Images → Outcome → Type 0
 IsRestoredOrUnopened images outcome =
     OrBare IsRestored outcome × ((refusal : OpenFault) → start_of images ≡ Err refusal → IsOrUnopened images (refused (open_answer refusal)) outcome)
 
--- showing trees comes to what the images hold, whole or up to a block that could not be read, unless the filesystem isn't opened
+-- showing trees comes to what the images hold, whole or up to a block that could not
+-- be read, unless the filesystem isn't opened
 abbrev pub IsTreesOrUnread : DumpChoice → Images → Outcome → Type 0
 IsTreesOrUnread choice images outcome =
     (trees_outcome choice images ≡ outcome)

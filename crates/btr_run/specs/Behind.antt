@@ -52,8 +52,9 @@ IsNoCrossing (Unmapped addr) = Unit {0}
 IsNoCrossing (Crosses addr) = ⊥
 IsNoCrossing (Malformed addr) = Unit {0}
 
--- The images were only read. One is at fault only where a read of its superblock failed, which no sure rack does. An answer that is no fault comes behind
--- a failed call only if it is of some kind. Of some faults of trees the cause is told. What the words alone decide is not answered.
+-- The images were only read. One is at fault only where a read of its superblock failed, which no sure rack does. An
+-- answer that is no fault comes behind a failed call only if it is of some kind. Of some faults of trees the cause is
+-- told. What the words alone decide is not answered.
 pub record IsBehind (MayFail : Answer → Type 0) (IsTold : TreeFault → Type 0) (old new : Seen) (answer : Answer) : Type 0 where
   pub reads : OnlyReads old new
   pub image : (slot : ℕ) → answer ≡ ImageFault slot → SuperUnread old new slot

@@ -20,7 +20,8 @@ pub record IsUnopened (words : Words) (old new : Seen) (slot : ℕ) : Type 0 whe
   pub sentence : IsSentence plan words
   pub failed : OpeningFailed (opens_to_write plan.command) (images_of plan words) new.slots old.account new.account slot
 
--- the words are a sentence, and an opening of one of its images, a read of one's superblock, or a call of a scrub on one failed last
+-- the words are a sentence, and an opening of one of its images, a read of one's
+-- superblock, or a call of a scrub on one failed last
 pub record ImageCause (words : Words) (old new : Seen) (slot : ℕ) : Type 0 where
   pub plan : Plan
   pub sentence : IsSentence plan words
@@ -30,8 +31,8 @@ pub record ImageCause (words : Words) (old new : Seen) (slot : ℕ) : Type 0 whe
 abbrev pub IsShut : Words → Seen → Seen → Answer → Type 0
 IsShut words old new answer = ((slot : ℕ) × (answer ≡ ImageFault slot) × IsUnopened words old new slot) ⊎ (answer ≡ OutFault) ⊎ (answer ≡ Memory)
 
--- nothing is answered in place of a failed call on an image: none failed, also if the count of faults rose elsewhere before, or a fault is answered, or
--- what else the command may answer then
+-- nothing is answered in place of a failed call on an image: none failed, also if the count of faults rose elsewhere
+-- before, or a fault is answered, or what else the command may answer then
 abbrev pub HidesNone : Words → Account → Account → Answer → Type 0
 HidesNone words old new answer = NoneFailed old new ⊎ IsFault answer ⊎ ((plan : Plan) × IsSentence plan words × MayFail plan.command answer)
 
@@ -39,7 +40,8 @@ HidesNone words old new answer = NoneFailed old new ⊎ IsFault answer ⊎ ((pla
 abbrev pub opened_with : Account → Seen → Seen
 opened_with account seen = record seen { account = account }
 
--- the words are a sentence, and the cause of a fault of a tree is in the images that are open, where its command tells it
+-- the words are a sentence, and the cause of a fault of a tree is in the images
+-- that are open, where its command tells it
 pub record CauseTold (words : Words) (old new : Seen) (fault : TreeFault) : Type 0 where
   pub plan : Plan
   pub sentence : IsSentence plan words

@@ -31,6 +31,7 @@ abbrev pub unless_refused : Option Stop → Shown → Outcome
 unless_refused (Some stop) shown = refused (stop_answer stop)
 unless_refused None shown = showing shown
 
+-- what checking the filesystem of some images comes to, or its answer where there is none
 abbrev pub check_in : Bool → Images → Result Filesystem Answer → Outcome
 check_in read_data images (Ok fs) = unless_refused (refusal (filesystem_by images fs)) (listing (findings read_data (filesystem_by images fs)))
 check_in read_data images (Err answer) = refused answer

@@ -65,8 +65,8 @@ MayFail (Salvage dest plan) answer = MayMend answer
 MayFail (Send dest file plan) answer = MayMend answer
 MayFail (SelfTest number) answer = ⊥
 
--- the faults of trees whose cause a command tells: a check goes on behind all but a block that could not be read, and keeps only where they were; a
--- scrub also answers an extent that crosses
+-- the faults of trees whose cause a command tells: a check goes on behind all but a block that could not be read, and
+-- keeps only where they were; a scrub also answers an extent that crosses
 abbrev pub TellsCause : Command → TreeFault → Type 0
 TellsCause Super fault = AnyFault fault
 TellsCause (Dump choice) fault = AnyFault fault
@@ -170,14 +170,16 @@ pub record IsUnmended (layout : Layout) (old new : Seen) (slot : ℕ) : Type 0 w
 abbrev pub ImageFails : Command → Seen → Seen → ℕ → Type 0
 ImageFails command old new slot = SuperUnread old new slot ⊎ (IsScrub command × ((layout : Layout) × IsUnmended layout old new slot))
 
--- The slots and the shelf of a rack are as before: the images may have been written. No opening failed, and the count of faults never falls.
+-- The slots and the shelf of a rack are as before: the images may have been written. No opening
+-- failed, and the count of faults never falls.
 pub record KeepsRack (old new : Seen) : Type 0 where
   pub same : new ≡ record old { held = new.held; unsynced = new.unsynced; never_synced = new.never_synced; account = new.account }
   pub later : old.account.faults ≤ new.account.faults
   pub same_shut : new.account.shut ≡ old.account.shut
 
--- What lies behind the answer of a command over opened images. Only a scrub may do more than read, and no byte changes where it isn't to write, or where
--- a tree can't be read on. An answer that is no fault comes behind a failed call only if it is of some kind. What the words alone decide is not answered.
+-- What lies behind the answer of a command over opened images. Only a scrub may do more than read, and no byte changes
+-- where it isn't to write, or where a tree can't be read on. An answer that is no fault comes behind a failed call only
+-- if it is of some kind. What the words alone decide is not answered.
 pub record IsBehindCommand (command : Command) (old new : Seen) (answer : Answer) : Type 0 where
   pub keeps : KeepsRack old new
   pub reads : (IsScrub command → ⊥) → OnlyReads old new

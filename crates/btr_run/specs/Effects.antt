@@ -36,7 +36,8 @@ pub record HasEffect (words : Words) (shelf : Shelf) (x y : Outside) (answer : A
   pub answered : answer ≡ outcome.answer
   pub stands : Stands x y outcome.steps (error_line outcome.answer)
 
--- a first part of what the words come to over the shelf was done and put, and of the line of its answer, or for want of memory, or for a fault of the sink
+-- a first part of what the words come to over the shelf was done and put, and of the line of its answer, or for
+-- want of memory, or for a fault of the sink
 abbrev pub HasPart : Words → Shelf → Outside → Outside → Type 0
 HasPart words shelf x y = (outcome : Outcome) × OrMemory (IsOutcome words shelf) outcome × HasFirstPart x y outcome
 
@@ -63,7 +64,8 @@ MayWantBy words out = (out.ample ≡ false) ⊎ ((plan : Plan) × IsSentence pla
 abbrev pub AsksForSink : Words → Type 0
 AsksForSink words = (plan : Plan) × IsSentence plan words × CallsSink plan.command
 
--- What was done by the time of this answer, whatever the images hold: the steps of the command and the line of its answer, or the line of a refusal; or
--- the sink or the output failed, or memory was wanted, and a first part stands there.
+-- What was done by the time of this answer, whatever the images hold: the steps of the command and
+-- the line of its answer, or the line of a refusal; or the sink or the output failed, or memory
+-- was wanted, and a first part stands there.
 abbrev pub IsTold : Words → Outside → Outside → Answer → Type 0
 IsTold words x y answer = (outcome : Outcome) × OrBare (MayFollow words) outcome × IsPrinted (MayWantBy words x.out_calls) x y outcome answer

@@ -10,6 +10,7 @@ use Rattle.btr_run.specs.declared.answer.Answer.TheVariants.{Lost, Malformed, Un
 use Rattle.btr_run.specs.declared.answer.Answer.TheVariants.{Geometry, LogPending, BadArray, BadChunk, Limit, NoTree, DeletionPending, BalancePending}
 use Rattle.btr_run.specs.declared.answer.Answer.TheVariants.{MissingDevice, Unread, ImageFault, SinkFault, OutFault, Memory}
 
+-- the answer of a fault of a tree
 abbrev pub tree_answer : TreeFault → Answer
 tree_answer (tree.Lost addr) = Lost addr
 tree_answer (tree.Unread addr slot) = Unread addr slot
@@ -17,6 +18,7 @@ tree_answer (tree.Unmapped addr) = Unmapped addr
 tree_answer (tree.Crosses addr) = Crosses addr
 tree_answer (tree.Malformed addr) = Malformed addr
 
+-- the answer of a fault of opening a filesystem
 abbrev pub open_answer : OpenFault → Answer
 open_answer (opening.ImageFault slot) = ImageFault slot
 open_answer (opening.NoSuper slot) = NoSuper slot
@@ -33,6 +35,7 @@ open_answer (opening.Limit which count) = Limit which count
 open_answer (opening.Tree fault) = tree_answer fault
 open_answer opening.Memory = Memory
 
+-- the answer of a stop of a command over a filesystem
 abbrev pub stop_answer : Stop → Answer
 stop_answer (stop.NoTree id) = NoTree id
 stop_answer (stop.Tree fault) = tree_answer fault

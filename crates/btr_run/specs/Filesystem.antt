@@ -42,6 +42,7 @@ with_table images start (Ok (Ok chunks)) = with_roots start chunks (roots_differ
 with_table images start (Ok (Err refusal)) = Err (open_answer (refusal_of refusal))
 with_table images start (Err f) = Err (fault_answer f)
 
+-- the filesystem by what is known at the start
 abbrev pub with_start : Images → Result Start OpenFault → Result Filesystem Answer
 with_start images (Err refusal) = Err (open_answer refusal)
 with_start images (Ok start) = with_table images start (exec (fate images (array_layout start)) (table_scan start)).ending
@@ -80,7 +81,8 @@ IsBySupers (opening.Tree f) = ⊥
 IsBySupers opening.Memory = ⊥
 IsBySupers refusal = ⊤
 
--- behind a failed read another copy may have been read: all may be answered but a refusal that the superblocks alone decide
+-- behind a failed read another copy may have been read: all may be answered but
+-- a refusal that the superblocks alone decide
 abbrev pub MayMend : Answer → Type 0
 MayMend answer = (refusal : OpenFault) → IsBySupers refusal → answer ≢ open_answer refusal
 

@@ -28,8 +28,8 @@ pub record LeavesCommitted
   pub left : IsLeft plan dest fs.sup (fate images fs.layout) (committed C images fs.layout) counts salvaged
       (steps_of (exec (committed C images fs.layout) (listing plan dest fs.sup)).marks) (salvage_outcome plan dest images).steps
 
--- Over honest images, where `restore` would come to its end in the committed blocks: what `restore -i` does is the committed listing, but for entries that are
--- named with a block that is lost.
+-- Over honest images, where `restore` would come to its end in the committed blocks: what `restore -i` does is the
+-- committed listing, but for entries that are named with a block that is lost.
 abbrev pub SalvageIsCommitted : Type 0
 SalvageIsCommitted =
     (plan : RestorePlan) (dest : List ℕ) (images : Images) (fs : Filesystem) (C : Commit) (counts : Counts) (missed : ℕ)
@@ -40,7 +40,8 @@ SalvageIsCommitted =
     → (salvage_outcome plan dest images).answer ≡ Done missed
     → LeavesCommitted plan dest images fs C counts missed
 
--- what `send` leaves, where so much was left out: one stream, whose replay is what `restore` makes of the same images by the rules of `send`
+-- what `send` leaves, where so much was left out: one stream, whose replay is what `restore`
+-- makes of the same images by the rules of `send`
 pub record LeavesStream (plan : SendPlan) (dest name : List ℕ) (images : Images) (fs : Filesystem) (skipped : ℕ) : Type 0 where
   pub counts : Counts
   pub missing : skipped ≡ skipped_in counts

@@ -18,7 +18,8 @@ abbrev pub taken : Words → Shelf → Option (List (List ℕ))
 taken [] shelf = Some []
 taken (name ∷ names) shelf = option_and_then (λ bytes. option_map (λ more. bytes ∷ more) (taken names (without name shelf))) (shelf name)
 
--- the opened images were opened to be written, or only to be read, and hold what the shelf held under their names, where that is told
+-- the opened images were opened to be written, or only to be read, and hold what the shelf
+-- held under their names, where that is told
 abbrev pub AreOpenedAs : Bool → Option Shelf → List Slot → Option (List (List ℕ)) → Type 0
 AreOpenedAs write shelf slots held = All (λ s. s.write ≡ write) slots × IfSome shelf
     (λ at. IfSome held (λ images. taken (map (λ s. s.name) slots) at ≡ Some images))
@@ -27,6 +28,7 @@ AreOpenedAs write shelf slots held = All (λ s. s.write ≡ write) slots × IfSo
 abbrev pub AreUnchanged : Option Shelf → List Slot → Option (List (List ℕ)) → Type 0
 AreUnchanged shelf slots held = AreOpenedAs false shelf slots held
 
--- an image isn't on the shelf, or is named before, where the shelf is told: the names up to its own can't be taken from it
+-- an image isn't on the shelf, or is named before, where the shelf is told: the
+-- names up to its own can't be taken from it
 abbrev pub IsMissing : Words → Option Shelf → ℕ → Type 0
 IsMissing names shelf slot = IfSome shelf (λ at. taken (take (slot + 1) names) at ≡ None)

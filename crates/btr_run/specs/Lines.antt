@@ -5,6 +5,7 @@ use Rattle.btr_text.specs.Pieces.{hex_text}
 use Rattle.btr_run.specs.declared.refusal.Line.{Line}
 use Rattle.btr_run.specs.declared.refusal.Line.TheVariants.{Nothing, Words, Number, Bits, Unread}
 
+-- the text of a line
 abbrev pub line_text : Line → List ℕ
 line_text Nothing = []
 line_text (Words words) = words.now

@@ -10,8 +10,9 @@ use Rattle.btr_volume.specs.Tree.{tree_of}
 use Rattle.btr_volume.specs.declared.root.TreeRoot.{TreeRoot}
 use Rattle.btr_walk.specs.Reading.{Map}
 
--- Each owner of an address in a tree that a filesystem has by its id is linked: among all uses by the trees, of which a check counts the references, is that of
--- the extent by which the file has the byte, with a link File or SharedFile. Nothing is asked of the trees: the uses are those of what is left of each.
+-- Each owner of an address in a tree that a filesystem has by its id is linked: among all uses by the trees, of which a
+-- check counts the references, is that of the extent by which the file has the byte, with a link File or SharedFile.
+-- Nothing is asked of the trees: the uses are those of what is left of each.
 abbrev pub OwnersCounted : Type 0
 OwnersCounted =
     (sup : Super) (B : Map) (extents : List Extent) (id : ℕ) (tree : TreeRoot) (addr : ℕ) → id < 2 ^ 64

@@ -41,8 +41,8 @@ pub record ListsUpTo {A : Type 0} (r : Run Want Fault Step A) (outcome : Outcome
   pub wanted : Names (λ u want. u.addr ≡ addr_of want) unread (wants_of before)
   pub is : outcome ≡ record { answer = Unread unread.addr unread.slot; steps = steps_of before }
 
--- what listing over the filesystem of some images comes to by a run, one of several, as by several candidates of a sector that is tested by nothing: the
--- whole of it, or it up to a block that could not be read
+-- what listing over the filesystem of some images comes to by a run, one of several, as by several candidates of a
+-- sector that is tested by nothing: the whole of it, or it up to a block that could not be read
 pub record ListsOver {A : Type 0} (images : Images) (left_out : A → ℕ) (IsRun : Filesystem → Run Want Fault Step A → Type 0) (outcome : Outcome) : Type 0 where
   pub fs : Filesystem
   pub opened : filesystem_of images ≡ Ok fs
@@ -50,11 +50,12 @@ pub record ListsOver {A : Type 0} (images : Images) (left_out : A → ℕ) (IsRu
   pub is_run : IsRun fs run
   pub comes : (listed_by left_out run ≡ outcome) ⊎ ListsUpTo run outcome
 
--- a run whose steps are lines, each put on the output
+-- a mark of a run of lines, whose step puts the line on the output
 abbrev pub line_mark : Mark Want (List ℕ) → Mark Want Step
 line_mark (Wants want) = Wants want
 line_mark (Does line) = Does (Line line)
 
+-- a run of lines, as one whose steps put each on the output
 abbrev pub lined : {A : Type 0} → Run Want Fault (List ℕ) A → Run Want Fault Step A
 lined r = record { marks = map line_mark r.marks; ending = r.ending }
 

@@ -21,11 +21,13 @@ use Rattle.btr_run.specs.Words.{Words}
 use Rattle.btr_run.specs.declared.answer.Answer.{Answer}
 use Rattle.btr_run.specs.declared.answer.Answer.TheVariants.{Done, Memory, OutFault, Unread}
 
--- The images agree: of each block that is tested all candidates that pass are equal, as the table of the images finds them.
+-- The images agree: of each block that is tested all candidates that pass are
+-- equal, as the table of the images finds them.
 abbrev pub IsAgreed : Images → Start → Type 0
 IsAgreed images start = Agreed images (layout_by start (table_of images start))
 
--- the answer of the program for one of the journey; where that was broken off an image, the sink or the output failed, or memory was wanted
+-- the answer of the program for one of the journey; where that was broken off an image, the sink
+-- or the output failed, or memory was wanted
 abbrev pub AnswersAs : journey.Answer → Answer → Type 0
 AnswersAs (Ok (Ok counts)) answer = answer ≡ Done counts.skipped
 AnswersAs (Ok (Err refusal)) answer = answer ≡ open_answer refusal
@@ -41,8 +43,8 @@ pub record KeepsTo (P : List Step → journey.Answer → Type 0) (x y : Outside)
   pub stands : Stands x y done line
   pub answered : AnswersAs answer result
 
--- Behind such steps the line of the answer that was due stands, and that is the answer; or the output refused the line, or memory was wanted for it: then a
--- first part of it stands, and this is the answer.
+-- Behind such steps the line of the answer that was due stands, and that is the answer; or the output refused the line,
+-- or memory was wanted for it: then a first part of it stands, and this is the answer.
 pub record KeepsLine (P : List Step → journey.Answer → Type 0) (x y : Outside) (result : Answer) : Type 0 where
   pub due : Answer
   pub some : ℕ
@@ -68,7 +70,8 @@ KeepsOrder words shelf old new x y result =
     → IsAgreed images start
     → KeepsLine (journey.Follows plan dest start old new (choices images)) x y result
 
--- over honest images whose committed blocks hold all that is needed it follows the committed journey, or stopped where the images lack a block of it
+-- over honest images whose committed blocks hold all that is needed it follows the committed journey, or
+-- stopped where the images lack a block of it
 abbrev pub KeepsCommittedOrder : Words → Shelf → Seen → Seen → Outside → Outside → Answer → Type 0
 KeepsCommittedOrder words shelf old new x y result =
     (plan : RestorePlan) (dest : List ℕ) (images : Images) (start : Start) (C : Commit) (table : List Chunk)

@@ -31,6 +31,7 @@ abbrev pub text_steps : List ℕ → List Step
 text_steps [] = []
 text_steps (b ∷ text) = Line (b ∷ text) ∷ []
 
+-- what a command comes to that shows a text and answers
 abbrev pub showing : Shown → Outcome
 showing shown = record { answer = shown.answer; steps = text_steps shown.text }
 
@@ -63,8 +64,8 @@ pub record IsNoFault (answer : Answer) : Type 0 where
   pub no_out : answer ≢ OutFault
   pub no_sink : answer ≢ SinkFault
 
--- Something of some kind was shown: its text was put, or a first part of it where the output refused it, and this is the answer that is due. A fault of
--- the output is none of them.
+-- Something of some kind was shown: its text was put, or a first part of it where the output refused it, and this is
+-- the answer that is due. A fault of the output is none of them.
 pub record Shows (IsOne : Outcome → Type 0) (old new : Option (List ℕ)) (before after : CallAccount) (result : Answer) : Type 0 where
   pub shown : Shown
   pub is_one : IsOne (showing shown)
@@ -112,7 +113,8 @@ pub data How : Type 0 where
   OutFailed : How
   Wanted : How
 
--- what was done by then, and the answer that is due; memory may be wanted where May says so, and the sink may fail behind the output
+-- what was done by then, and the answer that is due; memory may be wanted where May says
+-- so, and the sink may fail behind the output
 abbrev pub HasEnded : Type 0 → Outside → Outside → Outcome → Answer → How → Type 0
 HasEnded May x y outcome result Whole = (result ≡ outcome.answer) × (y.sink_calls ≡ x.sink_calls) × (y.out_calls ≡ x.out_calls) × Stands x y outcome.steps []
 HasEnded May x y outcome result SinkFailed = (result ≡ SinkFault) × OneFailed x.sink_calls y.sink_calls
@@ -121,7 +123,8 @@ HasEnded May x y outcome result OutFailed = (result ≡ OutFault) × OneFailed x
     × StandsPartly x y outcome []
 HasEnded May x y outcome result Wanted = (result ≡ Memory) × May × (y.sink_calls ≡ x.sink_calls) × (y.out_calls ≡ x.out_calls) × StandsPartly x y outcome []
 
--- One of some outcomes came: its steps were done, or a first part of them. A fault of the output or of the sink is no outcome.
+-- One of some outcomes came: its steps were done, or a first part of them. A fault
+-- of the output or of the sink is no outcome.
 pub record Comes (May : Type 0) (IsOne : Outcome → Type 0) (x y : Outside) (result : Answer) : Type 0 where
   pub outcome : Outcome
   pub is_one : IsOne outcome
@@ -133,7 +136,8 @@ pub record Comes (May : Type 0) (IsOne : Outcome → Type 0) (x y : Outside) (re
 abbrev pub MayEnd : Outcome → Answer → Type 0
 MayEnd outcome answer = (answer ≡ outcome.answer) ⊎ (answer ≡ SinkFault) ⊎ (answer ≡ Memory)
 
--- a first part of an outcome's steps was done, and a first part of the line of an answer was put; either may be empty or whole
+-- a first part of an outcome's steps was done, and a first part of the line of an
+-- answer was put; either may be empty or whole
 pub record HasFirstPart (x y : Outside) (outcome : Outcome) : Type 0 where
   pub answer : Answer
   pub may_end : MayEnd outcome answer

@@ -1,4 +1,5 @@
--- What restoring from images comes to, in the words of `btr_restore`, and what it promises where every candidate that passes its test is the committed block.
+-- What restoring from images comes to, in the words of `btr_restore`, and what it promises where every candidate
+-- that passes its test is the committed block.
 use Rattle.std.specs.Prelude.{◌≡◌, ℕ, ◌≤◌, List, [], ◌++◌, drop, get_or, length, IfSome, Some, Ok, Err}
 use Rattle.btr_chunk.specs.declared.chunk.Chunk.{Chunk}
 use Rattle.btr_files.specs.declared.plan.RestorePlan.{RestorePlan}
@@ -46,8 +47,9 @@ abbrev pub KeepsOutcome : Words → Shelf → Outside → Outside → Answer →
 KeepsOutcome words shelf x y result =
     (plan : RestorePlan) (dest : List ℕ) (images : Images) → RestoresFrom words shelf plan dest images → StandsAs x y result (restore_outcome plan dest images)
 
--- The headline: over honest images whose committed blocks hold all that is needed it is the outcome of the committed journey where each need has a candidate
--- that passes, and else that of exactly the steps before the first need without one, which the answer names.
+-- The headline: over honest images whose committed blocks hold all that is needed it is the outcome of the
+-- committed journey where each need has a candidate that passes, and else that of exactly the steps before the
+-- first need without one, which the answer names.
 abbrev pub KeepsHeadline : Words → Shelf → Outside → Outside → Answer → Type 0
 KeepsHeadline words shelf x y result =
     (plan : RestorePlan) (dest : List ℕ) (images : Images) (start : Start) (C : Commit) (table : List Chunk)

@@ -36,7 +36,8 @@ pub record ScrubsFrom (words : Words) (shelf : Shelf) (images : Images) : Type 0
 abbrev pub KeepsRepair : Words → Shelf → Option Images → Type 0
 KeepsRepair words shelf held = (images : Images) → ScrubsFrom words shelf images → held ≡ Some (scrubbed_images images)
 
--- an answer behind which images may have been written: all was done, or an image, the sink or the output failed, or memory was wanted
+-- an answer behind which images may have been written: all was done, or an image, the sink
+-- or the output failed, or memory was wanted
 abbrev pub MayWrite : Answer → Type 0
 MayWrite answer = IsFault answer ⊎ ((lost : ℕ) × (answer ≡ found lost))
 
@@ -45,9 +46,10 @@ abbrev pub KeepsBlocks : Images → Images → Type 0
 KeepsBlocks images left = (fs : Filesystem) (C : Committed) → filesystem_of images ≡ Ok fs → IsRepairable images (filesystem_as fs) C
     → All (StandsFor left C) (blocks images (filesystem_as fs))
 
--- What stands in the images, by the answer. Where no call failed, or where the copies agree, whatever failed: the writes that mend the filesystem up to one
--- of them, which stands perhaps in part; all of them behind a scrub that was finished; and, wherever it stopped, each checked block can be had. Any answer
--- but those of `MayWrite` leaves each byte.
+-- What stands in the images, by the answer. Where no call failed, or where the copies agree, whatever
+-- failed: the writes that mend the filesystem up to one of them, which stands perhaps in part; all of
+-- them behind a scrub that was finished; and, wherever it stopped, each checked block can be had. Any
+-- answer but those of `MayWrite` leaves each byte.
 pub record LeavesImages (calm : Type 0) (images left : Images) (answer : Answer) : Type 0 where
   pub stopped : calm ⊎ AreAgreed images → IsStopped (mending_writes images) images left
   pub finished : (lost : ℕ) → answer ≡ found lost → calm ⊎ AreAgreed images → left ≡ scrubbed_images images
@@ -70,6 +72,7 @@ pub record IsBare (answer : Answer) : Type 0 where
   pub no_fault : IsNoFault answer
   pub line : (error_line answer ≡ []) → ⊥
 
+-- the answer by the counts of a scrub, or by its refusal
 abbrev pub tally_answer : Result Tally Answer → Answer
 tally_answer (Ok tally) = found tally.lost
 tally_answer (Err answer) = answer

@@ -17,7 +17,8 @@ use Rattle.btr_run.specs.Filesystem.{Filesystem, filesystem_of}
 use Rattle.btr_run.specs.Repaired.{KeepsBlocks}
 use Rattle.btr_run.specs.Scrubbed.{filesystem_as}
 
--- where a want of a volume is sought: one of the chunk tree by the chunks of the system array, any other by the table that it is looked up in
+-- where a want of a volume is sought: one of the chunk tree by the chunks of the system array, any
+-- other by the table that it is looked up in
 abbrev pub sought_for : Start → VolumeWant → Result Target Fault
 sought_for start (Early want) = sought (array_layout start) want
 sought_for start (Late table want) = sought (layout_by start table) want
@@ -30,8 +31,8 @@ IsUnitOf images fs start want = is_plain (want_of want) ≡ false → Any (λ t.
 abbrev pub HasPlain : Images → Start → VolumeWant → Type 0
 HasPlain images start want = is_plain (want_of want) ≡ true → IsWhole (volume_map start (fate images) want)
 
--- A filesystem was to be mended, and each of its checked blocks can be had from what is left. Then a restore whose checked needs are such blocks finds a
--- candidate for each: by the headline it is whole.
+-- A filesystem was to be mended, and each of its checked blocks can be had from what is left. Then a restore whose
+-- checked needs are such blocks finds a candidate for each: by the headline it is whole.
 abbrev pub MendingKeepsRestores : Type 0
 MendingKeepsRestores =
     (plan : RestorePlan) (dest : List ℕ) (images left : Images) (fs : Filesystem) (start : Start) (C : Commit)

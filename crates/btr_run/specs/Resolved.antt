@@ -22,6 +22,7 @@ none_left_out owners = 0
 abbrev pub owners_run : ℕ → Images → Filesystem → Run Want Fault Step ℕ
 owners_run addr images fs = lined (exec (fate images fs.layout) (resolved fs.sup fs.layout.chunks addr))
 
+-- what resolving an address in the filesystem of some images comes to, or its answer where there is none
 abbrev pub resolved_in : ℕ → Images → Result Filesystem Answer → Outcome
 resolved_in addr images (Ok fs) = listed_by none_left_out (owners_run addr images fs)
 resolved_in addr images (Err answer) = refused answer
@@ -36,7 +37,8 @@ pub record ResolvesUpTo (addr : ℕ) (images : Images) (outcome : Outcome) : Typ
   pub opened : filesystem_of images ≡ Ok fs
   pub upto : ListsUpTo (owners_run addr images fs) outcome
 
--- what resolving an address may come to, whatever its blocks are: lines, and then its end, or a tree that can't be read on
+-- what resolving an address may come to, whatever its blocks are: lines, and
+-- then its end, or a tree that can't be read on
 pub record IsResolved (outcome : Outcome) : Type 0 where
   pub lines : List (List ℕ)
   pub are : outcome.steps ≡ map (λ line. Line line) lines

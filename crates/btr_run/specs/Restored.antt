@@ -18,6 +18,7 @@ use Rattle.btr_run.specs.declared.answer.Answer.TheVariants.{Done, NoTree}
 abbrev pub skipped_in : Counts → ℕ
 skipped_in counts = counts.skipped
 
+-- what restoring the filesystem of some images comes to, or its answer where there is none
 abbrev pub restored_in : RestorePlan → List ℕ → Images → Result Filesystem Answer → Outcome
 restored_in plan dest images (Ok fs) = listed_by skipped_in (exec (fate images fs.layout) (listing plan dest fs.sup))
 restored_in plan dest images (Err answer) = refused answer
@@ -26,7 +27,8 @@ restored_in plan dest images (Err answer) = refused answer
 unfoldable pub restored : RestorePlan → List ℕ → Images → Outcome
 restored plan dest images = restored_in plan dest images (filesystem_of images)
 
--- what restoring may come to, whatever its blocks are: behind some steps its end, or that there is no such tree, or a tree that can't be read on
+-- what restoring may come to, whatever its blocks are: behind some steps its end, or that there is no
+-- such tree, or a tree that can't be read on
 abbrev pub IsRestored : Outcome → Type 0
 IsRestored outcome = ((skipped : ℕ) × (outcome.answer ≡ Done skipped)) ⊎ ((id : ℕ) × (outcome.answer ≡ NoTree id))
     ⊎ ((fault : TreeFault) × (outcome.answer ≡ tree_answer fault))

@@ -37,6 +37,7 @@ pub record Eyes (R T O : Type 0) : Type 0 where
   pub text : O → Option (List ℕ)
   pub out_calls : O → CallAccount
 
+-- what is shown of a rack, a sink and an output, made of what each shows
 abbrev pub eyes : {R T O : Type 0} → (R → Seen) → (T → Sink) → (T → CallAccount) → (T → Bool) → (O → Option (List ℕ)) → (O → CallAccount)
     → Eyes R T O
 eyes seen sink sink_calls waits text out_calls =
@@ -56,6 +57,7 @@ pub record Run (R T O : Type 0) : Type 0 where
   pub new : Given R T O
   pub answer : Answer
 
+-- a run, made of its parts
 abbrev pub ran : {R T O : Type 0} → Eyes R T O → List (String Global) → R → T → O → R → T → O → Answer → Run R T O
 ran seen words rack tree out rack' tree' out' answer = record {
   eyes = seen;
@@ -70,17 +72,19 @@ abbrev pub outside_in : {R T O : Type 0} → Eyes R T O → Given R T O → Outs
 outside_in e given = outside (e.sink given.tree) (e.sink_calls given.tree) (e.text given.out) (e.out_calls given.out)
 
 module _ {R T O : Type 0} (run : Run R T O) where
-  -- the rack before the run, and behind it
+  -- the rack before the run
   abbrev pub before : Seen
   before = run.eyes.seen run.old.rack
 
+  -- the rack after the run
   abbrev pub behind : Seen
   behind = run.eyes.seen run.new.rack
 
-  -- the sink and the output before it, and behind it
+  -- the sink and the output before it
   abbrev pub outside_before : Outside
   outside_before = outside_in run.eyes run.old
 
+  -- the sink and the output after it
   abbrev pub outside_behind : Outside
   outside_behind = outside_in run.eyes run.new
 
@@ -105,13 +109,15 @@ module _ {R T O : Type 0} (run : Run R T O) where
 
   -- ---- 1. The answer has its cause, and what stands in the sink and in the output is what it says.
 
-  -- what the words alone decide is answered before any call on the rack and on the sink, unless the output refuses the line, and only then
+  -- what the words alone decide is answered before any call on the rack and on the sink, unless
+  -- the output refuses the line, and only then
   pub record FollowsItsWords : Type 0 where
     pub decided : (answer : Answer) → IsDecided run.words answer
         → (run.new.rack ≡ run.old.rack) × (run.new.tree ≡ run.old.tree) × ((run.answer ≡ answer) ⊎ (run.answer ≡ OutFault) ⊎ (run.answer ≡ Memory))
     pub stated : FollowsWords run.words run.answer
 
-  -- a fault of an image, of a tree, of the sink or of the output is answered only with its cause, and nothing in place of a failed call on an image
+  -- a fault of an image, of a tree, of the sink or of the output is answered only with its cause, and
+  -- nothing in place of a failed call on an image
   pub record HasCause : Type 0 where
     pub image : (slot : ℕ) → run.answer ≡ ImageFault slot → ImageCause run.words before behind slot
     pub shut : before.account.shut < behind.account.shut → IsShut run.words before behind run.answer
@@ -121,8 +127,8 @@ module _ {R T O : Type 0} (run : Run R T O) where
     pub out : run.answer ≡ OutFault → CallFailed outside_before.out_calls outside_behind.out_calls
     pub hidden : HidesNone run.words before.account behind.account run.answer
 
-  -- all that the answer means: what was put and done by then, that nothing of it waits to be stored, and that no other words than those of a restore that
-  -- isn't dry make a call of the sink, whatever it and the rack tell
+  -- all that the answer means: what was put and done by then, that nothing of it waits to be stored, and that no other
+  -- words than those of a restore that isn't dry make a call of the sink, whatever it and the rack tell
   pub record IsAnswered : Type 0 where
     pub words : FollowsItsWords
     pub cause : HasCause
@@ -130,21 +136,25 @@ module _ {R T O : Type 0} (run : Run R T O) where
     pub stored : IsStoredOrTold (run.eyes.waits run.new.tree) outside_before.sink_calls outside_behind.sink_calls run.answer
     pub alone : (AsksForSink run.words → ⊥) → run.new.tree ≡ run.old.tree
 
-  -- ---- 2. Where nothing failed, the answer and all that was done are what the words and the bytes of the images come to.
+  -- ---- 2. Where nothing failed, the answer and all that was done are what the
+  -- words and the bytes of the images come to.
 
   -- all that was done and answered is what they come to, for a restore also in rows and files
   pub record ComesTo (shelf : Shelf) : Type 0 where
     pub effect : HasEffect run.words shelf outside_before outside_behind run.answer
     pub outcome : KeepsOutcome run.words shelf outside_before outside_behind run.answer
 
+  -- where no call failed, all that was done and answered is what the words and the images come to
   abbrev pub HasWholeEffect : Type 0
   HasWholeEffect = OfShelf IsCalm ComesTo
 
-  -- ---- 3. The headline: over honest images a restore is what was committed, whole, or up to exactly the first block that is lost.
+  -- ---- 3. The headline: over honest images a restore is what was committed, whole, or
+  -- up to exactly the first block that is lost.
   abbrev pub RestoresCommitted : Type 0
   RestoresCommitted = OfShelf IsCalm (λ shelf. KeepsHeadline run.words shelf outside_before outside_behind run.answer)
 
-  -- ---- 4. Whatever failed, a first part of that was done, where no call on an image failed or the images' copies agree.
+  -- ---- 4. Whatever failed, a first part of that was done, where no call on an
+  -- image failed or the images' copies agree.
   pub record KeepsFirstPart : Type 0 where
     pub steady : OfShelf AreImagesSteady (λ shelf. HasPart run.words shelf outside_before outside_behind)
     pub agreed : IfSome before.shelf (λ shelf. KeepsAgreed run.words shelf outside_before outside_behind run.answer)
@@ -152,12 +162,15 @@ module _ {R T O : Type 0} (run : Run R T O) where
     pub committed : IfSome before.shelf (λ shelf.
         KeepsCommittedOrder run.words shelf (opened_with before.account behind) behind outside_before outside_behind run.answer)
 
-  -- ---- 5. The images are only read, but by a scrub that writes: this leaves exactly what mends them, or a first part of it.
+  -- ---- 5. The images are only read, but by a scrub that writes: this leaves
+  -- exactly what mends them, or a first part of it.
 
   -- behind a scrub that was finished nothing waits for a sync, where nothing did before
   abbrev pub IsSynced : Type 0
   IsSynced = (lost : ℕ) → run.answer ≡ found lost → before.unsynced ≡ [] → behind.unsynced ≡ []
 
+  -- a run leaves its images as they were, but for a scrub that writes, which leaves what mends them or a first part of
+  -- it
   pub record LeavesItsImages : Type 0 where
     pub unchanged : (AsksToWrite run.words → ⊥) → AreUnchanged before.shelf behind.slots behind.held
     pub repaired : OfShelf IsPutWell (λ shelf. KeepsRepair run.words shelf behind.held)

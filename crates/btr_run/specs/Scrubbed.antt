@@ -28,7 +28,8 @@ tally_text t =
 abbrev pub tally_shown : Tally → Shown
 tally_shown t = record { answer = found t.lost; text = tally_text t }
 
--- the counts of a scrub, which writes or only reads: the tally of the repair, each of which stands still at its type's end
+-- the counts of a scrub, which writes or only reads: the tally of the repair,
+-- each of which stands still at its type's end
 abbrev pub counts : Bool → Images → scrubbed.Filesystem → Tally
 counts write images fs = stood_tally (tally images fs write)
 
@@ -42,6 +43,7 @@ abbrev pub scrub_unless : Bool → Images → scrubbed.Filesystem → Option Str
 scrub_unless write images fs (Some stripe) = refused (MissingDevice stripe.devid)
 scrub_unless write images fs None = scrub_ended write images fs (meeting images fs).ending
 
+-- what scrubbing the filesystem of some images comes to, or its answer where there is none
 abbrev pub scrub_in : Bool → Images → Result Filesystem Answer → Outcome
 scrub_in write images (Ok fs) = scrub_unless write images (filesystem_as fs) (first_missing fs.layout)
 scrub_in write images (Err answer) = refused answer
@@ -55,6 +57,7 @@ pub record IsScrubOutcome (outcome : Outcome) : Type 0 where
   pub tally : Tally
   pub is : outcome ≡ showing (tally_shown tally)
 
+-- the images after the writes that mend their filesystem, or as they are where there is none
 abbrev pub scrubbed_in : Images → Result Filesystem Answer → Images
 scrubbed_in images (Ok fs) = (effect true images (filesystem_as fs)).images
 scrubbed_in images (Err answer) = images
@@ -63,10 +66,12 @@ scrubbed_in images (Err answer) = images
 unfoldable pub scrubbed_images : Images → Images
 scrubbed_images images = scrubbed_in images (filesystem_of images)
 
+-- the writes that mend the filesystem of some images, or none where there is none
 abbrev pub writes_in : Images → Result Filesystem Answer → List Write
 writes_in images (Ok fs) = (effect true images (filesystem_as fs)).writes
 writes_in images (Err answer) = []
 
--- the writes that mend the filesystem of some images, in their order: none where a device isn't given, or the checked blocks can't be listed
+-- the writes that mend the filesystem of some images, in their order: none where a device isn't
+-- given, or the checked blocks can't be listed
 unfoldable pub mending_writes : Images → List Write
 mending_writes images = writes_in images (filesystem_of images)

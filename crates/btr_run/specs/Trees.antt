@@ -29,6 +29,7 @@ abbrev pub asked_answer : Option ℕ → Answer
 asked_answer None = Done 0
 asked_answer (Some id) = NoTree id
 
+-- the answer by how a run ended: with its value, or with a fault
 abbrev pub ending_answer : {A : Type 0} → (A → Answer) → Result A Fault → Answer
 ending_answer answer (Ok a) = answer a
 ending_answer answer (Err fault) = fault_answer fault
@@ -64,6 +65,7 @@ BreaksOffIn RootLines blocks s outcome = BreaksOff (exec blocks (roots_shown s))
 abbrev pub ShowsUpTo : DumpChoice → Map → Super → Outcome → Type 0
 ShowsUpTo choice blocks s outcome = (outcome ≡ showing (trees_shown choice blocks s)) ⊎ BreaksOffIn choice blocks s outcome
 
+-- what showing the trees of the filesystem of some images comes to, or its answer where there is none
 abbrev pub trees_in : DumpChoice → Images → Result Filesystem Answer → Outcome
 trees_in choice images (Ok fs) = showing (trees_shown choice (fate images fs.layout) fs.sup)
 trees_in choice images (Err answer) = refused answer
@@ -77,7 +79,8 @@ abbrev pub call_answer : Result (Unit {0}) Stop → Answer
 call_answer (Ok u) = Done 0
 call_answer (Err stop) = stop_answer stop
 
--- what showing trees may come to, whatever its blocks are: behind some text its end, or that there is no such tree, or a tree that can't be read on
+-- what showing trees may come to, whatever its blocks are: behind some text its end, or that there is no
+-- such tree, or a tree that can't be read on
 pub record IsTreesOutcome (outcome : Outcome) : Type 0 where
   pub shown : Shown
   pub is : outcome ≡ showing shown

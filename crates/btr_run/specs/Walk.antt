@@ -17,9 +17,11 @@ pub record Stage : Type 0 where
   pub next : Next
   pub read : Read
 
+-- a place in a sentence, made of its parts
 abbrev pub stage : List Part → Next → Read → Stage
 stage left next read = record { left = left; next = next; read = read }
 
+-- the place in a sentence that a reader of words stands at
 abbrev pub stage_of : Place → Stage
 stage_of place = stage (map part_of place.left.now) place.next place.read
 
@@ -57,6 +59,7 @@ behind_option left read at word =
 abbrev pub behind_number : List Part → Read → ℕ → Option Stage
 behind_number left read n = if is_volume n then Some (stage left next.End (record read { number = n })) else None
 
+-- the place behind a word that is the number of directories of a volume, which ends the sentence
 abbrev pub behind_volume : List Part → Read → List ℕ → Option Stage
 behind_volume left read word = option_and_then (behind_number left read) (number_of word)
 

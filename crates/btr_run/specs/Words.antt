@@ -16,6 +16,7 @@ use Rattle.btr_run.specs.declared.sentence.Sentence.{Sentence}
 use Rattle.btr_run.specs.declared.sentence.Sentence.TheVariants.{Super, DumpAll, DumpBlock, DumpTree, DumpRoots, Resolve, Check, CheckData, Scrub, ScrubRead}
 use Rattle.btr_run.specs.declared.sentence.Sentence.TheVariants.{Roots, Restore, Send, SelfTest}
 
+-- the words of a command line
 abbrev pub Words : Type 0
 Words = List (List ℕ)
 
@@ -24,10 +25,12 @@ abbrev pub is_name : List ℕ → Bool
 is_name [] = false
 is_name (first ∷ rest) = not (first == 45)
 
+-- a word may be a name
 abbrev pub IsName : List ℕ → Type 0
 IsName word = IsTrue (is_name word)
 
--- the name of a file that is made in a folder: such a name, without a `/` or a zero byte and neither `.` nor `..`, of at most 255 bytes
+-- the name of a file that is made in a folder: such a name, without a `/` or a zero byte and
+-- neither `.` nor `..`, of at most 255 bytes
 abbrev pub is_file : List ℕ → Bool
 is_file word = is_name word && (not (is_bad word) && nat_le (length word) 255)
 
@@ -125,11 +128,12 @@ Reads (part ∷ parts) at words old new =
 abbrev pub nothing : Read
 nothing = record { number = 0; options = no_options; name = 0; file = 0; images = 0 }
 
--- the same, but that a send takes no option but an id
+-- the options before the first word; for a send as if all but an id stood there, as it takes no others
 abbrev pub options_of : Sentence → Options
 options_of Send = id_alone
 options_of sentence = no_options
 
+-- what is read of a sentence before its first word
 abbrev pub nothing_of : Sentence → Read
 nothing_of sentence = record nothing { options = options_of sentence }
 

@@ -24,10 +24,11 @@ use Rattle.btr_run.specs.Order.{IsAgreed}
 use Rattle.btr_run.specs.Scrubbed.{filesystem_as}
 use Rattle.btr_run_laws.specs.Complete.{own_fault}
 
--- bytes of keys, items and leaves
+-- a key by its three numbers
 abbrev pub key : ℕ → ℕ → ℕ → Key
 key objectid kind offset = record { objectid = objectid; kind = kind; offset = offset }
 
+-- the 17 bytes of a key
 abbrev pub key_bytes : Key → List ℕ
 key_bytes k = little_bytes 8 k.objectid ++ k.kind ∷ little_bytes 8 k.offset
 
@@ -36,6 +37,7 @@ pub record Entry : Type 0 where
   pub at : Key
   pub body : List ℕ
 
+-- an item of a leaf by its key and its body
 abbrev pub entry : Key → List ℕ → Entry
 entry k b = record { at = k; body = b }
 
@@ -51,6 +53,7 @@ table_of size (e ∷ es) =
     key_bytes e.at ++ little_bytes 4 (size + behind es) ++ little_bytes 4 (length e.body)
     ++ table_of size es
 
+-- the bodies of some items, the first one last
 abbrev pub bodies : List Entry → List ℕ
 bodies [] = []
 bodies (e ∷ es) = bodies es ++ e.body
@@ -70,6 +73,7 @@ leaf_behind addr owner es =
     ++ little_bytes 4 (length es) ++ 0 ∷ table_of (3995 - behind es) es
     ++ replicate (3995 - behind es - 25 * length es) 0 ++ bodies es
 
+-- a leaf of a tree at an address, of generation 7 and 4096 bytes
 abbrev pub leaf : ℕ → ℕ → List Entry → List ℕ
 leaf addr owner es = sealed (leaf_behind addr owner es)
 
@@ -80,21 +84,23 @@ chunk_body =
     ++ little_bytes 4 4096 ++ little_bytes 4 4096 ++ little_bytes 4 4096 ++ little_bytes 2 1
     ++ little_bytes 2 0 ++ little_bytes 8 1 ++ little_bytes 8 0 ++ replicate 16 0
 
--- the four leaves
+-- the leaf of the chunk tree
 abbrev pub chunk_tree : List ℕ
 chunk_tree = leaf 1048576 3 (entry (key 256 228 1048576) chunk_body ∷ [])
 
+-- the ROOT_ITEM of a tree with its root block at an address
 abbrev pub root_body : ℕ → ℕ → List ℕ
 root_body addr dirid =
     replicate 160 0 ++ little_bytes 8 7 ++ little_bytes 8 dirid ++ little_bytes 8 addr
     ++ replicate 55 0
 
+-- the leaf of the root tree: the extent tree and the tree of files
 abbrev pub root_tree : List ℕ
 root_tree =
     leaf 1052672 1
     (entry (key 2 132 0) (root_body 1060864 0) ∷ entry (key 5 132 0) (root_body 1056768 256) ∷ [])
 
--- a file `f` of two bytes
+-- the leaf of the tree of files: a file `f` of two bytes
 abbrev pub file_tree : List ℕ
 file_tree =
     leaf 1056768 5
@@ -105,11 +111,12 @@ file_tree =
     ∷ entry (key 257 108 0) (replicate 20 0 ++ 0 ∷ codes "hi")
     ∷ [])
 
--- the extents are the four tree blocks
+-- the METADATA_ITEM of a tree block that one tree refers to
 abbrev pub block_body : ℕ → List ℕ
 block_body owner =
     little_bytes 8 1 ++ little_bytes 8 7 ++ little_bytes 8 2 ++ 176 ∷ little_bytes 8 owner
 
+-- the leaf of the extent tree, whose extents are the four tree blocks
 abbrev pub extent_tree : List ℕ
 extent_tree =
     leaf 1060864 2
@@ -129,13 +136,15 @@ super_behind =
     ∷ little_bytes 8 1 ++ replicate 602 0 ++ key_bytes (key 256 228 1048576)
     ++ chunk_body ++ replicate 3188 0
 
--- the superblock, and the image: the leaves, zeros, and the superblock at its place
+-- the superblock
 abbrev pub super_block : List ℕ
 super_block = sealed super_behind
 
+-- the image: the leaves, zeros, and the superblock at its place
 abbrev pub image : List ℕ
 image = chunk_tree ++ root_tree ++ file_tree ++ extent_tree ++ replicate 49152 0 ++ super_block
 
+-- the chunk as it is read
 abbrev pub chunk : Chunk
 chunk = record {
   start = 1048576;
@@ -162,7 +171,7 @@ start = record {
   array = chunk ∷ [];
 }
 
--- the committed blocks
+-- the committed leaf at an address
 abbrev pub block_at : ℕ → Option (List ℕ)
 block_at addr =
     if addr == 1048576 then Some chunk_tree
@@ -171,6 +180,7 @@ block_at addr =
     else if addr == 1060864 then Some extent_tree
     else None
 
+-- what was committed: those leaves
 abbrev pub committed_blocks : Want → Option (List ℕ)
 committed_blocks (Tree addr generation level) =
     if (generation == 7) && (level == 0) then block_at addr else None
@@ -178,12 +188,15 @@ committed_blocks (Block addr) = None
 committed_blocks (Sector addr sum) = None
 committed_blocks (Plain addr) = None
 
+-- the one image
 abbrev pub images : Images
 images = image ∷ []
 
+-- the table of the chunk tree
 abbrev pub table : List Chunk
 table = chunk ∷ []
 
+-- the filesystem that the image makes
 abbrev pub fs : Filesystem
 fs = record { sup = start.sup; layout = layout }
 

@@ -1,5 +1,5 @@
--- Programs that go on behind faults and come to a value, or to the fault that ends the whole; and what they come to where a want may
--- come to any of several things.
+-- Programs that go on behind faults and come to a value, or to the fault that ends the whole; and what they come to
+-- where a want may come to any of several things.
 use Rattle.std.specs.Prelude.{◌≡◌, ℕ, List, [], ◌∷◌, Option, Result, Ok, Err}
 use Rattle.btr_prog.specs.Prog.{BlockMap, Prog, Mark, Wants, Does, Run, run}
 use Rattle.btr_prog.specs.Answers.{Halt, Follows}
@@ -19,13 +19,15 @@ module _ {W F S : Type 0} where
   abbrev pub ending_of : {T A : Type 0} → Prog W F T A → Trying W F S (Result A F)
   ending_of p = try_then (gathered p) (λ o. Done o.ending)
 
-  -- each step of a program that tries its wants is treated wholly before its next want is tried; the state goes from one to the next
+  -- each step of a program that tries its wants is treated wholly before its next want is
+  -- tried; the state goes from one to the next
   abbrev pub treat_each : {T St : Type 0} → (St → T → Trying W F S (Result St F)) → St → Trying W F T (Unit {0}) → Trying W F S (Result St F)
   treat_each treat state (Done u) = Done (Ok state)
   treat_each treat state (Try w k) = Try w (λ fate. treat_each treat state (k fate))
   treat_each treat state (Act t p) = value_then (treat state t) (λ after. treat_each treat after p)
 
-  -- these are marks of the program, and its value, where each want comes to what one of the maps says of it, each time perhaps another
+  -- these are marks of the program, and its value, where each want comes to what one of the
+  -- maps says of it, each time perhaps another
   abbrev pub ComesTo : {I X : Type 0} → (I → BlockMap W F) → Trying W F S X → List (Mark W S) → X → Type 0
   ComesTo Bs (Done a) ms x = (ms ≡ []) × (x ≡ a)
   ComesTo {I} Bs (Try w k) ms x = (i : I) × (ns : List (Mark W S)) × (ms ≡ Wants w ∷ ns) × ComesTo Bs (k (Bs i w)) ns x

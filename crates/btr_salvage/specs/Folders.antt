@@ -66,41 +66,47 @@ pub record GivesFound (B : Map) (seen : List Want) (folder folder' : Folder) (fo
   pub says : mark_in mark ≡ found
   pub gives : GivesMark B seen folder folder' mark
 
+-- the next that is found in a directory, the end, or a block that could not be read
 abbrev pub NextFoundBy : (UnreadBlock → Want → Type 0) → Map → List Want → Folder → Folder → NameBuf → Result (Option Found) TreeFault → Type 0
 NextFoundBy Is B seen folder folder' name (Ok (Some found)) = GivesFound B seen folder folder' (found_in found name)
 NextFoundBy Is B seen folder folder' name (Ok None) = folder_left B folder ≡ Done tt
 NextFoundBy Is B seen folder folder' name (Err f) = Follows Is no_part seen (tried B (folder_left B folder)) [] (Err (halt_of f))
 
--- the next that is found, the end, or a block that could not be read
+-- what is found next in a directory, whatever was read before
 abbrev pub IsNextFound : (UnreadBlock → Want → Type 0) → Map → Folder → Folder → NameBuf → Result (Option Found) TreeFault → Type 0
 IsNextFound Is B folder folder' name result =
     (seen : List Want) → IsFolderOn B seen folder → NextFoundBy Is B seen folder folder' name result
 
+-- so far as its calls were steady, what was answered is what is found next in a directory
 abbrev pub TellsFound : Volume → Seen → Seen → Folder → Folder → NameBuf → Result (Option Found) TreeFault → Type 0
 TellsFound vol before now folder folder' name result =
     Tells vol.store.layout before now (λ B. IsNextFound (unread_by vol.store.layout before now) B folder folder' name result)
 
--- the same of the tour that a directory goes on by
+-- some wants, and then one mark of the tour that a directory goes on by is met
 pub record MeetsMark (B : Map) (seen : List Want) (old new : Blocks) (tour tour' : Tour) (mark : Mark) : Type 0 where
   pub past : List Want
   pub is : tried B (left_of B old tour) ≡ prepend (want_marks past) (first (Does mark) (tried B (left_of B new tour')))
   pub on : IsUnderway B (seen ++ past) tour'
   pub held : HoldsLeaf B (seen ++ past) new tour'
 
+-- a mark of the tour is met, and says what was found
 pub record MeetsFound (B : Map) (seen : List Want) (old new : Blocks) (tour tour' : Tour) (found : InFolder) : Type 0 where
   pub mark : Mark
   pub says : mark_in mark ≡ found
   pub meets : MeetsMark B seen old new tour tour' mark
 
+-- the next that a tour finds, the end, or a block that could not be read
 abbrev pub NextMetBy : (UnreadBlock → Want → Type 0) → Map → List Want → Blocks → Blocks → Tour → Tour → NameBuf → Result (Option Found) TreeFault → Type 0
 NextMetBy Is B seen old new tour tour' name (Ok (Some found)) = MeetsFound B seen old new tour tour' (found_in found name)
 NextMetBy Is B seen old new tour tour' name (Ok None) = left_of B old tour ≡ Done tt
 NextMetBy Is B seen old new tour tour' name (Err f) = Follows Is no_part seen (tried B (left_of B old tour)) [] (Err (halt_of f))
 
+-- what a tour finds next, whatever was read before
 abbrev pub IsNextMet : (UnreadBlock → Want → Type 0) → Map → Blocks → Blocks → Tour → Tour → NameBuf → Result (Option Found) TreeFault → Type 0
 IsNextMet Is B old new tour tour' name result =
     (seen : List Want) → IsUnderway B seen tour → HoldsLeaf B seen old tour → NextMetBy Is B seen old new tour tour' name result
 
+-- so far as its calls were steady, what was answered is what a tour finds next
 abbrev pub TellsMet : Blocks → Blocks → Seen → Seen → Tour → Tour → NameBuf → Result (Option Found) TreeFault → Type 0
 TellsMet old new before now tour tour' name result =
     TellsOf old before now (λ Is B. IsNextMet Is B old new tour tour' name result)

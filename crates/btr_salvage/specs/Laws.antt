@@ -26,14 +26,15 @@ OneRun =
     (plan : RestorePlan) (dest : List ℕ) (s : Super) (Bs : ℕ → Map) (B : Map) (r : Run Want Fault Step Salvaged)
     → ((n : ℕ) (want : Want) → Bs n want ≡ B want) → TriesTo Bs (salvaging plan dest s) r → r ≡ salvage_run B plan dest s
 
--- by one block map a file whose bytes could all be had when they were read first is written to its end: the second reading comes to no fault
+-- by one block map a file whose bytes could all be had when they were read first is written to
+-- its end: the second reading comes to no fault
 abbrev pub ReadTwice : Type 0
 ReadTwice =
     (plan : RestorePlan) (s : Super) (sums : Option TreeRoot) (B : Map) (tree : TreeRoot) (ino : ℕ) (inode : Inode)
     → (tried B (reading plan s sums tree ino inode)).ending ≡ Ok (Ok tt) → IsOk (exec B (pieces plan s sums tree ino inode)).ending
 
--- Over honest images, where restore would come to its end in the committed blocks and salvage came to its end: of each entry of the committed listing all is
--- left, or it is named with a block that is lost; and nothing else was done.
+-- Over honest images, where restore would come to its end in the committed blocks and salvage came to its end: of each
+-- entry of the committed listing all is left, or it is named with a block that is lost; and nothing else was done.
 abbrev pub HonestSalvage : Type 0
 HonestSalvage =
     (plan : RestorePlan) (dest : List ℕ) (s : Super) (images : Images) (layout : Layout) (C : Commit) (counts : Counts) (salvaged : Salvaged)

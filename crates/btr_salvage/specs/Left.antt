@@ -1,4 +1,5 @@
--- What salvage leaves of a committed listing: each entry is treated as restore treats it, or it is named with a block that is lost.
+-- What salvage leaves of a committed listing: each entry is treated as restore treats
+-- it, or it is named with a block that is lost.
 use Rattle.std.specs.Prelude.{◌≡◌, ◌⊎◌, ℕ, zero, suc, Bool, true, false, if◌then◌else◌, List, [], ◌∷◌, ◌++◌, filter, codes, Option, Some, Ok, Err}
 use Rattle.btr_items.specs.Entry.{index_entry_of}
 use Rattle.btr_items.specs.Types.{dir_index}
@@ -102,10 +103,11 @@ module _ (plan : RestorePlan) (s : Super) (sums : Option TreeRoot) (images commi
 
   module _ (deep : Bool) (below : journey.Listing) (Inside : TreeRoot → ℕ → List ℕ → List Step → List Step → Type 0)
       (tree : TreeRoot) (dirid : ℕ) (path : List ℕ) where
-    -- what restore does about an entry of a directory, and about some of its items
+    -- what restore does about an entry of a directory
     abbrev pub treat_entry : Counts → DirEntry → Program Step Counts
     treat_entry = journey.treat plan s sums deep below tree dirid path
 
+    -- what restore does about the entries in some items of a directory
     abbrev pub treat_items : Counts → List TreeItem → Program Step Counts
     treat_items counts items = each treat_entry counts (entries_in (emit_all items (Return tt)))
 
@@ -154,6 +156,7 @@ module _ (plan : RestorePlan) (s : Super) (sums : Option TreeRoot) (images commi
     OfBlock zero spot whole left = IsThere (λ child w l. (w ≡ []) × (l ≡ [])) 0 spot whole left ⊎ IsPart 0 spot whole left
     OfBlock (suc n) spot whole left = IsThere (OfBlock n) (suc n) spot whole left ⊎ IsPart (suc n) spot whole left
 
+    -- what restore does about a whole directory, and what salvage leaves of it
     abbrev pub OfListed : List Step → List Step → Type 0
     OfListed = OfBlock tree.place.level (root_spot tree.place)
 

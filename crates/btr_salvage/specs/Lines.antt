@@ -31,16 +31,19 @@ abbrev pub folder_path : List ℕ → List ℕ
 folder_path [] = 47 ∷ []
 folder_path (byte ∷ bytes) = byte ∷ bytes
 
--- what was restored, and how much was missing
+-- so much was restored, and so much was missing
 abbrev pub salvaged : Counts → ℕ → Salvaged
 salvaged counts broken = record { counts = counts; broken = broken }
 
+-- nothing was restored yet, and nothing was missing
 abbrev pub nothing_yet : Salvaged
 nothing_yet = salvaged no_counts 0
 
+-- one more was missing
 abbrev pub with_broken : Salvaged → Salvaged
 with_broken so_far = salvaged so_far.counts (more so_far.broken)
 
+-- the line of the counts
 abbrev pub salvaged_line : Salvaged → List ℕ
 salvaged_line so_far =
     codes "directories " ++ decimal so_far.counts.dirs ++ codes " files " ++ decimal so_far.counts.files

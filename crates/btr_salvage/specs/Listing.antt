@@ -44,18 +44,21 @@ module _ (plan : RestorePlan) (s : Super) (sums : Option TreeRoot) where
   abbrev pub meet_in : ℕ → TreeRoot → ℕ → List ℕ → Salvaged → InFolder → Attempt Salvaged
   meet_in n = meet plan s sums (is_deep n) (listing_in n)
 
--- what is listed by the superblock, in a directory that has one of so many places: what is in one that was entered, and the way up; an entry, and what
--- is in it; what is met in a directory; and a directory, below which so many more may be entered
+-- what is listed by the superblock in a directory that was entered, and the way up; so many more may be entered below
+-- it
 abbrev pub within_for : Job → ℕ → List ℕ → TreeRoot → ℕ → Salvaged → Super → Attempt Salvaged
 within_for job n path inner dirid so_far s =
     listed_in job.plan s job.sums (listing_in job.plan s job.sums n) path (Within inner dirid so_far)
 
+-- what is done by the superblock with an entry of a directory, with its name in a buffer
 abbrev pub entry_for : Job → ℕ → TreeRoot → ℕ → List ℕ → Salvaged → DirRow → NameBuf → Super → Attempt Salvaged
 entry_for job n tree dirid path so_far row name s = treat_in job.plan s job.sums n tree dirid path so_far (named_row row name)
 
+-- what is done by the superblock with what was found in a directory
 abbrev pub found_for : Job → ℕ → TreeRoot → ℕ → List ℕ → Salvaged → Found → NameBuf → Super → Attempt Salvaged
 found_for job n tree dirid path so_far found name s = meet_in job.plan s job.sums n tree dirid path so_far (found_in found name)
 
+-- the listing of a directory by the superblock, below which so many more may be entered
 abbrev pub listing_for : Job → ℕ → TreeRoot → ℕ → List ℕ → Salvaged → Super → Attempt Salvaged
 listing_for job n tree dirid path so_far s = directory job.plan s job.sums n tree dirid path so_far
 
@@ -69,6 +72,7 @@ module _ (treat : Salvaged → InFolder → Attempt Salvaged) where
   TreatsMark Bs so_far mark b =
       (q : Run Want Fault Step Salvaged) × TriesTo Bs (by_mark so_far mark) q × (b ≡ and_then q (λ after. run [] (Ok (Ok after))))
 
+  -- what a listing of a directory answers: what was salvaged
   abbrev pub last_of : Salvaged → Unit {0} → Salvaged
   last_of so_far u = so_far
 

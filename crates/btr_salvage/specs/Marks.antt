@@ -23,6 +23,7 @@ abbrev pub item_in : TreeItem → Result IndexEntry ItemFault → InFolder
 item_in item (Ok entry) = Entry (entry_of item entry)
 item_in item (Err fault) = Part (Malformed item.leaf)
 
+-- what a mark says that was found in a directory: an entry, a part that can't be had, or nothing of it
 abbrev pub mark_in : Mark → InFolder
 mark_in (Block place block) = Passing
 mark_in (Child addr place) = Passing

@@ -50,12 +50,13 @@ PassesBy whole rack vol rack' vol' file (Ok true) = IsPassing whole rack vol rac
 PassesBy whole rack vol rack' vol' file (Ok false) = WasPassed whole rack vol rack' vol' file (Ok tt)
 PassesBy whole rack vol rack' vol' file (Err f) = WasPassed whole rack vol rack' vol' file (Err f)
 
--- a step of a file that is being read, and all that is still to come of it, whatever its whole program is and where that began
+-- a step of a file that is being read, whatever its whole program is and where that began
 abbrev pub PassesNext : FileBytes → FileBytes → Seen → Volume → Seen → Volume → Result Bool TreeFault → Type 0
 PassesNext file file' rack vol rack' vol' answer =
     (whole : Program Piece (Unit {0})) (first : Seen) (began : Volume)
     → IsPassing whole first began rack vol file → PassesBy whole first began rack' vol' file' answer
 
+-- all that is still to come of a file that is being read, whatever its whole program is and where that began
 abbrev pub PassesRest : FileBytes → FileBytes → Seen → Volume → Seen → Volume → Result (Unit {0}) TreeFault → Type 0
 PassesRest file file' rack vol rack' vol' answer =
     (whole : Program Piece (Unit {0})) (first : Seen) (began : Volume)

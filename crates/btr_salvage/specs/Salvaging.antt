@@ -71,10 +71,11 @@ module _ (plan : RestorePlan) (s : Super) (sums : Option TreeRoot) where
   by_reading met so_far inode (Err fault) = attempt (broken fault met.path so_far)
   by_reading met so_far inode (Ok u) = carried_out met so_far (File inode)
 
-  -- the bytes of a file are read twice: first none is put
+  -- the bytes of a file are read, and none is put
   abbrev pub reading : TreeRoot → ℕ → Inode → Attempt (Unit {0})
   reading tree ino inode = ending_of (content (kind_in s) sums (has_no_sums inode) inode.size tree ino)
 
+  -- the bytes of a file are read twice: the first time none is put
   abbrev pub file : Met → Salvaged → Inode → Attempt Treated
   file met so_far inode = try_then (reading met.tree (target met) inode) (by_reading met so_far inode)
 
@@ -90,6 +91,7 @@ module _ (plan : RestorePlan) (s : Super) (sums : Option TreeRoot) where
   by_lookup met so_far (Err fault) = attempt (broken fault met.path so_far)
   by_lookup met so_far (Ok decision) = on_decision met so_far decision
 
+  -- an entry, from the lookups that decide about it on
   abbrev pub treated : Met → Salvaged → Attempt Treated
   treated met so_far = try_then (tries (decided (rules_of plan) s met)) (by_lookup met so_far)
 
@@ -132,11 +134,13 @@ module _ (plan : RestorePlan) (dest : List ℕ) (s : Super) where
       value_then (attempt begun) (λ u.
       value_then (directory plan s sums most_depth tree tree.dirid [] nothing_yet) (λ so_far. attempt (summed_up so_far)))
 
+  -- the salvage of the tree that a lookup found, or the stop that there is none
   abbrev pub from_root : Option TreeRoot → Attempt Salvaged
   from_root None = Done (Err (NoTree plan.root))
   from_root (Some tree) = value_then (tries (tree_of s 7)) (from_tree tree)
 
-  -- salvage over an opened volume: the start tree and the checksum tree, whose faults end it, and the listing into the destination
+  -- salvage over an opened volume: the start tree and the checksum tree, whose faults
+  -- end it, and the listing into the destination
   abbrev pub salvaging : Attempt Salvaged
   salvaging = value_then (tries (tree_of s plan.root)) from_root
 

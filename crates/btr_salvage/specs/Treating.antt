@@ -26,6 +26,7 @@ abbrev pub came_to : Salvaged → Treated → salvaging.Treated
 came_to so_far Over = salvaging.Over so_far
 came_to so_far (Within tree dirid) = salvaging.Within tree dirid so_far
 
+-- an answer of an entry, with what was salvaged then
 abbrev pub came : Salvaged → Result Treated Stop → Result salvaging.Treated Stop
 came so_far (Ok treated) = Ok (came_to so_far treated)
 came so_far (Err stop) = Err stop
@@ -46,13 +47,15 @@ counted so_far (Err stop) = Err stop
 abbrev pub reading_for : Job → TreeRoot → ℕ → Inode → Super → Attempt (Unit {0})
 reading_for job tree ino inode s = salvaging.reading job.plan s job.sums tree ino inode
 
--- a file, what is done about an entry by what it came to, and an entry from the first lookup on
+-- what is done with a file of an entry, by the superblock
 abbrev pub file_for : Job → Entry → Inode → Salvaged → Super → Attempt salvaging.Treated
 file_for job entry inode so_far s = salvaging.file job.plan s job.sums (met_by entry) so_far inode
 
+-- what is done about an entry, by what it came to and by the superblock
 abbrev pub decided_for : Job → Entry → Decision → Salvaged → Super → Attempt salvaging.Treated
 decided_for job entry decision so_far s = salvaging.on_decision job.plan s job.sums (met_by entry) so_far decision
 
+-- what is done about an entry, from its first lookup on, by the superblock
 abbrev pub treated_for : Job → Entry → Salvaged → Super → Attempt salvaging.Treated
 treated_for job entry so_far s = salvaging.treated job.plan s job.sums (met_by entry) so_far
 
@@ -62,6 +65,7 @@ abbrev pub MissesBy : {O : Type 0} → Option Fault → TreeFault → List ℕ �
 MissesBy None fault path old new text calls out out' result = (result ≡ Err (Tree fault)) × (new ≡ old) × (out' ≡ out)
 MissesBy (Some f) fault path old new text calls out out' result = WroteLines (salvaging.broken f path old) text calls out out' (came new result)
 
+-- an entry of which a block can't be had is named; one that could not be read is the stop, by its fault
 abbrev pub Misses : {O : Type 0} → TreeFault → List ℕ → Salvaged → Salvaged → (O → Option (List ℕ)) → (O → CallAccount) → O → O
     → Result Treated Stop → Type 0
 Misses fault = MissesBy (reason fault) fault

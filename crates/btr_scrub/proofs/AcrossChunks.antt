@@ -204,7 +204,7 @@ module _ (kept : KeptColumns) (layout : Layout) (table : IsTable layout.chunks) 
             let b = written_byte images layout lengths f.0 of.is n (ap mirrors of.chunk_is ∙ copies) slot off f.2 in
             subst (λ k. InChunk layout k slot off) of.number_is (copy_in_chunk layout f.0 slot off table of.is b)
 
-    -- .. and has at most as many bytes as its range
+    -- each write in the chunk has at most as many bytes as its range
     pub chunk_short : All (Short images) (chunk_writes_for kept layout chunk wants images)
     chunk_short = by (mirrors chunk) refl
       where

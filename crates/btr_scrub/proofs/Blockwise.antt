@@ -137,7 +137,7 @@ module _ (layout : Layout) (table : IsTable layout.chunks) (number : ℕ) (chunk
       behind_not t (is_sought layout w.0 t w.2) (subst (λ x. chunk.start + chunk.length ≤ addr_of x) (sym (sought_of layout w.0 t w.2).want_is) (behind w.0 w.1))))
       ∙ append-nil (targets layout past)
 
-  -- .. and one more, and others
+  -- the blocks of the chunk are those that are past, this one, and those of the rest
   pub blocks_begin : (past : List Want) (want : Want) (t : Target) (rest : List Want) → ((t : Target) → In t (targets layout past) → t.chunk ≡ chunk) → t.chunk ≡ chunk → sought layout want ≡ Ok t
       → blocks_in layout chunk (past ++ want ∷ rest) ≡ targets layout past ++ t ∷ blocks_in layout chunk rest
   blocks_begin past want t rest inside mine e =

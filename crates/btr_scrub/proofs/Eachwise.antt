@@ -79,6 +79,6 @@ module _ {X T St : Type 0} (treat : St → X → Program T St) (B : Map) where
   all_none st (Wants w ∷ ms) e n h = all_none st ms e n h
   all_none st (Does x ∷ ms) e n h = cc
 
-  -- .. and to their end
+  -- the items came to their end
   pub each_ends : (Is : UnreadBlock → Want → Type 0) (seen : List Want) (st : St) (p : Program X (Unit {0})) → Follows Is no_part seen (exec B p) [] (Ok tt) → Follows Is no_part seen (exec B (each treat st p)) [] (Ok st)
   each_ends Is seen st p f = subst (λ q. Follows Is no_part seen q [] (Ok st)) (sym (exec_each st p)) (all_none st (exec B p).marks (exec B p).ending f.0 f.1)

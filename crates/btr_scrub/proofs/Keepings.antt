@@ -41,7 +41,7 @@ slice_more f n i lt =
     list_any_more f (range_with_len 0 n) i 0 (omega (arith, lt, length-range_with_len 0 n))
     ∙ ap (λ j. list_any f (take i (range_with_len 0 n)) || f j) (get_or-range_with_len 0 n i 0 lt ∙ omega arith)
 
--- .. in which nothing is so
+-- one more slice, of n, in which nothing is so
 pub slice_none : (f : ℕ → Bool) (n i : ℕ) → i < n → f i ≡ false → list_any f (take (i + 1) (range_with_len 0 n)) ≡ list_any f (take i (range_with_len 0 n))
 slice_none f n i lt e = slice_more f n i lt ∙ ap (λ b. list_any f (take i (range_with_len 0 n)) || b) e ∙ or_none (list_any f (take i (range_with_len 0 n)))
   where

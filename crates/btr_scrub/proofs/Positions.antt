@@ -300,7 +300,7 @@ in_stripe layout t part range inner table is has e lies =
     by true outer h = h
     by false outer h = tt
 
--- .. and so does one in a copy
+-- a range in a copy of a block lies in a stripe of the table
 pub copy_in_stripe : (layout : Layout) (t : Target) (range : Range) → IsTable layout.chunks → IsSought layout t → IsOfMirror t range → LiesInStripe layout range
 copy_in_stripe layout t range table is h = by (range_of t (Mirror h.mirror)) refl h.lies
   where

@@ -138,7 +138,7 @@ module _ (layout : Layout) (table : IsTable layout.chunks) (number : ℕ) (chunk
       let row : t.at.row ≡ (position chunk (addr_of w)).row = ap (λ (x : Elements). x.row) is.at ∙ ap (λ c. (position c (addr_of t.want)).row) same ∙ ap (λ a. (position chunk a).row) addr in
       (same, row ∙ r.1)
 
-  -- .. has the row of its address
+  -- a block of the chunk has the row of its address
   pub row_of_block : (w : Want) (t : Target) → sought layout w ≡ Ok t → t.chunk ≡ chunk → (holds chunk (addr_of w) ≡ true) × ((position chunk (addr_of w)).row ≡ t.at.row)
   row_of_block w t e mine =
       let is = is_sought layout w t e in

@@ -192,7 +192,7 @@ module _ (layout : Layout) (row : Row) (table : IsTable layout.chunks) (is_row :
       let len : range.len ≡ 4096 = ap (λ (r : Range). r.len) same in
       subst (λ o. IfSome o (LiesIn range)) (sym b.whole) (record { slot = ap (λ (r : Range). r.slot) same; from = omega (arith, off, l.offset); to = omega (arith, off, len, l.offset, few) })
 
-  -- .. for a parity
+  -- each byte of the writes for a parity lies in its element
   pub written_parity : (images : Images) (q : Part) (slot off : ℕ) → HasPart row.chunk.profile (length row.chunk.stripes) q → list_any (λ (w : Write). covers slot off w.range) (parity_writes images layout row q) ≡ true → IsOfElement layout row q slot off
   written_parity images q slot off has h =
       let f = any_filter_map (λ (w : Write). covers slot off w.range) (sector_write images layout row q) (differing images layout row q) h in

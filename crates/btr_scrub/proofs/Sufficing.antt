@@ -154,7 +154,7 @@ module _ (layout : Layout) (write : Bool) (f : Images → List Write) (c : Image
   }
   account_scrub B Memory h = h
 
-  -- .. that came to a halt with them
+  -- a call that came to a halt before any write works so
   pub works_missed : (B : Type 0) (t : Tally) (e : MendFault) → AccountsMend {A = B} (LiesInStripe layout) a b (Err e)
       → Works {A = Unit {0}} layout write f c a b t t (Err e)
   works_missed B t e account = record {

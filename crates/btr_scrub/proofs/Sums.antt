@@ -65,7 +65,7 @@ sum_parts f p ks xs once =
     ∙ sum_swap (λ k x. cond (p k x) (f x) 0) ks xs
     ∙ sum_same (λ x. sum_by (λ k. cond (p k x) (f x) 0) ks) f xs (λ x i. let o = once x i in once_sum (f x) (λ k. p k x) ks o.0 o.1.0 o.1.1 o.1.2 o.1.3)
 
--- .. or in none, where it doesn't pass another test
+-- a sum part by part, where each member is in one part, or in none if it doesn't pass another test
 pub sum_parts_of : {K X : Type 0} (f : X → ℕ) (p : K → X → Bool) (q : X → Bool) (ks : List K) (xs : List X)
     → ((x : X) → In x xs → q x ≡ true → IsOnce (λ k. p k x) ks) → ((x : X) (k : K) → q x ≡ false → p k x ≡ false) → sum_by (λ k. sum_by f (filter (p k) xs)) ks ≡ sum_by f (filter q xs)
 sum_parts_of f p q ks xs once never =

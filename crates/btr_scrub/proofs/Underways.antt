@@ -171,7 +171,7 @@ module _ (s : Super) (sums : Option TreeRoot) (chunk : Chunk) (x : Scene) (scan 
               (λ B h f. between_extent s sums chunk B x.vol.store scan y.vol.store vol.store at at' end u.done h.0 h.1.item h.1.gives (Some extent) leaf h.1.says.0 h.1.says.1 h.1.says.2 (unread_by vol.store.layout rack z.rack) z.vol.store end' g.done g.volume.store lo hi f) here g.content;
         }
 
-        -- .. or not to their end
+        -- an extent whose blocks were not listed to their end
         pub scanned_stops : (e : TheStop) → Gathers treated (scene rack vol y.list) z (Err e) → Scanned s sums chunk x z scan at' (Err e)
         scanned_stops e g = record {
           reads = reads_more (reads_more u.reads reads) g.reads;

@@ -84,7 +84,7 @@ module _ (layout : Layout) (write : Bool) where
       strands (Err (Image slot)) k = (b.unsynced, k.1 ∙ ap (λ never. never ++ in_slot slot b.unsynced) before)
       strands (Err Memory) k = absurd k
 
-  -- .. or only read
+  -- a chunk was only read
   pub works_read : (f : Images → List Write) (c : Images → Tally → Tally) (m m' : List Bool) (a b : Seen) (t u : Tally) (x : Unit {0}) → write ≡ false → Scrubs {A = Unit {0}} layout write f c m m' a b t u (Ok x) → Works {A = Unit {0}} layout write f c a b t u (Ok x)
   works_read f c m m' a b t u x reading h = record {
     does = h.does;
@@ -94,7 +94,7 @@ module _ (layout : Layout) (write : Bool) where
     unwritten = h.unwritten;
   }
 
-  -- .. or came to a halt
+  -- a chunk was mended up to a halt
   pub works_halted : (f : Images → List Write) (c : Images → Tally → Tally) (m m' : List Bool) (a b : Seen) (t u : Tally) (e : MendFault) → Scrubs {A = Unit {0}} layout write f c m m' a b t u (Err e) → Works {A = Unit {0}} layout write f c a b t u (Err e)
   works_halted f c m m' a b t u e h = record {
     does = h.does;

@@ -5,6 +5,7 @@ use Rattle.btr_chunk.specs.declared.chunk.Chunk.{Chunk}
 use Rattle.btr_scrub.specs.declared.extent.Extent.{Extent}
 use Rattle.btr_scrub.specs.declared.extent.Span.{Span}
 
+-- where a chunk's addresses lie, and whether it is striped
 abbrev pub span_of : Chunk → Span
 span_of chunk = record { start = chunk.start; length = chunk.length; striped = is_striped chunk.profile }
 

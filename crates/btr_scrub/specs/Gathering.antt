@@ -53,6 +53,7 @@ stop_halt Sink = Broke
 stop_halt Out = Broke
 stop_halt Memory = Broke
 
+-- the answer of a call as the answer of its program
 abbrev pub ended : {A : Type 0} → Result A Stop → Result A (Halt fate.Fault UnreadBlock)
 ended (Ok a) = Ok a
 ended (Err stop) = Err (stop_halt stop)
@@ -92,6 +93,7 @@ pub record Scene : Type 0 where
   pub vol : Volume
   pub list : Gathered
 
+-- what is seen of a rack, a volume and a list, made of the three
 abbrev pub scene : Seen → Volume → Gathered → Scene
 scene rack vol list = record { rack = rack; vol = vol; list = list }
 
@@ -100,7 +102,8 @@ pub record IsReady (rack : Seen) (vol : Volume) (n : ℕ) : Type 0 where
   pub serves : Serves rack vol.store
   pub room : n ≤ free_count vol.store
 
--- Calls only read, and the blocks that they met were listed: what they did follows a program, and they answered as it ends. After a stop nothing is said of the list.
+-- Calls only read, and the blocks that they met were listed: what they did follows a program, and they answered as it
+-- ends. After a stop nothing is said of the list.
 pub record Gathers {A : Type 0} (p : Meeting A) (x y : Scene) (answer : Result A Stop) : Type 0 where
   pub reads : OnlyReads x.rack y.rack
   pub volume : SameVolume x.vol y.vol
@@ -119,13 +122,15 @@ pub record Reaches {A : Type 0} (p q : Meeting A) (x y : Scene) : Type 0 where
   pub lists : Lists x.list y.list done
   pub content : Tells x.vol.store.layout x.rack y.rack (λ B. (before : List (Mark Want Met)) × (exec B p ≡ prepend before (exec B q)) × (done ≡ steps_of before))
 
--- blocks were listed: the wants of those that are checked, and the count and the addresses of the sectors without a checksum
+-- blocks were listed: the wants of those that are checked, and the count and the
+-- addresses of the sectors without a checksum
 pub record AreListed (gathered : Gathered) (done : List Met) : Type 0 where
   pub is_list : IsList gathered.list
   pub wants : kept_wants gathered.list ≡ checked_among done
   pub unchecked : gathered.unchecked ≡ fold count_met 0 done
   pub plain : gathered.plain ≡ plain_among done
 
+-- what was listed, if the call came to its end
 abbrev pub ListsDone : Result Gathered Stop → List Met → Type 0
 ListsDone (Ok gathered) done = AreListed gathered done
 ListsDone (Err stop) done = Unit {0}
@@ -135,7 +140,8 @@ abbrev pub without_list : Result Gathered Stop → Result (Unit {0}) Stop
 without_list (Ok gathered) = Ok tt
 without_list (Err stop) = Err stop
 
--- The blocks that a program meets were listed: what was done follows it, and was answered as it ends; a stop has its cause.
+-- The blocks that a program meets were listed: what was done follows it, and was
+-- answered as it ends; a stop has its cause.
 pub record ListsUnits (p : Meeting (Unit {0})) (layout : Layout) (old new : Seen) (result : Result Gathered Stop) : Type 0 where
   pub done : List Met
   pub lists : ListsDone result done

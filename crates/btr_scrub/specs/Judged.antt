@@ -66,13 +66,13 @@ AreFailing layout wants rack flags =
     IfSome rack.held (λ images. (slot : ℕ)
     → flagged flags slot ≡ failing images (targets layout wants) slot)
 
--- .. besides those that were flagged before
+-- where the images are told, the images on which some of the blocks doesn't pass are flagged besides those that were
 abbrev pub FlagsAll : Layout → List Want → Seen → List Bool → List Bool
     → Result (Unit {0}) MendFault → Type 0
 FlagsAll layout wants rack old new result =
     OnOk result (IfSome rack.held (λ images. Flags old (failing images (targets layout wants)) new))
 
--- .. so far as it matters beside plain sectors
+-- so far as it matters beside plain sectors, the flags are the images on which some of the blocks doesn't pass
 abbrev pub Suffices : Layout → List Want → List ℕ → Seen → List Bool → Type 0
 Suffices layout wants plain rack flags =
     (plain ≡ []) ⊎ (some_parity layout.chunks ≡ false) ⊎ AreFailing layout wants rack flags

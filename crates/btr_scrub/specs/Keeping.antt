@@ -49,16 +49,16 @@ pub record IsRowAmong (images : Images) (layout : Layout) (wants : List Want) (r
   pub apart : AreApart layout 0 wants
   pub is_row : IsRowOf layout (targets layout wants) row
 
--- Where its blocks are being written, and none of that is known to be stored, each block that withstands it can be had, whatever stands in the ranges that
--- wait for a sync.
+-- Where its blocks are being written, and none of that is known to be stored, each block that withstands it can be had,
+-- whatever stands in the ranges that wait for a sync.
 abbrev pub FirstTurnKeepsBlocks : Type 0
 FirstTurnKeepsBlocks = (images left stored : Images) (layout : Layout) (wants : List Want) (row : Row) (own : List Range) (t : Target)
     → IsRowAmong images layout wants row
     → IsStopped (rebuilt_writes images layout row) images left → AreAmong own (ranges_of (rebuilt_writes images layout row)) → KeepsOutside own left stored
     → In t row.blocks → Withstands images layout row t → IsHad stored t
 
--- Where its blocks are stored, and its parities are being written, each block that could be had can be had at its own place, whatever stands in the ranges that
--- wait for a sync.
+-- Where its blocks are stored, and its parities are being written, each block that could be had can be had at its own
+-- place, whatever stands in the ranges that wait for a sync.
 abbrev pub SecondTurnKeepsBlocks : Type 0
 SecondTurnKeepsBlocks = (images left stored : Images) (layout : Layout) (wants : List Want) (row : Row) (own : List Range) (t : Target)
     → IsRowAmong images layout wants row

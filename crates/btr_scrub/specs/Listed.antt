@@ -1,5 +1,5 @@
--- The checked blocks as they are listed in memory: runs of what follows each other, and apart from them the checksums of the sectors, one behind another, and
--- what is wanted of the tree blocks.
+-- The checked blocks as they are listed in memory: runs of what follows each other, and apart from them the checksums
+-- of the sectors, one behind another, and what is wanted of the tree blocks.
 use Rattle.std.specs.Prelude.{◌≡◌, ◌≢◌, ℕ, zero, suc, ◌+◌, ◌-◌, ◌*◌, ◌^◌, ◌<◌, ◌≤◌, List, [], ◌∷◌, ◌++◌, length, drop, Option, Some, None, IsSomeAnd}
 use Rattle.btr_base.specs.Sum.{sum_size, stored_sum}
 use Rattle.btr_base.specs.declared.kind.SumKind.{SumKind}
@@ -10,20 +10,22 @@ use Rattle.btr_scrub.specs.declared.run.RunKind.{RunKind}
 use Rattle.btr_scrub.specs.declared.run.RunKind.TheVariants.{TreeBlock, Sectors}
 use Rattle.btr_scrub.specs.declared.run.TreeMark.{TreeMark}
 
--- how many sectors a run has, and how many tree blocks
+-- how many sectors a run has
 abbrev pub sectors_of : RunKind → ℕ
 sectors_of TreeBlock = 0
 sectors_of (Sectors n) = n
 
+-- how many tree blocks a run has
 abbrev pub trees_of : RunKind → ℕ
 trees_of TreeBlock = 1
 trees_of (Sectors n) = 0
 
--- how many sectors runs have, and how many tree blocks
+-- how many sectors some runs have
 abbrev pub all_sectors : List Run → ℕ
 all_sectors [] = 0
 all_sectors (run ∷ runs) = sectors_of run.kind + all_sectors runs
 
+-- how many tree blocks some runs have
 abbrev pub all_trees : List Run → ℕ
 all_trees [] = 0
 all_trees (run ∷ runs) = trees_of run.kind + all_trees runs
@@ -38,6 +40,7 @@ abbrev pub tree_from : ℕ → List TreeMark → List Want
 tree_from addr [] = []
 tree_from addr (mark ∷ marks) = Tree addr mark.generation mark.level ∷ []
 
+-- all runs stand at an address that they may begin at
 abbrev pub AreRuns : List Run → Type 0
 AreRuns [] = Unit {0}
 AreRuns (run ∷ runs) = IsRun run.addr run.kind × AreRuns runs
@@ -72,7 +75,7 @@ pub record Kept : Type 0 where
   pub sums : List ℕ
   pub marks : List TreeMark
 
--- .. and the blocks that it has
+-- the blocks that a list has
 abbrev pub kept_wants : Kept → List Want
 kept_wants kept = wants_of kept.kind kept.runs kept.sums kept.marks
 
@@ -133,6 +136,7 @@ module _ (kind : SumKind) where
 abbrev pub left_in : Kept → ℕ → ℕ → ℕ → ℕ → List Want
 left_in kept run past sum mark = wants_left kept.kind (drop run kept.runs) past (drop sum kept.sums) (drop mark kept.marks)
 
+-- what a reader has still to give stands at such a place in its list
 abbrev pub StandsIn : Kept → ℕ → ℕ → ℕ → ℕ → Type 0
 StandsIn kept run past sum mark = IsPlace kept.kind (drop run kept.runs) past (drop sum kept.sums) (drop mark kept.marks)
 
@@ -146,6 +150,7 @@ abbrev pub IsBehind : ℕ → ℕ → Option ℕ → Type 0
 IsBehind past count None = past + 1 ≡ count
 IsBehind past count (Some next) = (next ≡ past + 1) × (past + 1 ≢ count)
 
--- a run has 16 bytes of memory, and so has a mark: a list takes at most 48 bytes for each sector, and 32 for each tree block
+-- a run has 16 bytes of memory, and so has a mark: a list takes at most 48 bytes
+-- for each sector, and 32 for each tree block
 abbrev pub FewBytes : Type 0
 FewBytes = (kept : Kept) → IsList kept → length kept.runs * 16 + length kept.sums + length kept.marks * 16 ≤ all_sectors kept.runs * 48 + all_trees kept.runs * 32

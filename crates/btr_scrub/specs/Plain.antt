@@ -22,6 +22,7 @@ abbrev pub run_sectors : ℕ → ℕ → List ℕ
 run_sectors addr zero = []
 run_sectors addr (suc n) = addr ∷ run_sectors (addr + 4096) n
 
+-- the addresses of the sectors of all runs
 abbrev pub all_runs : List PlainRun → List ℕ
 all_runs runs = flat_map (λ run. run_sectors run.addr run.count) runs
 

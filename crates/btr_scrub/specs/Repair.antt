@@ -38,25 +38,30 @@ missing_stripes devices chunk = filter (is_missing devices (stripe_length chunk)
 abbrev pub first_missing : Layout → Option Stripe
 first_missing layout = slice_get (flat_map (missing_stripes layout.devices) layout.chunks) 0
 
+-- the device of a stripe
 abbrev pub devid_of : Stripe → ℕ
 devid_of stripe = stripe.devid
 
+-- the value of an answer, if it is one
 abbrev pub ok_or_none : {T E : Type 0} → Result T E → Option T
 ok_or_none (Ok x) = Some x
 ok_or_none (Err e) = None
 
+-- where a block that was met lies, if it is checked
 abbrev pub checked_target : Layout → Met → Option Target
 checked_target layout (Checked want) = ok_or_none (sought layout want)
 checked_target layout (Unchecked addr) = None
 
+-- what was met is a sector without a checksum
 abbrev pub is_unchecked : Met → Bool
 is_unchecked (Checked want) = false
 is_unchecked (Unchecked addr) = true
 
--- a block lies in a chunk, and in a row of it
+-- a block lies in a chunk
 abbrev pub is_in_chunk : Chunk → Target → Bool
 is_in_chunk chunk t = t.chunk.start == chunk.start
 
+-- a block lies in a chunk, in the row of a number
 abbrev pub is_in_row : Chunk → ℕ → Target → Bool
 is_in_row chunk number t = is_in_chunk chunk t && (t.at.row == number)
 
@@ -81,10 +86,11 @@ abbrev pub byte_after : List (List ℕ) → List Write → ℕ → ℕ → ℕ
 byte_after images writes slot off = option_map_or (λ (write : Write). slice_index write.bytes (off - write.range.off)) (find (λ (write : Write). covers slot off write.range) writes) (byte_at images slot off)
 
 module _ (images : List (List ℕ)) (fs : Filesystem) where
-  -- what is met on the way, and how it ends
+  -- what is met on the way through a filesystem, and how it ends
   abbrev pub meeting : Run Want Fault Met (Unit {0})
   meeting = exec (fate images fs.layout) (units fs)
 
+  -- what is met on the way through a filesystem, in order
   abbrev pub met : List Met
   met = steps_of meeting.marks
 
@@ -96,6 +102,7 @@ module _ (images : List (List ℕ)) (fs : Filesystem) where
   abbrev pub columns_kept : KeptColumns
   columns_kept = is_kept fs.layout (failing images blocks) (plain_among met)
 
+  -- the full stripes that scrub looks at, chunk by chunk
   abbrev pub rows : List Row
   rows = flat_map (rows_in columns_kept blocks) fs.layout.chunks
 
@@ -110,10 +117,11 @@ module _ (images : List (List ℕ)) (fs : Filesystem) where
   abbrev pub writes : List Write
   writes = flat_map chunk_writes fs.layout.chunks
 
-  -- the images that they make, and their ranges
+  -- the images after all writes
   abbrev pub repaired : List (List ℕ)
   repaired = fold write_on images writes
 
+  -- the ranges of all writes
   abbrev pub ranges : List Range
   ranges = map (λ (write : Write). write.range) writes
 
@@ -150,17 +158,20 @@ pub record Effect : Type 0 where
   pub writes : List Write
   pub images : List (List ℕ)
 
--- nothing is written
+-- the effect of a stop: nothing is written
 abbrev pub refused_as : List (List ℕ) → Stop → Effect
 refused_as images stop = record { answer = Err stop; writes = []; images = images }
 
+-- the effect by how the way through a filesystem ended: the writes and their images, or a stop
 abbrev pub effect_of_ending : Bool → List (List ℕ) → Filesystem → Result (Unit {0}) Fault → Effect
 effect_of_ending write images fs (Ok _) = record { answer = Ok (stood_tally (tally images fs write)); writes = writes_if write (writes images fs); images = if write then repaired images fs else images }
 effect_of_ending write images fs (Err fault) = refused_as images (stop_of fault)
 
+-- the effect, unless a stripe has no device that is given
 abbrev pub effect_unless : Bool → List (List ℕ) → Filesystem → Option Stripe → Effect
 effect_unless write images fs (Some stripe) = refused_as images (stop.Missing stripe.devid)
 effect_unless write images fs None = effect_of_ending write images fs (meeting images fs).ending
 
+-- the effect of a scrub of a filesystem
 abbrev pub effect : Bool → List (List ℕ) → Filesystem → Effect
 effect write images fs = effect_unless write images fs (first_missing fs.layout)

@@ -24,6 +24,7 @@ use Rattle.btr_mend.specs.Writes.{Images}
 abbrev pub Committed : Type 0
 Committed = Want → Option (List ℕ)
 
+-- the committed bytes of a block, if there are any
 abbrev pub committed_for : Committed → Target → Option (List ℕ)
 committed_for C t = C t.want
 
@@ -39,10 +40,12 @@ IsHonest images layout C = (want : Want) → IfSome (C want) (λ bytes. All (λ 
 abbrev pub AreBytes : Images → Type 0
 AreBytes images = All (λ (image : List ℕ). All (λ byte. byte < 256) image) images
 
--- a full stripe as it should be: the committed bytes of its checked blocks, the image's bytes elsewhere, and their parities
+-- a full stripe as it should be: the committed bytes of its checked blocks, the
+-- image's bytes elsewhere, and their parities
 abbrev pub right_element : Images → Layout → Committed → Row → Part → List ℕ
 right_element images layout C row part = element_with images layout (committed_for C) row part
 
+-- an element of a full stripe is as it should be
 abbrev pub IsRight : Images → Layout → Committed → Row → Part → Type 0
 IsRight images layout C row part = element images layout row part ≡ right_element images layout C row part
 
@@ -56,8 +59,9 @@ pub record HasFewWrong (images : Images) (layout : Layout) (C : Committed) (row 
 abbrev pub HasRightCopy : Images → Committed → Target → Type 0
 HasRightCopy images C t = IsSome (mirrors t.chunk) → Any (λ part. C t.want ≡ Some (read.element images t part)) (own_parts t)
 
--- all blocks can be had again, whatever is written: no device is missing, all blocks can be listed, committed bytes pass and are all that passes, each
--- checked block has some, and each lies in a full stripe with few wrong elements, or has a copy with them
+-- all blocks can be had again, whatever is written: no device is missing, all blocks can be listed,
+-- committed bytes pass and are all that passes, each checked block has some, and each lies in a full stripe
+-- with few wrong elements, or has a copy with them
 pub record IsRepairable (images : Images) (fs : Filesystem) (C : Committed) : Type 0 where
   pub given : first_missing fs.layout ≡ None
   pub met : (meeting images fs).ending ≡ Ok tt

@@ -59,7 +59,8 @@ ItemNears old new (Ok (Found extent leaf)) = new < old
 ItemNears old new (Err f) = Unit {0}
 
 module _ (s : Super) (sums : Option TreeRoot) (chunk : Chunk) where
-  -- of the items that a scan had still to give some marks are past; what is left is what it has now, behind an extent that ends at `end`
+  -- of the items that a scan had still to give some marks are past; what is left is what it
+  -- has now, behind an extent that ends at `end`
   pub record Between (B : Map) (store store' : Blocks) (scan scan' : Scan) (end : ℕ) (done : List Met) : Type 0 where
     pub before : List (Mark Want Met)
     pub is : exec B (items_met s sums chunk 0 (left_of B store scan)) ≡ prepend before (exec B (items_met s sums chunk end (left_of B store' scan')))

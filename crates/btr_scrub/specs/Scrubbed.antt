@@ -16,7 +16,8 @@ use Rattle.btr_scrub.specs.Right.{Committed, IsRepairable, RangesLieInWrong, Ran
 use Rattle.btr_scrub.specs.Scrubbing.{IsOfScrub}
 use Rattle.btr_scrub.specs.declared.tally.Tally.{Tally}
 
--- a call of scrub: the filesystem, whether it was to write, what was seen of the rack before it and behind it, and the answer
+-- a call of scrub: the filesystem, whether it was to write, what was seen of the
+-- rack before it and behind it, and the answer
 pub record Called : Type 0 where
   pub fs : Filesystem
   pub write : Bool
@@ -24,6 +25,7 @@ pub record Called : Type 0 where
   pub new : Seen
   pub result : Result Tally Stop
 
+-- a call of scrub over a volume, made of its parts
 abbrev pub called : Volume → Bool → Seen → Seen → Result Tally Stop → Called
 called vol write old new result = record { fs = record { layout = vol.store.layout; sup = vol.sup }; write = write; old = old; new = new; result = result }
 
@@ -48,7 +50,8 @@ FaultsAs c images left (tree.Unmapped a) = HasEffect c images left
 FaultsAs c images left (tree.Crosses a) = HasEffect c images left
 FaultsAs c images left (tree.Malformed a) = HasEffect c images left
 
--- what the answer says of a call that is sure: it is that of the effect, or a call on an image failed, or memory was wanted
+-- what the answer says of a call that is sure: it is that of the effect, or a
+-- call on an image failed, or memory was wanted
 abbrev pub AnswersAs : Called → Images → Images → Result Tally Stop → Type 0
 AnswersAs c images left (Ok tally) = HasEffect c images left
 AnswersAs c images left (Err (stop.NoTree id)) = HasEffect c images left
@@ -79,7 +82,8 @@ ReadsAt c (Err stop.Balance) = ⊥
 ReadsAt c (Err stop.Sink) = ⊥
 ReadsAt c (Err stop.Out) = ⊥
 
--- a read, a write or a sync of this slot was the last call that failed, and it was one of scrub's own; the rack isn't sure
+-- a read, a write or a sync of this slot was the last call that failed, and it
+-- was one of scrub's own; the rack isn't sure
 pub record IsImageFault (c : Called) (slot : ℕ) : Type 0 where
   pub unsure : c.old.sure ≡ false
   pub rose : Rose c.old.account.faults c.new.account.faults
@@ -96,8 +100,8 @@ pub record IsScrubbed (c : Called) : Type 0 where
   pub unwritten : c.write ≡ false → OnlyReads c.old c.new
   pub image : (slot : ℕ) → c.result ≡ Err (stop.Image slot) → IsImageFault c slot
 
--- Whatever bytes stand in the ranges that are written, each checked block can be had, and nothing right lies there; so each can be had from what is left,
--- whatever failed.
+-- Whatever bytes stand in the ranges that are written, each checked block can be had, and nothing right lies there; so
+-- each can be had from what is left, whatever failed.
 pub record IsSafe (c : Called) : Type 0 where
   pub anything : IfSome c.old.held (λ images. RangesMayHoldAnything images c.fs)
   pub wrong : IfSome c.old.held (λ images. RangesLieInWrong images c.fs)

@@ -50,6 +50,7 @@ counted tally mended = record {
   unchecked = tally.unchecked;
 }
 
+-- the counts with those of one more block
 abbrev pub count_block : Images → Bool → Tally → Target → Tally
 count_block images write tally t = counted tally (mended_of images t write)
 
@@ -66,8 +67,9 @@ pub record CanMend (write : Bool) (rack : Seen) (store : Blocks) (marks : List B
 abbrev pub IsOfScrub : Layout → Range → Type 0
 IsOfScrub layout = IsSyncOr (LiesInStripe layout)
 
--- Images were read and written, and synced within a full stripe: exactly the writes that follow from what they held, or those up to a call that failed. What
--- follows from what they held was counted. Where all that waited for a sync was marked, it is.
+-- Images were read and written, and synced within a full stripe: exactly the writes that follow from
+-- what they held, or those up to a call that failed. What follows from what they held was counted. Where
+-- all that waited for a sync was marked, it is.
 pub record Scrubs {A : Type 0} (layout : Layout) (write : Bool) (writes : Images → List Write) (count : Images → Tally → Tally) (marks marks' : List Bool) (old new : Seen) (tally tally' : Tally) (result : Result A MendFault) : Type 0 where
   pub does : Does (IsOfScrub layout) (λ images. writes_if write (writes images)) [] [] (plain old) (plain new) result
   pub marked : AreMarked marks old.unsynced → AreMarked marks' new.unsynced
@@ -75,10 +77,11 @@ pub record Scrubs {A : Type 0} (layout : Layout) (write : Bool) (writes : Images
   pub counts : OnOk result (IfSome old.held (λ images. tally' ≡ count images tally))
   pub unwritten : write ≡ false → OnlyReads old new
 
--- the writes for blocks, and the counts of them
+-- the writes for blocks, in their order
 abbrev pub blocks_writes : List Target → Images → List Write
 blocks_writes ts images = flat_map (block_writes images) ts
 
+-- the counts with those of some blocks
 abbrev pub blocks_count : Bool → List Target → Images → Tally → Tally
 blocks_count write ts images tally = fold (count_block images write) tally ts
 
@@ -99,11 +102,11 @@ pub record IsPastChunk (layout : Layout) (chunk : Chunk) (old new : List Want) :
 abbrev pub ComesNext : Layout → ℕ → List Want → Type 0
 ComesNext layout number blocks = IsSomeAnd (slice_get layout.chunks number) (λ chunk. AreApart layout chunk.start blocks)
 
--- .. and it has copies
+-- the blocks that come next lie in a chunk or after it, and it has copies
 abbrev pub CopiesComeNext : Layout → ℕ → List Want → Type 0
 CopiesComeNext layout number blocks = IsSomeAnd (slice_get layout.chunks number) (λ chunk. IsSome (mirrors chunk) × AreApart layout chunk.start blocks)
 
--- .. or parity
+-- the blocks that come next lie in a chunk or after it, and it has parity
 abbrev pub RowsComeNext : Layout → ℕ → List Want → Type 0
 RowsComeNext layout number blocks = IsSomeAnd (slice_get layout.chunks number) (λ chunk. (mirrors chunk ≡ None) × AreApart layout chunk.start blocks)
 
@@ -134,38 +137,43 @@ abbrev pub count_row_of : List Target → Tally → MendedRow → Tally
 count_row_of [] tally mended = tally
 count_row_of (t ∷ ts) tally mended = counted_row tally (length (t ∷ ts)) mended
 
+-- the counts with those of one more full stripe
 abbrev pub count_row : Images → Layout → Bool → Tally → Row → Tally
 count_row images layout write tally row = count_row_of row.blocks tally (mended_row images layout row write)
 
--- the writes for full stripes, and the counts of them
+-- the writes for full stripes, in their order
 abbrev pub rows_writes : Layout → List Row → Images → List Write
 rows_writes layout rs images = flat_map (row_writes images layout) rs
 
+-- the counts with those of some full stripes
 abbrev pub rows_count : Layout → Bool → List Row → Images → Tally → Tally
 rows_count layout write rs images tally = fold (count_row images layout write) tally rs
 
 -- ---- one chunk
 
--- the writes in a chunk for those of some blocks that lie in it: block by block where there are copies, and full stripe by full stripe where there is parity
+-- the writes in a chunk for those of some blocks that lie in it: block by block where there are copies, and full
+-- stripe by full stripe where there is parity
 abbrev pub chunk_writes_for : KeptColumns → Layout → Chunk → List Want → Images → List Write
 chunk_writes_for kept layout chunk wants images =
     if is_none (mirrors chunk) then rows_writes layout (rows_in kept (targets layout wants) chunk) images else blocks_writes (blocks_in layout chunk wants) images
 
+-- the counts with those of some blocks that lie in a chunk
 abbrev pub chunk_count_for : KeptColumns → Layout → Bool → Chunk → List Want → Images → Tally → Tally
 chunk_count_for kept layout write chunk wants images tally =
     if is_none (mirrors chunk) then rows_count layout write (rows_in kept (targets layout wants) chunk) images tally else blocks_count write (blocks_in layout chunk wants) images tally
 
--- .. and in all chunks
+-- the writes for those of some blocks that lie in some chunks, chunk by chunk
 abbrev pub all_writes_for : KeptColumns → Layout → List Chunk → List Want → Images → List Write
 all_writes_for kept layout chunks wants images = flat_map (λ chunk. chunk_writes_for kept layout chunk wants images) chunks
 
+-- the counts with those of some blocks that lie in some chunks, chunk by chunk
 abbrev pub all_count_for : KeptColumns → Layout → Bool → List Chunk → List Want → Images → Tally → Tally
 all_count_for kept layout write chunks wants images tally = fold (λ tally chunk. chunk_count_for kept layout write chunk wants images tally) tally chunks
 
 -- ---- with syncs
 
--- Images were read, written and synced: exactly the writes that follow from what they held, or those up to a call that failed. Where nothing waited for a
--- sync nothing does.
+-- Images were read, written and synced: exactly the writes that follow from what they held, or those up to a call that
+-- failed. Where nothing waited for a sync nothing does.
 pub record Works {A : Type 0} (layout : Layout) (write : Bool) (writes : Images → List Write) (count : Images → Tally → Tally) (old new : Seen) (tally tally' : Tally) (result : Result A MendFault) : Type 0 where
   pub does : Does (IsOfScrub layout) (λ images. writes_if write (writes images)) [] [] (plain old) (plain new) result
   pub counts : OnOk result (IfSome old.held (λ images. tally' ≡ count images tally))

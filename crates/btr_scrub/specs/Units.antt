@@ -28,9 +28,11 @@ pub data Met : Type 0 where
   Checked : Want → Met
   Unchecked : ℕ → Met
 
+-- a program that meets blocks and sectors, one step for each
 abbrev pub Meeting : Type 0 → Type 0
 Meeting A = Program Met A
 
+-- a key is of an extent
 abbrev pub is_extent : Key → Bool
 is_extent key = (key.kind == extent_item) || (key.kind == metadata_item)
 
@@ -41,6 +43,7 @@ stated_extent nodesize key item =
     then record { addr = key.objectid; len = nodesize; generation = item.generation; level = Some key.offset }
     else record { addr = key.objectid; len = key.offset; generation = item.generation; level = item.level }
 
+-- the extent of an item, if it has its form
 abbrev pub if_stated : ℕ → Key → Result ExtentItem ItemFault → Option Extent
 if_stated nodesize key (Ok item) = Some (stated_extent nodesize key item)
 if_stated nodesize key (Err fault) = None
@@ -57,6 +60,7 @@ is_malformed s end extent = nat_lt extent.addr end || is_some extent.level && no
 abbrev pub is_crossing : Chunk → Extent → Bool
 is_crossing chunk extent = nat_lt (chunk.start + chunk.length) (extent.addr + extent.len) || is_some extent.level && crosses chunk extent.addr extent.len
 
+-- a sector of data, by its checksum, if it has one
 abbrev pub sector_met : ℕ → Option Sum → Met
 sector_met addr None = Unchecked addr
 sector_met addr (Some sum) = Checked (Sector addr sum)
@@ -89,10 +93,11 @@ module _ (s : Super) (sums : Option TreeRoot) where
     abbrev pub item_met : ℕ → TreeItem → Meeting ℕ
     item_met end item = if is_extent item.key then extent_met end item.leaf (extent_of s item) else Return end
 
-    -- the extents that begin in a chunk, each treated wholly before the next block is wanted
+    -- the extents among some items, each treated wholly before the next block is wanted
     abbrev pub items_met : ℕ → RangeProg → Meeting ℕ
     items_met end items = each item_met end items
 
+    -- the extents that begin in a chunk, each treated wholly before the next block is wanted
     abbrev pub in_chunk : TreeRoot → Meeting ℕ
     in_chunk extents = items_met 0 (range (key chunk.start 0 0) (key (chunk.start + chunk.length - 1) 255 last) extents.place)
 
@@ -106,6 +111,7 @@ abbrev pub with_extents : Super → List Chunk → Option TreeRoot → Meeting (
 with_extents s chunks None = Stop (NoTree 2)
 with_extents s chunks (Some extents) = looks (tree_of s 7) (λ sums. in_chunks s sums extents chunks)
 
+-- the checked blocks of a filesystem: the extent tree is looked up first
 abbrev pub units_in : Super → List Chunk → Meeting (Unit {0})
 units_in s chunks = looks (tree_of s 2) (with_extents s chunks)
 

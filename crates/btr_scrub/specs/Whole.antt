@@ -42,10 +42,11 @@ answer_of (Err Memory) tally = Err stop.Memory
 abbrev pub listed_columns : Layout → List Want → List ℕ → Images → KeptColumns
 listed_columns layout wants plain images = is_kept layout (failing images (targets layout wants)) plain
 
--- the writes for listed blocks beside those sectors, and the counts of them
+-- the writes for listed blocks beside those sectors
 abbrev pub listed_writes_for : Layout → List Want → List ℕ → Images → List Write
 listed_writes_for layout wants plain images = all_writes_for (listed_columns layout wants plain images) layout layout.chunks wants images
 
+-- the counts of the mending of listed blocks beside those sectors, with writes or without
 abbrev pub listed_count_for : Layout → Bool → List Want → List ℕ → Images → Tally → Tally
 listed_count_for layout write wants plain images tally =
     all_count_for (listed_columns layout wants plain images) layout write layout.chunks wants images tally
@@ -61,13 +62,15 @@ pub record WorksOn (layout : Layout) (write : Bool) (wants : List Want) (plain :
   pub works : Works layout write (listed_writes_for layout wants plain) (listed_count_for layout write wants plain) old new (first_tally unchecked) tally ended
   pub says : result ≡ answer_of ended tally
 
--- what became of the list of the checked blocks: it came to a stop, it was made, or it was refused as blocks in it have no position or overlap
+-- what became of the list of the checked blocks: it came to a stop, it was made, or it was refused
+-- as blocks in it have no position or overlap
 pub data Listing : Type 0 where
   Stopped : Stop → Listing
   Listed : Listing
   Refused : TreeFault → Listing
 
--- .. and of the call by that: a list that isn't made or is refused is the answer, and nothing is written. It is never refused so far as its reads were steady.
+-- what the call comes to by its list: one that isn't made or is refused is the answer, and nothing is written. It is
+-- never refused so far as its reads were steady.
 abbrev pub Goes : Super → Layout → Bool → Seen → Seen → Seen → List Met → Result Tally Stop → Listing → Type 0
 Goes s layout write old mid new done result (Stopped why) =
     (result ≡ Err why) × (new ≡ mid) × Tells layout old mid (λ B. Follows (unread_by layout old mid) no_part [] (exec B (units_in s layout.chunks)) done (Err (stop_halt why))) × StopCause {A = Tally} layout old mid (Err why)
@@ -88,7 +91,8 @@ abbrev pub ListedWrites : Type 0
 ListedWrites = (images : Images) (fs : Filesystem)
     → listed_writes_for fs.layout (checked_among (met images fs)) (plain_among (met images fs)) images ≡ writes images fs
 
--- the counts for a list of all blocks that are met are the tally of the repair, but that each stands still at its type's end
+-- the counts for a list of all blocks that are met are the tally of the repair,
+-- but that each stands still at its type's end
 abbrev pub ListedCounts : Type 0
 ListedCounts = (images : Images) (fs : Filesystem) (write : Bool) → IsTable fs.layout.chunks
     → listed_count_for fs.layout write (checked_among (met images fs)) (plain_among (met images fs)) images (first_tally (fold count_met 0 (met images fs)))

@@ -1,4 +1,5 @@
--- The bytes of a send stream of version 1: a header, and commands with their attributes and checksums. All numbers are little-endian.
+-- The bytes of a send stream of version 1: a header, and commands with their attributes
+-- and checksums. All numbers are little-endian.
 use Rattle.std.specs.Prelude.{ℕ, List, [], ◌∷◌, ◌++◌, codes, drop, length}
 use Rattle.std.specs.Int.{to_le_bytes, w16, w32, w64}
 use Rattle.btr_base.specs.Crc.{register}
@@ -32,10 +33,11 @@ below path = drop 1 path
 abbrev pub subvol : List ℕ → List ℕ → ℕ → List ℕ
 subvol name uuid transid = command 1 (attribute 15 name ++ attribute 1 uuid ++ number_attribute 2 transid)
 
--- a file that is made, and a directory
+-- the command that makes a file
 abbrev pub mkfile : List ℕ → List ℕ
 mkfile path = command 3 (attribute 15 (below path))
 
+-- the command that makes a directory
 abbrev pub mkdir : List ℕ → List ℕ
 mkdir path = command 4 (attribute 15 (below path))
 

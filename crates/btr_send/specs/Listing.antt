@@ -27,14 +27,15 @@ module _ (sums : Option TreeRoot) (s : Super) where
   abbrev pub treat_in : ℕ → TreeRoot → ℕ → List ℕ → Counts → DirEntry → Program Step Counts
   treat_in n = treat s sums (is_deep n) (listing_in n)
 
--- what is listed by the superblock, in a directory that has one of so many places: what is in one that was entered; an entry, and what is in it; and a
--- directory, below which so many more may be entered
+-- what is listed by the superblock in a directory that was entered; so many more may be entered below it
 abbrev pub within_for : Option TreeRoot → ℕ → List ℕ → TreeRoot → ℕ → Counts → Super → Program Step Counts
 within_for sums n path inner dirid counts s = listed_in s sums (listing_in sums s n) path (Within inner dirid counts)
 
+-- what is done by the superblock with an entry of a directory, with its name in a buffer
 abbrev pub entry_for : Option TreeRoot → ℕ → TreeRoot → ℕ → List ℕ → Counts → DirRow → NameBuf → Super → Program Step Counts
 entry_for sums n tree dirid path counts row name s = treat_in sums s n tree dirid path counts (named_row row name)
 
+-- the listing of a directory by the superblock, below which so many more may be entered
 abbrev pub listing_for : Option TreeRoot → ℕ → TreeRoot → ℕ → List ℕ → Counts → Super → Program Step Counts
 listing_for sums n tree dirid path counts s = directory s sums n tree dirid path counts
 

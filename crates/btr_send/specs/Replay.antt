@@ -33,10 +33,11 @@ IsSound (Write path offset bytes) = (length path < 2 ^ 16) × (offset < 2 ^ 64) 
 IsSound (Truncate path size) = (length path < 2 ^ 16) × (size < 2 ^ 64)
 IsSound End = Unit {0}
 
--- the data of the first attribute, and what is behind it
+-- the data of the first attribute
 abbrev pub first_data : List ℕ → List ℕ
 first_data attributes = take (from_le_bytes w16 (drop 2 attributes)) (drop 4 attributes)
 
+-- what comes after the first attribute
 abbrev pub behind_first : List ℕ → List ℕ
 behind_first attributes = drop (from_le_bytes w16 (drop 2 attributes)) (drop 4 attributes)
 
@@ -69,10 +70,12 @@ pub data Content : Type 0 where
   Directory : Content
   File : List ℕ → Content
 
+-- a directory or a file, by its path
 pub record Member : Type 0 where
   pub path : List ℕ
   pub content : Content
 
+-- a member, made of its path and its content
 abbrev pub member : List ℕ → Content → Member
 member path content = record { path = path; content = content }
 
@@ -86,6 +89,7 @@ pub record Made : Type 0 where
   pub members : List Member
   pub growing : Option Growing
 
+-- the members with the file that still grows, if there is one
 abbrev pub with_growing : List Member → Option Growing → List Member
 with_growing members None = members
 with_growing members (Some file) = members ++ member file.path (File file.bytes) ∷ []
@@ -99,6 +103,7 @@ abbrev pub grown_to : ℕ → List ℕ → List ℕ → Option (List ℕ)
 grown_to len bytes content =
     if nat_le (length content) len then Some (content ++ replicate (len - length content) 0 ++ bytes) else None
 
+-- what was made, with a file that grew and may still grow, if its bytes fit
 abbrev pub made_with : List Member → List ℕ → Option (List ℕ) → Option Made
 made_with members path None = None
 made_with members path (Some bytes) = Some (record { members = members; growing = Some (record { path = path; bytes = bytes }) })
@@ -117,19 +122,21 @@ play made (Write path offset bytes) = grow made.members made.growing path offset
 play made (Truncate path size) = grow made.members made.growing path size []
 play made End = None
 
--- how a replay goes on behind a command
+-- how a replay goes on after a command
 abbrev pub Further : Type 0
 Further = Made → List ℕ → Option (List Member)
 
+-- how a replay goes on after a command that could be played
 abbrev pub behind_play : Further → Option Made → List ℕ → Option (List Member)
 behind_play further None rest = None
 behind_play further (Some made) rest = further made rest
 
--- the end, behind which nothing stands
+-- the end of a stream, after which nothing stands
 abbrev pub at_end : Made → List ℕ → Option (List Member)
 at_end made [] = Some (all_made made)
 at_end made (b ∷ rest) = None
 
+-- how a replay goes on by its next command: nothing makes a second subvolume
 abbrev pub behind_command : Further → Made → Command → List ℕ → Option (List Member)
 behind_command further made (Subvol name uuid transid) rest = None
 behind_command further made (MkFile path) rest = behind_play further (play made (MkFile path)) rest
@@ -138,19 +145,21 @@ behind_command further made (Write path offset bytes) rest = behind_play further
 behind_command further made (Truncate path size) rest = behind_play further (play made (Truncate path size)) rest
 behind_command further made End rest = at_end made rest
 
+-- how a replay goes on by its next command, if one could be read
 abbrev pub behind_read : Further → Made → Option Read → Option (List Member)
 behind_read further made None = None
 behind_read further made (Some read) = behind_command further made read.first read.rest
 
--- what the commands in some bytes make, behind what was made before them, if they are fewer than a number
+-- what the commands in some bytes make, after what was made before them, if they are fewer than a number
 abbrev pub replay_from : ℕ → Made → List ℕ → Option (List Member)
 replay_from zero made bytes = None
 replay_from (suc n) made bytes = behind_read (replay_from n) made (read_command bytes)
 
+-- nothing was made yet
 abbrev pub nothing_made : Made
 nothing_made = record { members = []; growing = None }
 
--- behind the command of the subvolume, which comes first
+-- what comes after the command of the subvolume, which is the first
 abbrev pub behind_subvol : Command → List ℕ → Option (List Member)
 behind_subvol (Subvol name uuid transid) rest = replay_from (length rest + 1) nothing_made rest
 behind_subvol (MkFile path) rest = None
@@ -159,6 +168,7 @@ behind_subvol (Write path offset bytes) rest = None
 behind_subvol (Truncate path size) rest = None
 behind_subvol End rest = None
 
+-- a replay from its first command on, if that could be read
 abbrev pub from_first : Option Read → Option (List Member)
 from_first None = None
 from_first (Some read) = behind_subvol read.first read.rest
@@ -176,6 +186,7 @@ IsInner (Write path offset bytes) = Unit {0}
 IsInner (Truncate path size) = Unit {0}
 IsInner End = ⊥
 
+-- commands between the first and the last, all of which are sound
 abbrev pub AreInner : List Command → Type 0
 AreInner [] = Unit {0}
 AreInner (c ∷ more) = IsInner c × IsSound c × AreInner more
@@ -189,10 +200,12 @@ abbrev pub play_on : (Made → Option Made) → Option Made → Option Made
 play_on on None = None
 play_on on (Some made) = on made
 
+-- what some commands make, one after another, after what was made before
 abbrev pub play_all : List Command → Made → Option Made
 play_all [] made = Some made
 play_all (c ∷ more) made = play_on (play_all more) (play made c)
 
+-- the members that were made, if all commands could be played
 abbrev pub members_of : Option Made → Option (List Member)
 members_of None = None
 members_of (Some made) = Some (all_made made)

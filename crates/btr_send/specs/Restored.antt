@@ -36,14 +36,17 @@ module _ (by : Rules) (plan : RestorePlan) (s : Super) (sums : Option TreeRoot) 
   abbrev pub treated : Met → Counts → Program Step Treated
   treated met counts = looks (decided by s met) (restore.done_about plan s sums met counts)
 
+  -- what restore does with one entry by these rules
   abbrev pub treat : Bool → Listing → TreeRoot → ℕ → List ℕ → Counts → DirEntry → Program Step Counts
   treat deep inner tree dirid path counts entry =
       let met = met_in deep tree dirid path entry in
       bind (treated met counts) (restore.listed_in plan s sums inner met.path)
 
+  -- the listing of a directory by these rules
   abbrev pub listed : Bool → Listing → Listing
   listed deep inner tree dirid path counts = each (treat deep inner tree dirid path) counts (entries tree dirid)
 
+  -- the listing of a directory, below which so many more may be entered, by these rules
   abbrev pub directory : ℕ → Listing
   directory zero = listed true (λ tree dirid path counts. Return counts)
   directory (suc n) = listed false (directory n)
@@ -55,10 +58,12 @@ module _ (by : Rules) (plan : RestorePlan) (dest : List ℕ) (s : Super) where
       Emit (step.Start dest)
       (bind (directory by plan s sums 512 tree tree.dirid [] no_counts) (λ counts. Emit (Line (counts_line counts)) (Return counts)))
 
+  -- the restore of the tree that a lookup found, or the stop that there is none, by these rules
   abbrev pub from_root : Option TreeRoot → Program Step Counts
   from_root None = Stop (NoTree plan.root)
   from_root (Some tree) = looks (tree_of s 7) (restored tree)
 
+  -- the whole restore of a plan by these rules
   abbrev pub restoring : Program Step Counts
   restoring = looks (tree_of s plan.root) from_root
 
@@ -68,12 +73,15 @@ pub record Place : Type 0 where
   pub outer : List (List ℕ)
   pub members : List Member
 
+-- the top directory, before any row
 abbrev pub at_top : Place
 at_top = record { here = []; outer = []; members = [] }
 
+-- the place with one more member in the directory that rows stand in
 abbrev pub with_member : Place → List ℕ → Content → Place
 with_member place name content = record place { members = place.members ++ member (below (path_in place.here name)) content ∷ [] }
 
+-- the place after the directory was left
 abbrev pub left : Place → List (List ℕ) → Place
 left place [] = place
 left place (path ∷ more) = record { here = path; outer = more; members = place.members }
@@ -105,6 +113,7 @@ module _ (s : Super) (id : ℕ) (dest name : List ℕ) where
   abbrev pub sends : Program Step Counts
   sends = sending dest name s (record { root = id })
 
+  -- the restore of the same subvolume by the rules of send
   abbrev pub restores : Program Step Counts
   restores = restoring rules (plain id) dest s
 
@@ -113,7 +122,8 @@ module _ (s : Super) (id : ℕ) (dest name : List ℕ) where
     pub restored : (exec C restores).ending ≡ Ok counts
     pub stream : IsStreamOf dest name (tree_after (steps B sends)).rows (members_of_rows (tree_after (steps C restores)).rows)
 
--- Where a send comes to its end, so does restore by its rules, and the one file is a stream whose replay is the directories and files that this makes.
+-- Where a send comes to its end, so does restore by its rules, and the one file is a stream whose replay is
+-- the directories and files that this makes.
 abbrev pub SentLaw : Type 0
 SentLaw =
     (B : BlockMap Want Fault) (s : Super) (id : ℕ) (dest name : List ℕ) (counts : Counts)

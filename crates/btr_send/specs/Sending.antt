@@ -142,6 +142,7 @@ module _ (dest name : List ℕ) where
   abbrev pub sent : Super → Source → Option TreeRoot → Program Step Counts
   sent s source sums = bind (opened source) (λ u. sent_below s source sums)
 
+  -- the sending of the subvolume that a lookup found, or the stop that there is none
   abbrev pub from_source : Super → ℕ → Option Source → Program Step Counts
   from_source s id None = Stop (NoTree id)
   from_source s id (Some source) = looks (tree_of s 7) (sent s source)

@@ -13,10 +13,11 @@ use Rattle.btr_volume.specs.Table.{chunk_root}
 use Rattle.btr_volume.specs.Tree.{described, is_root_of, key, last, named_root, root_root}
 use Rattle.btr_send.specs.declared.source.Source.{Source}
 
--- the uuid and the transid in the body of a ROOT_ITEM; the old form, of 239 bytes, has none: zeros
+-- the uuid in the body of a ROOT_ITEM; the old form, of 239 bytes, has none: zeros
 abbrev pub uuid_in : List ℕ → List ℕ
 uuid_in body = if length body == 439 then bytes_at 16 247 body else replicate 16 0
 
+-- the transid in the body of a ROOT_ITEM; the old form, of 239 bytes, has none: 0
 abbrev pub transid_in : List ℕ → ℕ
 transid_in body = if length body == 439 then number_at 8 295 body else 0
 

@@ -20,10 +20,11 @@ abbrev pub written_for : Option TreeRoot → Entry → Inode → Counts → Supe
 written_for sums entry inode counts s =
     sending.written s sums entry.tree entry.row.location.objectid entry.path.now inode counts
 
--- what is done about an entry, by what it came to, and an entry from the first lookup on
+-- what is done about an entry, by what it came to and by the superblock
 abbrev pub done_for : Option TreeRoot → Entry → Decision → Counts → Super → Program Step Treated
 done_for sums entry decision counts s = sending.done_about s sums (met_by entry) counts decision
 
+-- what is done about an entry, from its first lookup on, by the superblock
 abbrev pub treated_for : Option TreeRoot → Entry → Counts → Super → Program Step Treated
 treated_for sums entry counts s = sending.treated s sums (met_by entry) counts
 

@@ -23,9 +23,11 @@ use Rattle.btr_listing.specs.Step.{Step}
 
 -- what is done with each piece of a file, by what was sent before it
 module _ {St : Type 0} (put : St → Piece → Program Step St) where
+  -- one piece of a file is sent, after what was sent before it
   abbrev pub put_of : St → Piece → Program Step (Result St St)
   put_of st piece = bind (put st piece) (λ after. Return (Ok after))
 
+  -- what is answered of a file whose pieces were sent: what was sent last
   abbrev pub last_state : St → Unit {0} → St
   last_state st u = st
 
@@ -85,13 +87,14 @@ module _ {St : Type 0} (put : St → Piece → Program Step St) where
     WritesOn x y st file (Ok None) = WasWritten x y file (Ok st)
     WritesOn x y st file (Err stop) = WasWritten x y file (Err stop)
 
-  -- a step of a file that is being sent, and all that is still to come of it, whatever its whole program is and where that began
+  -- a step of a file that is being sent, whatever its whole program is and where that began
   abbrev pub PutsNext : St → FileBytes → FileBytes → (Option (List ℕ) → CallAccount → World)
       → (Option (List ℕ) → CallAccount → World) → Result (Option St) Stop → Type 0
   PutsNext st file file' before now answer =
       (whole : Program Step St) (x : World) (text : Option (List ℕ)) (calls : CallAccount)
       → IsWriting whole x (before text calls) st file → WritesOn whole x (now text calls) st file' answer
 
+  -- all that is still to come of a file that is being sent, whatever its whole program is and where that began
   abbrev pub PutsRest : St → FileBytes → FileBytes → (Option (List ℕ) → CallAccount → World)
       → (Option (List ℕ) → CallAccount → World) → Result St Stop → Type 0
   PutsRest st file file' before now answer =

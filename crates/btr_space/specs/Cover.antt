@@ -30,10 +30,11 @@ lengthened earlier stretch = record { start = stretch.start; len = max stretch.l
 abbrev pub no_stretch : Stretch
 no_stretch = record { start = 0; len = 0 }
 
--- where the last of the first ranges ends, and where the one behind them begins
+-- where the last of the first ranges ends, or 0
 abbrev pub end_before : List Stretch → ℕ → ℕ
 end_before stretches begun = if begun == 0 then 0 else end_of (slice_index_or stretches (begun - 1) no_stretch)
 
+-- where the range after the first ones begins, or the last number of 128 bits
 abbrev pub start_behind : List Stretch → ℕ → ℕ
 start_behind stretches begun = if nat_lt begun (length stretches) then (slice_index_or stretches begun no_stretch).start else 2 ^ 128 - 1
 

@@ -13,6 +13,7 @@ use Rattle.btr_space.specs.declared.stated_device.StatedDevice.{StatedDevice}
 abbrev pub stripe_range : Chunk → Stripe → DeviceExtent
 stripe_range chunk stripe = record { devid = stripe.devid; offset = stripe.offset; chunk = chunk.start; len = stripe_length chunk }
 
+-- the ranges of devices that a chunk has
 abbrev pub chunk_ranges : Chunk → List DeviceExtent
 chunk_ranges chunk = map (stripe_range chunk) chunk.stripes
 
@@ -36,16 +37,19 @@ device_chunk ranges extent =
 abbrev pub given_of : List DeviceExtent → ℕ → ℕ
 given_of extents devid = sum_by (λ extent. cond (extent.devid == devid) extent.len 0) extents
 
+-- the finding that a device states other bytes than it has in device extents
 abbrev pub used_row : ℕ → ℕ → ℕ → Finding
 used_row devid stated given = found 29 (devid ∷ stated ∷ shown_sum given ∷ [])
 
--- 29: a device states them; one without an item states 0
+-- 29: a device states the bytes that it has in device extents
 abbrev pub device_used : List DeviceExtent → StatedDevice → Option Finding
 device_used extents device = unless (device.used == given_of extents device.devid) (used_row device.devid device.used (given_of extents device.devid))
 
+-- a device has an item
 abbrev pub has_device : List StatedDevice → ℕ → Bool
 has_device devices devid = list_any (λ (device : StatedDevice). device.devid == devid) devices
 
+-- 29: a device without an item has no bytes in device extents
 abbrev pub unstated_used : List StatedDevice → List DeviceExtent → DeviceExtent → Option Finding
 unstated_used devices extents extent =
     unless (has_device devices extent.devid || (given_of extents extent.devid == 0)) (used_row extent.devid 0 (given_of extents extent.devid))

@@ -43,10 +43,11 @@ used_in extents group = sum_by (λ extent. cond (nat_le group.start extent.addr 
 abbrev pub group_used : List Extent → Group → Option Finding
 group_used extents group = unless (group.used == used_in extents group) (found 28 (group.start ∷ group.used ∷ shown_sum (used_in extents group) ∷ []))
 
--- 30: the superblock states the sum of what the block groups state
+-- the sum of what the block groups state
 abbrev pub stated_in : List Group → ℕ
 stated_in groups = sum_by (λ (group : Group). group.used) groups
 
+-- 30: the superblock states the sum of what the block groups state
 abbrev pub total_used : ℕ → List Group → Option Finding
 total_used stated groups = unless (stated == stated_in groups) (found 30 (stated ∷ shown_sum (stated_in groups) ∷ []))
 

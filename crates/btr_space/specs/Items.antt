@@ -14,35 +14,40 @@ use Rattle.btr_space.specs.declared.device_extent.DeviceExtent.{DeviceExtent}
 use Rattle.btr_space.specs.declared.group.Group.{Group}
 use Rattle.btr_space.specs.declared.stated_device.StatedDevice.{StatedDevice}
 
--- a block group: its key has its range
+-- a block group of an item, whose key has its range
 abbrev pub group_with : TreeItem → BlockGroup → Group
 group_with item fields = record { start = item.key.objectid; len = item.key.offset; used = fields.used; flags = fields.flags }
 
+-- the block group of an item, if it is one and has its form
 abbrev pub group_in : TreeItem → Option Group
 group_in item = if item.key.kind == block_group_item then option_map (group_with item) (result_ok (block_group_of item.body)) else None
 
--- a device extent: its key has the device and where it begins
+-- a device extent of an item, whose key has the device and where it begins
 abbrev pub extent_with : TreeItem → DevExtent → DeviceExtent
 extent_with item fields = record { devid = item.key.objectid; offset = item.key.offset; chunk = fields.chunk; len = fields.length }
 
+-- the device extent of an item, if it is one and has its form
 abbrev pub device_extent_in : TreeItem → Option DeviceExtent
 device_extent_in item = if item.key.kind == dev_extent then option_map (extent_with item) (result_ok (dev_extent_of item.body)) else None
 
--- a device, by its item's key
+-- a device of an item, whose key has its number
 abbrev pub device_with : TreeItem → DevItem → StatedDevice
 device_with item fields = record { devid = item.key.offset; used = fields.used }
 
+-- the device of an item, if it is one and has its form
 abbrev pub device_in : TreeItem → Option StatedDevice
 device_in item = if item.key.kind == dev_item then option_map (device_with item) (result_ok (dev_item_of item.body)) else None
 
--- those among the items of a tree, in their order: the block groups of the block group tree where there is one, and else of the extent
--- tree; the device extents of the device tree; the devices of the chunk tree
+-- the block groups among the items of a tree, in their order: the block group tree where there is one, and else the
+-- extent tree
 abbrev pub groups_in : List TreeItem → List Group
 groups_in items = filter_map group_in items
 
+-- the device extents among the items of the device tree, in their order
 abbrev pub device_extents_in : List TreeItem → List DeviceExtent
 device_extents_in items = filter_map device_extent_in items
 
+-- the devices among the items of the chunk tree, in their order
 abbrev pub devices_in : List TreeItem → List StatedDevice
 devices_in items = filter_map device_in items
 

@@ -20,6 +20,7 @@ use Rattle.btr_sums.specs.declared.used_range.UsedRange.{UsedRange}
 abbrev pub run_in : SumKind → TreeItem → Option SumRun
 run_in kind item = result_ok (sum_run_of kind item.key item.body)
 
+-- the runs of checksums in the items of a tree
 abbrev pub runs_in : SumKind → List TreeItem → List SumRun
 runs_in kind items = filter_map (run_in kind) items
 
@@ -28,6 +29,7 @@ abbrev pub loose_if : ℕ → Option Inode → Option ℕ
 loose_if number None = None
 loose_if number (Some inode) = if bit_and inode.flags 1 == 0 then None else Some number
 
+-- the inode of an item whose data has no checksums, if it is such an INODE_ITEM
 abbrev pub loose_in : TreeItem → Option ℕ
 loose_in item = if item.key.kind == inode_item then loose_if item.key.objectid (result_ok (inode_of item.body)) else None
 
@@ -40,10 +42,12 @@ used_of inode extent (Regular addr disk_len skip len) =
     else Some (record { inode = inode; addr = addr; skip = 0; len = disk_len })
 used_of inode extent (Prealloc addr disk_len skip len) = None
 
+-- what a file uses of the extent of an item that has its form
 abbrev pub used_if : ℕ → Option FileExtent → Option UsedRange
 used_if inode None = None
 used_if inode (Some extent) = used_of inode extent extent.shape
 
+-- what a file uses by an EXTENT_DATA, if it is one and has its form
 abbrev pub used_in : TreeItem → Option UsedRange
 used_in item = if item.key.kind == extent_data then used_if item.key.objectid (result_ok (file_extent_of item.key.offset item.body)) else None
 
@@ -52,6 +56,7 @@ pub record RunsMet : Type 0 where
   pub kind : SumKind
   pub runs : List SumRun
 
+-- what is kept of the checksum tree after one more mark
 abbrev pub runs_step : RunsMet → Mark → RunsMet
 runs_step met mark = record { kind = met.kind; runs = with_mark (run_in met.kind) met.runs mark }
 
@@ -60,12 +65,14 @@ pub record UsesMet : Type 0 where
   pub loose : List ℕ
   pub used : List UsedRange
 
+-- what is kept of a tree of files after one more mark
 abbrev pub uses_step : UsesMet → Mark → UsesMet
 uses_step met mark = record { loose = with_mark loose_in met.loose mark; used = with_mark used_in met.used mark }
 
--- what is kept in the end, where nothing was kept before
+-- what is kept of a tour of the checksum tree is all runs among its items
 abbrev pub KeepsRuns : Type 0
 KeepsRuns = (kind : SumKind) (marks : List Mark) → fold runs_step (record { kind = kind; runs = [] }) marks ≡ record { kind = kind; runs = runs_in kind (items_met marks) }
 
+-- what is kept of a tour of a tree of files is all such inodes and ranges among its items
 abbrev pub KeepsUses : Type 0
 KeepsUses = (marks : List Mark) → fold uses_step (record { loose = []; used = [] }) marks ≡ record { loose = filter_map loose_in (items_met marks); used = filter_map used_in (items_met marks) }

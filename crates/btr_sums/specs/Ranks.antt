@@ -11,13 +11,15 @@ pub record IsSortedOf (numbers sorted : List ℕ) : Type 0 where
   pub same : IsPermutation numbers sorted
   pub ascend : IsNonDecreasingBy (λ n. n) sorted
 
+-- how many numbers are at most another
 abbrev pub rank : List ℕ → ℕ → ℕ
 rank numbers at = count_by (λ n. nat_le n at) numbers
 
--- where runs begin and end
+-- where a run begins
 abbrev pub run_start : SumRun → ℕ
 run_start run = run.start
 
+-- where a run ends
 abbrev pub run_end : SumRun → ℕ
 run_end run = run.start + run.count * 4096
 

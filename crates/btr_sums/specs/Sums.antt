@@ -16,6 +16,7 @@ use Rattle.btr_sums.specs.declared.used_range.UsedRange.{UsedRange}
 abbrev pub run_sectors : SumRun → List ℕ
 run_sectors run = sectors run.start run.count
 
+-- a sector's address lies in the range of a run
 abbrev pub covers : ℕ → SumRun → Bool
 covers sector run = nat_le run.start sector && nat_lt sector (run.start + run.count * 4096)
 
@@ -57,10 +58,11 @@ module _ (chunks : List Chunk) (runs : List SumRun) (tree : ℕ) where
 abbrev pub sum_overlap : List SumRun → ℕ → Option Finding
 sum_overlap runs sector = unless (nat_le (count_by (covers sector) runs) 1) (found 13 (shown_sum sector ∷ []))
 
--- 14: a sector that has a checksum lies in a data extent
+-- a sector lies in a data extent
 abbrev pub is_data_at : ℕ → Extent → Bool
 is_data_at sector extent = is_data extent.flags && (nat_le extent.addr sector && nat_le (sector + 4096) (extent.addr + extent.len))
 
+-- 14: a sector that has a checksum lies in a data extent
 abbrev pub sum_stray : List Extent → ℕ → Option Finding
 sum_stray extents sector = unless (list_any (is_data_at sector) extents) (found 14 (shown_sum sector ∷ []))
 
@@ -68,12 +70,14 @@ sum_stray extents sector = unless (list_any (is_data_at sector) extents) (found 
 abbrev pub sum_findings : List SumRun → List Extent → List Finding
 sum_findings runs extents = filter_map (sum_overlap runs) (summed runs) ++ filter_map (sum_stray extents) (summed runs)
 
--- the ranges of addresses of runs and of extents
+-- the range of addresses of a run
 abbrev pub run_stretch : SumRun → Stretch
 run_stretch run = record { start = run.start; len = run.count * 4096 }
 
+-- the range of addresses of an extent
 abbrev pub extent_stretch : Extent → Stretch
 extent_stretch extent = record { start = extent.addr; len = extent.len }
 
+-- those of some extents that are data
 abbrev pub data_extents : List Extent → List Extent
 data_extents extents = filter (λ (extent : Extent). is_data extent.flags) extents

@@ -6,7 +6,8 @@ use Rattle.btr_base.specs.Field.{bytes_at}
 use Rattle.btr_super.specs.Super.{superblock}
 use Rattle.btr_super.specs.declared.superblock.Super.{Super}
 
--- the numbers that are compared: all but bytenr, those of the log tree, whose root a power cut may leave on one image alone, and the device's
+-- the numbers that are compared: all but bytenr, those of the log tree, whose root a power cut may
+-- leave on one image alone, and the device's
 abbrev pub numbers : Super → List ℕ
 numbers s =
     s.flags ∷ s.generation ∷ s.root ∷ s.chunk_root ∷ s.total_bytes ∷ s.bytes_used ∷ s.root_dir ∷ s.num_devices ∷ s.sectorsize ∷ s.nodesize
@@ -29,7 +30,8 @@ diverged_from slot chosen (s ∷ supers) =
 abbrev pub have_same : ℕ → ℕ → List ℕ → List ℕ → Bool
 have_same n off xs ys = bytes_eq (bytes_at n off xs) (bytes_at n off ys)
 
--- all bytes but csum (32 at 0), bytenr (8 at 30h), log_root and what follows it (16 at 60h), log_root_level (1 at c8h) and dev_item (98 at c9h)
+-- all bytes but csum (32 at 0), bytenr (8 at 30h), log_root and what follows it (16 at 60h),
+-- log_root_level (1 at c8h) and dev_item (98 at c9h)
 abbrev pub are_same_copies : List ℕ → List ℕ → Bool
 are_same_copies xs ys = have_same 16 0x20 xs ys && have_same 40 0x38 xs ys && have_same 88 0x70 xs ys && have_same 3797 0x12b xs ys
 

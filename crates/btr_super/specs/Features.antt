@@ -1,4 +1,5 @@
--- The features of a filesystem: what the bits of a superblock's fields are called. No bit of the field compat has a name.
+-- The features of a filesystem: what the bits of a superblock's fields are
+-- called. No bit of the field compat has a name.
 -- The format is described at https://btrfs.readthedocs.io/en/latest/dev/On-disk-format.html
 use Rattle.std.specs.Prelude.{ℕ, List, [], ◌∷◌, codes}
 

@@ -7,10 +7,11 @@ use Rattle.btr_super.specs.declared.superblock.Super.{Super}
 abbrev pub is_newest : List Super → Super → Bool
 is_newest supers s = list_all (λ t. nat_le t.generation s.generation) supers
 
--- the first superblock with the greatest generation, and its index
+-- the first superblock with the greatest generation
 abbrev pub newest : List Super → Option Super
 newest supers = find (is_newest supers) supers
 
+-- the index of the first superblock with the greatest generation
 abbrev pub newest_index : List Super → ℕ
 newest_index supers = position_or_len (is_newest supers) supers
 

@@ -58,11 +58,11 @@ module _ (lo hi : Key) (B : Map) where
   pub leaf_hand : (store : Blocks) (l : LeafAt) (block : List ℕ) (rest : TourProg) → block_of store l.loan ≡ Some block → leaf_left lo hi store (Some l) rest ≡ act_all (map marks.Item (items_within lo hi l.spot.addr (drop l.next (items block)))) rest
   leaf_hand store l block rest is = ap (λ o. act_all (map marks.Item (hand_items lo hi o l)) rest) is
 
-  -- .. that has no item more
+  -- a leaf in hand that has no item more
   pub hand_none : (store : Blocks) (l : LeafAt) (block : List ℕ) (rest : TourProg) → block_of store l.loan ≡ Some block → filter (is_within lo hi) (drop l.next (items block)) ≡ [] → leaf_left lo hi store (Some l) rest ≡ rest
   hand_none store l block rest is none = leaf_hand store l block rest is ∙ ap (λ xs. act_all (map marks.Item (map (tree_item l.spot.addr) xs)) rest) none
 
-  -- .. and one that has, which is met
+  -- a leaf in hand that has an item more, which is met
   pub hand_meets : (seen : List Want) (store : Blocks) (place : Where) (l : LeafAt) (block : List ℕ) (at : ℕ) → block_of store l.loan ≡ Some block → IsFirstFrom (is_within lo hi) (items block) l.next at → IsOn lo hi B seen place → IsHeld B seen store l
       → MeetsItem lo hi B seen (left lo hi B store place (Some l)) store place (Some (record { spot = l.spot; next = at + 1; end = l.end; loan = l.loan })) at
   hand_meets seen store place l block at is from on held =
@@ -150,7 +150,7 @@ module _ (lo hi : Key) (B : Map) where
     held = tt;
   }
 
-  -- .. or that could not be read
+  -- a block that could not be read
   refused_todo : (Is : UnreadBlock → Want → Type 0) (seen : List Want) (place : Where) (level : ℕ) (spot : Spot) (u : UnreadBlock) → place.todo ≡ Some (record { level = level; spot = spot }) → Is u (want_of level spot) → Follows Is no_part seen (tried B (place_left lo hi B place)) [] (Err (halt.Unread u))
   refused_todo Is seen place level spot u todo is =
       let w = wants_first lo hi B level spot (path_left lo hi B 0 place.path) in

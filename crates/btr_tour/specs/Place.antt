@@ -49,7 +49,7 @@ module _ (lo hi : Key) where
   hand_items None l = []
   hand_items (Some block) l = items_within lo hi l.spot.addr (drop l.next (items block))
 
-  -- .. and then the rest
+  -- the items of a leaf in hand that are still to come, and then the rest
   abbrev pub leaf_left : Blocks → Option LeafAt → TourProg → TourProg
   leaf_left store None rest = rest
   leaf_left store (Some l) rest = act_all (map Item (hand_items (block_of store l.loan) l)) rest
@@ -59,10 +59,11 @@ module _ (lo hi : Key) where
   children_left level spot from spots rest = children (tour_from lo hi (level - 1)) spot.addr (level - 1) (filter (meets_keys lo hi) (drop from spots)) rest
 
   module _ (B : Map) where
-    -- .. of a frame
+    -- the children of a frame that are still to come, and then the rest
     abbrev pub frame_left : ℕ → Frame → TourProg → TourProg
     frame_left level frame rest = children_left level frame.spot frame.next (child_spots (pointers_in (B (want_of level frame.spot))) frame.spot.up) rest
 
+    -- the children of a frame that are still to come, and then the rest, where there is a frame
     abbrev pub frame_or_rest : ℕ → Option Frame → TourProg → TourProg
     frame_or_rest level None rest = rest
     frame_or_rest level (Some frame) rest = frame_left level frame rest
@@ -77,6 +78,7 @@ module _ (lo hi : Key) where
     todo_left None rest = rest
     todo_left (Some todo) rest = tour_from lo hi todo.level todo.spot rest
 
+    -- all that a place has still to meet
     abbrev pub place_left : Where → TourProg
     place_left place = todo_left place.todo (path_left 0 place.path)
 

@@ -1,4 +1,5 @@
--- The tour of a tree as a program: what it wants and what it meets, in order. It goes on behind the faults of its wants.
+-- The tour of a tree as a program: what it wants and what it meets, in order.
+-- It goes on behind the faults of its wants.
 use Rattle.std.specs.Prelude.{ℕ, zero, suc, ◌-◌, List, [], ◌∷◌, map, filter, Option, Some, None, Result, Ok, Err}
 use Rattle.btr_base.specs.declared.key.Key.{Key}
 use Rattle.btr_node.specs.declared.node.Node.{Node}
@@ -14,6 +15,7 @@ use Rattle.btr_walk.specs.Le.{root_spot, want_of}
 use Rattle.btr_walk.specs.Range.{RangeProg, items_within}
 use Rattle.btr_tour.specs.Tour.{Mark, Block, Child, Item, Left, place_of, child_spots, meets_keys}
 
+-- a program that meets the marks of a tree, one step for each
 abbrev pub TourProg : Type 0
 TourProg = Trying Want Fault Mark (Unit {0})
 
@@ -43,6 +45,7 @@ module _ (lo hi : Key) where
   tour_from zero spot rest = Try (want_of 0 spot) (by_block (λ child more. more) 0 spot rest)
   tour_from (suc n) spot rest = Try (want_of (suc n) spot) (by_block (tour_from n) (suc n) spot rest)
 
+  -- the tour of a whole tree, from its root on
   abbrev pub tour_prog : RootPlace → TourProg
   tour_prog root = tour_from root.level (root_spot root) (Done tt)
 

@@ -84,6 +84,7 @@ abbrev pub LendsKept : Blocks → Blocks → Result LeafAt TreeFault → Type 0
 LendsKept old new (Ok l) = IsInHand new l × SameLoans old (base new (Some l.loan))
 LendsKept old new (Err f) = SameLoans old new
 
+-- a leaf is the one of a frame, with the same items still to come
 abbrev pub IsLeafOf : Frame → LeafAt → Type 0
 IsLeafOf frame l = (l.spot ≡ frame.spot) × (l.next ≡ frame.next) × (l.end ≡ frame.end)
 
@@ -99,6 +100,7 @@ pub record IsTakenUp (rack : Seen) (old new : Blocks) (rest : Rest) (tour : Tour
   pub scope : tour.scope ≡ rest.scope
   pub rank : rank_of tour ≡ rank_left rest
 
+-- a tour that was taken up can go on, or its leaf could not be read and no loan changed
 abbrev pub TakenUp : Seen → Blocks → Blocks → Rest → Result Tour TreeFault → Type 0
 TakenUp rack old new rest (Ok tour) = IsTakenUp rack old new rest tour
 TakenUp rack old new rest (Err f) = SameLoans old new
@@ -109,7 +111,7 @@ pub record GoesOn (B : Map) (seen : List Want) (rest : Rest) (store : Blocks) (t
   pub on : IsUnderway B seen tour
   pub held : HoldsLeaf B seen store tour
 
--- .. or its leaf could not be read
+-- a tour takes up what was left: it has still to meet that, or its leaf could not be read
 abbrev pub TakesUp : (UnreadBlock → Want → Type 0) → Map → Rest → Blocks → Result Tour TreeFault → Type 0
 TakesUp Is B rest store (Ok tour) = (seen : List Want) → IsRestOn B seen rest → GoesOn B seen rest store tour
 TakesUp Is B rest store (Err f) = (seen : List Want) → IsRestOn B seen rest → IsUnreadOf Is seen f

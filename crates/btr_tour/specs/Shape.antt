@@ -8,6 +8,7 @@ use Rattle.btr_tour.specs.declared.step.Step.TheVariants.{Block, Child, Item, Fa
 use Rattle.btr_walk.specs.declared.fault.TreeFault.{TreeFault}
 use Rattle.btr_walk.specs.Ranks.{rank_at}
 
+-- how many items of the leaf in hand are still to come
 abbrev pub rank_leaf : Option LeafAt → ℕ
 rank_leaf None = 0
 rank_leaf (Some l) = l.end - l.next
@@ -16,6 +17,7 @@ rank_leaf (Some l) = l.end - l.next
 abbrev pub rank_on : Where → Option LeafAt → ℕ
 rank_on place leaf = 2 ^ 64 * rank_at place.todo place.path + rank_leaf leaf
 
+-- a frame has children that are still to come, and their numbers have 64 bits
 abbrev pub FrameFits : Frame → Type 0
 FrameFits frame = (frame.next < frame.end) × (frame.end < 2 ^ 64)
 

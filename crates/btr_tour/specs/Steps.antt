@@ -57,6 +57,7 @@ pub record IsInHand (store : Blocks) (l : LeafAt) : Type 0 where
   pub within : l.next ≤ l.end
   pub good : IsSomeAnd (block_of store l.loan) (λ block. IsTrue (is_leaf block) × (l.end ≡ length (items block)))
 
+-- the loan of a leaf in hand, if there is one
 abbrev pub loan_of : Option LeafAt → Option Lent
 loan_of None = None
 loan_of (Some l) = Some l.loan
@@ -81,6 +82,7 @@ pub record Arrived : Type 0 where
   pub leaf : Option LeafAt
   pub step : Result Step TreeFault
 
+-- what comes of a step at this place
 abbrev pub arrived : Where → Advanced → Arrived
 arrived place a = record { place = place; leaf = a.leaf; step = a.step }
 
@@ -92,14 +94,16 @@ left_out place after (Unmapped a) = record { place = after; leaf = None; step = 
 left_out place after (Crosses a) = record { place = after; leaf = None; step = Ok (Fault (Crosses a)) }
 left_out place after (Malformed a) = record { place = after; leaf = None; step = Ok (Fault (Malformed a)) }
 
--- the same place and leaf without what is below the block of a level that was met last
+-- the same place without what is below the block of a level that was met last
 abbrev pub passed_place : ℕ → Where → Where
 passed_place zero place = place
 passed_place (suc n) place = record { path = slice_set place.path n None; todo = place.todo }
 
+-- a leaf in hand all of whose items are past
 abbrev pub at_end : LeafAt → LeafAt
 at_end l = record { spot = l.spot; next = l.end; end = l.end; loan = l.loan }
 
+-- the leaf in hand after it is passed, where it is that block that was met last
 abbrev pub passed_leaf : ℕ → Option LeafAt → Option LeafAt
 passed_leaf zero leaf = option_map at_end leaf
 passed_leaf (suc n) leaf = leaf
@@ -116,6 +120,7 @@ module _ (lo hi : Key) where
     pub small : frame.end < 2 ^ 64
     pub next : IsFirstFrom (meets_keys lo hi) (child_spots ps spot.up) from frame.next
 
+  -- the frame of the children that are to come, from child `from` on, or none where none of them meets the keys
   abbrev pub FramesFrom : List KeyPointer → Spot → ℕ → Option Frame → Type 0
   FramesFrom ps spot from None = NoneFrom (meets_keys lo hi) (child_spots ps spot.up) from
   FramesFrom ps spot from (Some frame) = IsFrameFrom ps spot from frame
@@ -125,6 +130,7 @@ module _ (lo hi : Key) where
     pub spot_is : HoldsAt (λ spot. b.spot ≡ spot) (child_spots ps frame.spot.up) frame.next
     pub more : FramesFrom ps frame.spot (frame.next + 1) b.frame
 
+  -- what comes of a node that was read again: its next child, or nothing where the node has another number of children
   abbrev pub IsNext : List KeyPointer → Frame → Option Below → Type 0
   IsNext ps frame None = frame.end ≡ length ps → ⊥
   IsNext ps frame (Some b) = (frame.end ≡ length ps) × IsNextBelow ps frame b × FitsBelow frame b
@@ -197,8 +203,8 @@ abbrev pub AdvancesIn : Scope → (UnreadBlock → Want → Type 0) → Map → 
 AdvancesIn scope Is B old place leaf store a =
     Advances scope.lo scope.hi B Is (λ seen. IfSome leaf (IsHeld B seen old)) scope.sums place (left scope.lo scope.hi B old place leaf) store a
 
--- what is told whatever was read: an item stands in the leaf in hand; a loan is kept with an item or a good leaf alone; only
--- a block that could not be read is refused, and then the place stays
+-- what is told whatever was read: an item stands in the leaf in hand; a loan is kept with an item or a good leaf alone;
+-- only a block that could not be read is refused, and then the place stays
 abbrev pub HasStep : Where → Where → Option LeafAt → Result Step TreeFault → Type 0
 HasStep old place leaf (Ok (Block at header)) = at.level ≤ 7
 HasStep old place leaf (Ok (Child block child)) = leaf ≡ None

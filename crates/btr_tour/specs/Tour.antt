@@ -1,5 +1,5 @@
--- The tour of a tree: all that is met on the way through it, in preorder. It goes on behind faults, and leaves out only what
--- is below a block that has one.
+-- The tour of a tree: all that is met on the way through it, in preorder. It goes on behind faults, and leaves
+-- out only what is below a block that has one.
 use Rattle.std.specs.Prelude.{ℕ, zero, suc, ◌-◌, Bool, true, ◌&&◌, List, [], ◌∷◌, map, filter, flat_map, Option, Some, None, Result, Ok, Err}
 use Rattle.btr_base.specs.Key.{key_le, last_key}
 use Rattle.btr_base.specs.declared.key.Key.{Key}
@@ -14,7 +14,8 @@ use Rattle.btr_walk.specs.Le.{TreeItem, root_spot, below, up_of, want_of}
 use Rattle.btr_walk.specs.Range.{items_within}
 use Rattle.btr_walk.specs.Reading.{Map}
 
--- what a tour meets: a good block and its bytes, a pointer of the block at an address, an item, or why a block is left out
+-- what a tour meets: a good block and its bytes, a pointer of the block at an
+-- address, an item, or why a block is left out
 pub data Mark : Type 0 where
   Block : RootPlace → List ℕ → Mark
   Child : ℕ → RootPlace → Mark
@@ -31,6 +32,7 @@ child_spots [] up = []
 child_spots (pointer ∷ pointers) up = below pointer (up_of pointers up) ∷ child_spots pointers up
 
 module _ (lo hi : Key) where
+  -- the first key of a block, if it is known, isn't above hi
   abbrev pub begins_by : Option Key → Bool
   begins_by None = true
   begins_by (Some first) = key_le first hi
@@ -64,6 +66,7 @@ module _ (lo hi : Key) where
     tour_at zero spot = block_tour (λ child. []) 0 spot (B (want_of 0 spot))
     tour_at (suc n) spot = block_tour (tour_at n) (suc n) spot (B (want_of (suc n) spot))
 
+    -- the tour of a tree
     abbrev pub tour : RootPlace → List Mark
     tour root = tour_at root.level (root_spot root)
 
@@ -80,6 +83,7 @@ pub record Reached : Type 0 where
   pub place : RootPlace
   pub block : List ℕ
 
+-- the good blocks among what was met
 abbrev pub blocks_met : List Mark → List Reached
 blocks_met [] = []
 blocks_met (Block place block ∷ more) = record { place = place; block = block } ∷ blocks_met more
@@ -87,6 +91,7 @@ blocks_met (Child addr place ∷ more) = blocks_met more
 blocks_met (Item item ∷ more) = blocks_met more
 blocks_met (Left fault ∷ more) = blocks_met more
 
+-- the items among what was met
 abbrev pub items_met : List Mark → List TreeItem
 items_met [] = []
 items_met (Block place block ∷ more) = items_met more
@@ -94,6 +99,7 @@ items_met (Child addr place ∷ more) = items_met more
 items_met (Item item ∷ more) = item ∷ items_met more
 items_met (Left fault ∷ more) = items_met more
 
+-- the faults among what was met
 abbrev pub faults_met : List Mark → List Fault
 faults_met [] = []
 faults_met (Block place block ∷ more) = faults_met more

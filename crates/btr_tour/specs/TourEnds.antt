@@ -40,6 +40,7 @@ abbrev pub passed_at : Option ℕ → Tour → Tour
 passed_at None tour = tour
 passed_at (Some level) tour = record { scope = tour.scope; place = passed_place level tour.place; leaf = passed_leaf level tour.leaf; level = None }
 
+-- a tour that passes what is below the block that was met last, if it was a block
 abbrev pub passed : Tour → Tour
 passed tour = passed_at tour.level tour
 
@@ -54,8 +55,8 @@ pub record IsReady (rack : Seen) (store : Blocks) (tour : Tour) : Type 0 where
 abbrev pub without_leaf : Blocks → Tour → Blocks
 without_leaf store tour = base store (loan_of tour.leaf)
 
--- Some wants, and then one mark is met; what is left comes behind. Behind a good block comes what is below it, which can be
--- passed. A block that could not be read is met again.
+-- Some wants, and then one mark is met; what is left comes behind. Behind a good block comes what is below it, which
+-- can be passed. A block that could not be read is met again.
 abbrev pub NextBy : (UnreadBlock → Want → Type 0) → Map → List Want → Blocks → Blocks → Tour → Tour → Result (Option Met) TreeFault → Type 0
 NextBy Is B seen old new tour tour' (Ok (Some (Block place header))) =
     MeetsBlock tour.scope.lo tour.scope.hi B seen tour.scope.sums (left_of B old tour) new tour'.place tour'.leaf place header
@@ -68,6 +69,7 @@ NextBy Is B seen old new tour tour' (Ok (Some (Fault f))) =
 NextBy Is B seen old new tour tour' (Ok None) = left_of B old tour ≡ Done tt
 NextBy Is B seen old new tour tour' (Err f) = Stays tour.scope.lo tour.scope.hi B Is seen (left_of B old tour) new tour'.place tour'.leaf f
 
+-- what a tour meets next, whatever was read before
 abbrev pub IsNextMark : (UnreadBlock → Want → Type 0) → Map → Blocks → Blocks → Tour → Tour → Result (Option Met) TreeFault → Type 0
 IsNextMark Is B old new tour tour' result =
     (seen : List Want) → IsUnderway B seen tour → HoldsLeaf B seen old tour → NextBy Is B seen old new tour tour' result
@@ -78,6 +80,7 @@ pub record Toured (old new : Blocks) (tour tour' : Tour) (before now : Seen) (re
   pub ready : IsReady now new tour'
   pub content : TellsOf old before now (λ Is B. IsNextMark Is B old new tour tour' result)
 
+-- the tour and its store end as the step's answer says, and no other loan changed
 abbrev pub TourEnds : MutBor Blocks → Tour → Tour → Seen → Seen → Result (Option Met) TreeFault → Fml
 TourEnds store tour tour' before now result = follows_so the_row the_row store.ghost_name none (λ _ _. ⊤) (λ new. Toured store.now new tour tour' before now result)
 
@@ -109,8 +112,8 @@ NextNears tour tour' (Ok (Some met)) = rank_of tour' < rank_of tour
 NextNears tour tour' (Ok None) = rank_of tour' ≤ rank_of tour
 NextNears tour tour' (Err f) = rank_of tour' ≤ rank_of tour
 
--- A block that is left out or could not be read is the one that the tour was to read next, and has its cause. Only one that
--- could not be read is refused, and then the place stays; it is never left out.
+-- A block that is left out or could not be read is the one that the tour was to read next, and has its cause. Only one
+-- that could not be read is refused, and then the place stays; it is never left out.
 abbrev pub NextCause : Layout → Seen → Seen → Tour → Tour → Result (Option Met) TreeFault → Type 0
 NextCause layout old new tour tour' (Ok (Some (Block place header))) = ⊤
 NextCause layout old new tour tour' (Ok (Some (Child block place))) = ⊤

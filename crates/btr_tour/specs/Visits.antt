@@ -38,6 +38,7 @@ module _ {St : Type 0} (step : St → Mark → St) where
   Takes old met new (Ok u) = (mark : Mark) → Shows met mark → new ≡ step old mark
   Takes old met new (Err e) = ⊤
 
+  -- a call that meets one mark more treated it; it doesn't end here by a fault of the tree
   abbrev pub IsTaken : {E : Type 0} → St → Met → St → Result Bool (FoldFault E) → Type 0
   IsTaken old met new (Ok true) = (mark : Mark) → Shows met mark → new ≡ step old mark
   IsTaken old met new (Ok false) = ⊥
@@ -53,6 +54,7 @@ module _ {St : Type 0} (step : St → Mark → St) where
       pub on : IsUnderway B (seen ++ wants_of past) tour'
       pub held : HoldsLeaf B (seen ++ wants_of past) new tour'
 
+    -- a call met one mark more and treated it, or nothing was left, or a block could not be read
     abbrev pub MeetsBy : {E : Type 0} → List Want → Blocks → Blocks → Tour → Tour → St → St → Result Bool (FoldFault E) → Type 0
     MeetsBy seen old new tour tour' state state' (Ok true) = Goes seen old new tour tour' state state'
     MeetsBy seen old new tour tour' state state' (Ok false) = (left_of B old tour ≡ Done tt) × (state' ≡ state)
@@ -70,6 +72,7 @@ module _ {St : Type 0} (step : St → Mark → St) where
       pub treated : state' ≡ fold step state done
       pub refused : Follows Is no_part seen r done (Err (halt_of f))
 
+    -- what a run of a tour met was treated, as far as the answer says
     abbrev pub RunsBy : {E : Type 0} → List Want → Run Want fate.Fault Mark (Unit {0}) → St → St → Result (Unit {0}) (FoldFault E) → Type 0
     RunsBy seen r state state' (Ok u) = state' ≡ fold step state (steps_of r.marks)
     RunsBy seen r state state' (Err (Tree f)) = TreatsUpTo seen r state state' f
@@ -80,7 +83,8 @@ module _ {St : Type 0} (step : St → Mark → St) where
     IsRun store tour state state' result =
         (seen : List Want) → IsUnderway B seen tour → HoldsLeaf B seen store tour → RunsBy seen (tried B (left_of B store tour)) state state' result
 
-    -- A whole tree was visited. Where a block could not be read, exactly the marks before some place behind one of its wants.
+    -- A whole tree was visited. Where a block could not be read, exactly the marks
+    -- before some place behind one of its wants.
     abbrev pub Visits : {E : Type 0} → RootPlace → St → St → Result (Unit {0}) (FoldFault E) → Type 0
     Visits root old new (Ok u) = new ≡ fold step old (whole B root)
     Visits root old new (Err (Tree f)) = TreatsUpTo [] (tried B (tour_prog first_key last_key root)) old new f

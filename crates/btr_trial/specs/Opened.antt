@@ -20,6 +20,7 @@ with_table images start (Ok (Ok chunks)) = with_roots start chunks (roots_differ
 with_table images start (Ok (Err refusal)) = None
 with_table images start (Err fault) = None
 
+-- the filesystem of images that have a start, or none where they are refused
 abbrev pub with_start : Images → Result Start OpenFault → Option Filesystem
 with_start images (Ok start) = with_table images start (exec (fate images (array_layout start)) (table_scan start)).ending
 with_start images (Err refusal) = None

@@ -35,11 +35,12 @@ trial_text t =
     codes "check: " ++ findings_text t.findings ++ codes "first restore: " ++ restore_text t.first ++ codes "scrub: " ++ lost_text t.lost
     ++ codes "second restore: " ++ restore_text t.second
 
--- a count that has to be 0, and a comparison that has to hold; 1 where it isn't so
+-- 1 where a count isn't 0 or was refused, and else 0
 abbrev pub if_count : Option ℕ → ℕ
 if_count None = 1
 if_count (Some count) = if count == 0 then 0 else 1
 
+-- 1 where a comparison doesn't hold or was refused, and else 0
 abbrev pub if_other : Option Bool → ℕ
 if_other None = 1
 if_other (Some true) = 0
@@ -49,8 +50,9 @@ if_other (Some false) = 1
 abbrev pub differing : Tried → ℕ
 differing t = if_count t.findings + if_other t.first + if_count t.lost + if_other t.second
 
--- What a trial did with its output, and what it answers: all four lines were put, and so many of them differ; or the output failed, and a first part of
--- them stands; or memory was wanted, and a first part of them stands. Nothing else is answered.
+-- What a trial did with its output, and what it answers: all four lines were put, and so many of them
+-- differ; or the output failed, and a first part of them stands; or memory was wanted, and a first
+-- part of them stands. Nothing else is answered.
 abbrev pub Ends : Tried → Option (List ℕ) → Option (List ℕ) → CallAccount → CallAccount → Result ℕ Stop → Type 0
 Ends t old new before after (Ok count) = (count ≡ differing t) × Puts {T = Unit {0}} old new (trial_text t) (Ok tt) × (after ≡ before)
 Ends t old new before after (Err Out) =

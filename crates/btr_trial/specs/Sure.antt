@@ -16,6 +16,7 @@ as_sure seen = record seen { sure = true; account = no_failure }
 abbrev pub sure_seen : MemoryRack → Seen
 sure_seen rack = as_sure (seen_of rack)
 
+-- what is seen of such a rack is what is seen of a rack
 pub sound_sure : (rack : MemoryRack) → IsRack (sure_seen rack)
 sound_sure rack = record { sized = (sound_rack rack).sized; bytes = (sound_rack rack).bytes; calm = λ sure. omega arith }
 
@@ -54,8 +55,8 @@ pub record KeepsOpen (old new : MemoryRack) : Type 0 where
 abbrev pub spoiled_at : Images → ℕ → Images
 spoiled_at images slot = slice_set images slot (spoiled (image_of images slot))
 
--- A step of a trial found a volume on the shelf: where memory sufficed it came to what it comes to over its images, and left
--- these or others on the shelf.
+-- A step of a trial found a volume on the shelf: where memory sufficed it came to what it comes to over its
+-- images, and left these or others on the shelf.
 abbrev pub Comes : {A E : Type 0} → (Images → A) → (Images → Images) → MemoryRack → MemoryRack → Result A E → Type 0
 Comes came left old new (Ok a) = IsReady new × (a ≡ came (volume_of old)) × (volume_of new ≡ left (volume_of old))
 Comes came left old new (Err e) = Unit {0}

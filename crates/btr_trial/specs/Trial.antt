@@ -1,5 +1,5 @@
--- What a trial of a volume comes to: the volume is checked, one image is spoiled, all files are restored, the filesystem is
--- scrubbed, another image is spoiled, and all files are restored again.
+-- What a trial of a volume comes to: the volume is checked, one image is spoiled, all files are restored, the
+-- filesystem is scrubbed, another image is spoiled, and all files are restored again.
 use Rattle.std.specs.Prelude.{ℕ, ◌+◌, ◌%◌, Bool, true, false, List, drop, codes, length, Option, Some, None, Result, Ok, Err}
 use Rattle.std.specs.Option.{option_and_then, option_map_or}
 use Rattle.btr_check.specs.Before.{refusal}
@@ -33,6 +33,7 @@ abbrev pub counted : Option Stop → List Finding → Option ℕ
 counted (Some stop) all = None
 counted None all = Some (length all)
 
+-- how many findings a check of the filesystem of some images has, unless it is refused
 abbrev pub findings_in : Images → Filesystem → Option ℕ
 findings_in images fs = counted (refusal (as_checked images fs)) (findings false (as_checked images fs))
 
@@ -49,9 +50,11 @@ abbrev pub ended_same : ℕ → Run Want Fault Step Counts → Result Counts Fau
 ended_same number run (Ok counts) = Some (same_rows (drop 1 (tree_after (steps_of run.marks)).rows) (directories 0 number))
 ended_same number run (Err fault) = None
 
+-- whether the rows of a restore's run are those of so many directories, where it came to its end
 abbrev pub same_run : ℕ → Run Want Fault Step Counts → Option Bool
 same_run number run = ended_same number run run.ending
 
+-- a restore of all files of the filesystem of some images, as a run
 abbrev pub restored_in : Images → Filesystem → Run Want Fault Step Counts
 restored_in images fs = exec (fate images fs.layout) (listing whole (codes "out") fs.sup)
 
@@ -59,6 +62,7 @@ restored_in images fs = exec (fate images fs.layout) (listing whole (codes "out"
 abbrev pub restored_same : ℕ → Images → Option Bool
 restored_same number images = option_and_then (λ fs. same_run number (restored_in images fs)) (filesystem_of images)
 
+-- how many blocks a scrub leaves lost, if it answers with a tally
 abbrev pub lost_by : Result Tally Stop → Option ℕ
 lost_by (Ok tally) = Some tally.lost
 lost_by (Err stop) = None
@@ -71,13 +75,15 @@ lost_of images = option_and_then (λ fs. lost_by (effect true images fs).answer)
 abbrev pub scrubbed : Images → Images
 scrubbed images = option_map_or (λ fs. (effect true images fs).images) (filesystem_of images) images
 
--- the images of a volume with one spoiled, these scrubbed, and those with the next one spoiled
+-- the images of a volume with one of three spoiled
 abbrev pub once_spoiled : Images → ℕ → Images
 once_spoiled images number = spoiled_at images (number % 3)
 
+-- the same images after a scrub
 abbrev pub mended : Images → ℕ → Images
 mended images number = scrubbed (once_spoiled images number)
 
+-- the images after that scrub with the next one of three spoiled
 abbrev pub twice_spoiled : Images → ℕ → Images
 twice_spoiled images number = spoiled_at (mended images number) ((number + 1) % 3)
 

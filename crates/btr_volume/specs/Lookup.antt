@@ -12,6 +12,7 @@ use Rattle.btr_walk.specs.Le.{TreeItem}
 abbrev pub Program : Type 0 → Type 0 → Type 0
 Program S A = Prog Want Fault S A
 
+-- a program that looks something up
 abbrev pub Lookup : Type 0 → Type 0
 Lookup A = Program ⊥ A
 

@@ -1,4 +1,5 @@
--- What becomes of the wants of a volume: those of the chunk tree by the chunks of the system array, and all others by the table.
+-- What becomes of the wants of a volume: those of the chunk tree by the chunks of the
+-- system array, and all others by the table.
 use Rattle.std.specs.Prelude.{ℕ, List, Option, None, Result, Ok, Err}
 use Rattle.btr_chunk.specs.declared.chunk.Chunk.{Chunk}
 use Rattle.btr_prog.specs.Prog.{BlockMap, exec}
@@ -37,8 +38,8 @@ table_or other (Err fault) = other
 abbrev pub table_of : Images → Start → List Chunk
 table_of images start = table_or start.array (exec (fate images (array_layout start)) (table_scan start)).ending
 
--- Where the candidates of the root tree's root block don't agree, as they are found by what a scan of the chunk tree came to; where that is no table nothing
--- is compared.
+-- Where the candidates of the root tree's root block don't agree, as they are found by what a scan of the chunk tree
+-- came to; where that is no table nothing is compared.
 abbrev pub roots_differ : Images → Start → Result TableResult Fault → Option ℕ
 roots_differ images start (Ok (Ok table)) = disagreeing images (layout_by start table) (root_want start.sup)
 roots_differ images start (Ok (Err refusal)) = None

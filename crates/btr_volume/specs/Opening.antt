@@ -41,7 +41,8 @@ pub record SuperUnread (old new : Seen) (slot : ℕ) : Type 0 where
   pub fresh : 1 ≤ new.account.fresh
   pub shut : new.account.shut ≡ old.account.shut
 
--- what was read is the superblocks of the images, or the refusal of the first without one; what a failed read and want of memory come to hangs on the rack
+-- what was read is the superblocks of the images, or the refusal of the first without one; what a failed read
+-- and want of memory come to hangs on the rack
 abbrev pub ReadsSupers : Images → Result (Vec Super Global) OpenFault → Type 0
 ReadsSupers images (Ok supers) = supers_from 0 images ≡ Ok supers.items
 ReadsSupers images (Err (ImageFault slot)) = ⊤
@@ -98,11 +99,13 @@ pub record Starts (images : Images) (old new : Seen) (answer : Result TableResul
   pub is : start_of images ≡ Ok start
   pub scans : Scans start old new answer
 
--- the candidates of the root tree's root block, found by these chunks, were compared, and this is where they don't agree
+-- the candidates of the root tree's root block, found by these chunks, were
+-- compared, and this is where they don't agree
 abbrev pub ComparesRoots : Start → List Chunk → Seen → Seen → Option ℕ → Type 0
 ComparesRoots start chunks old new slot = Compares (layout_by start chunks) (root_want start.sup) old new slot
 
--- a volume is that of the images, its chunks are what scanning the chunk tree came to, and the candidates of the root tree's root block agree
+-- a volume is that of the images, its chunks are what scanning the chunk tree came to, and the
+-- candidates of the root tree's root block agree
 pub record Opened (images : Images) (old new : Seen) (volume : Volume) : Type 0 where
   pub start : Start
   pub is : start_of images ≡ Ok start
@@ -110,7 +113,8 @@ pub record Opened (images : Images) (old new : Seen) (volume : Volume) : Type 0 
   pub scans : Scans start old new (Ok (Ok volume.store.layout.chunks))
   pub alike : ComparesRoots start volume.store.layout.chunks old new None
 
--- the images are a start, scanning its chunk tree came to chunks, and by these the candidates of the root tree's root block don't agree
+-- the images are a start, scanning its chunk tree came to chunks, and by these the
+-- candidates of the root tree's root block don't agree
 pub record RootsDiffer (images : Images) (old new : Seen) (slot : ℕ) : Type 0 where
   pub start : Start
   pub is : start_of images ≡ Ok start
@@ -157,7 +161,8 @@ TableCause layout old new (Err (Limit which n)) = IsCounted which
 TableCause layout old new (Err Memory) = ⊤
 TableCause layout old new (Err refusal) = ⊥
 
--- what is answered over the images: the volume; or the first refusal, by the superblocks, by the chunk tree or by the root tree's root block
+-- what is answered over the images: the volume; or the first refusal, by the superblocks, by the
+-- chunk tree or by the root tree's root block
 abbrev pub Opens : Images → Seen → Seen → Result Volume OpenFault → Type 0
 Opens images old new (Ok volume) = Opened images old new volume
 Opens images old new (Err (ImageFault slot)) = ⊤
@@ -193,7 +198,8 @@ pub record IsFresh (rack : Seen) (volume : Volume) : Type 0 where
   pub loans : volume.store.loans ≡ replicate 24 None
   pub nodesize : volume.sup.nodesize ≡ volume.store.layout.setting.nodesize
 
--- A volume is the one of these images: its superblock is the newest, its devices are the images, and its chunks are those of the chunk tree.
+-- A volume is the one of these images: its superblock is the newest, its devices are the images,
+-- and its chunks are those of the chunk tree.
 pub record IsVolumeOf (images : Images) (volume : Volume) : Type 0 where
   pub start : Start
   pub is : start_of images ≡ Ok start
@@ -209,7 +215,8 @@ OpenedIsOfImages =
     → IsCalm old.account.faults new.account.faults ⊎ Agreed images (array_layout opened.start)
     → IsVolumeOf images volume
 
--- In a volume that was opened the candidates of the root tree's root block agree, where the rack tells the images and no read failed.
+-- In a volume that was opened the candidates of the root tree's root block agree, where
+-- the rack tells the images and no read failed.
 abbrev pub OpenedIsAlike : Type 0
 OpenedIsAlike =
     (images : Images) (old new : Seen) (volume : Volume)

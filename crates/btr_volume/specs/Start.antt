@@ -1,4 +1,5 @@
--- What is known of a volume before its chunk tree is read: the newest superblock, the devices, and the chunks of the system array.
+-- What is known of a volume before its chunk tree is read: the newest superblock, the
+-- devices, and the chunks of the system array.
 use Rattle.std.specs.Prelude.{ℕ, ◌+◌, Bool, not, ◌&&◌, ◌==◌, nat_lt, if◌then◌else◌, List, [], ◌∷◌, ◌++◌, length, map, take, slice_get, Option, Some, None, Result, Ok, Err, bit_and}
 use Rattle.std.specs.List.{list_any, filter_map}
 use Rattle.std.specs.Option.{option_map}
@@ -78,6 +79,7 @@ abbrev pub is_geometry : Super → Bool
 is_geometry s =
     (s.sectorsize == 4096) && is_nodesize s.nodesize && nat_lt s.root_level 8 && nat_lt s.chunk_root_level 8 && not (nat_lt 2048 s.sys_chunk_array_size)
 
+-- a refusal of opening, where something holds
 abbrev pub if_so : Bool → OpenFault → Option OpenFault
 if_so holds refusal = if holds then Some refusal else None
 
@@ -100,10 +102,12 @@ first_refusal found = slice_get (filter_map (λ x. x) found) 0
 abbrev pub header_id : Super → List ℕ
 header_id s = if bit_and s.incompat 0x400 == 0 then s.fsid else s.metadata_uuid
 
+-- what the test of a block takes: the kind of its checksum, the id in its header, and its size
 abbrev pub setting_of : Super → SumKind → Setting
 setting_of s kind = record { kind = kind; fsid = header_id s; nodesize = s.nodesize }
 
--- the device that an image of so many bytes in a slot holds, which is older where its generation is less than the newest
+-- the device that an image of so many bytes in a slot holds, which is older
+-- where its generation is less than the newest
 abbrev pub member : ℕ → ℕ → Super → ℕ → Member
 member newest slot s len = record { devid = s.devid; device = record { slot = slot; len = len; older = nat_lt s.generation newest } }
 
@@ -128,6 +132,7 @@ no_array array_fault.Memory = Memory
 abbrev pub array_bytes : Super → List ℕ
 array_bytes s = take s.sys_chunk_array_size s.array
 
+-- the start of a volume by its system array, if that is fit
 abbrev pub with_array : Super → SumKind → List Member → Result (List Chunk) ArrayFault → Result Start OpenFault
 with_array s kind devices (Err fault) = Err (no_array fault)
 with_array s kind devices (Ok array) = Ok (record { sup = s; devices = devices; setting = setting_of s kind; array = array })
@@ -142,11 +147,13 @@ abbrev pub started : Super → List Member → Option OpenFault → Result Start
 started s devices (Some refusal) = Err refusal
 started s devices None = with_kind s devices (kind_of_type s.csum_type)
 
--- the start by the superblocks, the lengths of the images and the newest superblock; where there is no image there is none
+-- the start by the superblocks, the lengths of the images and the newest
+-- superblock; where there is no image there is none
 abbrev pub start_by : List Super → List ℕ → Option Super → Result Start OpenFault
 start_by supers lens None = Err (NoSuper 0)
 start_by supers lens (Some s) = started s (devices_from s.generation 0 supers lens) (first_refusal (refusals supers s))
 
+-- the start of a volume by its superblocks, if there are any
 abbrev pub start_with : Images → Result (List Super) OpenFault → Result Start OpenFault
 start_with images (Err refusal) = Err refusal
 start_with images (Ok supers) = start_by supers (map length images) (newest supers)

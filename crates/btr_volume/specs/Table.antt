@@ -33,6 +33,7 @@ refusal_of (Stripes n) = refuse.Limit limit.Stripes n
 refusal_of (BadChunk start) = refuse.BadChunk start
 refusal_of Chunks = refuse.Limit limit.Chunks 65537
 
+-- the key below all others
 abbrev pub first_key : Key
 first_key = record { objectid = 0; kind = 0; offset = 0 }
 
@@ -51,6 +52,7 @@ if_added start (Err add_fault.Overlap) = Err (BadChunk start)
 if_added start (Err add_fault.Chunks) = Err Chunks
 if_added start (Err add_fault.Memory) = Err (BadChunk start)
 
+-- the table with the chunk of one more item, or the fault of that item
 abbrev pub with_chunk : List Chunk → ℕ → Result Chunk ChunkFault → TableResult
 with_chunk chunks start (Ok chunk) = if_added start (added chunks chunk)
 with_chunk chunks start (Err (chunk_fault.Stripes n)) = Err (Stripes n)
@@ -66,9 +68,11 @@ abbrev pub table_next : TableResult → Next (List Chunk) TableResult
 table_next (Ok chunks) = Go chunks
 table_next (Err fault) = End (Err fault)
 
+-- the table with one more item, or the refusal of that item
 abbrev pub table_step : List Chunk → TreeItem → Next (List Chunk) TableResult
 table_step chunks item = table_next (with_item chunks item)
 
+-- the table that is answered when the scan came to its end
 abbrev pub whole_table : List Chunk → TableResult
 whole_table chunks = Ok chunks
 

@@ -44,6 +44,7 @@ described key root = record {
   refs = root.refs;
 }
 
+-- a key is of a ROOT_ITEM of the tree of this id
 abbrev pub is_root_of : ℕ → Key → Bool
 is_root_of id key = (key.objectid == id) && (key.kind == root_item)
 
@@ -56,7 +57,8 @@ root_found id (Some item) = if is_root_of id item.key then formed item (root_ite
 abbrev pub root_in : RootPlace → ℕ → Lookup (Option TreeRoot)
 root_in root id = bind (le root (key id root_item last)) (root_found id)
 
--- the root of the tree of an id: those of the root tree 1 and of the chunk tree 3 are the superblock's, all others stand in the root tree
+-- the root of the tree of an id: those of the root tree 1 and of the chunk tree 3 are the
+-- superblock's, all others stand in the root tree
 abbrev pub tree_of : Super → ℕ → Lookup (Option TreeRoot)
 tree_of s id =
     if id == 1 then Return (Some (named_root 1 (root_root s)))

@@ -33,7 +33,7 @@ module _ (lo hi : Key) (B : Map) where
   enter_leaf zero spot block part leaf p e rest = leaf_zero spot block part leaf.is p e rest
   enter_leaf (suc n) spot block part leaf p e rest = let l = leaf.zero_level in absurd (omega (arith, l))
 
-  -- .. which is in hand
+  -- a leaf that is in hand
   pub held_leaf : (level : ℕ) (spot : Spot) (block : List ℕ) (store : Blocks) (next end : ℕ) (loan : Lent) (seen : List Want) → IsLeafAt level spot block → block_of store loan ≡ Some block → B (want_of level spot) ≡ Ok block → Contains seen (want_of level spot) → IsHeld B seen store (record { spot = spot; next = next; end = end; loan = loan })
   held_leaf level spot block store next end loan seen leaf lent e c = record {
     block = block;

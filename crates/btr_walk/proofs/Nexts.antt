@@ -125,7 +125,7 @@ near_some scan taken leaf' after a is_taken is_leaf h e =
     let y : rank_leaf leaf' None ≡ rank_leaf a.leaf None = ap (λ l. rank_leaf l None) is_leaf in
     omega (arith, g, x, y)
 
--- .. or no farther from it
+-- where a leaf is gone, the scan is no farther from its end
 leaf_gone : (place : ScanPlace) (leaf : Option LeafAt) → IfSome leaf (λ l. place.leaf ≡ None) → rank_leaf None place.leaf ≤ rank_leaf leaf place.leaf
 leaf_gone place None h = omega arith
 leaf_gone place (Some l) h = let e : rank_leaf None place.leaf ≡ 0 = ap (rank_leaf None) h in omega (arith, e)

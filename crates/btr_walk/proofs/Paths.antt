@@ -100,7 +100,7 @@ module _ (lo hi : Key) (B : Map) where
         held = h.1 (seen ++ (want_of todo.level todo.spot ∷ [])) (last_read seen (want_of todo.level todo.spot));
       }
 
-  -- .. or an inner node
+  -- a block that was to be read is an inner node
   pub gone_inner : (Is : UnreadBlock → Want → Type 0) (path : List (Option Frame)) (todo : Todo) (store : Blocks) (b : Below) (path' : List (Option Frame)) → length path ≡ 7 → 0 < todo.level → todo.level ≤ 7 → path' ≡ set path (todo.level - 1) b.frame → IsEntered lo hi Is B todo store (Ok (entered.Inner b)) → IsGone lo hi Is B (record { path = path; todo = Some todo }) (record { path = path'; todo = b.todo }) store (Ok Between)
   gone_inner Is path todo store b path' long some few set_is h seen on =
       let i : ℕ = todo.level - 1 in

@@ -192,7 +192,7 @@ module _ (B : Map) where
           λ le. let l : length (pointers block) ≡ length (pointers f.block) = ap (λ (b : List ℕ). length (pointers b)) same in let m = f.more in let a = f.all in absurd (omega (arith, l, m, a, le)),
         )
 
-    -- .. which could not be read again
+    -- the lowest node could not be read again
     pub ahead_halts : (Is : UnreadBlock → Want → Type 0) (f : TreeFault) (seen : List Want) → IsAmong B seen place → Rereads Is B (i + 1) frame (Err f) → Follows Is no_part seen (exec B (place_blocks B place)) [] (Err (halt_of f))
     ahead_halts Is (tree.Lost a) seen on h = absurd (never_fault seen on (fate.Lost a) h)
     ahead_halts Is (tree.Unread a slot) seen on h = let n = node_at seen on in unread_here Is no_part seen (record { addr = a; slot = slot }) (exec B (place_blocks B place)) (named Is (record { addr = a; slot = slot }) seen (want_of (i + 1) frame.spot) h n.read)

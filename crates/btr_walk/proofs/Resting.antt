@@ -93,7 +93,7 @@ again_lent old new frame l some same t = record {
     good (Some block) h = (h.0, within (length (items block)) h.1)
 
 module _ (B : Map) (rest : Rest) (frame : Frame) (is : rest.place.leaf ≡ Some frame) where
-  -- .. and is the one that was read before
+  -- the leaf of the item that was met last, lent again, is the one that was read before
   pub again_met : (Is : UnreadBlock → Want → Type 0) (store : Blocks) (l : LeafAt) → IsLeafOf frame l → IsLeafAgain Is B frame store (Ok l) → IsMetAgain Is B rest store (Ok (record { loan = l.loan; at = l.next - 1 }))
   again_met Is store l same again seen on =
       let held = again seen (subst (λ k. IfSome k (IsKept B seen)) is on.kept) in

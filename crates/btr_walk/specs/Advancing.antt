@@ -35,6 +35,7 @@ pub record IsInHand (store : Blocks) (l : LeafAt) : Type 0 where
   pub large : 4096 ≤ l.loan.len
   pub good : IsSomeAnd (block_of store l.loan) (λ block. IsTrue (is_leaf block) × (l.end ≤ length (items block)))
 
+-- the loan of a leaf in hand, if there is one
 abbrev pub loan_of : Option LeafAt → Option Lent
 loan_of None = None
 loan_of (Some l) = Some l.loan
@@ -44,6 +45,7 @@ pub record Lends (old new : Blocks) (a : Advanced) : Type 0 where
   pub others : SameLoans old (base new (loan_of a.leaf))
   pub hand : IfSome a.leaf (IsInHand new)
 
+-- the items of a leaf in hand that are still to come
 abbrev pub hand_items : Option (List ℕ) → LeafAt → List TreeItem
 hand_items None l = []
 hand_items (Some block) l = part_items l.spot.addr block l.next l.end
@@ -62,6 +64,7 @@ leaf_prog B store None None rest = rest
 abbrev pub IsLeafOf : Frame → LeafAt → Type 0
 IsLeafOf frame l = (l.spot ≡ frame.spot) × (l.next ≡ frame.next) × (l.end ≡ frame.end)
 
+-- the loan of the leaf that was lent again is new and live, or no loan changed
 abbrev pub LendsAgain : Blocks → Blocks → Result LeafAt TreeFault → Type 0
 LendsAgain old new (Ok l) = LendsLeafAt old new l
 LendsAgain old new (Err f) = SameLoans old new
@@ -76,8 +79,8 @@ module _ (lo hi : Key) where
   abbrev pub left : Map → Blocks → Option LeafAt → ScanPlace → RangeProg
   left B store leaf place = leaf_prog B store leaf place.leaf (place_prog lo hi B place.rest)
 
-  -- the item before `next` was met, some wants before it; what is left comes behind. The leaf is among the blocks that were
-  -- read, where `was` holds of the one before.
+  -- the item before `next` was met, some wants before it; what is left comes behind. The leaf is among the blocks that
+  -- were read, where `was` holds of the one before.
   pub record Meets (was : Type 0) (B : Map) (seen : List Want) (before : RangeProg) (store : Blocks) (l : LeafAt) (place : Where) : Type 0 where
     pub past : List Want
     pub item : TreeItem
@@ -95,17 +98,19 @@ module _ (lo hi : Key) where
   AdvancesBy was Is B seen before store place leaf (Ok false) = Follows Is no_part seen (exec B before) [] (Ok tt)
   AdvancesBy was Is B seen before store place leaf (Err f) = Follows Is no_part seen (exec B before) [] (Err (halt_of f))
 
-  -- with no leaf, with one in hand, and with one in hand or given back
+  -- with no leaf in hand an item more is met, or the scan comes to its end or a fault, from wherever it is
   abbrev pub FromPlace : (UnreadBlock → Want → Type 0) → Map → Where → Where → Blocks → Advanced → Type 0
   FromPlace Is B place after store a =
       (seen : List Want) → IsAlong lo hi B seen place
       → AdvancesBy (Unit {0}) Is B seen (place_prog lo hi B place) store after a.leaf a.met
 
+  -- with a leaf in hand an item more is met, or the scan comes to its end or a fault, from wherever it is
   abbrev pub FromHand : (UnreadBlock → Want → Type 0) → Map → Where → Where → LeafAt → Blocks → Blocks → Advanced → Type 0
   FromHand Is B place after hand old new a =
       (seen : List Want) → IsAlong lo hi B seen place
       → AdvancesBy (IsHeld B seen old hand) Is B seen (hand_prog old hand (place_prog lo hi B place)) new after a.leaf a.met
 
+  -- with a leaf in hand, given back or none, an item more is met, or the scan comes to its end or a fault
   abbrev pub IsAdvanced : (UnreadBlock → Want → Type 0) → Map → ScanPlace → Where → Option LeafAt → Blocks → Blocks → Advanced → Type 0
   IsAdvanced Is B place after leaf old new a =
       (seen : List Want) → IsOn lo hi B seen place

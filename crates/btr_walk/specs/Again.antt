@@ -25,12 +25,14 @@ pub record IsChild (ps : List KeyPointer) (level : ℕ) (frame : Frame) (todo : 
   pub level_is : todo.level ≡ level - 1
   pub spot_is : (d : KeyPointer) → todo.spot ≡ below (slice_index_or ps frame.next d) (up_of (drop (frame.next + 1) ps) frame.spot.up)
 
+-- a node has the next child of a frame, and a frame is left where more children are to come
 abbrev pub IsNextBelow : List KeyPointer → ℕ → Frame → Option Frame → Option Todo → Type 0
 IsNextBelow ps level frame None None = ⊥
 IsNextBelow ps level frame None (Some todo) = IsChild ps level frame todo × (frame.end ≤ frame.next + 1)
 IsNextBelow ps level frame (Some f) None = ⊥
 IsNextBelow ps level frame (Some f) (Some todo) = IsChild ps level frame todo × (frame.next + 1 < frame.end) × (f ≡ later frame)
 
+-- a node that is read again has the next child of its frame, or has no child there
 abbrev pub IsNext : List KeyPointer → ℕ → Frame → Option Below → Type 0
 IsNext ps level frame None = length ps ≤ frame.next
 IsNext ps level frame (Some b) = IsNextBelow ps level frame b.frame b.todo

@@ -19,6 +19,7 @@ pub record TreeBlock : Type 0 where
   pub level : ℕ
   pub bytes : List ℕ
 
+-- a block of a tree by its level, its place and its bytes
 abbrev pub tree_block : ℕ → Spot → List ℕ → TreeBlock
 tree_block level spot bytes = record { addr = spot.addr; level = level; bytes = bytes }
 
@@ -26,6 +27,7 @@ tree_block level spot bytes = record { addr = spot.addr; level = level; bytes = 
 abbrev pub shown_block : FoundBlock → TreeBlock
 shown_block found = record { addr = found.addr; level = found.level; bytes = found.bytes.now }
 
+-- a program that gives the blocks of a tree, one step for each
 abbrev pub BlocksProg : Type 0
 BlocksProg = Prog Want Fault TreeBlock (Unit {0})
 
@@ -34,11 +36,13 @@ abbrev pub each : (Spot → BlocksProg → BlocksProg) → List KeyPointer → O
 each child [] up rest = rest
 each child (pointer ∷ pointers) up rest = child (below pointer (up_of pointers up)) (each child pointers up rest)
 
+-- a leaf among the blocks, and then the rest; a block that isn't a leaf is malformed
 abbrev pub blocks_leaf : Spot → List ℕ → BlocksProg → Option Node → BlocksProg
 blocks_leaf spot block rest None = Stop (Malformed spot.addr)
 blocks_leaf spot block rest (Some (Leaf items)) = Emit (tree_block 0 spot block) rest
 blocks_leaf spot block rest (Some (Inner pointers)) = Stop (Malformed spot.addr)
 
+-- an inner node among the blocks, its children and then the rest; a block that isn't one is malformed
 abbrev pub blocks_inner : (Spot → BlocksProg → BlocksProg) → ℕ → Spot → List ℕ → BlocksProg → Option Node → BlocksProg
 blocks_inner child level spot block rest None = Stop (Malformed spot.addr)
 blocks_inner child level spot block rest (Some (Leaf items)) = Stop (Malformed spot.addr)
@@ -49,5 +53,6 @@ abbrev pub blocks_at : ℕ → Spot → BlocksProg → BlocksProg
 blocks_at zero spot rest = Need (want_of 0 spot) (λ block. blocks_leaf spot block rest (judged 0 spot block))
 blocks_at (suc n) spot rest = Need (want_of (suc n) spot) (λ block. blocks_inner (blocks_at n) (suc n) spot block rest (judged (suc n) spot block))
 
+-- all blocks of a tree
 abbrev pub blocks : RootPlace → BlocksProg
 blocks root = blocks_at root.level (root_spot root) (Return tt)

@@ -22,10 +22,12 @@ use Rattle.btr_walk.specs.Reading.{Map, UnreadBlock, Reads}
 use Rattle.btr_walk.specs.Scans.{part_items, todo_prog, frame_or_rest, IsFrame, IsTodo, IsHeld}
 
 module _ (lo hi : Key) where
+  -- the items from lo to hi below the children of a node that are still to come, and then the rest
   abbrev pub rest_of : (Spot → RangeProg → RangeProg) → List KeyPointer → Option Frame → RangeProg → RangeProg
   rest_of f ps None rest = rest
   rest_of f ps (Some frame) rest = over lo hi f (drop frame.next ps) frame.spot.up rest
 
+  -- the items below a block that is to be read, then those of its node's other children, and then the rest
   abbrev pub below_prog : (Spot → RangeProg → RangeProg) → List KeyPointer → Below → RangeProg → RangeProg
   below_prog f ps below rest = elim below.todo [ None ↦ rest | Some todo ↦ f todo.spot (rest_of f ps below.frame rest) ]
 
@@ -75,6 +77,7 @@ pub record LendsLeafAt (old new : Blocks) (l : LeafAt) : Type 0 where
   pub live : IsLiveIn new l.loan
   pub good : IsSomeAnd (block_of new l.loan) (λ block. IsTrue (is_leaf block) × (l.end ≤ length (items block)))
 
+-- the loan of a leaf that was entered is new and live, and for an inner node no loan changed
 abbrev pub LendsEntered : Blocks → Blocks → Result Entered TreeFault → Type 0
 LendsEntered old new (Ok (Leaf l)) = LendsLeafAt old new l
 LendsEntered old new (Ok (Inner b)) = SameLoans old new

@@ -48,6 +48,7 @@ pub record LendsLeaf (old new : Blocks) (spotted : Spotted) : Type 0 where
   pub live : IsLiveIn new spotted.loan
   pub good : IsSomeAnd (block_of new spotted.loan) (λ block. IsTrue (is_leaf block) × (spotted.at < length (items block)))
 
+-- the loan of the leaf of the item that was found is new and live, or no loan changed
 abbrev pub LendsItem : Blocks → Blocks → Result (Option Spotted) TreeFault → Type 0
 LendsItem old new (Ok (Some spotted)) = LendsLeaf old new spotted
 LendsItem old new (Ok None) = SameLoans old new

@@ -27,6 +27,7 @@ abbrev pub fold_halt : {E : Type 0} → FoldFault E → Halt fate.Fault UnreadBl
 fold_halt (Tree f) = halt_of f
 fold_halt (Own e) = Broke
 
+-- the answer of a fold as an answer of its program
 abbrev pub fold_answer : {R E : Type 0} → Result R (FoldFault E) → Result R (Halt fate.Fault UnreadBlock)
 fold_answer (Ok r) = Ok r
 fold_answer (Err f) = Err (fold_halt f)
@@ -56,9 +57,11 @@ module _ {St R : Type 0} (step : St → TreeItem → Next St R) (answer : St →
     pub is : exec B (to_fold B old scan state) ≡ prepend (want_marks past) (exec B (to_fold B new scan' state'))
     pub on : IsOn scan.lo scan.hi B (seen ++ past) scan'.place
 
+  -- an answer of a fold follows what it had still to do
   abbrev pub Ends : {E : Type 0} → (UnreadBlock → Want → Type 0) → Map → List Want → Blocks → Scan → St → Result R (FoldFault E) → Type 0
   Ends Is B seen store scan state result = Follows Is no_part seen (exec B (to_fold B store scan state)) [] (fold_answer result)
 
+  -- a turn of a fold goes on with a new state and scan, or ends it with its value, its result or a fault
   abbrev pub TurnsBy : {E : Type 0} → (UnreadBlock → Want → Type 0) → Map → List Want → Blocks → Blocks → Scan → Scan → St → St → Result (Turn R) (FoldFault E) → Type 0
   TurnsBy Is B seen old new scan scan' state state' (Ok More) = Turns B seen old new scan scan' state state'
   TurnsBy {E} Is B seen old new scan scan' state state' (Ok Last) = Ends {E = E} Is B seen old scan state (Ok (answer state'))

@@ -50,6 +50,7 @@ module _ (lo hi : Key) where
     pub comes : Comes B seen from to place
     pub held : IsHeld B (seen ++ comes.past) store l
 
+  -- the scan came to a leaf with items, or to none yet, or to its end
   abbrev pub GoneTo : (UnreadBlock → Want → Type 0) → Map → List Want → Where → Where → Blocks → Result Gone TreeFault → Type 0
   GoneTo Is B seen place after store (Ok (Leaf l)) =
       IsSomeAnd (block_of store l.loan)
@@ -58,9 +59,11 @@ module _ (lo hi : Key) where
   GoneTo Is B seen place after store (Ok End) = Follows Is no_part seen (exec B (place_prog lo hi B place)) [] (Ok tt)
   GoneTo Is B seen place after store (Err f) = Follows Is no_part seen (exec B (place_prog lo hi B place)) [] (Err (halt_of f))
 
+  -- the scan came to what follows it, from wherever it is
   abbrev pub IsGone : (UnreadBlock → Want → Type 0) → Map → Where → Where → Blocks → Result Gone TreeFault → Type 0
   IsGone Is B place after store result = (seen : List Want) → IsAlong B seen place → GoneTo Is B seen place after store result
 
+-- the loan of the leaf that was come to is new and live, or no loan changed
 abbrev pub LendsGone : Blocks → Blocks → Result Gone TreeFault → Type 0
 LendsGone old new (Ok (Leaf l)) = LendsLeafAt old new l
 LendsGone old new (Ok Between) = SameLoans old new

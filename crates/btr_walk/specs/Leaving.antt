@@ -16,6 +16,7 @@ use Rattle.btr_walk.specs.Going.{place_prog, IsAlong, ComesTo}
 use Rattle.btr_walk.specs.Ranks.{IsShaped, rank}
 
 module _ (lo hi : Key) where
+  -- the scan came to a leaf with items, to its end or to a fault
   abbrev pub ReachedTo : (UnreadBlock → Want → Type 0) → Map → List Want → Where → Where → Blocks → Result (Option LeafAt) TreeFault → Type 0
   ReachedTo Is B seen place after store (Ok (Some l)) =
       IsSomeAnd (block_of store l.loan)
@@ -23,9 +24,11 @@ module _ (lo hi : Key) where
   ReachedTo Is B seen place after store (Ok None) = Follows Is no_part seen (exec B (place_prog lo hi B place)) [] (Ok tt)
   ReachedTo Is B seen place after store (Err f) = Follows Is no_part seen (exec B (place_prog lo hi B place)) [] (Err (halt_of f))
 
+  -- the scan came to its next leaf, its end or a fault, from wherever it is
   abbrev pub IsReached : (UnreadBlock → Want → Type 0) → Map → Where → Where → Blocks → Result (Option LeafAt) TreeFault → Type 0
   IsReached Is B place after store result = (seen : List Want) → IsAlong lo hi B seen place → ReachedTo Is B seen place after store result
 
+-- the loan of the leaf that was come to is new and live and has items, or no loan changed
 abbrev pub LendsReached : Blocks → Blocks → Result (Option LeafAt) TreeFault → Type 0
 LendsReached old new (Ok (Some l)) = LendsLeafAt old new l × (l.next < l.end)
 LendsReached old new (Ok None) = SameLoans old new

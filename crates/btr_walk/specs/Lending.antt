@@ -18,5 +18,6 @@ pub record IsLentOnly (rack : Seen) (old new : Blocks) (loan : Option Lent) : Ty
   pub live : IfSome loan (IsLiveIn new)
   pub serves : Serves rack new
 
+-- once what was lent has ended, the store has this loan, and but for it the loans that it had
 abbrev pub EndsWith : Seen → MutBor Blocks → Option Lent → Fml
 EndsWith rack store loan = follows_so the_row the_row store.ghost_name none (λ _ _. ⊤) (λ new. IsLentOnly rack store.now new loan)

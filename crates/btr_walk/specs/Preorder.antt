@@ -32,6 +32,7 @@ use Rattle.btr_walk.specs.Blocks.{TreeBlock, BlocksProg, tree_block, shown_block
 abbrev pub frame_blocks : Map → ℕ → Frame → BlocksProg → BlocksProg
 frame_blocks B level frame rest = each (blocks_at (level - 1)) (drop frame.next (pointers_in (B (want_of level frame.spot)))) frame.spot.up rest
 
+-- the blocks below a frame that are still to come, and then the rest, where there is a frame
 abbrev pub blocks_or_rest : Map → ℕ → Option Frame → BlocksProg → BlocksProg
 blocks_or_rest B level None rest = rest
 blocks_or_rest B level (Some frame) rest = frame_blocks B level frame rest
@@ -46,6 +47,7 @@ abbrev pub path_blocks : Map → ℕ → List (Option Frame) → BlocksProg
 path_blocks B n [] = Return tt
 path_blocks B n (frame ∷ frames) = blocks_or_rest B (n + 1) frame (path_blocks B (n + 1) frames)
 
+-- all blocks that a place has still to give
 abbrev pub place_blocks : Map → Where → BlocksProg
 place_blocks B place = todo_blocks place.todo (path_blocks B 0 place.path)
 
@@ -73,9 +75,11 @@ AheadBy Is B seen place (Ok (Some ahead)) = (place_blocks B place ≡ place_bloc
 AheadBy Is B seen place (Ok None) = place_blocks B place ≡ Return tt
 AheadBy Is B seen place (Err f) = Follows Is no_part seen (exec B (place_blocks B place)) [] (Err (halt_of f))
 
+-- what a place comes to next, whatever was read before
 abbrev pub IsAhead : (UnreadBlock → Want → Type 0) → Map → Where → Result (Option Ahead) TreeFault → Type 0
 IsAhead Is B place result = (seen : List Want) → IsAmong B seen place → AheadBy Is B seen place result
 
+-- the walk goes to a place that is nearer to its end
 abbrev pub NearsAhead : Where → Result (Option Ahead) TreeFault → Type 0
 NearsAhead place (Ok (Some ahead)) = IsShaped (place_of ahead) × (rank (place_of ahead) ≤ rank place)
 NearsAhead place (Ok None) = Unit {0}
@@ -92,6 +96,7 @@ IsBehind ahead block place =
     (B : Map) (seen : List Want) → B (want_of ahead.todo.level ahead.todo.spot) ≡ Ok block → IsAmong B seen (place_of ahead)
     → Enters B seen (place_of ahead) place (want_of ahead.todo.level ahead.todo.spot) (tree_block ahead.todo.level ahead.todo.spot block)
 
+-- the block that was to be read is given, or a fault of it
 abbrev pub EntersBy : (UnreadBlock → Want → Type 0) → Map → List Want → Ahead → Blocks → Result Entry TreeFault → Type 0
 EntersBy Is B seen ahead store (Ok e) =
     IsSomeAnd (block_of store e.loan)
@@ -99,14 +104,16 @@ EntersBy Is B seen ahead store (Ok e) =
     (record { addr = e.addr; level = e.level; bytes = block }))
 EntersBy Is B seen ahead store (Err f) = Follows Is no_part seen (exec B (place_blocks B (place_of ahead))) [] (Err (halt_of f))
 
+-- the block that was to be read is given, whatever was read before
 abbrev pub IsEntry : (UnreadBlock → Want → Type 0) → Map → Ahead → Blocks → Result Entry TreeFault → Type 0
 IsEntry Is B ahead store result = (seen : List Want) → IsAmong B seen (place_of ahead) → EntersBy Is B seen ahead store result
 
+-- the place after a block is nearer to the end than the one before it
 abbrev pub NearsEntry : Where → Result Entry TreeFault → Type 0
 NearsEntry place (Ok e) = IsShaped e.place × (rank e.place < rank place)
 NearsEntry place (Err f) = Unit {0}
 
--- a block is lent, or nothing
+-- the loan of the block that was read is new and live, or no loan changed
 abbrev pub LendsEntry : Blocks → Blocks → Ahead → Result Entry TreeFault → Type 0
 LendsEntry old new ahead (Ok e) = IsLentBy old new (want_of ahead.todo.level ahead.todo.spot) e.loan
 LendsEntry old new ahead (Err f) = SameLoans old new
@@ -117,6 +124,7 @@ pub record GivesBlock (B : Map) (seen : List Want) (from to : Where) (met : Tree
   pub is : exec B (place_blocks B from) ≡ prepend (want_marks past) (first (Does met) (exec B (place_blocks B to)))
   pub on : IsAmong B (seen ++ past) to
 
+-- the step gives the next block, the end, or a fault
 abbrev pub StepsBy : (UnreadBlock → Want → Type 0) → Map → List Want → Where → Blocks → Result (Option Entry) TreeFault → Type 0
 StepsBy Is B seen place store (Ok (Some e)) =
     IsSomeAnd (block_of store e.loan)
@@ -124,19 +132,22 @@ StepsBy Is B seen place store (Ok (Some e)) =
 StepsBy Is B seen place store (Ok None) = Follows Is no_part seen (exec B (place_blocks B place)) [] (Ok tt)
 StepsBy Is B seen place store (Err f) = Follows Is no_part seen (exec B (place_blocks B place)) [] (Err (halt_of f))
 
+-- the step gives the next block, the end or a fault, whatever was read before
 abbrev pub IsStep : (UnreadBlock → Want → Type 0) → Map → Where → Blocks → Result (Option Entry) TreeFault → Type 0
 IsStep Is B place store result = (seen : List Want) → IsAmong B seen place → StepsBy Is B seen place store result
 
+-- the place after a step is nearer to the end than the one before it
 abbrev pub NearsStep : Where → Result (Option Entry) TreeFault → Type 0
 NearsStep place (Ok (Some e)) = IsShaped e.place × (rank e.place < rank place)
 NearsStep place (Ok None) = Unit {0}
 NearsStep place (Err f) = Unit {0}
 
--- a block is lent, or nothing
+-- the loan of a block is new and live, and no other loan changed
 pub record LendsBlock (old new : Blocks) (e : Entry) : Type 0 where
   pub others : SameLoans old (base new (Some e.loan))
   pub live : IsLiveIn new e.loan
 
+-- the loan of the block of a step is new and live, or no loan changed
 abbrev pub LendsStep : Blocks → Blocks → Result (Option Entry) TreeFault → Type 0
 LendsStep old new (Ok (Some e)) = LendsBlock old new e
 LendsStep old new (Ok None) = SameLoans old new
@@ -146,11 +157,13 @@ LendsStep old new (Err f) = SameLoans old new
 abbrev pub blocks_left : Map → BlockScan → BlocksProg
 blocks_left B scan = place_blocks B scan.place
 
+-- a call of the walk gives the next block, the end, or a fault
 abbrev pub NextBlockBy : (UnreadBlock → Want → Type 0) → Map → List Want → BlockScan → BlockScan → Result (Option FoundBlock) TreeFault → Type 0
 NextBlockBy Is B seen scan scan' (Ok (Some found)) = GivesBlock B seen scan.place scan'.place (shown_block found)
 NextBlockBy Is B seen scan scan' (Ok None) = Follows Is no_part seen (exec B (blocks_left B scan)) [] (Ok tt)
 NextBlockBy Is B seen scan scan' (Err f) = Follows Is no_part seen (exec B (blocks_left B scan)) [] (Err (halt_of f))
 
+-- a call of the walk gives the next block, the end or a fault, whatever was read before
 abbrev pub IsNextBlock : (UnreadBlock → Want → Type 0) → Map → BlockScan → BlockScan → Result (Option FoundBlock) TreeFault → Type 0
 IsNextBlock Is B scan scan' result = (seen : List Want) → IsAmong B seen scan.place → NextBlockBy Is B seen scan scan' result
 
@@ -170,6 +183,7 @@ pub record Walked (old new : Blocks) (scan scan' : BlockScan) (before now : Seen
   pub ready : IsReadyFor now new scan'
   pub content : TellsOf old before now (λ Is B. IsNextBlock Is B scan scan' result)
 
+-- the walk and its store end as the step's answer says, and no other loan changed
 abbrev pub BlockScanEnds : MutBor Blocks → BlockScan → BlockScan → Seen → Seen → Result (Option FoundBlock) TreeFault → Fml
 BlockScanEnds store scan scan' before now result = follows_so the_row the_row store.ghost_name none (λ _ _. ⊤) (λ new. Walked store.now new scan scan' before now result)
 
@@ -183,6 +197,7 @@ KeepsBlock (Err f) scan = scan.loan ≡ None
 abbrev pub blocks_rank : BlockScan → ℕ
 blocks_rank scan = rank scan.place
 
+-- a call of the walk comes nearer to the end where it gives a block, and else leaves its place
 abbrev pub NextBlockNears : BlockScan → BlockScan → Result (Option FoundBlock) TreeFault → Type 0
 NextBlockNears scan scan' (Ok (Some found)) = blocks_rank scan' < blocks_rank scan
 NextBlockNears scan scan' (Ok None) = scan'.place ≡ scan.place

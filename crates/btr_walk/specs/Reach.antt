@@ -1,4 +1,5 @@
--- How far the answer of a lookup reaches: the keys from the one that was sought on for which the same way leads to the same item.
+-- How far the answer of a lookup reaches: the keys from the one that was sought on for
+-- which the same way leads to the same item.
 use Rattle.std.specs.Prelude.{◌≡◌, ◌≤◌, true, List, [], ◌∷◌, Option, Some, None, Result, Ok, Err, ⊤}
 use Rattle.btr_base.specs.Key.{key_number}
 use Rattle.btr_base.specs.declared.key.Key.{Key}
@@ -25,7 +26,7 @@ abbrev pub SameUpTo : Map → RootPlace → Key → Option Key → Type 0
 SameUpTo B root key until =
     (other : Key) → key_number key ≤ key_number other → is_below until other ≡ true → exec B (le {S = ⊥} root other) ≡ exec B (le {S = ⊥} root key)
 
--- .. up to the bound that stands beside what was found
+-- lookups at keys from this one on, up to the bound that stands beside what was found, are the same
 abbrev pub SpottedReaches : Map → RootPlace → Key → Result (Option Spotted) TreeFault → Type 0
 SpottedReaches B root key (Ok (Some spotted)) = SameUpTo B root key spotted.until
 SpottedReaches B root key (Ok None) = ⊤
@@ -35,6 +36,7 @@ SpottedReaches B root key (Err f) = ⊤
 abbrev pub FindsAndReaches : (UnreadBlock → Want → Type 0) → Map → RootPlace → Key → Blocks → Result (Option Spotted) TreeFault → Type 0
 FindsAndReaches Is B root key store result = Finds Is B root key store result × SpottedReaches B root key result
 
+-- what a lookup found is found at all keys below the bound that it answers
 abbrev pub Reaches : Map → RootPlace → Key → Result (Option Reach) TreeFault → Type 0
 Reaches B root key (Ok (Some reach)) = SameUpTo B root key reach.until
 Reaches B root key (Ok None) = ⊤

@@ -36,7 +36,8 @@ unread_by layout old new u want = IsUnreadFor layout want old new u.addr u.slot
 pub record Tells (layout : Layout) (old new : Seen) (P : Map → Type 0) : Type 0 where
   pub calls : Calls (AgreedOn layout) (shown old) (shown new) (OnMap layout P)
 
--- so far as the calls over a store were steady, P holds of the wants that could not be read and of the block map of the images
+-- so far as the calls over a store were steady, P holds of the wants that could not
+-- be read and of the block map of the images
 abbrev pub TellsOf : Blocks → Seen → Seen → ((UnreadBlock → Want → Type 0) → Map → Type 0) → Type 0
 TellsOf store old new P = Tells store.layout old new (P (unread_by store.layout old new))
 
@@ -47,6 +48,7 @@ tree_fault (read.Unread a slot) = tree.Unread a slot
 tree_fault (read.Unmapped a) = tree.Unmapped a
 tree_fault (read.Crosses a) = tree.Crosses a
 
+-- a fault of a tree as a halt of its program: that a block could not be read, or what the block's bytes are
 abbrev pub halt_of : TreeFault → Halt fate.Fault UnreadBlock
 halt_of (tree.Lost a) = Fault (fate.Lost a)
 halt_of (tree.Unread a slot) = Unread (record { addr = a; slot = slot })
@@ -54,6 +56,7 @@ halt_of (tree.Unmapped a) = Fault (fate.Unmapped a)
 halt_of (tree.Crosses a) = Fault (fate.Crosses a)
 halt_of (tree.Malformed a) = Fault (fate.Malformed a)
 
+-- an answer of a call as an answer of its program
 abbrev pub answer_of : {A : Type 0} → Result A TreeFault → Result A (Halt fate.Fault UnreadBlock)
 answer_of (Ok a) = Ok a
 answer_of (Err f) = Err (halt_of f)
@@ -72,8 +75,8 @@ module _ (Is : UnreadBlock → Want → Type 0) (B : Map) where
 abbrev pub IsGoodFor : ℕ → Spot → Blocks → Lent → Type 0
 IsGoodFor level spot store loan = IsSomeAnd (block_of store loan) (λ block. IsSome (judged level spot block))
 
--- Why a block that was wanted could not be had: it is lost, has no position, or could not be read, with the whole cause. Whether
--- it is malformed the block map says.
+-- Why a block that was wanted could not be had: it is lost, has no position, or could not be read, with the whole
+-- cause. Whether it is malformed the block map says.
 abbrev pub CauseOf : Layout → Want → Seen → Seen → TreeFault → Type 0
 CauseOf layout want old new (tree.Lost a) = IfSome old.held (λ images. fate images layout want ≡ Err (fate.Lost a))
 CauseOf layout want old new (tree.Unread a slot) = IsUnreadFor layout want old new a slot
@@ -86,8 +89,8 @@ abbrev pub HasCauseOf : {A : Type 0} → Layout → Want → Seen → Seen → R
 HasCauseOf layout want old new (Ok a) = ⊤
 HasCauseOf layout want old new (Err f) = CauseOf layout want old new f
 
--- A fault of a tree has its cause: some want was lost, has no position, or is the one that could not be read. Whether a block is malformed hangs
--- on the blocks before it: the program says it.
+-- A fault of a tree has its cause: some want was lost, has no position, or is the one that could not be read. Whether a
+-- block is malformed hangs on the blocks before it: the program says it.
 abbrev pub FaultCause : Layout → Seen → Seen → TreeFault → Type 0
 FaultCause layout old new (tree.Lost a) = (want : Want) × IfSome old.held (λ images. fate images layout want ≡ Err (fate.Lost a))
 FaultCause layout old new (tree.Unread a slot) = (want : Want) × IsUnreadFor layout want old new a slot
@@ -95,6 +98,7 @@ FaultCause layout old new (tree.Unmapped a) = (want : Want) × (sought layout wa
 FaultCause layout old new (tree.Crosses a) = (want : Want) × (sought layout want ≡ Err (fate.Crosses a))
 FaultCause layout old new (tree.Malformed a) = ⊤
 
+-- an answer is no fault, or one that has a cause
 abbrev pub HasCause : {A : Type 0} → Layout → Seen → Seen → Result A TreeFault → Type 0
 HasCause layout old new (Ok a) = ⊤
 HasCause layout old new (Err f) = FaultCause layout old new f

@@ -38,6 +38,7 @@ IsRestOn B seen rest = IsOn rest.lo rest.hi B seen rest.place
 abbrev pub rank_left : Rest → ℕ
 rank_left rest = rank_on rest.place None
 
+-- the items of a leaf that could be had
 abbrev pub items_of_leaf : Result (List ℕ) Fault → ℕ → List TreeItem
 items_of_leaf (Ok block) addr = map (tree_item addr) (items block)
 items_of_leaf (Err f) addr = []
@@ -76,6 +77,7 @@ pub record IsLentAgain (old new : Blocks) (m : MetAgain) : Type 0 where
   pub large : 4096 ≤ m.loan.len
   pub good : IsSomeAnd (block_of new m.loan) (λ block. IsTrue (is_leaf block) × (m.at < length (items block)))
 
+-- the loan of the leaf of the item that was met again is new and live, or no loan changed
 abbrev pub LendsMet : Blocks → Blocks → Result MetAgain TreeFault → Type 0
 LendsMet old new (Ok m) = IsLentAgain old new m
 LendsMet old new (Err f) = SameLoans old new

@@ -46,11 +46,13 @@ pub record Gives (B : Map) (seen : List Want) (old new : Blocks) (scan scan' : S
   pub held : HoldsLeaf B seen old scan → HoldsLeaf B (seen ++ past) new scan'
   pub met : IfSome scan'.leaf (WasMet new (item_of found))
 
+-- a call of the scan gives the next item, the end, or a fault
 abbrev pub NextBy : (UnreadBlock → Want → Type 0) → Map → List Want → Blocks → Blocks → Scan → Scan → Result (Option Found) TreeFault → Type 0
 NextBy Is B seen old new scan scan' (Ok (Some found)) = Gives B seen old new scan scan' found
 NextBy Is B seen old new scan scan' (Ok None) = Follows Is no_part seen (exec B (left_of B old scan)) [] (Ok tt)
 NextBy Is B seen old new scan scan' (Err f) = Follows Is no_part seen (exec B (left_of B old scan)) [] (Err (halt_of f))
 
+-- a call of the scan gives the next item, the end or a fault, whatever was read before
 abbrev pub IsNextOn : (UnreadBlock → Want → Type 0) → Map → Blocks → Blocks → Scan → Scan → Result (Option Found) TreeFault → Type 0
 IsNextOn Is B old new scan scan' result = (seen : List Want) → IsOn scan.lo scan.hi B seen scan.place → NextBy Is B seen old new scan scan' result
 
@@ -65,12 +67,14 @@ pub record IsReady (rack : Seen) (store : Blocks) (scan : Scan) : Type 0 where
 abbrev pub without_leaf : Blocks → Scan → Blocks
 without_leaf store scan = base store (loan_of scan.leaf)
 
--- a scan can go on, and no other loan changed; after a fault and at the end it has no loan; and what the step says of the block map
+-- a scan can go on, and no other loan changed; after a fault and at the end it has no
+-- loan; and what the step says of the block map
 pub record Scanned (old new : Blocks) (scan scan' : Scan) (before now : Seen) (result : Result (Option Found) TreeFault) : Type 0 where
   pub others : SameLoans (without_leaf old scan) (without_leaf new scan')
   pub ready : IsReady now new scan'
   pub content : TellsOf old before now (λ Is B. IsNextOn Is B old new scan scan' result)
 
+-- the scan and its store end as the step's answer says, and no other loan changed
 abbrev pub ScanEnds : MutBor Blocks → Scan → Scan → Seen → Seen → Result (Option Found) TreeFault → Fml
 ScanEnds store scan scan' before now result = follows_so the_row the_row store.ghost_name none (λ _ _. ⊤) (λ new. Scanned store.now new scan scan' before now result)
 

@@ -18,8 +18,8 @@ use Rattle.btr_walk.specs.Le.{TreeItem, tree_item, below, want_of}
 use Rattle.btr_walk.specs.Range.{RangeProg, over, range_at}
 use Rattle.btr_walk.specs.Reading.{Map}
 
--- the children from `next` up to before `end` are those that meet the keys: the ones before end where the next begins, at
--- or below lo, the ones behind begin above hi
+-- the children from `next` up to before `end` are those that meet the keys: the ones before end where the next begins,
+-- at or below lo, the ones behind begin above hi
 pub record IsChoice (lo hi : Key) (ps : List KeyPointer) (part : Part) : Type 0 where
   pub there : part.next < length ps
   pub within : part.end ≤ length ps
@@ -37,6 +37,7 @@ pub record IsPart (lo hi : Key) (is : List Item) (part : Part) : Type 0 where
   pub low : All (λ i. key_number i.key ≤ key_number hi) (take part.end is)
   pub high : All (λ i. key_number hi < key_number i.key) (drop part.end is)
 
+-- the pointers of a node that could be had
 abbrev pub pointers_in : Result (List ℕ) Fault → List KeyPointer
 pointers_in (Ok block) = pointers block
 pointers_in (Err f) = []
@@ -50,6 +51,7 @@ module _ (lo hi : Key) where
   abbrev pub frame_prog : Map → ℕ → Frame → RangeProg → RangeProg
   frame_prog B level frame rest = over lo hi (range_at lo hi (level - 1)) (drop frame.next (pointers_in (B (want_of level frame.spot)))) frame.spot.up rest
 
+  -- what is left below a frame, and then the rest, where there is a frame
   abbrev pub frame_or_rest : Map → ℕ → Option Frame → RangeProg → RangeProg
   frame_or_rest B level None rest = rest
   frame_or_rest B level (Some frame) rest = frame_prog B level frame rest
@@ -77,6 +79,7 @@ module _ (lo hi : Key) where
   abbrev pub IsTodo : Option Todo → Type 0
   IsTodo todo = IfSome todo (λ t. is_below t.spot.up lo ≡ true)
 
+-- wants as marks
 abbrev pub wants : List Want → List (Mark Want TreeItem)
 wants [] = []
 wants (w ∷ ws) = Wants w ∷ wants ws
@@ -89,7 +92,7 @@ pub record IsHeld (B : Map) (seen : List Want) (store : Blocks) (l : LeafAt) : T
   pub is : judged 0 l.spot block ≡ Some (Leaf (items block))
   pub read : Contains seen (want_of 0 l.spot)
 
--- .. and so is a leaf that was given back: it was read before
+-- a leaf that was given back is the block that its want came to, a good one at its spot: it was read before
 pub record IsKept (B : Map) (seen : List Want) (frame : Frame) : Type 0 where
   pub block : List ℕ
   pub came : B (want_of 0 frame.spot) ≡ Ok block
@@ -97,6 +100,7 @@ pub record IsKept (B : Map) (seen : List Want) (frame : Frame) : Type 0 where
   pub read : Contains seen (want_of 0 frame.spot)
   pub within : frame.end ≤ length (items block)
 
+-- the items of a leaf that could be had, from `next` up to before `end`
 abbrev pub items_in : Result (List ℕ) Fault → ℕ → ℕ → ℕ → List TreeItem
 items_in (Ok block) addr next end = part_items addr block next end
 items_in (Err f) addr next end = []

@@ -16,6 +16,7 @@ use Rattle.btr_walk.specs.Reading.{Map, UnreadBlock, answer_of}
 abbrev pub item_of : Found → TreeItem
 item_of found = record { key = found.key; leaf = found.block; body = found.body.now }
 
+-- an answer with the item that it shows
 abbrev pub items_of : Result (Option Found) TreeFault → Result (Option TreeItem) TreeFault
 items_of (Ok (Some found)) = Ok (Some (item_of found))
 items_of (Ok None) = Ok None
@@ -37,8 +38,10 @@ found_of (Ok (Some reach)) = Ok (Some reach.found)
 found_of (Ok None) = Ok None
 found_of (Err f) = Err f
 
+-- what a lookup answers follows the program, whatever its reach
 abbrev pub ReachesItem : (UnreadBlock → Want → Type 0) → Map → RootPlace → Key → Result (Option Reach) TreeFault → Type 0
 ReachesItem Is B root key result = FindsItem Is B root key (found_of result)
 
+-- a loan stands where there is an item with its reach, and only there
 abbrev pub LendsReach : Result (Option Reach) TreeFault → Option Lent → Type 0
 LendsReach result loan = LendsWhere (found_of result) loan
