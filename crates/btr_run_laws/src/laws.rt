@@ -27,7 +27,7 @@ pub fn self_test_completes()
 {}
 
 /// A small volume meets all that the clauses of `run` ask for of the images of a restore of all
-/// files, and of those of a scrub: so none of them is empty.
+/// files, and of those of a scrub. That some words ask for these isn't part of it.
 pub fn example_meets()
     ensures restores { MeetsRestores }
     ensures scrubs { MeetsScrubs }
